@@ -1,0 +1,3 @@
+pub mod Feeds
+pub mod Inputs
+pub mod Lines

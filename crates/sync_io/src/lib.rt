@@ -1,0 +1,28 @@
+//! Sources and sinks that count their faults, lines of what was read, and the status of a run.
+#![tactic(auto)]
+
+mod fill;
+mod found;
+mod intake;
+mod line_reader;
+mod memory;
+mod memory_sink;
+mod memory_source;
+mod refusal;
+mod sink;
+mod source;
+mod status;
+mod std_sink;
+mod std_source;
+mod writing;
+
+pub use memory::NoMemory;
+pub use memory_sink::MemorySink;
+pub use memory_source::MemorySource;
+pub use refusal::ReadRefusal;
+pub use sink::{Sink, SinkRefusal};
+pub use source::{Source, SourceFailed};
+pub use status::Status;
+pub use std_sink::StdSink;
+pub use std_source::StdSource;
+pub use writing::write_all;
