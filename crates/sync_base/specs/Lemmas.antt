@@ -2,13 +2,16 @@ pub mod Agreed
 pub mod Answers
 pub mod Apart
 pub mod Cells
+pub mod Defined
 pub mod Edits
 pub mod Frame
 pub mod Laws
+pub mod Leaves
 pub mod Looks
 pub mod Maps
 pub mod Mirror
 pub mod Pairs
+pub mod Places
 pub mod Rows
 pub mod Shaped
 pub mod Sides
@@ -16,3 +19,4 @@ pub mod Sound
 pub mod Stays
 pub mod Steps
 pub mod Texts
+pub mod Whole

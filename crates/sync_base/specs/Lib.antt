@@ -6,4 +6,5 @@ pub mod Checks
 pub mod Merged
 pub mod Codes
 pub mod Rules
+pub mod Agreement
 pub mod Lemmas

@@ -12,7 +12,8 @@ use Rattle.sync_data.specs.declared.value.Value.TheVariants as values
 use Rattle.sync_data.specs.declared.column.Kind.{Kind}
 use Rattle.sync_data.specs.declared.column.Kind.TheVariants as kinds
 use Rattle.sync_data.specs.declared.column.Column.{Column}
-use Rattle.sync_base.specs.Effects.{ObjectName, CellPath, Edit, Effect, Set, Add, Replace, Insert, Remove, NewTable, NewColumn, Create, Erase, Change, Empty}
+use Rattle.sync_data.specs.declared.instr.Instr.{Instr}
+use Rattle.sync_base.specs.Effects.{effect_of, ObjectName, CellPath, Edit, Effect, Set, Add, Replace, Insert, Remove, NewTable, NewColumn, Create, Erase, Change, Empty}
 use Rattle.sync_base.specs.Maps.{map_with}
 use Rattle.sync_base.specs.States.{State, Table, Tables, Cell, One, Many, Members, Dict, object_cmp, cell_at, key_rank_of, shape_rank}
 use Rattle.sync_base.specs.After.{edited, added, sum64, default_of, tables_after}
@@ -147,6 +148,6 @@ is_defined (NewTable t k) (NewTable u j) = not (eq_by_cmp name_cmp t u) || (key_
 is_defined (NewColumn t c x) (NewColumn u d y) = not (eq_by_cmp name_cmp t u && eq_by_cmp name_cmp c d) || same_column x y
 is_defined a b = true
 
--- the merged state, or none
-abbrev pub merge : Bool → Effect → Effect → State → Option State
-merge l a b s = if is_defined a b then Some (merged_state s a b l) else None
+-- the merged state of two instructions, or none
+abbrev pub merge : Instr → Instr → Bool → State → Option State
+merge a b later s = if is_defined (effect_of a) (effect_of b) then Some (merged_state s (effect_of a) (effect_of b) later) else None

@@ -15,7 +15,7 @@ use Rattle.sync_base.specs.States.{object_cmp, key_rank_of}
 use Rattle.sync_base.specs.After.{added}
 use Rattle.sync_base.specs.Merged.{path_cmp, same_column}
 
--- what becomes of the two sides
+-- what becomes of the two sides: each is an edit or an effect, or nothing
 pub record Outcomes (A : Type 0) : Type 0 where
   pub left : Option A
   pub right : Option A
@@ -161,8 +161,11 @@ rule l (Change q e) (Erase o) = if eq_by_cmp object_cmp q.0 o then only_right (E
 rule l (Change p e) (Change q f) = if has_row e f && eq_by_cmp path_cmp p q then lifted p (rule_of_edits l e f) else kept (Change p e) (Change q f)
 rule l a b = kept a b
 
--- the same with the sides swapped
-abbrev pub mirrored : {A : Type 0} → Answer A → Answer A
-mirrored (Err m) = Err m
-mirrored (Ok f) = Ok (record { left = f.right; right = f.left })
+-- ---- the same of instructions
+abbrev pub outcome_of : Answer Effect → Result Outcome Mismatch
+outcome_of (Ok f) = Ok (record { left = option_map instr_of f.left; right = option_map instr_of f.right })
+outcome_of (Err m) = Err m
 
+-- what is left of two instructions that meet, or why they can't be merged
+abbrev pub meeting : Instr → Instr → Bool → Result Outcome Mismatch
+meeting a b later = outcome_of (rule later (effect_of a) (effect_of b))

@@ -92,24 +92,10 @@ no_sizes s l (Change q e) (Erase o) f g = either (eq_by_cmp object_cmp q.0 o) _ 
 no_sizes s l (Change p e) (Change q k) f g =
     elim (eq_by_cmp path_cmp p q) as (λ b. eq_by_cmp path_cmp p q ≡ b → NoSizes (rule l (Change p e) (Change q k))) [
       | true ↦ λ h.
-        let was = prior_of e (cell_at s p.0 p.1) f.prior in
-        let same : p ≡ q = tied_is path_exact p q h in
-        let g2 : FoundCell s p k = subst (λ (r : CellPath). FoundCell s r k) (sym same) g in
-        subst NoSizes (sym (changes_there l p q e k h same)) (lifted_fine p (rule_of_edits l e k) (edits_fine l e k was.0 was.2 (prior_is s p k was.0 was.1 g2)))
+          let was = prior_of e (cell_at s p.0 p.1) f.prior in
+          let same : p ≡ q = tied_is path_exact p q h in
+          let g2 : FoundCell s p k = subst (λ (r : CellPath). FoundCell s r k) (sym same) g in
+          subst NoSizes (sym (changes_there l p q e k h same)) (lifted_fine p (rule_of_edits l e k) (edits_fine l e k was.0 was.2 (prior_is s p k was.0 was.1 g2)))
       | false ↦ λ h. subst NoSizes (sym (changes_apart l p q e k h)) (yes _)
     ] refl
 no_sizes s l a b f g = (yes _)
-
-abbrev pub IsDifferent : Mismatch → Type 0
-IsDifferent mismatches.TablesDiffer = Unit {0}
-IsDifferent mismatches.ColumnsDiffer = Unit {0}
-IsDifferent m = ⊥
-
-abbrev pub Differ : Answer Effect → Type 0
-Differ (Err m) = IsDifferent m
-Differ (Ok f) = ⊥
-
-differ_if : (b c : Bool) (m : Mismatch) (f g : Outcomes Effect) → IsDifferent m → (Differ (cond b (cond c (Ok g) (Err m)) (Ok f)) → (not b || c) ≡ false) × ((not b || c) ≡ false → Differ (cond b (cond c (Ok g) (Err m)) (Ok f)))
-differ_if true true m f g h = (λ d. absurd d, λ e. cc)
-differ_if true false m f g h = (λ d. refl, λ e. h)
-differ_if false c m f g h = (λ d. absurd d, λ e. cc)

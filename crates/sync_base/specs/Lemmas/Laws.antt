@@ -425,8 +425,8 @@ right_law s l (Change q e) (Erase o) ok i h f g =
 right_law s l (Change p e) (Change q k) ok i h f g =
     elim (eq_by_cmp path_cmp p q) as (λ b. eq_by_cmp path_cmp p q ≡ b → RightIfMet s (Change p e) (Change q k) l (rule l (Change p e) (Change q k))) [
       | true ↦ λ t.
-        let same : p ≡ q = tied_is path_exact p q t in
-        subst (RightIfMet s (Change p e) (Change q k) l) (sym (changes_there l p q e k t same))
+          let same : p ≡ q = tied_is path_exact p q t in
+          subst (RightIfMet s (Change p e) (Change q k) l) (sym (changes_there l p q e k t same))
           (subst (λ (r : CellPath). FoundCell s r k → RightIfMet s (Change p e) (Change r k) l (lifted p (rule_of_edits l e k))) same (λ g2. same_place s ok p e k l i h f g2) g)
       | false ↦ λ t. subst (RightIfMet s (Change p e) (Change q k) l) (sym (changes_apart l p q e k t)) (kept_right s ok (Change p e) (Change q k) l f g t)
     ] refl

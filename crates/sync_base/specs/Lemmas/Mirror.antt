@@ -12,13 +12,18 @@ use Rattle.sync_base.specs.Lemmas.Apart.{changes_there, changes_apart}
 use Rattle.sync_base.specs.Lemmas.Looks.{name_total, object_total, path_total, path_exact}
 use Rattle.sync_base.specs.Lemmas.Maps.{tied_is}
 use Rattle.sync_base.specs.Merged.{path_cmp, same_column, kind_rank, target_of, bit}
-use Rattle.sync_base.specs.Rules.{Answer, rule, rule_of_edits, mirrored, sized, top, spot, is_summed, lifted, kept, only_left, only_right, neither, later_of}
+use Rattle.sync_base.specs.Rules.{Answer, rule, rule_of_edits, sized, top, spot, is_summed, lifted, kept, only_left, only_right, neither, later_of}
 use Rattle.sync_base.specs.States.{object_cmp, key_rank_of, shape_rank}
 use Rattle.sync_data.specs.Orders.{name_cmp, value_cmp, value_cmp_total}
 use Rattle.sync_data.specs.Spot.{Spot}
 use Rattle.sync_data.specs.declared.value.Value.{Value}
 use Rattle.sync_data.specs.declared.column.Column.{Column}
 use Rattle.sync_base.specs.declared.answers.Mismatch.TheVariants as mismatches
+
+-- the same with the sides swapped
+abbrev pub mirrored : {A : Type 0} → Answer A → Answer A
+mirrored (Err m) = Err m
+mirrored (Ok f) = Ok (record { left = f.right; right = f.left })
 
 test_turned : {K : Type 0} {R : K → K → Ordering} → IsTotalOrder R → (x y : K) → eq_by_cmp R x y ≡ eq_by_cmp R y x
 test_turned o x y = (eq_by_cmp_equiv o).symm x y
@@ -135,10 +140,10 @@ rule_turned l (Change q e) (Erase o) = mirrored_if (eq_by_cmp object_cmp o q.0) 
 rule_turned l (Change p e) (Change q f) =
     elim (eq_by_cmp path_cmp p q) as (λ v. eq_by_cmp path_cmp p q ≡ v → rule (not l) (Change q f) (Change p e) ≡ mirrored (rule l (Change p e) (Change q f))) [
       | true ↦ λ h.
-        let same : p ≡ q = tied_is path_exact p q h in
-        changes_there (not l) q p f e (test_turned path_total q p ∙ h) (sym same)
-        ∙ ap (λ r. lifted r (rule_of_edits (not l) f e)) (sym same) ∙ ap (lifted p) (edits_turned l e f) ∙ lifted_turned p (rule_of_edits l e f)
-        ∙ ap mirrored (sym (changes_there l p q e f h same))
+          let same : p ≡ q = tied_is path_exact p q h in
+          changes_there (not l) q p f e (test_turned path_total q p ∙ h) (sym same)
+          ∙ ap (λ r. lifted r (rule_of_edits (not l) f e)) (sym same) ∙ ap (lifted p) (edits_turned l e f) ∙ lifted_turned p (rule_of_edits l e f)
+          ∙ ap mirrored (sym (changes_there l p q e f h same))
       | false ↦ λ h. changes_apart (not l) q p f e (test_turned path_total q p ∙ h) ∙ ap mirrored (sym (changes_apart l p q e f h))
     ] refl
 rule_turned l a b = refl

@@ -12,11 +12,11 @@ use Rattle.sync_base.specs.Lemmas.Cells.{same_itself}
 use Rattle.sync_base.specs.Lemmas.Laws.{right_law, RightIfMet, turned, same_rank_kind, column_same}
 use Rattle.sync_base.specs.Lemmas.Looks.{name_total, name_exact, object_total, object_exact, creates, erases}
 use Rattle.sync_base.specs.Lemmas.Maps.{tied_is}
-use Rattle.sync_base.specs.Lemmas.Mirror.{rule_turned}
+use Rattle.sync_base.specs.Lemmas.Mirror.{mirrored, rule_turned}
 use Rattle.sync_base.specs.Lemmas.Pairs.{merged-stands, has-merged}
-use Rattle.sync_base.specs.Lemmas.Steps.{Found, some_is, clash, found}
+use Rattle.sync_base.specs.Lemmas.Steps.{found, Found, some_is, clash}
 use Rattle.sync_base.specs.Merged.{touch, merged_touch, cell_or_default, merged_presence, built, is_defined, same_column, merged_state}
-use Rattle.sync_base.specs.Rules.{Outcomes, Answer, rule, mirrored}
+use Rattle.sync_base.specs.Rules.{Outcomes, Answer, rule}
 use Rattle.sync_base.specs.States.{State, Table, Cell, has, Tables, key_rank_of}
 use Rattle.sync_data.specs.Orders.{name_cmp}
 use Rattle.sync_data.specs.declared.column.Column.{Column}

@@ -146,9 +146,9 @@ raw_fits s ok so d f o c col h =
     elim (cell_at s o c) as (λ x. cell_at s o c ≡ x → CellFits (tables_after d s.tables) col (unwrap_or x (default_of col))) [
       | None ↦ λ _. default_fits (tables_after d s.tables) col.kind col.nullable col.shape (columns-after s so d f o.0 c col h).0
       | Some y ↦ λ e.
-        let old : (k : Column) × (column_in s.tables o.0 c ≡ Some k) = some_is (column_in s.tables o.0 c) (sym (ok.filled o c (cell_of_object s o c y e)) ∙ ap is_some e) in
-        let same : old.0 ≡ col = same_Some old.0 col (sym (column_stays s d f o.0 c old.0 old.1) ∙ h) in
-        cell_stays_fit s d f col y (so.fitting o c y col e (old.1 ∙ ap Some same))
+          let old : (k : Column) × (column_in s.tables o.0 c ≡ Some k) = some_is (column_in s.tables o.0 c) (sym (ok.filled o c (cell_of_object s o c y e)) ∙ ap is_some e) in
+          let same : old.0 ≡ col = same_Some old.0 col (sym (column_stays s d f o.0 c old.0 old.1) ∙ h) in
+          cell_stays_fit s d f col y (so.fitting o c y col e (old.1 ∙ ap Some same))
     ] refl
 
 check_at : (p : Column → Bool) (x : Option Column) (c : Column) → x ≡ Some c → column_check p x ≡ true → p c ≡ true
@@ -158,8 +158,8 @@ touched_fits : (s : State) (d : Effect) → Found s d → (o : ObjectName) (c : 
 touched_fits s (Change p e) f o c col x h g =
     elim (eq_by_cmp path_cmp (o, c) p) as (λ b. eq_by_cmp path_cmp (o, c) p ≡ b → CellFits s.tables col (touched (cond b (Some e) None) x)) [
       | true ↦ λ t.
-        let here : column_in s.tables p.0.0 p.1 ≡ Some col = ap (λ (q : CellPath). column_in s.tables q.0.0 q.1) (sym (tied_is path_exact (o, c) p t)) ∙ h in
-        edited_fits s.tables col e x (check_at (λ k. edit_fits s.tables k e) _ col here f.value) g
+          let here : column_in s.tables p.0.0 p.1 ≡ Some col = ap (λ (q : CellPath). column_in s.tables q.0.0 q.1) (sym (tied_is path_exact (o, c) p t)) ∙ h in
+          edited_fits s.tables col e x (check_at (λ k. edit_fits s.tables k e) _ col here f.value) g
       | false ↦ λ _. g
     ] refl
 touched_fits s (NewTable t k) f o c col x h g = g
@@ -184,6 +184,6 @@ sound-after s ok so d f = record {
   keyed = λ o h. key_stays s d f o.0 o.1 (stood_key s so d f o h);
   columns = columns-after s so d f;
   fitting = λ o c x col e h.
-    let is : Some x ≡ Some (touched (touch d (o, c)) (cell_or_default s o c col)) = sym e ∙ cell-after s ok d f o c (cell_of_object (after s d) o c x e) ∙ ap (option_map (λ k. touched (touch d (o, c)) (cell_or_default s o c k))) h in
-    subst (CellFits (tables_after d s.tables) col) (sym (same_Some x _ is)) (touched_fits s d f o c col (cell_or_default s o c col) h (raw_fits s ok so d f o c col h));
+      let is : Some x ≡ Some (touched (touch d (o, c)) (cell_or_default s o c col)) = sym e ∙ cell-after s ok d f o c (cell_of_object (after s d) o c x e) ∙ ap (option_map (λ k. touched (touch d (o, c)) (cell_or_default s o c k))) h in
+      subst (CellFits (tables_after d s.tables) col) (sym (same_Some x _ is)) (touched_fits s d f o c col (cell_or_default s o c col) h (raw_fits s ok so d f o c col h));
 }
