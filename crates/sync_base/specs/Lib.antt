@@ -1,0 +1,10 @@
+pub mod Maps
+pub mod Effects
+pub mod States
+pub mod After
+pub mod Checks
+pub mod Merged
+pub mod Codes
+pub mod Rules
+pub mod Agreement
+pub mod Lemmas

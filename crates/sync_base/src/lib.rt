@@ -1,0 +1,20 @@
+//! Definitions of state, instruction and merge, with their laws, and the plain types.
+#![tactic(auto)]
+
+mod act;
+mod answers;
+mod meets;
+mod same;
+
+pub use act::Act;
+pub use answers::{Break, Mismatch, Outcome};
+pub use meets::{Meets, keep_both, keep_left, keep_neither, keep_right};
+pub use same::{
+    same_cell, same_columns, same_key_kind, same_name, same_object, same_text_key, same_value,
+};
+pub use sync_data::{
+    AddColumn, AddInteger, AddTable, BadPlace, BadTime, Between, Blob, CellName, Changeset, Clear,
+    Column, CreateObject, DictUpdate, Entry, EraseObject, Id, Ident, Inside, Instr, Key, KeyKind,
+    KeyRefusal, KeyText, Kind, ListErase, ListInsert, ListUpdate, Listed, Name, NameRefusal,
+    NoMemory, SetErase, SetInsert, Shape, Stamp, Text, Time, TooLarge, Update, Value,
+};

@@ -1,0 +1,5 @@
+pub mod Spot
+pub mod Times
+pub mod Stamps
+pub mod Orders
+pub mod Payload
