@@ -13,7 +13,7 @@ take_past n p rest h = ap (λ m. take m (p ++ rest)) (let e : n ≡ length p + (
 pub input_step : (taken : ℕ) (held p rest : List ℕ) → taken + length p ≤ max_input → input_ahead (taken + length p) (held ++ p) rest ≡ input_ahead taken held (p ++ rest)
 input_step taken held p rest h =
     let same : (held ++ p) ++ take (max_input - (taken + length p)) rest ≡ held ++ take (max_input - taken) (p ++ rest) =
-        append_assoc held p _ ∙ ap (λ x. held ++ x) (ap (λ n. p ++ take n rest) (omega arith) ∙ sym (take_past (max_input - taken) p rest (omega arith))) in
+    append_assoc held p _ ∙ ap (λ x. held ++ x) (ap (λ n. p ++ take n rest) (omega arith) ∙ sym (take_past (max_input - taken) p rest (omega arith))) in
     let count : taken + length p + length rest ≡ taken + length (p ++ rest) = omega (arith, length-append p rest) in
     λ i. record { ahead = same i; is_cut = nat_le max_input (count i) }
 
@@ -26,7 +26,7 @@ pub read_and_left : (n place : ℕ) (bytes into : List ℕ) → n ≤ length (dr
 read_and_left n place bytes into h =
     let long : length (take n (drop place bytes)) ≡ n = length-take-le n (drop place bytes) h in
     let front : take n (take n (drop place bytes) ++ drop n into) ≡ take n (drop place bytes) =
-        ap (λ m. take m (take n (drop place bytes) ++ drop n into)) (sym long) ∙ take-append_seam (take n (drop place bytes)) (drop n into) in
+    ap (λ m. take m (take n (drop place bytes) ++ drop n into)) (sym long) ∙ take-append_seam (take n (drop place bytes)) (drop n into) in
     let back : drop n (drop place bytes) ≡ drop (place + n) bytes = grind (arith, common_steps) in
     sym (take-append-drop n (drop place bytes)) ∙ (λ i. sym front i ++ back i)
 

@@ -27,8 +27,8 @@ readings_to_feed taken held (Some bytes) place e h small =
     let cut = nat_le max_input (taken + length bytes) in
     let inside : feed_place held < length held = omega arith in
     ap Some (line_to_feed cut [] held more inside
-      ∙ ap (λ n. given (take n held) (reading_from cut [] (drop (n + 1) held ++ more))) (sym e)
-      ∙ short_given (take place held) _ (omega (arith, length-take-le place held (omega arith))))
+    ∙ ap (λ n. given (take n held) (reading_from cut [] (drop (n + 1) held ++ more))) (sym e)
+    ∙ short_given (take place held) _ (omega (arith, length-take-le place held (omega arith))))
 
 -- no line feed for too long
 pub readings_too_long : (taken : ℕ) (held : List ℕ) (left : Option (List ℕ)) → max_line < feed_place held → IfSome (readings taken held left) (λ reading. reading ≡ Ends AtLongLine)
@@ -69,7 +69,7 @@ pub readings_last : (taken : ℕ) (held rest : List ℕ) (left : Option (List �
 readings_last taken held rest None whole some small none h e = refl
 readings_last taken held rest (Some bytes) whole some small none h e =
     ap Some (ap (λ b. reading_of (input_ahead taken held b)) none ∙ at_end taken held whole h ∙ short_last held some small
-      ∙ ap (Gives held) (sym (ap (λ b. reading_of (input_ahead taken b bytes)) e ∙ ap (λ b. reading_of (input_ahead taken [] b)) none ∙ at_end taken [] refl h)))
+    ∙ ap (Gives held) (sym (ap (λ b. reading_of (input_ahead taken b bytes)) e ∙ ap (λ b. reading_of (input_ahead taken [] b)) none ∙ at_end taken [] refl h)))
 
 -- so many bytes were read that no more are
 pub readings_full : (taken : ℕ) (held : List ℕ) (left : Option (List ℕ)) → feed_place held ≡ length held → length held ≤ max_line → taken ≡ max_input → IfSome (readings taken held left) (λ reading. reading ≡ Ends AtLimit)
@@ -93,8 +93,8 @@ pub refused_counts : (refusal : ReadRefusal) (now : Taken) (left : Option (List 
 refused_counts refusals.TooLong now left lines found few most = (refl, omega (arith, feed_within now.held))
 refused_counts refusals.Failed now left lines found few most = refl
 refused_counts refusals.NoMemory now left lines found few most = refl
-refused_counts refusals.Cut now left lines found few most = refl
-refused_counts refusals.InputTooLong now left lines found few most = refl
+refused_counts refusals.Cut now left lines found few most = found
+refused_counts refusals.InputTooLong now left lines found few most = absurd found
 
 pub empty_of_length : (l : List ℕ) → length l ≡ 0 → l ≡ []
 empty_of_length [] e = refl

@@ -4,7 +4,7 @@ use Rattle.std.specs.Option.{option_map}
 use Rattle.std.specs.declared.alloc.Global.{Global}
 use Rattle.sync_io.specs.declared.refusal.ReadRefusal.{ReadRefusal}
 use Rattle.sync_io.specs.declared.refusal.ReadRefusal.TheVariants as refusals
-use Rattle.sync_io.specs.Input.{input_of}
+use Rattle.sync_io.specs.Input.{input_of, max_input}
 use Rattle.sync_io.specs.Reading.{Reading, Ends, Gives, AtEnd, AtLongLine, AtLimit, reading_of}
 
 -- the bytes that were read and not handed out, how many were read in all, how many lines were handed out, and the refusal that the reader keeps to
@@ -31,13 +31,15 @@ AnswersLine (Err refusals.Cut) old new = ⊥
 AnswersLine (Err refusals.Failed) old new = Unit {0}
 AnswersLine (Err refusals.NoMemory) old new = Unit {0}
 
--- Fewer lines were handed out than bytes.
-abbrev pub IsCounted : ℕ → List ℕ → ℕ → Type 0
-IsCounted lines held taken = lines + length held ≤ taken
+-- Fewer lines were handed out than bytes, of which no more than the limit were read.
+pub record IsCounted (lines : ℕ) (held : List ℕ) (taken : ℕ) : Type 0 where
+  pub fewer : lines + length held ≤ taken
+  pub most : taken ≤ max_input
 
 -- how many lines were handed out, of which one that isn't empty has a number below 2^32
 abbrev pub CountsLine : Result (Option (Vec ℕ Global)) ReadRefusal → ℕ → ℕ → Type 0
 CountsLine (Ok None) old new = new ≡ old
 CountsLine (Ok (Some line)) old new = (new ≡ old + 1) × (0 < length line.items → new < 4294967296)
 CountsLine (Err refusals.TooLong) old new = (new ≡ old) × (old + 1 < 4294967296)
+CountsLine (Err refusals.Cut) old new = ⊥
 CountsLine (Err refusal) old new = new ≡ old

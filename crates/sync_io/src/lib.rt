@@ -16,6 +16,7 @@ mod std_sink;
 mod std_source;
 mod writing;
 
+pub use line_reader::LineReader;
 pub use memory::NoMemory;
 pub use memory_sink::MemorySink;
 pub use memory_source::MemorySource;

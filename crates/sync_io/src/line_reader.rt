@@ -5,8 +5,8 @@ ghost use Rattle.sync_io.specs.Reading.{feed_place, line_feed};
 ghost use Rattle.sync_io.specs.Found.{FindsEnd, KeepsInput};
 ghost use Rattle.sync_io.specs.Readers.{AnswersLine, CountsLine, readings_of};
 
-use super::found::Found;
 use super::fill::Fill;
+use super::found::Found;
 use super::intake::Intake;
 use super::memory::NoMemory;
 use super::refusal::ReadRefusal;
@@ -117,6 +117,7 @@ impl LineReader {
         ensures reads { self.old.refused ≡ None → AnswersLine result
             (readings_of self.old (S.left source.old)) (readings_of self.new (S.left source.new)) }
         ensures counts { self.old.refused ≡ None → CountsLine result self.old.lines self.new.lines }
+        ensures few { self.new.lines ≤ max_input }
 
         // A refusal is kept to, and then nothing is read.
         ensures ok { OnOk result ((self.old.refused ≡ None) × (self.new.refused ≡ None)) }
@@ -146,6 +147,7 @@ impl LineReader {
         ensures reads { AnswersLine result (readings_of self.old (S.left source.old))
             (readings_of self.new (S.left source.new)) }
         ensures counts { CountsLine result self.old.lines self.new.lines }
+        ensures few { self.new.lines ≤ max_input }
         ensures refused { self.new.refused ≡ None }
         ensures faults { S.faults source.old ≤ S.faults source.new }
         ensures cause { result ≡ Err ReadRefusal.Failed

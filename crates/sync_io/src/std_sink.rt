@@ -16,7 +16,6 @@ impl<W: Write> StdSink<W> {
     {
         StdSink { inner, faults: 0 }
     }
-
 }
 
 impl<W: Write> Sink for StdSink<W> {

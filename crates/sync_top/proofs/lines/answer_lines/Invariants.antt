@@ -1,0 +1,21 @@
+use Rattle.std.proofs.Common.{◌≡◌, ◌-◌, ◌≤◌, List, ℕ, None}
+use Rattle.std.specs.Option.{option_map}
+use Rattle.sync_io.specs.Devices.{Took}
+use Rattle.sync_io.specs.Input.{max_input}
+use Rattle.sync_io.specs.Readers.{readings_of}
+use Rattle.sync_top.specs.Runs.{runs, onto}
+use Rattle.sync_top.proofs.lines.answer_lines.Given as goal
+
+abbrev pub invariant-lines : goal.invariant-lines
+invariant-lines g l = record {
+  text : (text : List ℕ) × Took text (g.K.Sink.taken l.initial.sink) (g.K.Sink.taken l.sink)
+      × (runs g.C.Command.answers g.C.Command.report 0 (readings_of l.initial.reader (g.S.Source.left l.initial.source)) l.initial.command
+      ≡ option_map (onto text) (runs g.C.Command.answers g.C.Command.report l.number (readings_of l.reader (g.S.Source.left l.source)) l.command));
+  counted : l.number ≡ l.reader.lines;
+  fresh : l.reader.refused ≡ None;
+  source_faults : g.S.Source.faults l.initial.source ≤ g.S.Source.faults l.source;
+  sink_faults : g.K.Sink.faults l.initial.sink ≤ g.K.Sink.faults l.sink;
+}
+
+abbrev pub decreases-lines : goal.decreases-lines
+decreases-lines g l = max_input - l.number
