@@ -27,3 +27,6 @@ pub use status::Status;
 pub use std_sink::StdSink;
 pub use std_source::StdSource;
 pub use writing::write_all;
+
+#[cfg(test)]
+mod tests;

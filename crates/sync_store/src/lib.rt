@@ -1,0 +1,13 @@
+//! The object store of the first path: tables with integer keys, columns of integers.
+#![tactic(auto)]
+
+mod names;
+mod refusals;
+mod standing;
+mod store;
+
+
+pub use names::{CellPath, ColumnName, ObjectName};
+pub use refusals::{AllRefusal, ApplyRefusal};
+pub use store::Store;
+
