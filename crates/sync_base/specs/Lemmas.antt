@@ -4,6 +4,7 @@ pub mod Apart
 pub mod Cells
 pub mod Defined
 pub mod Edits
+pub mod Equal
 pub mod Frame
 pub mod Laws
 pub mod Leaves
@@ -12,6 +13,7 @@ pub mod Maps
 pub mod Mirror
 pub mod Pairs
 pub mod Places
+pub mod Reads
 pub mod Rows
 pub mod Shaped
 pub mod Sides

@@ -3,11 +3,16 @@
 
 mod act;
 mod answers;
+mod laws;
 mod meets;
 mod same;
 
 pub use act::Act;
 pub use answers::{Break, Mismatch, Outcome};
+pub use laws::{
+    both_orders_agree, definitions_differ, effects_tell, frames_hold, sizes_fit, states_stay,
+    table_is_mirrored, tests_tell,
+};
 pub use meets::{Meets, keep_both, keep_left, keep_neither, keep_right};
 pub use same::{
     same_cell, same_columns, same_key_kind, same_name, same_object, same_text_key, same_value,
