@@ -15,7 +15,7 @@ use Rattle.sync_data.specs.declared.column.Column.{Column}
 use Rattle.sync_data.specs.declared.instr.Instr.{Instr}
 use Rattle.sync_base.specs.Effects.{effect_of, ObjectName, CellPath, Edit, Effect, Set, Add, Replace, Insert, Remove, NewTable, NewColumn, Create, Erase, Change, Empty}
 use Rattle.sync_base.specs.Maps.{map_with}
-use Rattle.sync_base.specs.States.{State, Table, Tables, Cell, One, Many, Members, Dict, object_cmp, cell_at, key_rank_of, shape_rank}
+use Rattle.sync_base.specs.States.{State, Tables, Cell, One, Many, Members, Dict, object_cmp, cell_at, key_rank_of, shape_rank}
 use Rattle.sync_base.specs.After.{edited, added, sum64, default_of, tables_after}
 
 -- cells by object and then column

@@ -6,6 +6,8 @@ mod answers;
 mod laws;
 mod meets;
 mod same;
+#[cfg(test)]
+mod tests;
 
 pub use act::Act;
 pub use answers::{Break, Mismatch, Outcome};

@@ -1,16 +1,16 @@
 -- The first check that fails, worked out on the state of `Setting`.
-use Rattle.std.specs.Prelude.{◌≡◌, ℕ, pos, Bool, true, false, List, [], ◌∷◌, None, Some, refl}
+use Rattle.std.specs.Prelude.{◌≡◌, pos, true, false, [], None, Some, refl}
 use Rattle.sync_data.specs.declared.key.Key.TheVariants as keys
 use Rattle.sync_data.specs.declared.key.KeyKind.TheVariants as key_kinds
 use Rattle.sync_data.specs.declared.value.Value.TheVariants as values
 use Rattle.sync_data.specs.declared.column.Kind.TheVariants as kinds
 use Rattle.sync_data.specs.declared.column.Shape.TheVariants as shapes
 use Rattle.sync_base.specs.declared.answers.Break.TheVariants as breaks
-use Rattle.sync_base.specs.Effects.{Set, Add, Replace, Insert, Remove, Include, Exclude, Bind, Empty, NewTable, NewColumn, Create, Erase, Change}
+use Rattle.sync_base.specs.Effects.{Set, Add, Replace, Insert, Remove, Include, Bind, Empty, NewTable, NewColumn, Create, Erase, Change}
 use Rattle.sync_base.specs.States.{no_state}
 use Rattle.sync_base.specs.Checks.{break_of, act_effect}
 use Rattle.sync_base.specs.Rules.{spot}
-use Rattle.sync_base.proofs.Examples.Setting.{t, n, m, s, l, u, k, d, z, a, int, object, path, column, n_column, here, looks}
+use Rattle.sync_base.proofs.Examples.Setting.{t, n, s, l, u, k, d, z, a, int, object, path, column, n_column, here, looks}
 
 -- ---- tables and columns
 first_table : break_of no_state (NewTable t key_kinds.Int) ≡ None

@@ -1,5 +1,5 @@
 -- Merged states, worked out on the state of `Setting`: n is 0, l is ["x", "y"], s and m are null, u and d are empty.
-use Rattle.std.specs.Prelude.{◌≡◌, ℕ, pos, negsuc, Bool, true, false, cond, List, [], ◌∷◌, is_some, Option, None, Some, refl}
+use Rattle.std.specs.Prelude.{◌≡◌, ℕ, pos, Bool, true, false, List, [], ◌∷◌, Option, None, Some, refl}
 use Rattle.std.specs.Option.{option_map}
 use Rattle.std.specs.Int.{w64}
 use Rattle.std.specs.FinMap as map
@@ -7,16 +7,14 @@ use Rattle.std.specs.FinSet as set
 use Rattle.std.proofs.Common.{sym, ◌∙◌, ap, lit<}
 use Rattle.std.proofs.lemmas.Int.{wrapping_add_is}
 use Rattle.sync_data.specs.declared.key.KeyKind.TheVariants as key_kinds
-use Rattle.sync_data.specs.declared.value.Value.{Value}
 use Rattle.sync_data.specs.declared.value.Value.TheVariants as values
-use Rattle.sync_data.specs.declared.column.Column.{Column}
-use Rattle.sync_base.specs.Effects.{ObjectName, CellPath, Edit, Effect, Set, Add, Replace, Insert, Remove, Include, Exclude, Bind, Empty, NewTable, NewColumn, Create, Erase, Change, instr_of}
-use Rattle.sync_base.specs.States.{State, Cell, One, Many, Members, Dict, has, cell_at, column_in}
-use Rattle.sync_base.specs.After.{sum64, tables_after, edited}
+use Rattle.sync_base.specs.Effects.{CellPath, Edit, Set, Add, Insert, Remove, Include, Exclude, Bind, Empty, NewTable, Create, Erase, Change, instr_of}
+use Rattle.sync_base.specs.States.{Cell, One, Many, Members, Dict, has, cell_at, column_in}
+use Rattle.sync_base.specs.After.{sum64}
 use Rattle.sync_base.specs.Merged.{merge, merged_state, merged_touch, touch, cell_or_default}
 use Rattle.sync_base.specs.Rules.{spot}
 use Rattle.sync_base.specs.Lemmas.Pairs.{stands, merged-stands, cell-merged}
-use Rattle.sync_base.proofs.Examples.Setting.{t, n, m, s, l, u, k, d, z, a, b, x, y, int, object, path, n_column, here, looks}
+use Rattle.sync_base.proofs.Examples.Setting.{t, n, m, l, u, d, z, a, b, x, y, int, object, path, here, looks}
 
 -- ---- one cell of the merged state of two effects that change cells of object 1
 of_cells : (p q : CellPath) (e f : Edit) (later : Bool) (c : List ℕ) → stands here (Change p e) (Change q f) (object 1) ≡ true
@@ -49,6 +47,7 @@ two_additions_are_added =
   where
     two : sum64 (pos 0) (pos 2) ≡ pos 2
     two = sym (wrapping_add_is w64 (pos 0) (pos 2) (record { sfits = lit< tt }) (record { sfits = lit< tt }))
+
     summed : sum64 (pos 2) (pos 1) ≡ pos 3
     summed = sym (wrapping_add_is w64 (pos 2) (pos 1) (record { sfits = lit< tt }) (record { sfits = lit< tt }))
 

@@ -1,5 +1,5 @@
 -- Each row of the rule table, worked out. Places and sizes are written place/size.
-use Rattle.std.specs.Prelude.{◌≡◌, ℕ, pos, negsuc, Bool, true, false, List, [], ◌∷◌, Option, None, Some, Result, Ok, Err, refl}
+use Rattle.std.specs.Prelude.{◌≡◌, ℕ, pos, negsuc, true, false, List, None, Some, Result, Ok, Err, refl}
 use Rattle.std.specs.Int.{w64}
 use Rattle.std.proofs.Common.{sym, ap, lit<}
 use Rattle.std.proofs.lemmas.Int.{wrapping_add_is}
@@ -17,7 +17,7 @@ use Rattle.sync_base.specs.declared.answers.Mismatch.TheVariants as mismatches
 use Rattle.sync_base.specs.declared.answers.Outcome.{Outcome}
 use Rattle.sync_base.specs.After.{sum64}
 use Rattle.sync_base.specs.Rules.{meeting, spot}
-use Rattle.sync_base.proofs.Examples.Setting.{t, n, m, s, l, u, k, d, z, a, b, x, y, int, cell, column, n_column, s_column}
+use Rattle.sync_base.proofs.Examples.Setting.{t, n, m, l, u, d, z, a, b, int, cell, column, n_column, s_column}
 
 -- ---- the instructions of the examples
 abbrev new_table : KeyKind → Instr

@@ -1,19 +1,16 @@
 -- The first transaction of an exchange: a table with six columns and one object, from the empty state.
-use Rattle.std.specs.Prelude.{◌≡◌, ℕ, pos, Bool, true, false, cond, List, [], ◌∷◌, is_some, Option, None, Some, refl}
+use Rattle.std.specs.Prelude.{◌≡◌, ℕ, false, cond, List, [], ◌∷◌, Option, None, Some, refl}
 use Rattle.std.specs.Option.{option_and_then}
 use Rattle.std.specs.FinMap as map
 use Rattle.std.specs.FinSet as set
-use Rattle.std.proofs.Common.{sym, ◌∙◌, ap}
-use Rattle.sync_data.specs.Orders.{name_cmp}
-use Rattle.sync_data.specs.declared.key.Key.TheVariants as keys
+use Rattle.std.proofs.Common.{◌∙◌, ap}
 use Rattle.sync_data.specs.declared.key.KeyKind.TheVariants as key_kinds
 use Rattle.sync_data.specs.declared.value.Value.TheVariants as values
 use Rattle.sync_data.specs.declared.column.Column.{Column}
 use Rattle.sync_data.specs.declared.instr.Instr.{Instr}
-use Rattle.sync_data.specs.declared.instr.Instr.TheVariants as instrs
-use Rattle.sync_base.specs.Effects.{Effect, NewTable, NewColumn, Create, effect_of, instr_of}
-use Rattle.sync_base.specs.States.{State, Table, Tables, Cells, One, Many, Members, no_state, object_cmp, has, cell_at, column_in}
-use Rattle.sync_base.specs.After.{after, with_column, with_default, new_cells, tables_after}
+use Rattle.sync_base.specs.Effects.{NewTable, NewColumn, Create, instr_of}
+use Rattle.sync_base.specs.States.{State, Table, Tables, One, Many, Members, no_state, has, cell_at, column_in}
+use Rattle.sync_base.specs.After.{with_column, with_default, new_cells, tables_after}
 use Rattle.sync_base.specs.Maps.{map_with}
 use Rattle.sync_base.specs.Checks.{act, act_all, Acts}
 use Rattle.sync_base.specs.Lemmas.Places.{acting}

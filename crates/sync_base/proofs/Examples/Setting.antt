@@ -1,11 +1,10 @@
 -- A table `t` of numbered objects with a column of each shape, its object 1, and what is looked up in it.
-use Rattle.std.specs.Prelude.{◌≡◌, ℕ, pos, Bool, true, false, cond, List, [], ◌∷◌, Option, None, Some}
+use Rattle.std.specs.Prelude.{◌≡◌, ℕ, pos, Bool, true, false, cond, List, [], ◌∷◌, None, Some}
 use Rattle.std.specs.Option.{option_map}
 use Rattle.std.specs.Ordering.{eq_by_cmp}
 use Rattle.std.specs.FinMap as map
 use Rattle.std.specs.FinSet as set
 use Rattle.sync_data.specs.Orders.{name_cmp}
-use Rattle.sync_data.specs.declared.key.Key.{Key}
 use Rattle.sync_data.specs.declared.key.Key.TheVariants as keys
 use Rattle.sync_data.specs.declared.key.KeyKind.TheVariants as key_kinds
 use Rattle.sync_data.specs.declared.value.Value.{Value}

@@ -1,9 +1,7 @@
 -- The tests of the rule table tell equality.
 use Rattle.std.specs.Prelude.{◌≡◌, ◌↔◌, ℕ, Bool, true, false, cond, ◌&&◌, ◌==◌, List, refl}
-use Rattle.std.specs.Ordering.{eq_by_cmp}
 use Rattle.std.proofs.Common.{sym, ◌∙◌, ap}
 use Rattle.std.proofs.lemmas.Bool.{eqb-true, eq-eqb}
-use Rattle.sync_data.specs.Orders.{name_cmp}
 use Rattle.sync_data.specs.declared.key.KeyKind.{KeyKind}
 use Rattle.sync_data.specs.declared.key.KeyKind.TheVariants as key_kinds
 use Rattle.sync_data.specs.declared.column.Kind.{Kind}

@@ -6,14 +6,13 @@ use Rattle.std.specs.FinMap as map
 use Rattle.std.proofs.Common.{sym, ◌∙◌, ap}
 use Rattle.sync_base.specs.After.{after, with_column, with_default, new_cells}
 use Rattle.sync_base.specs.Checks.{is_prior}
-use Rattle.sync_base.specs.Effects.{ObjectName, CellPath, Edit, Effect, NewTable, NewColumn, Create, Erase, Change}
+use Rattle.sync_base.specs.Effects.{Edit, Effect, NewTable, NewColumn, Create, Erase, Change}
 use Rattle.sync_base.specs.Lemmas.Cells.{column-after, got_default, got_edited, touched, map_itself}
 use Rattle.sync_base.specs.Lemmas.Looks.{name_total, name_exact, object_total, object_exact, has-after}
 use Rattle.sync_base.specs.Lemmas.Maps.{tied_is, get-map_with}
 use Rattle.sync_base.specs.Lemmas.Steps.{Found}
-use Rattle.sync_base.specs.Merged.{path_cmp}
 use Rattle.sync_base.specs.Footprints.{Part, TableAt, ColumnAt, ObjectAt, CellAt, SameAt, changes}
-use Rattle.sync_base.specs.States.{State, Table, Cell, Cells, object_cmp, column_in, has, cell_at}
+use Rattle.sync_base.specs.States.{State, Table, Cell, Cells, column_in, has, cell_at}
 use Rattle.sync_data.specs.Orders.{name_cmp}
 
 pub when_false : {A : Type 0} (b : Bool) (x y : A) → b ≡ false → cond b x y ≡ y

@@ -14,16 +14,16 @@ use Rattle.sync_data.specs.declared.column.Column.{Column}
 use Rattle.sync_data.specs.declared.instr.Instr.{Instr}
 use Rattle.sync_base.specs.declared.answers.Break.TheVariants as breaks
 use Rattle.sync_base.specs.Effects.{ObjectName, CellPath, Edit, Effect, Set, Add, Replace, Insert, Remove, Include, Exclude, Bind, Empty, NewTable, NewColumn, Create, Erase, Change, effect_of}
-use Rattle.sync_base.specs.States.{State, Table, Cell, Cells, object_cmp, column_in, has, cell_at, is_of_kind, is_key_of, is_of, is_null, fits, shape_rank, is_sound_column, has_target}
+use Rattle.sync_base.specs.States.{State, Table, Cells, object_cmp, column_in, has, cell_at, is_of_kind, is_key_of, is_of, is_null, fits, shape_rank, is_sound_column, has_target}
 use Rattle.sync_base.specs.After.{after, default_of, with_default, new_cells}
-use Rattle.sync_base.specs.Checks.{act, break_of, first_failed, checks, column_check, has_shape, edit_fits, is_prior}
-use Rattle.sync_base.specs.Merged.{path_cmp, touch}
-use Rattle.sync_base.specs.Footprints.{Part, TableAt, ColumnAt, ObjectAt, CellAt, SameAt, changes, reads, value_reads, edit_reads, kind_reads, AlikeFor, Framed}
-use Rattle.sync_base.specs.Lemmas.Maps.{tied_is, get-map_with}
-use Rattle.sync_base.specs.Lemmas.Looks.{name_total, name_exact, object_total, object_exact, path_total, has-after}
+use Rattle.sync_base.specs.Checks.{break_of, first_failed, column_check, has_shape, edit_fits, is_prior}
+use Rattle.sync_base.specs.Merged.{touch}
+use Rattle.sync_base.specs.Footprints.{Part, TableAt, ColumnAt, ObjectAt, CellAt, SameAt, changes, value_reads, edit_reads, kind_reads, AlikeFor, Framed}
+use Rattle.sync_base.specs.Lemmas.Maps.{get-map_with}
+use Rattle.sync_base.specs.Lemmas.Looks.{name_total, object_total, object_exact, path_total, has-after}
 use Rattle.sync_base.specs.Lemmas.Cells.{same_itself, column-after, got_default, got_edited, got_new, touched}
 use Rattle.sync_base.specs.Lemmas.Steps.{Found, found}
-use Rattle.sync_base.specs.Lemmas.Places.{Acted, acted}
+use Rattle.sync_base.specs.Lemmas.Places.{acted}
 use Rattle.sync_base.specs.Lemmas.Frame.{unchanged, cell_there}
 
 when_true : {A : Type 0} (b : Bool) (x y : A) → b ≡ true → cond b x y ≡ x

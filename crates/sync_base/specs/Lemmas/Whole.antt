@@ -1,5 +1,5 @@
 -- The laws of instructions, from those of their effects.
-use Rattle.std.specs.Prelude.{◌≡◌, ◌↔◌, ◌⊎◌, Bool, true, false, not, if◌then◌else◌, List, is_some, Option, None, Some, IsSome, IfOk, Ok, Err, refl}
+use Rattle.std.specs.Prelude.{◌≡◌, ◌↔◌, ◌⊎◌, Bool, true, false, if◌then◌else◌, is_some, Option, None, Some, IfOk, Ok, Err, refl}
 use Rattle.std.specs.Option.{option_map, option_map_or, option_and_then}
 use Rattle.std.specs.FinMap as map
 use Rattle.std.proofs.Common.{sym, ◌∙◌, ap, subst, inl, inr}
@@ -7,22 +7,21 @@ use Rattle.sync_data.specs.Orders.{name_cmp}
 use Rattle.sync_data.specs.declared.key.Key.{Key}
 use Rattle.sync_data.specs.declared.instr.Instr.{Instr}
 use Rattle.sync_data.specs.declared.instr.Instr.TheVariants as instrs
-use Rattle.sync_base.specs.declared.answers.Outcome.{Outcome}
 use Rattle.sync_base.specs.Effects.{Effect, Set, Add, Replace, Insert, Remove, Include, Exclude, Bind, Empty, NewTable, NewColumn, Create, Erase, Change, effect_of, instr_of}
-use Rattle.sync_base.specs.States.{State, Table, Tables, Cells, object_cmp, no_state, has, is_of_kind, is_key_of, IsState}
+use Rattle.sync_base.specs.States.{State, Table, Cells, object_cmp, no_state, is_of_kind, IsState}
 use Rattle.sync_base.specs.After.{after}
 use Rattle.sync_base.specs.Checks.{act, act_effect}
 use Rattle.sync_base.specs.Merged.{merge, merged_state, is_defined}
-use Rattle.sync_base.specs.Rules.{Answer, Outcomes, rule, outcome_of, meeting}
+use Rattle.sync_base.specs.Rules.{Answer, Outcomes, rule, outcome_of}
 use Rattle.sync_base.specs.Agreement.{act_rest, Agree, TwoSided, Mirrored, Differ, SizesFit}
 use Rattle.sync_base.specs.Agreement as agreement
-use Rattle.sync_base.specs.Lemmas.Shaped.{IsShaped, IsEffect}
+use Rattle.sync_base.specs.Lemmas.Shaped.{IsShaped}
 use Rattle.sync_base.specs.Lemmas.Sound.{IsSound, sound-after}
 use Rattle.sync_base.specs.Lemmas.Steps.{found, state-after}
 use Rattle.sync_base.specs.Lemmas.Agreed.{after_outcome, ActsOutcome, AgreesIfMet}
 use Rattle.sync_base.specs.Lemmas.Mirror.{mirrored, rule_turned}
 use Rattle.sync_base.specs.Lemmas.Leaves.{listed, AreEffects, leaves}
-use Rattle.sync_base.specs.Lemmas.Places.{Acted, acted, acting}
+use Rattle.sync_base.specs.Lemmas.Places.{acted, acting}
 use Rattle.sync_base.specs.Lemmas.Sides.{two_sided}
 use Rattle.sync_base.specs.declared.answers.Mismatch.TheVariants as mismatches
 use Rattle.sync_base.specs.Lemmas.Answers.{NoSizes, no_sizes}
