@@ -1,0 +1,2 @@
+//! Merging, over any instructions and states.
+#![tactic(auto)]
