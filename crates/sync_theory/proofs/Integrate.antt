@@ -1,7 +1,7 @@
 -- The server integrates a change.
 use Rattle.std.proofs.Common.{◌≡◌, ◌≢◌, ◌⊎◌, inl, inr, ⊎_elim, ℕ, suc, ◌<◌, ◌≤◌, List, [], ◌∷◌, ◌++◌, Option, Some, refl, sym, ap, ◌∙◌, subst, ap₂, append-nil, append_assoc, ◌==◌, arith, le_refl}
 use Rattle.sync_theory.specs.Lists.{and_then, run}
-use Rattle.sync_theory.specs.Grid.{Meet, SetsLaw, over, carried, head, follow, pend, hist, past, ok_entry, Carried, with_one, state_at, before}
+use Rattle.sync_theory.specs.Grid.{Meet, SetsLaw, rebase, rebased, head, pending_after, pending, history, past, ok_entry, Carried, with_change, state_at, pending_before}
 use Rattle.sync_theory.specs.World.{World, put_at, rest_at, integrate, LogGood, ClientGood}
 use Rattle.sync_theory.proofs.Agree.{then_gives}
 use Rattle.sync_theory.proofs.Grid.{Whole, pend_local, Further, pend_more, trail}
@@ -9,8 +9,8 @@ use Rattle.sync_theory.proofs.Server.{test_true, test_false, if_so, if_not, with
 use Rattle.sync_theory.proofs.Converge.{pend_acts}
 use Rattle.sync_theory.proofs.World.{same_or_not, by_client, put_same, put_other, left_nil, le_or_lt, state_same, before_same, past_same, whole, state_made}
 
-hist_local : {X E : Type 0} (meet : Meet X E) (o1 o2 : ℕ → ℕ) (m : ℕ → ℕ → List X) (k : ℕ) → ((j : ℕ) → j ≤ k → o1 j ≡ o2 j) → hist meet m o1 k ≡ hist meet m o2 k
-hist_local meet o1 o2 m k os = ap head (ap (λ d. pend meet m o1 k d) (os k (le_refl k)) ∙ pend_local meet o1 o2 m m k (λ j h. os j (omega arith)) (λ c j h. refl) (o2 k))
+hist_local : {X E : Type 0} (meet : Meet X E) (o1 o2 : ℕ → ℕ) (m : ℕ → ℕ → List X) (k : ℕ) → ((j : ℕ) → j ≤ k → o1 j ≡ o2 j) → history meet m o1 k ≡ history meet m o2 k
+hist_local meet o1 o2 m k os = ap head (ap (λ d. pending meet m o1 k d) (os k (le_refl k)) ∙ pend_local meet o1 o2 m m k (λ j h. os j (omega arith)) (λ c j h. refl) (o2 k))
 
 not_nil : {X : Type 0} (x : X) (xs ys zs : List X) → zs ≡ [] → zs ≡ xs ++ (x ∷ ys) → ⊥
 not_nil x [] ys zs e f = cc
@@ -21,7 +21,7 @@ module _ {X S E : Type 0} (act : X → S → Option S) (empty : S) (meet : Meet 
   n = w.len
 
   abbrev pub sm : ℕ → ℕ → List X
-  sm = with_one w.integrated c0 b o
+  sm = with_change w.integrated c0 b o
 
   abbrev pub o2 : ℕ → ℕ
   o2 = put_at n c0 w.origin
@@ -72,17 +72,17 @@ module _ {X S E : Type 0} (act : X → S → Option S) (empty : S) (meet : Meet 
   pub wh : Whole meet w.integrated w.origin w.len
   wh = whole act empty meet w g
 
-  i_next : hist meet sm o2 n ≡ Some x
+  i_next : history meet sm o2 n ≡ Some x
   i_next = next_entry meet w.integrated w.origin c0 b n o i_le last o2 same here wh (g.settled c0) r
 
-  i_earlier : (k : ℕ) → k < n → hist meet sm o2 k ≡ hist meet w.integrated w.origin k
+  i_earlier : (k : ℕ) → k < n → history meet sm o2 k ≡ history meet w.integrated w.origin k
   i_earlier k h = earlier_entries meet w.integrated w.origin c0 b n o i_le last o2 same wh k h
 
-  i_whole : (k : ℕ) → k < suc n → hist meet sm o2 k ≡ Some (put_at n x w.entries k)
+  i_whole : (k : ℕ) → k < suc n → history meet sm o2 k ≡ Some (put_at n x w.entries k)
   i_whole k h = i_whole_at (same_or_not k n)
     where
-      i_whole_at : (k ≡ n) ⊎ (k ≢ n) → hist meet sm o2 k ≡ Some (put_at n x w.entries k)
-      i_whole_at (inl is) = subst (λ j. hist meet sm o2 j ≡ Some (put_at n x w.entries j)) (sym is) (i_next ∙ ap (λ e. Some e) (sym (put_same n x w.entries)))
+      i_whole_at : (k ≡ n) ⊎ (k ≢ n) → history meet sm o2 k ≡ Some (put_at n x w.entries k)
+      i_whole_at (inl is) = subst (λ j. history meet sm o2 j ≡ Some (put_at n x w.entries j)) (sym is) (i_next ∙ ap (λ e. Some e) (sym (put_same n x w.entries)))
       i_whole_at (inr ne) = i_earlier k (omega arith) ∙ g.whole k (omega arith) ∙ ap (λ e. Some e) (sym (put_other n x w.entries k ne))
 
   made_after : (c : ℕ) → w.made c (suc n) ≡ []
@@ -91,22 +91,22 @@ module _ {X S E : Type 0} (act : X → S → Option S) (empty : S) (meet : Meet 
   sm_after : (c : ℕ) → sm c (suc n) ≡ []
   sm_after c = let l = i_le in with_at w.integrated c0 b o c (suc n) (omega arith) ∙ left_nil (w.integrated c (suc n)) (w.waiting c (suc n)) (sym (g.both c (suc n)) ∙ made_after c)
 
-  pend_n : (c : ℕ) → pend meet sm o2 n c ≡ pend meet sm w.origin n c
+  pend_n : (c : ℕ) → pending meet sm o2 n c ≡ pending meet sm w.origin n c
   pend_n c = pend_local meet o2 w.origin sm sm n same (λ d j h. refl) c
 
-  i_pend_own : pend meet sm o2 n c0 ≡ x ∷ []
+  i_pend_own : pending meet sm o2 n c0 ≡ x ∷ []
   i_pend_own = pend_n c0 ∙ carried_last meet w.integrated w.origin c0 b n o i_le last wh r ∙ ap (λ l. l ++ x ∷ []) (g.settled c0)
 
-  i_pend_other : (c : ℕ) → c ≢ c0 → pend meet sm o2 n c ≡ []
+  i_pend_other : (c : ℕ) → c ≢ c0 → pending meet sm o2 n c ≡ []
   i_pend_other c ne = pend_n c ∙ pend_other meet w.integrated w.origin c0 b n o i_le last wh n c (le_refl n) ne ∙ g.settled c
 
-  i_settled_step : (c : ℕ) (q : List X) → pend meet sm o2 n c ≡ q → pend meet sm o2 (suc n) c ≡ follow meet c0 c q (Some x)
+  i_settled_step : (c : ℕ) (q : List X) → pending meet sm o2 n c ≡ q → pending meet sm o2 (suc n) c ≡ pending_after meet c0 c q (Some x)
   i_settled_step c q e =
-      ap₂ (λ l m. l ++ m) (ap₂ (λ d h. follow meet d c (pend meet sm o2 n c) h) here i_next ∙ ap (λ l. follow meet c0 c l (Some x)) e) (sm_after c) ∙ append-nil (follow meet c0 c q (Some x))
+      ap₂ (λ l m. l ++ m) (ap₂ (λ d h. pending_after meet d c (pending meet sm o2 n c) h) here i_next ∙ ap (λ l. pending_after meet c0 c l (Some x)) e) (sm_after c) ∙ append-nil (pending_after meet c0 c q (Some x))
 
-  i_settled : (c : ℕ) → pend meet sm o2 (suc n) c ≡ []
-  i_settled = by_client c0 (λ c. pend meet sm o2 (suc n) c ≡ [])
-      (i_settled_step c0 (x ∷ []) i_pend_own ∙ if_so (c0 == c0) [] (carried meet (x ∷ []) x) (test_true c0 c0 refl))
+  i_settled : (c : ℕ) → pending meet sm o2 (suc n) c ≡ []
+  i_settled = by_client c0 (λ c. pending meet sm o2 (suc n) c ≡ [])
+      (i_settled_step c0 (x ∷ []) i_pend_own ∙ if_so (c0 == c0) [] (rebased meet (x ∷ []) x) (test_true c0 c0 refl))
       (λ c ne. i_settled_step c [] (i_pend_other c ne) ∙ if_not (c0 == c) [] [] (test_false c0 c (λ e. ne (sym e))))
 
   -- the entries that are kept for each client
@@ -114,7 +114,7 @@ module _ {X S E : Type 0} (act : X → S → Option S) (empty : S) (meet : Meet 
   pub past_local : (k c : ℕ) → k < n → past meet sm o2 k c ≡ past meet sm w.origin k c
   past_local k c h = past_same act empty meet o2 w.origin sm sm k c (hist_local meet o2 w.origin sm k (λ j l. same j (omega arith))) (pend_local meet o2 w.origin sm sm k (λ j l. same j (omega arith)) (λ d j l. refl) c)
 
-  pub past_as_before : (k c : ℕ) → k < n → pend meet sm w.origin k c ≡ pend meet w.integrated w.origin k c → past meet sm o2 k c ≡ past meet w.integrated w.origin k c
+  pub past_as_before : (k c : ℕ) → k < n → pending meet sm w.origin k c ≡ pending meet w.integrated w.origin k c → past meet sm o2 k c ≡ past meet w.integrated w.origin k c
   past_as_before k c h e = past_local k c h ∙ past_same act empty meet w.origin w.origin sm w.integrated k c (hist_edit meet w.integrated w.origin c0 b n o i_le last wh k h) e
 
   -- for the client of the change from its base on: those that it crossed, as crossed
@@ -126,7 +126,7 @@ module _ {X S E : Type 0} (act : X → S → Option S) (empty : S) (meet : Meet 
 
   -- for the others: the new entry
   pub kept_new : (c : ℕ) → c ≢ c0 → past meet sm o2 n c ≡ Some x
-  kept_new c ne = ap₂ (λ v ps. and_then v (λ e. ok_entry (over meet ps e))) i_next (i_pend_other c ne)
+  kept_new c ne = ap₂ (λ v ps. and_then v (λ e. ok_entry (rebase meet ps e))) i_next (i_pend_other c ne)
 
   pub kept_old : (c k : ℕ) → k < n → (c ≢ c0) ⊎ (k < b) → past meet sm o2 k c ≡ past meet w.integrated w.origin k c
   kept_old c k h (inl ne) = past_as_before k c h (pend_other meet w.integrated w.origin c0 b n o i_le last wh k c (omega arith) ne)
@@ -151,16 +151,16 @@ module _ {X S E : Type 0} (act : X → S → Option S) (empty : S) (meet : Meet 
 
   -- the view of the clients stays
 
-  m_pend : (k c : ℕ) → k ≤ n → pend meet w.made o2 k c ≡ pend meet w.made w.origin k c
+  m_pend : (k c : ℕ) → k ≤ n → pending meet w.made o2 k c ≡ pending meet w.made w.origin k c
   m_pend k c h = pend_local meet o2 w.origin w.made w.made k (λ j l. same j (omega arith)) (λ d j l. refl) c
 
-  m_hist : (k : ℕ) → k < n → hist meet w.made o2 k ≡ hist meet w.made w.origin k
+  m_hist : (k : ℕ) → k < n → history meet w.made o2 k ≡ history meet w.made w.origin k
   m_hist k h = hist_local meet o2 w.origin w.made k (λ j l. same j (omega arith))
 
   m_state : (k : ℕ) → k ≤ n → state_at act empty meet w.made o2 k ≡ state_at act empty meet w.made w.origin k
   m_state k h = state_same act empty meet o2 w.origin w.made w.made k (λ j l. m_hist j (omega arith))
 
-  m_before : (k c : ℕ) → k ≤ n → before meet w.made o2 k c ≡ before meet w.made w.origin k c
+  m_before : (k c : ℕ) → k ≤ n → pending_before meet w.made o2 k c ≡ pending_before meet w.made w.origin k c
   m_before k c h = before_same act empty meet o2 w.origin w.made w.made k c (λ j l. same j (omega arith)) (λ j l. m_hist j (omega arith)) (λ j l. m_pend j c (omega arith))
 
   module _ (t : S) (does : act x w.objects ≡ Some t) where
@@ -207,10 +207,10 @@ module _ {X S E : Type 0} (act : X → S → Option S) (empty : S) (meet : Meet 
   sm_whole : Whole meet sm w.origin n
   sm_whole k h = (w.entries k, earlier_entries meet w.integrated w.origin c0 b n o i_le last w.origin (λ j l. refl) wh k h ∙ g.whole k h)
 
-  made_head : pend meet w.made w.origin n c0 ≡ (x ∷ []) ++ trail meet w.origin sm (rest_at c0 b rest w.waiting) w.made n c0
+  made_head : pending meet w.made w.origin n c0 ≡ (x ∷ []) ++ trail meet w.origin sm (rest_at c0 b rest w.waiting) w.made n c0
   made_head = pend_more meet w.origin sm (rest_at c0 b rest w.waiting) w.made n rest_further n (le_refl n) sm_whole c0 ∙ ap (λ l. l ++ trail meet w.origin sm (rest_at c0 b rest w.waiting) w.made n c0) (sym (pend_n c0) ∙ i_pend_own)
 
-  pub server_acts : {Fit : S → Type 0} → SetsLaw Fit act empty meet → ClientGood act empty meet w c0 → (t : S) × (act x w.objects ≡ Some t)
+  pub server_acts : {Fits : S → Type 0} → SetsLaw Fits act empty meet → ClientGood act empty meet w c0 → (t : S) × (act x w.objects ≡ Some t)
   server_acts law q =
       let a = pend_acts act empty meet law w.made w.origin n c0 q.acts n (le_refl n) w.objects (state_made act empty meet w g n (le_refl n) ∙ g.state) in
       let rs = trail meet w.origin sm (rest_at c0 b rest w.waiting) w.made n c0 in

@@ -1,6 +1,7 @@
 -- What a loop over one of the lists keeps.
 use Rattle.std.proofs.Common.{◌≡◌, ℕ, suc, ◌+◌, List, [], ◌∷◌, ◌++◌, Option, Some, None, Result, Ok, Err, refl, sym, ap, ◌∙◌, append_assoc, zero-add, arith}
-use Rattle.sync_theory.specs.Lists.{kept, step_right, met, row, step_down, rowed, cross, row_after, cross_after}
+use Rattle.sync_theory.specs.Lists.{kept, step_right, met, row, step_down, rowed, cross}
+use Rattle.sync_theory.specs.Loops.{row_after, cross_after, rebase_after}
 
 module _ {L R M : Type 0} (meet : L → R → Result (Option L × Option R) M) where
   row_after_nothing : (r : Result (Option L × List R) (ℕ × M)) → row_after [] 0 r ≡ r

@@ -1,7 +1,7 @@
 -- What holds of every world is kept by each step.
 use Rattle.std.proofs.Common.{◌≡◌, ◌≢◌, ◌⊎◌, inl, inr, ⊎_elim, ℕ, zero, suc, ◌<◌, ◌≤◌, Bool, true, false, List, [], ◌∷◌, ◌++◌, Option, Some, refl, sym, ap, ◌∙◌, subst, ap₂, subst₂, min, append_assoc, if◌then◌else◌, ◌==◌, arith}
 use Rattle.sync_theory.specs.Lists.{and_then, run}
-use Rattle.sync_theory.specs.Grid.{Meet, over, pend, hist, past, ok_entry, one_more, with_one, state_at, before}
+use Rattle.sync_theory.specs.Grid.{Meet, rebase, pending, history, past, ok_entry, one_change, with_change, state_at, pending_before}
 use Rattle.sync_theory.specs.World.{World, put_at, inserted, edited, LogGood, ClientGood}
 use Rattle.sync_theory.proofs.Grid.{Further, Whole, hist_more}
 use Rattle.sync_theory.proofs.Agree.{run_both, alone}
@@ -36,23 +36,23 @@ pub le_or_lt : (a b : ℕ) → (a ≤ b) ⊎ (b < a)
 le_or_lt a b = grind arith
 
 module _ {X S E : Type 0} (act : X → S → Option S) (empty : S) (meet : Meet X E) where
-  pub pend_is : (o : ℕ → ℕ) (m : ℕ → ℕ → List X) (k c : ℕ) → pend meet m o k c ≡ before meet m o k c ++ m c k
+  pub pend_is : (o : ℕ → ℕ) (m : ℕ → ℕ → List X) (k c : ℕ) → pending meet m o k c ≡ pending_before meet m o k c ++ m c k
   pend_is o m zero c = refl
   pend_is o m (suc k) c = refl
 
-  pub past_same : (o1 o2 : ℕ → ℕ) (m1 m2 : ℕ → ℕ → List X) (k c : ℕ) → hist meet m1 o1 k ≡ hist meet m2 o2 k → pend meet m1 o1 k c ≡ pend meet m2 o2 k c → past meet m1 o1 k c ≡ past meet m2 o2 k c
-  past_same o1 o2 m1 m2 k c e1 e2 = ap₂ (λ h ps. and_then h (λ e. ok_entry (over meet ps e))) e1 e2
+  pub past_same : (o1 o2 : ℕ → ℕ) (m1 m2 : ℕ → ℕ → List X) (k c : ℕ) → history meet m1 o1 k ≡ history meet m2 o2 k → pending meet m1 o1 k c ≡ pending meet m2 o2 k c → past meet m1 o1 k c ≡ past meet m2 o2 k c
+  past_same o1 o2 m1 m2 k c e1 e2 = ap₂ (λ h ps. and_then h (λ e. ok_entry (rebase meet ps e))) e1 e2
 
   -- the views of two logs agree where the histories do
 
-  pub state_same : (o1 o2 : ℕ → ℕ) (m1 m2 : ℕ → ℕ → List X) (k : ℕ) → ((j : ℕ) → j < k → hist meet m1 o1 j ≡ hist meet m2 o2 j) → state_at act empty meet m1 o1 k ≡ state_at act empty meet m2 o2 k
+  pub state_same : (o1 o2 : ℕ → ℕ) (m1 m2 : ℕ → ℕ → List X) (k : ℕ) → ((j : ℕ) → j < k → history meet m1 o1 j ≡ history meet m2 o2 j) → state_at act empty meet m1 o1 k ≡ state_at act empty meet m2 o2 k
   state_same o1 o2 m1 m2 zero h = refl
   state_same o1 o2 m1 m2 (suc k) h =
       let e1 = state_same o1 o2 m1 m2 k (λ j g. h j (omega arith)) in
       let e2 = h k (omega arith) in
       ap₂ (λ a h. and_then a (λ s. and_then h (λ e. act e s))) e1 e2
 
-  pub before_same : (o1 o2 : ℕ → ℕ) (m1 m2 : ℕ → ℕ → List X) (k c : ℕ) → ((j : ℕ) → j < k → o1 j ≡ o2 j) → ((j : ℕ) → j < k → hist meet m1 o1 j ≡ hist meet m2 o2 j) → ((j : ℕ) → j < k → pend meet m1 o1 j c ≡ pend meet m2 o2 j c) → before meet m1 o1 k c ≡ before meet m2 o2 k c
+  pub before_same : (o1 o2 : ℕ → ℕ) (m1 m2 : ℕ → ℕ → List X) (k c : ℕ) → ((j : ℕ) → j < k → o1 j ≡ o2 j) → ((j : ℕ) → j < k → history meet m1 o1 j ≡ history meet m2 o2 j) → ((j : ℕ) → j < k → pending meet m1 o1 j c ≡ pending meet m2 o2 j c) → pending_before meet m1 o1 k c ≡ pending_before meet m2 o2 k c
   before_same o1 o2 m1 m2 zero c os hs ps = refl
   before_same o1 o2 m1 m2 (suc k) c os hs ps =
       let e1 = os k (omega arith) in
@@ -68,7 +68,7 @@ module _ {X S E : Type 0} (act : X → S → Option S) (empty : S) (meet : Meet 
     whole k h = (w.entries k, g.whole k h)
 
     -- the history by what the clients made is the server's
-    pub hist_made : (k : ℕ) → k < w.len → hist meet w.made w.origin k ≡ Some (w.entries k)
+    pub hist_made : (k : ℕ) → k < w.len → history meet w.made w.origin k ≡ Some (w.entries k)
     hist_made k h = hist_more meet w.origin w.integrated w.waiting w.made w.len further k (omega arith) (λ j l. whole j (omega arith)) ∙ g.whole k h
 
     pub whole_made : Whole meet w.made w.origin w.len
@@ -81,34 +81,34 @@ module _ {X S E : Type 0} (act : X → S → Option S) (empty : S) (meet : Meet 
 
     module _ (c0 b : ℕ) (o : X) (le : b ≤ w.len) (none : (k : ℕ) → b < k → w.made c0 k ≡ []) where
       abbrev all : ℕ → ℕ → List X
-      all = with_one w.made c0 b o
+      all = with_change w.made c0 b o
 
       last : (k : ℕ) → b < k → k ≤ w.len → w.made c0 k ≡ []
       last k h l = none k h
 
-      e_other : (k c : ℕ) → k ≤ w.len → c ≢ c0 → pend meet all w.origin k c ≡ pend meet w.made w.origin k c
+      e_other : (k c : ℕ) → k ≤ w.len → c ≢ c0 → pending meet all w.origin k c ≡ pending meet w.made w.origin k c
       e_other k c h ne = pend_other meet w.made w.origin c0 b w.len o le last whole_made k c h ne
 
-      e_earlier : (k c : ℕ) → k < b → pend meet all w.origin k c ≡ pend meet w.made w.origin k c
+      e_earlier : (k c : ℕ) → k < b → pending meet all w.origin k c ≡ pending meet w.made w.origin k c
       e_earlier k c h = pend_earlier meet w.made w.origin c0 b w.len o le last k c h
 
-      e_here : pend meet all w.origin b c0 ≡ pend meet w.made w.origin b c0 ++ o ∷ []
+      e_here : pending meet all w.origin b c0 ≡ pending meet w.made w.origin b c0 ++ o ∷ []
       e_here = pend_here meet w.made w.origin c0 b w.len o le last whole_made
 
-      e_hist : (k : ℕ) → k < w.len → hist meet all w.origin k ≡ hist meet w.made w.origin k
+      e_hist : (k : ℕ) → k < w.len → history meet all w.origin k ≡ history meet w.made w.origin k
       e_hist k h = hist_edit meet w.made w.origin c0 b w.len o le last whole_made k h
 
       e_state : (k : ℕ) → k ≤ w.len → state_at act empty meet all w.origin k ≡ state_at act empty meet w.made w.origin k
       e_state k h = state_same w.origin w.origin all w.made k (λ j l. e_hist j (omega arith))
 
-      e_before_other : (k c : ℕ) → k ≤ w.len → c ≢ c0 → before meet all w.origin k c ≡ before meet w.made w.origin k c
+      e_before_other : (k c : ℕ) → k ≤ w.len → c ≢ c0 → pending_before meet all w.origin k c ≡ pending_before meet w.made w.origin k c
       e_before_other k c h ne = before_same w.origin w.origin all w.made k c (λ j l. refl) (λ j l. e_hist j (omega arith)) (λ j l. e_other j c (omega arith) ne)
 
-      e_before : (k : ℕ) → k ≤ b → before meet all w.origin k c0 ≡ before meet w.made w.origin k c0
+      e_before : (k : ℕ) → k ≤ b → pending_before meet all w.origin k c0 ≡ pending_before meet w.made w.origin k c0
       e_before k h = before_same w.origin w.origin all w.made k c0 (λ j l. refl) (λ j l. e_hist j (omega arith)) (λ j l. e_earlier j c0 (omega arith))
 
-      e_both : (c k : ℕ) → all c k ≡ w.integrated c k ++ with_one w.waiting c0 b o c k
-      e_both c k = ap (λ l. l ++ one_more c0 b o c k) (g.both c k) ∙ append_assoc (w.integrated c k) (w.waiting c k) (one_more c0 b o c k)
+      e_both : (c k : ℕ) → all c k ≡ w.integrated c k ++ with_change w.waiting c0 b o c k
+      e_both c k = ap (λ l. l ++ one_change c0 b o c k) (g.both c k) ∙ append_assoc (w.integrated c k) (w.waiting c k) (one_change c0 b o c k)
 
       e_later : (c k : ℕ) → w.len < k → all c k ≡ []
       e_later c k h = with_at w.made c0 b o c k (omega arith) ∙ g.later c k h
@@ -116,9 +116,9 @@ module _ {X S E : Type 0} (act : X → S → Option S) (empty : S) (meet : Meet 
       m : ℕ
       m = min (g.from c0) b
 
-      e_none_before : (c k : ℕ) → k < put_at c0 m g.from c → with_one w.waiting c0 b o c k ≡ []
+      e_none_before : (c k : ℕ) → k < put_at c0 m g.from c → with_change w.waiting c0 b o c k ≡ []
       unfolding m
-      e_none_before = by_client c0 (λ c. (k : ℕ) → k < put_at c0 m g.from c → with_one w.waiting c0 b o c k ≡ [])
+      e_none_before = by_client c0 (λ c. (k : ℕ) → k < put_at c0 m g.from c → with_change w.waiting c0 b o c k ≡ [])
           (λ k h. let l = subst (λ n. k < n) (put_same c0 m g.from) h in with_at w.waiting c0 b o c0 k (omega arith) ∙ g.none_before c0 k (omega arith))
           (λ c ne k h. let l = subst (λ n. k < n) (put_other c0 m g.from c ne) h in with_other w.waiting c0 b o c k ne ∙ g.none_before c k l)
 
@@ -165,26 +165,26 @@ module _ {X S E : Type 0} (act : X → S → Option S) (empty : S) (meet : Meet 
       b0 = w.cursor c0
 
       abbrev own_all : ℕ → ℕ → List X
-      own_all = with_one w.made c0 b0 o
+      own_all = with_change w.made c0 b0 o
 
       -- the change acts on what its client had there
-      e_last : (s t1 : S) → state_at act empty meet w.made w.origin b0 ≡ Some s → run act (before meet w.made w.origin b0 c0) s ≡ Some t1 → run act (w.made c0 b0 ++ o ∷ []) t1 ≡ Some t
+      e_last : (s t1 : S) → state_at act empty meet w.made w.origin b0 ≡ Some s → run act (pending_before meet w.made w.origin b0 c0) s ≡ Some t1 → run act (w.made c0 b0 ++ o ∷ []) t1 ≡ Some t
       e_last s t1 e f =
           let a = q.acts b0 q.within s t1 e f in
           let p = q.client_state in
-          let u : run act (pend meet w.made w.origin b0 c0) s ≡ Some a.0 = subst (λ l. run act l s ≡ Some a.0) (sym (pend_is w.origin w.made b0 c0)) (run_both act (before meet w.made w.origin b0 c0) (w.made c0 b0) s t1 f a.1) in
+          let u : run act (pending meet w.made w.origin b0 c0) s ≡ Some a.0 = subst (λ l. run act l s ≡ Some a.0) (sym (pend_is w.origin w.made b0 c0)) (run_both act (pending_before meet w.made w.origin b0 c0) (w.made c0 b0) s t1 f a.1) in
           let same_s : s ≡ p.0 = cc in
-          let r : run act (pend meet w.made w.origin b0 c0) s ≡ Some (w.client_objects c0) = subst₂ (λ l u. run act l u ≡ Some (w.client_objects c0)) q.unsent_is (sym same_s) p.2 in
+          let r : run act (pending meet w.made w.origin b0 c0) s ≡ Some (w.client_objects c0) = subst₂ (λ l u. run act l u ≡ Some (w.client_objects c0)) q.unsent_is (sym same_s) p.2 in
           let same : a.0 ≡ w.client_objects c0 = cc (u, r) in
           run_both act (w.made c0 b0) (o ∷ []) t1 a.0 a.1 (alone act o a.0 t (subst (λ u. act o u ≡ Some t) (sym same) does))
 
       own_no_later : (k : ℕ) → b0 < k → own_all c0 k ≡ []
       own_no_later k h = with_at w.made c0 b0 o c0 k (omega arith) ∙ q.no_later k h
 
-      e_acts_here : (k : ℕ) → k ≤ w.len → (s t1 : S) → state_at act empty meet w.made w.origin k ≡ Some s → run act (before meet own_all w.origin k c0) s ≡ Some t1 → (k ≡ b0) ⊎ (k ≢ b0) → (u : S) × (run act (own_all c0 k) t1 ≡ Some u)
+      e_acts_here : (k : ℕ) → k ≤ w.len → (s t1 : S) → state_at act empty meet w.made w.origin k ≡ Some s → run act (pending_before meet own_all w.origin k c0) s ≡ Some t1 → (k ≡ b0) ⊎ (k ≢ b0) → (u : S) × (run act (own_all c0 k) t1 ≡ Some u)
       e_acts_here k h s t1 e f (inl is) =
           let f1 = subst (λ l. run act l s ≡ Some t1) (e_before c0 b0 o q.within q.no_later k (omega arith)) f in
-          let r = e_last s t1 (subst (λ j. state_at act empty meet w.made w.origin j ≡ Some s) is e) (subst (λ j. run act (before meet w.made w.origin j c0) s ≡ Some t1) is f1) in
+          let r = e_last s t1 (subst (λ j. state_at act empty meet w.made w.origin j ≡ Some s) is e) (subst (λ j. run act (pending_before meet w.made w.origin j c0) s ≡ Some t1) is f1) in
           (t, subst (λ j. run act (own_all c0 j) t1 ≡ Some t) (sym is) (subst (λ l. run act l t1 ≡ Some t) (sym (with_here w.made c0 b0 o)) r))
       e_acts_here k h s t1 e f (inr ne) =
           ⊎_elim

@@ -1,7 +1,7 @@
 -- Clients and a server, as one machine over any changes and states.
 use Rattle.std.specs.Prelude.{◌≡◌, ◌≢◌, ◌≤◌, ◌<◌, ℕ, suc, Bool, true, false, List, [], ◌∷◌, ◌++◌, Option, Some, Ok, if◌then◌else◌, ◌==◌}
 use Rattle.sync_theory.specs.Lists.{run}
-use Rattle.sync_theory.specs.Grid.{Meet, over, pend, hist, past, Carried, with_one, state_at, MadeActs}
+use Rattle.sync_theory.specs.Grid.{Meet, rebase, pending, history, past, Carried, with_change, state_at, MadeActs}
 
 pub record World (X S : Type 0) : Type 0 where
   -- what each client made at each base: those that the server integrated, and those that it didn't yet
@@ -26,13 +26,13 @@ rest_at c b rest f = put_at c (put_at b rest (f c)) f
 
 -- one change more in the log of what was made, which the server doesn't have yet
 abbrev pub inserted : {X S : Type 0} → World X S → ℕ → ℕ → X → World X S
-inserted w c b o = record w { made = with_one w.made c b o; waiting = with_one w.waiting c b o }
+inserted w c b o = record w { made = with_change w.made c b o; waiting = with_change w.waiting c b o }
 
 abbrev pub edited : {X S : Type 0} → World X S → ℕ → X → S → World X S
-edited w c o t = record w { made = with_one w.made c (w.cursor c) o; waiting = with_one w.waiting c (w.cursor c) o; unsent = put_at c (w.unsent c ++ o ∷ []) w.unsent; client_objects = put_at c t w.client_objects }
+edited w c o t = record w { made = with_change w.made c (w.cursor c) o; waiting = with_change w.waiting c (w.cursor c) o; unsent = put_at c (w.unsent c ++ o ∷ []) w.unsent; client_objects = put_at c t w.client_objects }
 
 abbrev pub integrate : {X S : Type 0} → World X S → ℕ → ℕ → X → List X → X → S → World X S
-integrate w c b o rest x t = record w { integrated = with_one w.integrated c b o; waiting = rest_at c b rest w.waiting; origin = put_at w.len c w.origin; len = suc w.len; entries = put_at w.len x w.entries; objects = t }
+integrate w c b o rest x t = record w { integrated = with_change w.integrated c b o; waiting = rest_at c b rest w.waiting; origin = put_at w.len c w.origin; len = suc w.len; entries = put_at w.len x w.entries; objects = t }
 
 abbrev pub taken : {X S : Type 0} → World X S → ℕ → List X → S → World X S
 taken w c us t = record w { cursor = put_at c (suc (w.cursor c)) w.cursor; unsent = put_at c us w.unsent; client_objects = put_at c t w.client_objects }
@@ -48,7 +48,7 @@ pub data Step {X S E : Type 0} (own : ℕ → Bool) (act : X → S → Option S)
   -- a client takes an own entry
   takes_own : {w : World X S} (c : ℕ) (us : List X) → own c ≡ true → w.cursor c < w.len → w.origin (w.cursor c) ≡ c → w.unsent c ≡ w.entries (w.cursor c) ∷ us → Step own act meet w (taken w c us (w.client_objects c))
   -- and another one
-  takes : {w : World X S} (c : ℕ) (us : List X) (f : X) (t : S) → own c ≡ true → w.cursor c < w.len → w.origin (w.cursor c) ≢ c → over meet (w.unsent c) (w.entries (w.cursor c)) ≡ Ok (us, f) → act f (w.client_objects c) ≡ Some t → Step own act meet w (taken w c us t)
+  takes : {w : World X S} (c : ℕ) (us : List X) (f : X) (t : S) → own c ≡ true → w.cursor c < w.len → w.origin (w.cursor c) ≢ c → rebase meet (w.unsent c) (w.entries (w.cursor c)) ≡ Ok (us, f) → act f (w.client_objects c) ≡ Some t → Step own act meet w (taken w c us t)
 
 -- what holds of the log and the server in every world
 pub record LogGood {X S E : Type 0} (act : X → S → Option S) (empty : S) (meet : Meet X E) (w : World X S) : Type 0 where
@@ -57,8 +57,8 @@ pub record LogGood {X S E : Type 0} (act : X → S → Option S) (empty : S) (me
   pub none_before : (c k : ℕ) → k < from c → w.waiting c k ≡ []
   pub none_after : (c k : ℕ) → from c < k → w.integrated c k ≡ []
   pub later : (c k : ℕ) → w.len < k → w.made c k ≡ []
-  pub whole : (k : ℕ) → k < w.len → hist meet w.integrated w.origin k ≡ Some (w.entries k)
-  pub settled : (c : ℕ) → pend meet w.integrated w.origin w.len c ≡ []
+  pub whole : (k : ℕ) → k < w.len → history meet w.integrated w.origin k ≡ Some (w.entries k)
+  pub settled : (c : ℕ) → pending meet w.integrated w.origin w.len c ≡ []
   pub clear : (c k : ℕ) → k < w.len → w.origin k ≢ c → (f : X) × (past meet w.integrated w.origin k c ≡ Some f)
   pub state : state_at act empty meet w.integrated w.origin w.len ≡ Some w.objects
 
@@ -66,7 +66,7 @@ pub record LogGood {X S E : Type 0} (act : X → S → Option S) (empty : S) (me
 pub record ClientGood {X S E : Type 0} (act : X → S → Option S) (empty : S) (meet : Meet X E) (w : World X S) (c : ℕ) : Type 0 where
   pub within : w.cursor c ≤ w.len
   pub no_later : (k : ℕ) → w.cursor c < k → w.made c k ≡ []
-  pub unsent_is : w.unsent c ≡ pend meet w.made w.origin (w.cursor c) c
+  pub unsent_is : w.unsent c ≡ pending meet w.made w.origin (w.cursor c) c
   pub free : (k : ℕ) → k < w.cursor c → w.origin k ≢ c → (f : X) × (past meet w.made w.origin k c ≡ Some f)
   pub acts : MadeActs act empty meet w.made w.origin w.len c
   pub client_state : (s : S) × (state_at act empty meet w.made w.origin (w.cursor c) ≡ Some s) × (run act (w.unsent c) s ≡ Some (w.client_objects c))
