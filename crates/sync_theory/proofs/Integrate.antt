@@ -12,7 +12,7 @@ use Rattle.sync_theory.proofs.World.{same_or_not, by_client, put_same, put_other
 hist_local : {X E : Type 0} (meet : Meet X E) (o1 o2 : ℕ → ℕ) (m : ℕ → ℕ → List X) (k : ℕ) → ((j : ℕ) → j ≤ k → o1 j ≡ o2 j) → history meet m o1 k ≡ history meet m o2 k
 hist_local meet o1 o2 m k os = ap head (ap (λ d. pending meet m o1 k d) (os k (le_refl k)) ∙ pend_local meet o1 o2 m m k (λ j h. os j (omega arith)) (λ c j h. refl) (o2 k))
 
-not_nil : {X : Type 0} (x : X) (xs ys zs : List X) → zs ≡ [] → zs ≡ xs ++ (x ∷ ys) → ⊥
+pub not_nil : {X : Type 0} (x : X) (xs ys zs : List X) → zs ≡ [] → zs ≡ xs ++ (x ∷ ys) → ⊥
 not_nil x [] ys zs e f = cc
 not_nil x (z ∷ xs) ys zs e f = cc
 

@@ -14,11 +14,11 @@ same_or_not a b = ⊎_elim (λ h. inl h.1) (λ h. inr h.1) (eqb_tells a b)
 pub by_client : (c0 : ℕ) (P : ℕ → Type 0) → P c0 → ((c : ℕ) → c ≢ c0 → P c) → (c : ℕ) → P c
 by_client c0 P here others c = ⊎_elim (λ e. subst P (sym e) here) (λ ne. others c ne) (same_or_not c c0)
 
-put_if : {A : Type 0} (t : Bool) (v u : A) → t ≡ true → (if t then v else u) ≡ v
+pub put_if : {A : Type 0} (t : Bool) (v u : A) → t ≡ true → (if t then v else u) ≡ v
 put_if true v u e = refl
 put_if false v u e = cc
 
-put_unless : {A : Type 0} (t : Bool) (v u : A) → t ≡ false → (if t then v else u) ≡ u
+pub put_unless : {A : Type 0} (t : Bool) (v u : A) → t ≡ false → (if t then v else u) ≡ u
 put_unless true v u e = cc
 put_unless false v u e = refl
 
