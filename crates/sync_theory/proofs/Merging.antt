@@ -1,15 +1,14 @@
 -- What merging promises, from the two-sided law.
-use Rattle.std.proofs.Common.{◌≡◌, ◌≢◌, ◌⊎◌, ⊎_elim, ℕ, suc, ◌+◌, ◌-◌, ◌<◌, ◌≤◌, Bool, true, List, [], ◌∷◌, ◌++◌, Option, Some, Result, Ok, Err, refl, sym, ap, ap₂, ◌∙◌, subst, append-nil, arith, le_refl, map}
+use Rattle.std.proofs.Common.{◌≡◌, ⊎_elim, ℕ, suc, ◌+◌, ◌-◌, ◌<◌, ◌≤◌, Bool, true, List, ◌++◌, Option, Some, Result, Ok, Err, sym, ap, ◌∙◌, subst, append-nil, arith, le_refl, map}
 use Rattle.std.proofs.lemmas.Option.{same_Some}
-use Rattle.sync_theory.specs.Lists.{cross, run, Law}
-use Rattle.sync_theory.specs.Grid.{Meet, rebase, rebased, tail, pending, Carried, with_change, SetsLaw, made_up_to, own_entries, KeepsLabel, carry, reciprocal}
+use Rattle.sync_theory.specs.Lists.{cross, Law}
+use Rattle.sync_theory.specs.Grid.{Meet, rebased, Carried, SetsLaw, own_entries, KeepsLabel, carry, reciprocal}
 use Rattle.sync_theory.specs.Changesets.{Changeset, is_later, with_lists, cross_sets, act_set, stamp}
-use Rattle.sync_theory.specs.World.{World, Reached, LogGood, ClientGood, Good}
-use Rattle.sync_theory.specs.Reciprocals.{reciprocal_pairs, from_base}
-use Rattle.sync_theory.specs.Merging.{OneCrossing, Prefixes, SetsAgree, log_state, log_pending, EntryActs, ServerConverges, ClientConverges, ListsSettle, CarriesNext}
+use Rattle.sync_theory.specs.World.{World, Reached, ClientGood, Good}
+use Rattle.sync_theory.specs.Merging.{OneCrossing, Prefixes, SetsAgree, log_state, EntryActs, ServerConverges, ClientConverges, ListsSettle, CarriesNext}
 use Rattle.sync_theory.proofs.Agree.{run_keeps}
 use Rattle.sync_theory.proofs.Cross.{cross_of, cross_is, stuck_of, stuck_at, stuck_is}
-use Rattle.sync_theory.proofs.Column.{Column, goes, stops, column, prefix_through, prefix_stopped, over_through, stopped_carried}
+use Rattle.sync_theory.proofs.Column.{Column, goes, stops, column, prefix_through, prefix_stopped, over_through}
 use Rattle.sync_theory.proofs.Changesets.{sets_agree}
 use Rattle.sync_theory.proofs.Converge.{entry_at, state_fits, pend_acts}
 use Rattle.sync_theory.proofs.Integrate.{server_acts, not_nil}

@@ -4,6 +4,8 @@
 
 pub mod laws;
 pub mod merge;
+#[cfg(test)]
+mod tests;
 
 pub use laws::{
     changesets_agree, lists_agree, one_crossing, prefixes_rebase_alike, reciprocal_lists_settle,
