@@ -2,6 +2,7 @@ pub mod Agreed
 pub mod Answers
 pub mod Apart
 pub mod Cells
+pub mod Coded
 pub mod Defined
 pub mod Edits
 pub mod Equal

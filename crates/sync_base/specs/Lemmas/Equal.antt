@@ -15,19 +15,19 @@ use Rattle.sync_base.specs.Lemmas.Maps.{tied_is}
 use Rattle.sync_base.specs.Lemmas.Looks.{name_exact, name_total}
 use Rattle.sync_base.specs.Lemmas.Cells.{same_itself}
 
-key_kind_of : ℕ → KeyKind
+pub key_kind_of : ℕ → KeyKind
 key_kind_of r = cond (r == 0) key_kinds.Int (cond (r == 1) key_kinds.Text key_kinds.Uuid)
 
-key_kind_of-rank : (k : KeyKind) → key_kind_of (key_rank_of k) ≡ k
+pub key_kind_of-rank : (k : KeyKind) → key_kind_of (key_rank_of k) ≡ k
 unfolding key_kind_of
 key_kind_of-rank key_kinds.Int = refl
 key_kind_of-rank key_kinds.Text = refl
 key_kind_of-rank key_kinds.Uuid = refl
 
-kind_of : ℕ → List ℕ → Kind
+pub kind_of : ℕ → List ℕ → Kind
 kind_of r t = cond (r == 0) kinds.Int (cond (r == 1) kinds.Bool (cond (r == 2) kinds.Text (cond (r == 3) kinds.Bytes (cond (r == 4) kinds.Time (cond (r == 5) kinds.Uuid (kinds.Link t))))))
 
-kind_of-rank : (k : Kind) → kind_of (kind_rank k) (target_of k) ≡ k
+pub kind_of-rank : (k : Kind) → kind_of (kind_rank k) (target_of k) ≡ k
 unfolding kind_of
 kind_of-rank kinds.Int = refl
 kind_of-rank kinds.Bool = refl
@@ -37,10 +37,10 @@ kind_of-rank kinds.Time = refl
 kind_of-rank kinds.Uuid = refl
 kind_of-rank (kinds.Link t) = refl
 
-shape_of : ℕ → Shape
+pub shape_of : ℕ → Shape
 shape_of r = cond (r == 0) shapes.One (cond (r == 1) shapes.List (cond (r == 2) shapes.Set shapes.Dict))
 
-shape_of-rank : (x : Shape) → shape_of (shape_rank x) ≡ x
+pub shape_of-rank : (x : Shape) → shape_of (shape_rank x) ≡ x
 unfolding shape_of
 shape_of-rank shapes.One = refl
 shape_of-rank shapes.List = refl
