@@ -101,3 +101,8 @@ act_all (i ∷ is) s = option_and_then (act_all is) (act i s)
 abbrev pub break_at : List Instr → State → Option (ℕ × Break)
 break_at [] s = None
 break_at (i ∷ is) s = elim (break_of s (effect_of i)) [ Some b ↦ Some (0, b) | None ↦ option_map (λ p. (suc p.0, p.1)) (break_at is (after s (effect_of i))) ]
+
+-- each place lies within its list, as it does in every instruction that is made
+abbrev pub AllPlaced : List Instr → Type 0
+AllPlaced [] = Unit {0}
+AllPlaced (i ∷ is) = (is_effect (effect_of i) ≡ true) × AllPlaced is

@@ -16,6 +16,7 @@ pub mod Pairs
 pub mod Places
 pub mod Reads
 pub mod Rows
+pub mod Runs
 pub mod Shaped
 pub mod Sides
 pub mod Sound

@@ -1,10 +1,11 @@
-ghost use Rattle.std.specs.Prelude.{◌≡◌, ◌↔◌, ◌==◌, Bool, true, Some, None};
+ghost use Rattle.std.specs.Prelude.{List, is_some, not, ◌≡◌, ◌↔◌, ◌==◌, Bool, true, Some, None};
 ghost use Rattle.sync_data.specs.declared.instr.Instr.{Instr};
 ghost use Rattle.sync_data.specs.declared.column.Column.{Column};
 ghost use Rattle.sync_data.specs.declared.key.KeyKind.{KeyKind};
-ghost use Rattle.sync_base.specs.Effects.{Effect, effect_of, instr_of};
+ghost use Rattle.sync_base.specs.Effects.{Effect, effect_of, instr_of, is_effect};
 ghost use Rattle.sync_base.specs.States.{State, IsState, no_state, key_rank_of};
-ghost use Rattle.sync_base.specs.Checks.{act};
+ghost use Rattle.sync_base.specs.After.{after};
+ghost use Rattle.sync_base.specs.Checks.{act, act_all, break_of, break_at, unbroken, AllPlaced};
 ghost use Rattle.sync_base.specs.Merged.{merge, same_column};
 ghost use Rattle.sync_base.specs.Rules.{meeting};
 ghost use Rattle.sync_base.specs.Agreement.{TwoSided, Mirrored, Differ, SizesFit};
@@ -51,4 +52,10 @@ pub fn effects_tell()
 pub fn tests_tell()
     ensures keys { (k j : KeyKind) → ((key_rank_of k == key_rank_of j) ≡ true) ↔ (k ≡ j) }
     ensures columns { (x y : Column) → (same_column x y ≡ true) ↔ (x ≡ y) }
+{}
+
+/// An instruction whose place lies within its list acts exactly where it meets no break, and so does a list of them.
+pub fn breaks_tell()
+    ensures one { (i : Instr) (s : State) → is_effect (effect_of i) ≡ true → act i s ≡ unbroken (break_of s (effect_of i)) (after s (effect_of i)) }
+    ensures all { (instrs : List Instr) (s : State) → AllPlaced instrs → is_some (act_all instrs s) ≡ not (is_some (break_at instrs s)) }
 {}

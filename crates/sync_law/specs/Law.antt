@@ -1,12 +1,12 @@
 -- Instructions meet the law that the theory of merging asks for.
-use Rattle.std.specs.Prelude.{◌≡◌, Bool, List, [], ◌∷◌, Option, None, Some, IsSome, Result, Ok, Err, IfOk, refl}
+use Rattle.std.specs.Prelude.{◌≡◌, Bool, List, [], ◌∷◌, Option, None, Some, Result, Ok, Err, IfOk, refl}
 use Rattle.std.specs.Option.{option_and_then}
-use Rattle.std.proofs.Common.{sym, ◌∙◌, ap}
-use Rattle.sync_theory.specs.Lists.{kept, and_then, run, Agreement, Keeps, TwoSided, Law}
+use Rattle.std.proofs.Common.{◌∙◌}
+use Rattle.sync_theory.specs.Lists.{kept, and_then, run, Agreement, TwoSided, Law}
 use Rattle.sync_data.specs.declared.instr.Instr.{Instr}
 use Rattle.sync_base.specs.declared.answers.Mismatch.{Mismatch}
 use Rattle.sync_base.specs.declared.answers.Outcome.{Outcome}
-use Rattle.sync_base.specs.States.{State, IsState, no_state}
+use Rattle.sync_base.specs.States.{State, IsState}
 use Rattle.sync_base.specs.Checks.{act, act_all}
 use Rattle.sync_base.specs.Merged.{merge}
 use Rattle.sync_base.specs.Rules.{meeting}
