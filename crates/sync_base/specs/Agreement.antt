@@ -1,7 +1,8 @@
 -- The laws of two instructions that meet.
-use Rattle.std.specs.Prelude.{◌≡◌, Bool, not, Option, None, Some, IsSome, IfOk, Result, Ok, Err}
+use Rattle.std.specs.Prelude.{◌≡◌, ◌⊎◌, Bool, not, Option, None, Some, IsSome, IfOk, Result, Ok, Err}
 use Rattle.sync_data.specs.declared.instr.Instr.{Instr}
 use Rattle.sync_base.specs.declared.answers.Mismatch.{Mismatch}
+use Rattle.sync_base.specs.declared.answers.Mismatch.TheVariants as mismatches
 use Rattle.sync_base.specs.declared.answers.Outcome.{Outcome}
 use Rattle.sync_base.specs.States.{State, IsState}
 use Rattle.sync_base.specs.Checks.{act}
@@ -30,3 +31,12 @@ mirrored (Err m) = Err m
 
 abbrev pub Mirrored : Instr → Instr → Type 0
 Mirrored a b = (later : Bool) → meeting b a (not later) ≡ mirrored (meeting a b later)
+
+-- ---- which mismatches come
+-- the two sides define one table, or one column of one table, differently
+abbrev pub Differ : Instr → Instr → Bool → Type 0
+Differ a b later = (meeting a b later ≡ Err mismatches.TablesDiffer) ⊎ (meeting a b later ≡ Err mismatches.ColumnsDiffer)
+
+-- where both act on one state, the sizes never differ
+abbrev pub SizesFit : Instr → Instr → Type 0
+SizesFit a b = (later : Bool) (s after_a after_b : State) → act a s ≡ Some after_a → act b s ≡ Some after_b → ¬ (meeting a b later ≡ Err mismatches.SizesDiffer)

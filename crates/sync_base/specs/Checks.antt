@@ -1,6 +1,6 @@
 -- When an instruction acts: the first of its checks that fails is its break.
-use Rattle.std.specs.Prelude.{◌≡◌, ℕ, Bool, true, false, not, if◌then◌else◌, List, [], ◌∷◌, ◌++◌, length, ◌==◌, is_some, Option, None, Some}
-use Rattle.std.specs.Option.{option_map_or}
+use Rattle.std.specs.Prelude.{◌≡◌, ℕ, suc, Bool, true, false, not, if◌then◌else◌, List, [], ◌∷◌, ◌++◌, length, ◌==◌, is_some, Option, None, Some}
+use Rattle.std.specs.Option.{option_map_or, option_map, option_and_then}
 use Rattle.std.specs.FinMap as map
 use Rattle.sync_data.specs.declared.column.Kind.{Kind}
 use Rattle.sync_data.specs.declared.column.Kind.TheVariants as kinds
@@ -92,3 +92,17 @@ act_effect d s = if is_effect d then unbroken (break_of s d) (after s d) else No
 
 abbrev pub act : Instr → State → Option State
 act i s = act_effect (effect_of i) s
+
+-- ---- a list of instructions acts one after the other; its break has the place of the first that meets one
+abbrev pub act_all : List Instr → State → Option State
+act_all [] s = Some s
+act_all (i ∷ is) s = option_and_then (act_all is) (act i s)
+
+abbrev pub break_at : List Instr → State → Option (ℕ × Break)
+break_at [] s = None
+break_at (i ∷ is) s = elim (break_of s (effect_of i)) [ Some b ↦ Some (0, b) | None ↦ option_map (λ p. (suc p.0, p.1)) (break_at is (after s (effect_of i))) ]
+
+-- each place lies within its list, as it does in every instruction that is made
+abbrev pub AllPlaced : List Instr → Type 0
+AllPlaced [] = Unit {0}
+AllPlaced (i ∷ is) = (is_effect (effect_of i) ≡ true) × AllPlaced is

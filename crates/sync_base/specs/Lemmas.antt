@@ -2,8 +2,10 @@ pub mod Agreed
 pub mod Answers
 pub mod Apart
 pub mod Cells
+pub mod Coded
 pub mod Defined
 pub mod Edits
+pub mod Equal
 pub mod Frame
 pub mod Laws
 pub mod Leaves
@@ -12,7 +14,9 @@ pub mod Maps
 pub mod Mirror
 pub mod Pairs
 pub mod Places
+pub mod Reads
 pub mod Rows
+pub mod Runs
 pub mod Shaped
 pub mod Sides
 pub mod Sound

@@ -6,5 +6,6 @@ pub mod Checks
 pub mod Merged
 pub mod Codes
 pub mod Rules
+pub mod Footprints
 pub mod Agreement
 pub mod Lemmas

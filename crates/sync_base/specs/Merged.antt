@@ -15,7 +15,7 @@ use Rattle.sync_data.specs.declared.column.Column.{Column}
 use Rattle.sync_data.specs.declared.instr.Instr.{Instr}
 use Rattle.sync_base.specs.Effects.{effect_of, ObjectName, CellPath, Edit, Effect, Set, Add, Replace, Insert, Remove, NewTable, NewColumn, Create, Erase, Change, Empty}
 use Rattle.sync_base.specs.Maps.{map_with}
-use Rattle.sync_base.specs.States.{State, Table, Tables, Cell, One, Many, Members, Dict, object_cmp, cell_at, key_rank_of, shape_rank}
+use Rattle.sync_base.specs.States.{State, Tables, Cell, One, Many, Members, Dict, object_cmp, cell_at, key_rank_of, shape_rank}
 use Rattle.sync_base.specs.After.{edited, added, sum64, default_of, tables_after}
 
 -- cells by object and then column
@@ -27,6 +27,7 @@ abbrev pub text : {V : Type 0} → (ℕ → List V) → (ℕ → V → List V) �
 text gap element [] = gap 0
 text gap element (x ∷ xs) = gap 0 ++ element 0 x ++ text (λ g. gap (suc g)) (λ g. element (suc g)) xs
 
+-- the place is that gap or element
 abbrev pub is_at : ℕ → ℕ → Bool
 is_at zero zero = true
 is_at (suc p) (suc g) = is_at p g
@@ -52,10 +53,12 @@ abbrev pub text_of : Edit → Edit → List Value → List Value
 text_of earlier later = text (λ g. gap_of earlier g ++ gap_of later g) (element_of earlier later)
 
 -- ---- a cell that both sides change
+-- the sum of all three, modulo 2^64; null stays null
 abbrev pub sum_of : ℤ → ℤ → Value → Value
 sum_of m n (values.Int k) = values.Int (sum64 (sum64 k m) n)
 sum_of m n v = v
 
+-- the first is the earlier edit
 abbrev pub merged_value : Edit → Edit → Value → Value
 merged_value (Set v) (Set w) x = w
 merged_value (Set v) (Add n) x = added n v
@@ -120,6 +123,7 @@ columns_in tables t = elim (map.get tables t) [ None ↦ map.empty | Some table 
 abbrev pub built : Tables → Presence → (ObjectName → List ℕ → Column → Cell) → State
 built tables present cell = record { tables = tables; objects = map_with (λ o u. map_with (cell o) (columns_in tables o.0)) present }
 
+-- the tables that both sides add to, the objects that stand, and each cell as the sides that touch it say
 abbrev pub merged_state : State → Effect → Effect → Bool → State
 merged_state s a b l = built (tables_after b (tables_after a s.tables)) (merged_presence s a b) (λ o c def. merged_touch l (touch a (o, c)) (touch b (o, c)) (cell_or_default s o c def))
 

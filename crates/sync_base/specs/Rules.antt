@@ -40,21 +40,32 @@ module _ {A : Type 0} where
   later_of true a b = only_left a
   later_of false a b = only_right b
 
+-- a place in a list of that length
 abbrev pub spot : ℕ → ℕ → Spot
 spot p n = record { place = p; prior = n }
 
+-- the greatest length that an instruction can bear
 abbrev pub top : ℕ
 top = 4294967295
 
--- two list instructions of one length
+-- two list instructions: they were made on lists of one length, and an insertion can lengthen it
 abbrev pub sized : Bool → Spot → Spot → Answer Edit → Answer Edit
 sized inserts s t row = if s.prior == t.prior then (if inserts && (s.prior == top) then Err mismatches.Range else row) else Err mismatches.SizesDiffer
 
+-- an addition changes it, or leaves it null
 abbrev pub is_summed : Value → Bool
 is_summed values.Null = true
 is_summed (values.Int n) = true
 is_summed v = false
 
+-- ---- two edits of one cell
+-- * one value: of two updates the later stays; a later addition is added to a concurrent update, an earlier one is dropped
+-- * lists: the places that stay are those after the other side; two insertions at one place stand in the order of their stamps;
+--   an element erased twice is erased once; the update of an erased element is dropped; of two updates of one element the later stays
+-- * sets: of an insertion and an erasure of one value the later stays
+-- * dictionaries: of two updates of one key the later stays
+-- * clearing: a Clear stays and the other side is dropped; two Clears drop each other
+-- * all else: both stay as they are
 abbrev pub rule_of_edits : Bool → Edit → Edit → Answer Edit
 rule_of_edits l (Set v) (Set w) = later_of l (Set v) (Set w)
 rule_of_edits l (Set v) (Add n) = if is_summed v then (if l then only_left (Set v) else kept (Set (added n v)) (Add n)) else kept (Set v) (Add n)
@@ -108,7 +119,7 @@ rule_of_edits l (Exclude v) Empty = only_right Empty
 rule_of_edits l (Bind k v) Empty = only_right Empty
 rule_of_edits l e f = kept e f
 
--- whether the table has a row that changes or drops one of these in one cell
+-- which pairs of edits have a row of their own above; the others stay as they are, in one cell or in two
 abbrev pub has_row : Edit → Edit → Bool
 has_row (Set v) (Set w) = true
 has_row (Set v) (Add n) = true
@@ -140,6 +151,7 @@ has_row (Exclude v) Empty = true
 has_row (Bind k v) Empty = true
 has_row e f = false
 
+-- what is left of two edits, in their cell
 abbrev pub placed : CellPath → Option Edit → Option Effect
 placed p None = None
 placed p (Some e) = Some (Change p e)
@@ -148,6 +160,11 @@ abbrev pub lifted : CellPath → Answer Edit → Answer Effect
 lifted p (Err m) = Err m
 lifted p (Ok f) = Ok (record { left = placed p f.left; right = placed p f.right })
 
+-- ---- two effects
+-- * of two equal definitions neither stays, and two different ones of one table or column can't be merged
+-- * an erase stays, and a creation of the object or a change of its cells is dropped; two erases drop each other
+-- * two changes of one cell: as above
+-- * all else: both stay as they are
 abbrev pub rule : Bool → Effect → Effect → Answer Effect
 rule l (NewTable t k) (NewTable u j) =
     if eq_by_cmp name_cmp t u then (if key_rank_of k == key_rank_of j then neither else Err mismatches.TablesDiffer) else kept (NewTable t k) (NewTable u j)

@@ -1,5 +1,7 @@
 ghost use Rattle.std.specs.Prelude.{◌≡◌};
 ghost use Rattle.sync_data.specs.declared.instr.Instr.{Instr};
+ghost use Rattle.sync_base.specs.Footprints.{Framed};
+ghost use Rattle.sync_base.specs.Lemmas.Reads.{framed};
 
 use sync_data::{
     AddColumn, AddInteger, AddTable, Clear, CreateObject, DictUpdate, EraseObject, Instr,
@@ -14,6 +16,9 @@ pub trait Act {
     /// It as an instruction.
     fn wrap(self) -> Instr
         ensures { result ≡ instr self };
+
+    /// It reads its footprint alone, and changes nothing but what the footprint names as changed.
+    ghost frame: { (i : Self) → Framed (instr i) } = { λ i. framed (instr i) };
 }
 
 impl Act for AddTable {

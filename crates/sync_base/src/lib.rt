@@ -3,11 +3,18 @@
 
 mod act;
 mod answers;
+mod laws;
 mod meets;
 mod same;
+#[cfg(test)]
+mod tests;
 
 pub use act::Act;
 pub use answers::{Break, Mismatch, Outcome};
+pub use laws::{
+    both_orders_agree, breaks_tell, definitions_differ, effects_tell, frames_hold, sizes_fit,
+    states_stay, table_is_mirrored, tests_tell,
+};
 pub use meets::{Meets, keep_both, keep_left, keep_neither, keep_right};
 pub use same::{
     same_cell, same_columns, same_key_kind, same_name, same_object, same_text_key, same_value,
@@ -15,6 +22,7 @@ pub use same::{
 pub use sync_data::{
     AddColumn, AddInteger, AddTable, BadPlace, BadTime, Between, Blob, CellName, Changeset, Clear,
     Column, CreateObject, DictUpdate, Entry, EraseObject, Id, Ident, Inside, Instr, Key, KeyKind,
-    KeyRefusal, KeyText, Kind, ListErase, ListInsert, ListUpdate, Listed, Name, NameRefusal,
-    NoMemory, SetErase, SetInsert, Shape, Stamp, Text, Time, TooLarge, Update, Value,
+    KeyRefusal, KeyText, Kind, LONGEST_KEY, LONGEST_NAME, ListErase, ListInsert, ListUpdate,
+    Listed, MOST_INSTRS, MOST_PAYLOAD, Name, NameRefusal, NoMemory, SetErase, SetInsert, Shape,
+    Stamp, Text, Time, TooLarge, Update, Value,
 };

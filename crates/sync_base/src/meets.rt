@@ -5,6 +5,7 @@ ghost use Rattle.sync_base.specs.Lemmas.Whole.{meeting_turned, instrs_two_sided}
 
 use super::act::Act;
 use super::answers::{Mismatch, Outcome};
+use sync_data::Instr;
 
 /// The rule for two kinds of instructions that meet.
 pub trait Meets<A: Act, B: Act> {
@@ -23,38 +24,32 @@ pub trait Meets<A: Act, B: Act> {
 pub fn keep_both<A: Act, B: Act>(left: A, right: B) -> Result<Outcome, Mismatch>
     ensures { result ≡ Ok (record { left = Some (A.instr left); right = Some (B.instr right) }) }
 {
-    Ok(Outcome {
-        left: Some(left.wrap()),
-        right: Some(right.wrap()),
-    })
+    outcome(Some(left.wrap()), Some(right.wrap()))
 }
 
 /// The left side alone stays.
 pub fn keep_left<A: Act>(left: A) -> Result<Outcome, Mismatch>
     ensures { result ≡ Ok (record { left = Some (A.instr left); right = None }) }
 {
-    Ok(Outcome {
-        left: Some(left.wrap()),
-        right: None,
-    })
+    outcome(Some(left.wrap()), None)
 }
 
 /// The right side alone stays.
 pub fn keep_right<B: Act>(right: B) -> Result<Outcome, Mismatch>
     ensures { result ≡ Ok (record { left = None; right = Some (B.instr right) }) }
 {
-    Ok(Outcome {
-        left: None,
-        right: Some(right.wrap()),
-    })
+    outcome(None, Some(right.wrap()))
 }
 
 /// Neither side stays.
 pub fn keep_neither() -> Result<Outcome, Mismatch>
     ensures { result ≡ Ok (record { left = None; right = None }) }
 {
-    Ok(Outcome {
-        left: None,
-        right: None,
-    })
+    outcome(None, None)
+}
+
+fn outcome(left: Option<Instr>, right: Option<Instr>) -> Result<Outcome, Mismatch>
+    ensures { result ≡ Ok (record { left = left; right = right }) }
+{
+    Ok(Outcome { left, right })
 }

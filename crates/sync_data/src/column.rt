@@ -1,4 +1,4 @@
-ghost use Rattle.std.specs.Prelude.{◌≡◌, IfOk};
+ghost use Rattle.std.specs.Prelude.{◌≡◌};
 
 use super::memory::NoMemory;
 use super::name::Name;
@@ -33,9 +33,9 @@ pub struct Column {
 }
 
 impl Kind {
-    /// An equal kind.
+    /// An equal kind. It takes no memory and always succeeds.
     pub fn copy(&self) -> Result<Kind, NoMemory>
-        ensures equal { IfOk result (λ copy. copy ≡ self.now) }
+        ensures equal { result ≡ Ok self.now }
     {
         match self {
             Kind::Int => Ok(Kind::Int),
@@ -50,9 +50,9 @@ impl Kind {
 }
 
 impl Column {
-    /// An equal column.
+    /// An equal column. It takes no memory and always succeeds.
     pub fn copy(&self) -> Result<Column, NoMemory>
-        ensures equal { IfOk result (λ copy. copy ≡ self.now) }
+        ensures equal { result ≡ Ok self.now }
     {
         Ok(Column {
             kind: self.kind.copy()?,

@@ -91,6 +91,15 @@ fn what_takes_memory_is_made(rt: HostRuntime) -> Result<(), Fail> {
     let Ok(changes) = Changeset::checked(9, instrs) else {
         return Err("one instruction is refused".into());
     };
+    let column = Column {
+        kind: Kind::Link(Name::new("tab")?),
+        nullable: true,
+        shape: Shape::One,
+    };
+    assert!(rt; column.copy()? == column);
+    let listed = Listed::of(vec![in alloc; 3u32, 4]?);
+    assert_eq!(rt; listed.as_slice().len(), 2);
+    assert_eq!(rt; listed.into_vec().len(), 2);
     let entry = Entry {
         origin: 1,
         number: 2,

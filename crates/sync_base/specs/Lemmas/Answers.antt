@@ -11,7 +11,7 @@ use Rattle.sync_base.specs.Lemmas.Looks.{path_exact}
 use Rattle.sync_base.specs.Lemmas.Maps.{tied_is}
 use Rattle.sync_base.specs.Lemmas.Steps.{Found, FoundCell}
 use Rattle.sync_base.specs.Merged.{path_cmp, same_column}
-use Rattle.sync_base.specs.Rules.{Outcomes, Answer, rule, rule_of_edits, sized, top, lifted, kept, is_summed}
+use Rattle.sync_base.specs.Rules.{Outcomes, Answer, rule, rule_of_edits, sized, top, lifted, is_summed}
 use Rattle.sync_base.specs.States.{State, Cell, object_cmp, cell_at, key_rank_of}
 use Rattle.sync_data.specs.Orders.{name_cmp, value_cmp}
 use Rattle.sync_data.specs.Spot.{Spot}

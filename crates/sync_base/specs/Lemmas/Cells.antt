@@ -93,7 +93,7 @@ cell-new_column s ok t k def o c there new here =
     ∙ at_new_column s ok t k def o c _ _ refl refl new here
     ∙ ap (option_map (cell_or_default s o c)) (sym (column-after s.tables t k def o.0 c there))
 
-got_new : (x : Option Table) (c : List ℕ) → map.get (new_cells x) c ≡ option_map default_of (option_and_then (λ t. map.get t.columns c) x)
+pub got_new : (x : Option Table) (c : List ℕ) → map.get (new_cells x) c ≡ option_map default_of (option_and_then (λ t. map.get t.columns c) x)
 got_new None c = map.get-empty name_cmp c
 got_new (Some t) c = get-map_with (λ c def. default_of def) name_exact t.columns c
 

@@ -1,15 +1,13 @@
 -- The merged state is undefined exactly where the table answers that tables or columns differ.
-use Rattle.std.specs.Prelude.{◌≡◌, Bool, true, false, cond, not, ◌&&◌, ◌||◌, ◌==◌, ◌⊎◌, nat_lt, nat_le, if◌then◌else◌, Option, Some, None, Ok, Err, refl}
+use Rattle.std.specs.Prelude.{◌≡◌, Bool, true, false, cond, not, ◌&&◌, ◌||◌, ◌==◌, nat_lt, nat_le, Ok, Err, refl}
 use Rattle.std.specs.Ordering.{eq_by_cmp}
-use Rattle.std.proofs.Common.{sym, ◌∙◌, ap, subst, inl, inr}
 use Rattle.sync_data.specs.Spot.{Spot}
 use Rattle.sync_data.specs.Orders.{name_cmp, value_cmp}
-use Rattle.sync_base.specs.declared.answers.Mismatch.{Mismatch}
 use Rattle.sync_base.specs.declared.answers.Mismatch.TheVariants as mismatches
 use Rattle.sync_base.specs.Effects.{CellPath, Edit, Effect, Set, Add, Replace, Insert, Remove, Include, Exclude, Bind, Empty, NewTable, NewColumn, Create, Erase, Change}
 use Rattle.sync_base.specs.States.{object_cmp, key_rank_of}
 use Rattle.sync_base.specs.Merged.{path_cmp, same_column, is_defined}
-use Rattle.sync_base.specs.Rules.{Answer, Outcomes, rule, rule_of_edits, sized, top, lifted, kept, neither, only_left, only_right, is_summed, has_row}
+use Rattle.sync_base.specs.Rules.{Answer, Outcomes, rule, rule_of_edits, sized, top, lifted, is_summed, has_row}
 
 -- ---- two edits never differ in tables or columns
 abbrev SizedAt : {A : Type 0} → Answer A → Type 0

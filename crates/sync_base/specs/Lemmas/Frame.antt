@@ -1,4 +1,4 @@
--- What an instruction reads and changes, and that it changes nothing else.
+-- An instruction changes nothing but what its footprint names.
 use Rattle.std.specs.Prelude.{◌≡◌, ℕ, Bool, true, false, cond, not, ◌&&◌, ◌||◌, List, is_some, Option, None, Some, refl}
 use Rattle.std.specs.Option.{option_map, option_and_then, option_map_or}
 use Rattle.std.specs.Ordering.{eq_by_cmp}
@@ -6,40 +6,16 @@ use Rattle.std.specs.FinMap as map
 use Rattle.std.proofs.Common.{sym, ◌∙◌, ap}
 use Rattle.sync_base.specs.After.{after, with_column, with_default, new_cells}
 use Rattle.sync_base.specs.Checks.{is_prior}
-use Rattle.sync_base.specs.Effects.{ObjectName, CellPath, Edit, Effect, NewTable, NewColumn, Create, Erase, Change}
+use Rattle.sync_base.specs.Effects.{Edit, Effect, NewTable, NewColumn, Create, Erase, Change}
 use Rattle.sync_base.specs.Lemmas.Cells.{column-after, got_default, got_edited, touched, map_itself}
 use Rattle.sync_base.specs.Lemmas.Looks.{name_total, name_exact, object_total, object_exact, has-after}
 use Rattle.sync_base.specs.Lemmas.Maps.{tied_is, get-map_with}
 use Rattle.sync_base.specs.Lemmas.Steps.{Found}
-use Rattle.sync_base.specs.Merged.{path_cmp}
-use Rattle.sync_base.specs.States.{State, Table, Cell, Cells, object_cmp, column_in, has, cell_at}
+use Rattle.sync_base.specs.Footprints.{Part, TableAt, ColumnAt, ObjectAt, CellAt, SameAt, changes}
+use Rattle.sync_base.specs.States.{State, Table, Cell, Cells, column_in, has, cell_at}
 use Rattle.sync_data.specs.Orders.{name_cmp}
 
-pub data Atom : Type 0 where
-  TableAt : (table : List ℕ) → Atom
-  ColumnAt : (table : List ℕ) (column : List ℕ) → Atom
-  ObjectAt : (object : ObjectName) → Atom
-  CellAt : (place : CellPath) → Atom
-
--- what two states have there alike
-abbrev pub SameAt : State → State → Atom → Type 0
-SameAt s t (TableAt u) = option_map (λ (x : Table). x.key) (map.get s.tables u) ≡ option_map (λ (x : Table). x.key) (map.get t.tables u)
-SameAt s t (ColumnAt u c) = column_in s.tables u c ≡ column_in t.tables u c
-SameAt s t (ObjectAt o) = has s o ≡ has t o
-SameAt s t (CellAt p) = cell_at s p.0 p.1 ≡ cell_at t p.0 p.1
-
-abbrev pub changes : Effect → Atom → Bool
-changes (NewTable t k) (TableAt u) = eq_by_cmp name_cmp u t
-changes (NewColumn t c def) (ColumnAt u d) = eq_by_cmp name_cmp u t && eq_by_cmp name_cmp d c
-changes (NewColumn t c def) (CellAt q) = eq_by_cmp name_cmp q.0.0 t && eq_by_cmp name_cmp q.1 c
-changes (Create o) (ObjectAt p) = eq_by_cmp object_cmp p o
-changes (Create o) (CellAt q) = eq_by_cmp object_cmp q.0 o
-changes (Erase o) (ObjectAt p) = eq_by_cmp object_cmp p o
-changes (Erase o) (CellAt q) = eq_by_cmp object_cmp q.0 o
-changes (Change p e) (CellAt q) = eq_by_cmp path_cmp q p
-changes d x = false
-
-when_false : {A : Type 0} (b : Bool) (x y : A) → b ≡ false → cond b x y ≡ y
+pub when_false : {A : Type 0} (b : Bool) (x y : A) → b ≡ false → cond b x y ≡ y
 when_false true x y h = cc
 when_false false x y h = refl
 
@@ -47,12 +23,12 @@ no_column : (x : Option Table) (c : List ℕ) → is_some x ≡ false → option
 no_column None c h = refl
 no_column (Some t) c h = cc
 
-cell_there : (x : Option Cell) (e : Edit) → option_map_or (is_prior e) x false ≡ true → is_some x ≡ true
+pub cell_there : (x : Option Cell) (e : Edit) → option_map_or (is_prior e) x false ≡ true → is_some x ≡ true
 cell_there None e h = cc
 cell_there (Some x) e h = refl
 
 -- an instruction that acts changes nothing but what it says
-pub unchanged : (s : State) (d : Effect) (x : Atom) → Found s d → changes d x ≡ false → SameAt (after s d) s x
+pub unchanged : (s : State) (d : Effect) (x : Part) → Found s d → changes d x ≡ false → SameAt (after s d) s x
 unchanged s (NewTable t k) (TableAt u) f h =
     let new : Table = record { key = k; columns = map.empty } in
     ap (option_map (λ (x : Table). x.key)) (map.get-insert name_total s.tables t new u ∙ when_false _ _ _ h)

@@ -1,24 +1,24 @@
 -- The rest of what a state keeps: keys of their kinds, sound columns, values that fit.
-use Rattle.std.specs.Prelude.{◌≡◌, ℕ, ℤ, zero, suc, Bool, true, false, cond, not, ◌&&◌, ◌||◌, ◌==◌, List, [], ◌∷◌, ◌++◌, is_some, Option, None, Some, refl, slice_set, take, drop}
-use Rattle.std.specs.Option.{option_map, option_and_then, option_map_or, unwrap_or}
+use Rattle.std.specs.Prelude.{◌≡◌, ℕ, zero, suc, Bool, true, false, cond, not, ◌&&◌, ◌||◌, List, [], ◌∷◌, is_some, Option, None, Some, refl, slice_set}
+use Rattle.std.specs.Option.{option_map, option_and_then, unwrap_or}
 use Rattle.std.specs.Ordering.{eq_by_cmp}
 use Rattle.std.specs.List.{insert, remove}
 use Rattle.std.specs.FinMap as map
 use Rattle.std.specs.FinSet as set
-use Rattle.std.proofs.Common.{sym, ◌∙◌, ap, subst, arith}
+use Rattle.std.proofs.Common.{sym, ◌∙◌, ap, subst}
 use Rattle.std.proofs.lemmas.Option.{same_Some}
-use Rattle.sync_base.specs.After.{edited, added, sum64, default_of, default_by, zero_of, tables_after, after, with_column}
-use Rattle.sync_base.specs.Checks.{is_int, edit_fits, column_check}
+use Rattle.sync_base.specs.After.{edited, default_of, zero_of, tables_after, after}
+use Rattle.sync_base.specs.Checks.{edit_fits, column_check}
 use Rattle.sync_base.specs.Effects.{ObjectName, CellPath, Edit, Effect, Set, Add, Replace, Insert, Remove, Include, Exclude, Bind, Empty, NewTable, NewColumn, Create, Erase, Change}
-use Rattle.sync_base.specs.Lemmas.Cells.{column-after, touched, no_other_column}
+use Rattle.sync_base.specs.Lemmas.Cells.{column-after, touched}
 use Rattle.sync_base.specs.Lemmas.Edits.{added_fits}
-use Rattle.sync_base.specs.Lemmas.Looks.{name_total, name_exact, object_total, object_exact, path_exact, has-after, creates, erases}
+use Rattle.sync_base.specs.Lemmas.Looks.{name_total, object_exact, path_exact, has-after}
 use Rattle.sync_base.specs.Lemmas.Maps.{tied_is}
 use Rattle.sync_base.specs.Lemmas.Shaped.{IsShaped}
 use Rattle.sync_base.specs.Lemmas.Stays.{key_stays, fits_stays}
 use Rattle.sync_base.specs.Lemmas.Steps.{Found, cell-after, table_stays, column_stays, clash, some_is}
 use Rattle.sync_base.specs.Merged.{path_cmp, touch, cell_or_default}
-use Rattle.sync_base.specs.States.{Each, CellFits, State, Table, Cell, Cells, One, Many, Members, Dict, object_cmp, column_in, has, cell_at, Tables, is_key_of, is_of, is_null, fits, is_sound_column, has_target, is_link, is_one}
+use Rattle.sync_base.specs.States.{Each, CellFits, State, Table, Cell, Cells, One, Many, Members, Dict, object_cmp, column_in, has, cell_at, Tables, is_key_of, is_of, is_null, fits, is_sound_column, has_target, is_link}
 use Rattle.sync_data.specs.Orders.{name_cmp, value_cmp, value_cmp_total, value_cmp_exact}
 use Rattle.sync_data.specs.declared.value.Value.{Value}
 use Rattle.sync_data.specs.declared.value.Value.TheVariants as values

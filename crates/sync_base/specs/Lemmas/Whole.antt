@@ -1,29 +1,30 @@
 -- The laws of instructions, from those of their effects.
-use Rattle.std.specs.Prelude.{◌≡◌, Bool, true, false, not, if◌then◌else◌, List, is_some, Option, None, Some, IsSome, IfOk, Ok, Err, refl}
+use Rattle.std.specs.Prelude.{◌≡◌, ◌↔◌, ◌⊎◌, Bool, true, false, if◌then◌else◌, is_some, Option, None, Some, IfOk, Ok, Err, refl}
 use Rattle.std.specs.Option.{option_map, option_map_or, option_and_then}
 use Rattle.std.specs.FinMap as map
-use Rattle.std.proofs.Common.{sym, ◌∙◌, ap, subst}
+use Rattle.std.proofs.Common.{sym, ◌∙◌, ap, subst, inl, inr}
 use Rattle.sync_data.specs.Orders.{name_cmp}
 use Rattle.sync_data.specs.declared.key.Key.{Key}
 use Rattle.sync_data.specs.declared.instr.Instr.{Instr}
 use Rattle.sync_data.specs.declared.instr.Instr.TheVariants as instrs
-use Rattle.sync_base.specs.declared.answers.Outcome.{Outcome}
 use Rattle.sync_base.specs.Effects.{Effect, Set, Add, Replace, Insert, Remove, Include, Exclude, Bind, Empty, NewTable, NewColumn, Create, Erase, Change, effect_of, instr_of}
-use Rattle.sync_base.specs.States.{State, Table, Tables, Cells, object_cmp, no_state, has, is_of_kind, is_key_of, IsState}
+use Rattle.sync_base.specs.States.{State, Table, Cells, object_cmp, no_state, is_of_kind, IsState}
 use Rattle.sync_base.specs.After.{after}
 use Rattle.sync_base.specs.Checks.{act, act_effect}
 use Rattle.sync_base.specs.Merged.{merge, merged_state, is_defined}
-use Rattle.sync_base.specs.Rules.{Answer, Outcomes, rule, outcome_of, meeting}
-use Rattle.sync_base.specs.Agreement.{act_rest, Agree, TwoSided, Mirrored}
+use Rattle.sync_base.specs.Rules.{Answer, Outcomes, rule, outcome_of}
+use Rattle.sync_base.specs.Agreement.{act_rest, Agree, TwoSided, Mirrored, Differ, SizesFit}
 use Rattle.sync_base.specs.Agreement as agreement
-use Rattle.sync_base.specs.Lemmas.Shaped.{IsShaped, IsEffect}
+use Rattle.sync_base.specs.Lemmas.Shaped.{IsShaped}
 use Rattle.sync_base.specs.Lemmas.Sound.{IsSound, sound-after}
 use Rattle.sync_base.specs.Lemmas.Steps.{found, state-after}
 use Rattle.sync_base.specs.Lemmas.Agreed.{after_outcome, ActsOutcome, AgreesIfMet}
 use Rattle.sync_base.specs.Lemmas.Mirror.{mirrored, rule_turned}
 use Rattle.sync_base.specs.Lemmas.Leaves.{listed, AreEffects, leaves}
-use Rattle.sync_base.specs.Lemmas.Places.{Acted, acted, acting}
+use Rattle.sync_base.specs.Lemmas.Places.{acted, acting}
 use Rattle.sync_base.specs.Lemmas.Sides.{two_sided}
+use Rattle.sync_base.specs.declared.answers.Mismatch.TheVariants as mismatches
+use Rattle.sync_base.specs.Lemmas.Answers.{NoSizes, no_sizes}
 use Rattle.sync_base.specs.Lemmas.Defined.{Told, told}
 
 -- ---- instructions and their effects are one to one
@@ -125,3 +126,39 @@ instrs_two_sided a b l s sa sb ok e f =
     let q = acted (effect_of b) s sb f in
     agreed a b l s sa sb (rule l (effect_of a) (effect_of b)) p.gives q.gives (λ r h. leaves (effect_of a) (effect_of b) l r p.fine q.fine h)
     (two_sided (effect_of a) (effect_of b) s l (shaped_of s ok) p.fine q.fine p.acts q.acts) (told l (effect_of a) (effect_of b))
+
+-- ---- the mismatches
+sizes_not : (m : Answer Effect) → NoSizes m → ¬ (outcome_of m ≡ Err mismatches.SizesDiffer)
+sizes_not (Ok f) h e = cc
+sizes_not (Err mismatches.SizesDiffer) h e = h.fine
+sizes_not (Err mismatches.TablesDiffer) h e = cc
+sizes_not (Err mismatches.ColumnsDiffer) h e = cc
+sizes_not (Err mismatches.Range) h e = cc
+
+pub sizes_fit : (a b : Instr) → SizesFit a b
+sizes_fit a b l s sa sb e f =
+    let p = acted (effect_of a) s sa e in
+    let q = acted (effect_of b) s sb f in
+    sizes_not (rule l (effect_of a) (effect_of b)) (no_sizes s l (effect_of a) (effect_of b) (found s (effect_of a) p.acts) (found s (effect_of b) q.acts))
+
+abbrev DifferAt : Answer Effect → Type 0
+DifferAt m = (outcome_of m ≡ Err mismatches.TablesDiffer) ⊎ (outcome_of m ≡ Err mismatches.ColumnsDiffer)
+
+neither_way : {A : Type 0} (m : Answer Effect) → ¬ (outcome_of m ≡ Err mismatches.TablesDiffer) → ¬ (outcome_of m ≡ Err mismatches.ColumnsDiffer) → DifferAt m → A
+neither_way m g h (inl e) = absurd (g e)
+neither_way m g h (inr e) = absurd (h e)
+
+differ_is : (m : Answer Effect) (d : Bool) (t : State) → Told m d → ((if d then Some t else None) ≡ None) ↔ DifferAt m
+differ_is (Ok f) true t h = (λ e. cc, neither_way (Ok f) (λ e. cc) (λ e. cc))
+differ_is (Ok f) false t h = let e = h.told in cc
+differ_is (Err mismatches.SizesDiffer) true t h = (λ e. cc, neither_way (Err mismatches.SizesDiffer) (λ e. cc) (λ e. cc))
+differ_is (Err mismatches.SizesDiffer) false t h = let e = h.told in cc
+differ_is (Err mismatches.Range) true t h = (λ e. cc, neither_way (Err mismatches.Range) (λ e. cc) (λ e. cc))
+differ_is (Err mismatches.Range) false t h = let e = h.told in cc
+differ_is (Err mismatches.TablesDiffer) false t h = (λ e. inl refl, λ e. refl)
+differ_is (Err mismatches.TablesDiffer) true t h = let e = h.told in cc
+differ_is (Err mismatches.ColumnsDiffer) false t h = (λ e. inr refl, λ e. refl)
+differ_is (Err mismatches.ColumnsDiffer) true t h = let e = h.told in cc
+
+pub definitions_differ : (a b : Instr) (later : Bool) (s : State) → (merge a b later s ≡ None) ↔ Differ a b later
+definitions_differ a b l s = differ_is (rule l (effect_of a) (effect_of b)) (is_defined (effect_of a) (effect_of b)) (merged_state s (effect_of a) (effect_of b) l) (told l (effect_of a) (effect_of b))

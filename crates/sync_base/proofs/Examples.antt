@@ -1,0 +1,6 @@
+pub mod Setting
+pub mod Pairs
+pub mod Texts
+pub mod Breaks
+pub mod Prelude
+pub mod Merging

@@ -1,0 +1,43 @@
+//! The toy is merged through the bound.
+
+use super::laws::{
+    changesets_agree, lists_agree, one_crossing, prefixes_rebase_alike, reciprocal_lists_settle,
+    worlds_converge,
+};
+use super::merge::Merge;
+
+struct Toys;
+
+impl Merge for Toys {
+    ghost use Rattle.std.specs.Prelude.{ℕ};
+    ghost use Rattle.sync_theory.specs.Toy.{AnySheet, Sheet, Toy, blank, toy_act, toy_meet};
+    ghost use Rattle.sync_theory.specs.ToyLaw.{toy_law};
+
+    ghost Instr = { Toy };
+
+    ghost State = { Sheet };
+
+    ghost Mismatch = { ℕ };
+
+    ghost act = { toy_act };
+
+    ghost meet = { toy_meet };
+
+    ghost Fits = { AnySheet };
+
+    ghost first = { blank };
+
+    ghost first_fits = { tt };
+
+    ghost law = { toy_law };
+}
+
+#[test]
+fn a_toy_can_be_merged() {
+    lists_agree::<Toys>();
+    one_crossing::<Toys>();
+    prefixes_rebase_alike::<Toys>();
+    changesets_agree::<Toys>();
+    worlds_converge::<Toys>();
+    reciprocal_lists_settle::<Toys>();
+}
