@@ -17,7 +17,7 @@ next_acts place i is s = refl
 
 pub act_at : (place : ℕ) (is : List Instr) (i : Instr) (s : State) → place < length is → i ≡ get_or is place i → act_all place (drop place is) s ≡ acted (break_of s.names i) place (act_all (place + 1) (drop (place + 1) is) (after s i))
 act_at place is i s h e =
-    let first : drop place is ≡ get_or is place i ∷ drop (suc place) is = drop-cons is place i in
+    let first : drop place is ≡ get_or is place i ∷ drop (suc place) is = drop-cons is place i h in
     let one_more : suc place ≡ place + 1 = omega arith in
     let cut : drop place is ≡ i ∷ drop (place + 1) is = cc in
     ap (λ (l : List Instr). act_all place l s) cut

@@ -5,6 +5,7 @@ mod names;
 mod refusals;
 mod standing;
 mod store;
+mod text;
 
 
 pub use names::{CellPath, ColumnName, ObjectName};

@@ -110,12 +110,16 @@ impl Store {
     {
         let mut added = Standing::new(self.alloc);
         for (place, instr) in instrs.iter().enumerate() {
-            if let Err(cause) = self.standing.check(&added, instr) {
-                let place = place as u32;
-                return Err(AllRefusal::Break { place, cause });
+            match self.standing.check(&added, instr) {
+                Ok(()) => {}
+                Err(cause) => {
+                    let place = place as u32;
+                    return Err(AllRefusal::Break { place, cause });
+                }
             }
-            if added.add(instr).is_err() {
-                return Err(AllRefusal::NoMemory);
+            match added.add(instr) {
+                Ok(()) => {}
+                Err(NoMemory) => return Err(AllRefusal::NoMemory),
             }
         }
         Ok(())
