@@ -1,0 +1,9 @@
+pub mod Profile
+pub mod Messages
+pub mod Clients
+pub mod Servers
+pub mod Worlds
+pub mod Log
+pub mod Files
+pub mod Reports
+pub mod Toy

@@ -1,0 +1,105 @@
+-- What the nodes stand on: instructions, states, the rule table, the spelling of changesets, and the limits.
+use Rattle.std.specs.Prelude.{◌≡◌, ◌⊎◌, ℕ, zero, suc, ◌-◌, Bool, true, false, ◌&&◌, ◌||◌, List, [], ◌∷◌, Option, Some, None, Result, Ok, Err, IfOk, IfErr, nat_lt, nat_le, ◌==◌, if◌then◌else◌}
+use Rattle.sync_theory.specs.Lists.{cross, run, Keeps, TwoSided}
+use Rattle.sync_theory.specs.Grid.{Meet}
+
+pub record Profile (I S : Type 0) : Type 0 where
+  -- the state with no tables
+  pub empty : S
+  -- the state after an instruction, or the code of its break
+  pub apply : I → S → Result S ℕ
+  -- what is left of two instructions, or the kind of their mismatch; true where the left one is later
+  pub meet : I → I → Bool → Result (Option I × Option I) ℕ
+  -- the bytes of a list of instructions
+  pub spell : List I → List ℕ
+  -- and back, or the offset and the rule of the first fault
+  pub unspell : List ℕ → Result (List I) (ℕ × ℕ)
+  -- the limits of a changeset hold
+  pub is_small : List I → Bool
+  -- version 1 of the bytes has no form for it
+  pub needs_second : I → Bool
+  -- the most changes of a message, the most bytes of its bodies, and the greatest number, length and ident
+  pub most : ℕ
+  pub room : ℕ
+  pub full : ℕ
+
+-- a changeset with its origin and its number
+pub record Marked (I : Type 0) : Type 0 where
+  pub origin : ℕ
+  pub number : ℕ
+  pub ms : ℕ
+  pub instrs : List I
+
+-- where they mismatch: the left place, the right place and the kind
+abbrev pub Stuck : Type 0
+Stuck = ℕ × ℕ × ℕ
+
+-- the kinds of mismatch that two instructions may have where both act: TablesDiffer, ColumnsDiffer and Range
+abbrev pub IsNamedKind : ℕ → Type 0
+IsNamedKind kind = ((kind ≡ 1) ⊎ (kind ≡ 2)) ⊎ (kind ≡ 4)
+
+abbrev pub ok_part : {S E : Type 0} → Result S E → Option S
+ok_part (Ok s) = Some s
+ok_part (Err e) = None
+
+-- the first stamp is the later one
+abbrev pub is_later : {I : Type 0} → Marked I → Marked I → Bool
+is_later a b = nat_lt b.ms a.ms || ((a.ms == b.ms) && nat_lt b.origin a.origin)
+
+abbrev pub with_lists : {I : Type 0} → Marked I → Marked I → Result (List I × List I) Stuck → Result (Marked I × Marked I) Stuck
+with_lists a b (Ok q) = Ok (record a { instrs = q.0 }, record b { instrs = q.1 })
+with_lists a b (Err m) = Err m
+
+abbrev pub one_more : {S : Type 0} → Result S (ℕ × ℕ) → Result S (ℕ × ℕ)
+one_more (Ok s) = Ok s
+one_more (Err b) = Err (suc b.0, b.1)
+
+abbrev pub apply_then : {S : Type 0} → Result S ℕ → (S → Result S (ℕ × ℕ)) → Result S (ℕ × ℕ)
+apply_then (Ok s) go = one_more (go s)
+apply_then (Err code) go = Err (0, code)
+
+abbrev pub same_bytes : List ℕ → List ℕ → Bool
+same_bytes [] [] = true
+same_bytes [] (b ∷ bs) = false
+same_bytes (a ∷ as_) [] = false
+same_bytes (a ∷ as_) (b ∷ bs) = (a == b) && same_bytes as_ bs
+
+-- the longest beginning with at most so many items and so many bytes
+abbrev pub fitting : {A : Type 0} → (A → ℕ) → ℕ → ℕ → List A → List A
+fitting size n room [] = []
+fitting size zero room (x ∷ xs) = []
+fitting size (suc n) room (x ∷ xs) = if nat_le (size x) room then x ∷ fitting size n (room - size x) xs else []
+
+module _ {I S : Type 0} (p : Profile I S) where
+  abbrev pub act : I → S → Option S
+  act i s = ok_part (p.apply i s)
+
+  -- the state after all instructions, or the place and the code of the first break
+  abbrev pub apply_all : List I → S → Result S (ℕ × ℕ)
+  apply_all [] s = Ok s
+  apply_all (i ∷ is) s = apply_then (p.apply i s) (apply_all is)
+
+  abbrev pub act_marked : Marked I → S → Option S
+  act_marked x s = run act x.instrs s
+
+  abbrev pub meet_marked : Meet (Marked I) Stuck
+  meet_marked a b = with_lists a b (cross (λ x y. p.meet x y (is_later a b)) a.instrs b.instrs)
+
+  -- some instruction of the list needs version 2
+  abbrev pub needs : List I → Bool
+  needs [] = false
+  needs (i ∷ is) = p.needs_second i || needs is
+
+  -- the place of the first
+  abbrev pub first_need : List I → ℕ
+  first_need [] = 0
+  first_need (i ∷ is) = if p.needs_second i then 0 else suc (first_need is)
+
+  -- the laws that the theorems ask for, on the states that fit
+  pub record Lawful (Fits : S → Type 0) : Type 0 where
+    pub first : Fits p.empty
+    pub keeps : Keeps Fits act
+    pub two_sided : (later : Bool) → TwoSided Fits act (λ a b. p.meet a b later)
+    pub kinds : (later : Bool) (a b : I) (s sa sb : S) → Fits s → act a s ≡ Some sa → act b s ≡ Some sb → IfErr (p.meet a b later) IsNamedKind
+    pub spelled : (is : List I) → p.unspell (p.spell is) ≡ Ok is
+    pub spelling : (bytes : List ℕ) → IfOk (p.unspell bytes) (λ is. p.spell is ≡ bytes)

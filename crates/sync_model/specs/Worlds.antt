@@ -1,0 +1,248 @@
+-- The world: a server, clients and all messages that were made. What each event makes of it.
+use Rattle.std.specs.Prelude.{ℕ, zero, suc, ◌+◌, ◌-◌, ◌*◌, ◌/◌, ◌%◌, Bool, true, false, ◌&&◌, ◌||◌, not, List, [], ◌∷◌, ◌++◌, Option, Some, None, Result, Ok, Err, nat_le, ◌==◌, if◌then◌else◌, length, take}
+use Rattle.sync_theory.specs.World.{put_at}
+use Rattle.sync_model.specs.Profile.{Profile}
+use Rattle.sync_model.specs.Messages.{Message, Bind, Upload, Ask, Ask2}
+use Rattle.sync_model.specs.Clients.{Client, ClientRecord, Born, ClientRefusal, ClientDid, client_of, commit, upgrade, bind, upload, ask, take as take_message}
+use Rattle.sync_model.specs.Servers.{ServerRecord, ServerDid, server_of, place_of, serve}
+
+pub data Leaves : Type 0 where
+  Drop : Leaves
+  Keep : Leaves
+  Torn : Leaves
+
+pub record Stop : Type 0 where
+  pub at : ℕ
+  pub leaves : Leaves
+
+pub record Node : Type 0 where
+  pub name : ℕ
+  pub records : List ClientRecord
+
+pub record World : Type 0 where
+  pub server : List ServerRecord
+  -- in the order in which they joined
+  pub clients : List Node
+  -- all that were made
+  pub messages : List Message
+  -- the uuids that injected Binds named
+  pub injected : List ℕ
+  -- by the names of nodes
+  pub stops : ℕ → Option Stop
+
+-- the server's name
+abbrev pub server_name : ℕ
+server_name = 0
+
+pub data Event (I : Type 0) : Type 0 where
+  Joins : (name id : ℕ) → Event I
+  Edits : (client ms : ℕ) (edits : List I) → Event I
+  Binds : (client : ℕ) → Event I
+  Uploads : (client : ℕ) → Event I
+  Asks : (client : ℕ) → Event I
+  Upgrades : (client : ℕ) → Event I
+  Delivers : (message to : ℕ) → Event I
+  Restarts : (node : ℕ) → Event I
+  Stops : (node at : ℕ) (leaves : Leaves) → Event I
+  -- none where the bytes are no message
+  Injects : (message : Option Message) → Event I
+
+pub data Words : Type 0 where
+  Joined : (name : ℕ) → Words
+  Made : (number : ℕ) → Words
+  Messaged : (place : ℕ) → Words
+  Took : (cursor : ℕ) → Words
+  Replied : (place : ℕ) (reply : Message) → Words
+  Opened : Words
+  Armed : Words
+  Stopped : Words
+  Upgraded : Words
+  Current : Words
+  Declined : (why : ClientRefusal) → Words
+  NameTaken : Words
+  UuidTaken : Words
+  NoNode : Words
+  NoMessage : Words
+  BadMessage : Words
+  OwnIdent : Words
+
+-- the world after an event, and the outcome
+pub record Outcome : Type 0 where
+  pub world : World
+  pub words : Words
+
+abbrev pub says : World → Words → Outcome
+says w words = record { world = w; words = words }
+
+-- ---- lists by places
+
+abbrev pub at : {A : Type 0} → List A → ℕ → Option A
+at [] n = None
+at (x ∷ xs) zero = Some x
+at (x ∷ xs) (suc n) = at xs n
+
+abbrev pub put : {A : Type 0} → List A → ℕ → A → List A
+put [] n y = []
+put (x ∷ xs) zero y = y ∷ xs
+put (x ∷ xs) (suc n) y = x ∷ put xs n y
+
+abbrev pub further : {A : Type 0} → Option (ℕ × A) → Option (ℕ × A)
+further None = None
+further (Some q) = Some (suc q.0, q.1)
+
+-- the first that passes a test, with its place
+abbrev pub seek : {A : Type 0} → (A → Bool) → List A → Option (ℕ × A)
+seek test [] = None
+seek test (x ∷ xs) = if test x then Some (0, x) else further (seek test xs)
+
+abbrev pub is_there : {A : Type 0} → Option A → Bool
+is_there None = false
+is_there (Some x) = true
+
+-- ---- stops: a record takes four strokes
+
+abbrev pub is_keep : Leaves → Bool
+is_keep Drop = false
+is_keep Keep = true
+is_keep Torn = false
+
+-- how many records of a call stand after a stop in it
+abbrev pub standing : Stop → ℕ
+standing s = (s.at - 1) / 4 + (if nat_le 2 ((s.at - 1) % 4) && is_keep s.leaves then 1 else 0)
+
+-- the records that stand where the call stops, or none where it doesn't
+abbrev pub stopped : {R : Type 0} → Option Stop → List R → Option (List R)
+stopped None rs = None
+stopped (Some s) rs = if nat_le s.at (4 * length rs) then Some (take (standing s) rs) else None
+
+abbrev pub empty_world : World
+empty_world = record { server = []; clients = []; messages = []; injected = []; stops = λ name. None }
+
+abbrev pub id_is : ℕ → Option ℕ → Bool
+id_is u None = false
+id_is u (Some v) = u == v
+
+abbrev pub has_name : ℕ → Node → Bool
+has_name name c = name == c.name
+
+abbrev pub ident_is : List ℕ → ℕ → Option ℕ → Bool
+ident_is ids c None = false
+ident_is ids c (Some u) = (c == place_of u ids) && not (c == 0)
+
+-- the message is one more
+abbrev pub messaged : World → Message → Outcome
+messaged w m = says (record w { messages = w.messages ++ m ∷ [] }) (Messaged (suc (length w.messages)))
+
+abbrev pub message_words : World → Result Message ClientRefusal → Outcome
+message_words w (Ok m) = messaged w m
+message_words w (Err r) = says w (Declined r)
+
+abbrev pub made_words : World → Result ℕ ClientRefusal → Outcome
+made_words w (Ok n) = says w (Made n)
+made_words w (Err r) = says w (Declined r)
+
+abbrev pub took_words : World → Result ℕ ClientRefusal → Outcome
+took_words w (Ok n) = says w (Took n)
+took_words w (Err r) = says w (Declined r)
+
+abbrev pub upgrade_words : World → Result Bool ClientRefusal → Outcome
+upgrade_words w (Ok b) = says w (if b then Upgraded else Current)
+upgrade_words w (Err r) = says w (Declined r)
+
+abbrev pub reply_words : World → Message → Outcome
+reply_words w m = says (record w { messages = w.messages ++ m ∷ [] }) (Replied (suc (length w.messages)) m)
+
+-- a client's records after a call, which ends the arming
+abbrev pub client_moved : World → ℕ → Node → List ClientRecord → World
+client_moved w place n new = record w { clients = put w.clients place (record n { records = n.records ++ new }); stops = put_at n.name None w.stops }
+
+abbrev pub client_ends : {A : Type 0} → World → ℕ → Node → ClientDid A → (World → Result A ClientRefusal → Outcome) → Option (List ClientRecord) → Outcome
+client_ends w place n did words None = words (client_moved w place n did.records) did.answer
+client_ends w place n did words (Some stand) = says (client_moved w place n stand) Stopped
+
+abbrev pub server_moved : World → List ServerRecord → World
+server_moved w new = record w { server = w.server ++ new; stops = put_at server_name None w.stops }
+
+abbrev pub server_ends : World → ServerDid → Option (List ServerRecord) → Outcome
+server_ends w did None = reply_words (server_moved w did.records) did.answer
+server_ends w did (Some stand) = says (server_moved w stand) Stopped
+
+abbrev pub is_node : World → ℕ → Bool
+is_node w name = (name == server_name) || is_there (seek (has_name name) w.clients)
+
+abbrev pub named_by : World → Message → World
+named_by w (Bind u) = record w { injected = w.injected ++ u ∷ [] }
+named_by w m = w
+
+-- messages are counted from 1
+abbrev pub message_at : World → ℕ → Option Message
+message_at w zero = None
+message_at w (suc n) = at w.messages n
+
+module _ {I S : Type 0} (p : Profile I S) where
+  abbrev pub has_id : ℕ → Node → Bool
+  has_id u c = id_is u (client_of p c.records).id
+
+  -- the client of the exchange to whose uuid the server gave this ident
+  abbrev pub owner : List Node → List ℕ → ℕ → Option (ℕ × Node)
+  owner clients ids c = seek (λ n. ident_is ids c (client_of p n.records).id) clients
+
+  abbrev pub is_own : World → ℕ → Bool
+  is_own w c = is_there (owner w.clients (server_of p w.server).ids c)
+
+  -- ---- calls
+
+  abbrev pub client_called : {A : Type 0} → World → (Client I S → ClientDid A) → (World → Result A ClientRefusal → Outcome) → Option (ℕ × Node) → Outcome
+  client_called w call words None = says w NoNode
+  client_called w call words (Some q) =
+      client_ends w q.0 q.1 (call (client_of p q.1.records)) words (stopped (w.stops q.1.name) (call (client_of p q.1.records)).records)
+
+  abbrev pub client_calls : {A : Type 0} → World → ℕ → (Client I S → ClientDid A) → (World → Result A ClientRefusal → Outcome) → Outcome
+  client_calls w name call words = client_called w call words (seek (has_name name) w.clients)
+
+  abbrev pub server_called : World → Message → Outcome
+  server_called w m = server_ends w (serve p (server_of p w.server) m) (stopped (w.stops server_name) (serve p (server_of p w.server) m).records)
+
+  -- ---- events
+
+  abbrev pub joins : World → ℕ → ℕ → Outcome
+  joins w name id =
+      if is_node w name then says w NameTaken
+      else if is_there (seek (has_id id) w.clients) || is_there (seek (λ u. id == u) w.injected) then says w UuidTaken
+      else says (record w { clients = w.clients ++ record { name = name; records = Born id ∷ [] } ∷ [] }) (Joined name)
+
+  abbrev pub delivers : World → ℕ → Option Message → Outcome
+  delivers w to None = says w NoMessage
+  delivers w to (Some m) = if to == server_name then server_called w m else client_calls w to (λ c. take_message p c m) took_words
+
+  abbrev pub names_own : World → Message → Bool
+  names_own w (Upload c changes) = is_own w c
+  names_own w (Ask c cursor settled) = is_own w c
+  names_own w (Ask2 c cursor settled) = is_own w c
+  names_own w m = false
+
+  abbrev pub injects : World → Option Message → Outcome
+  injects w None = says w BadMessage
+  injects w (Some m) = if names_own w m then says w OwnIdent else server_called (named_by w m) m
+
+  abbrev pub happens : World → Event I → Outcome
+  happens w (Joins name id) = joins w name id
+  happens w (Edits name ms edits) = client_calls w name (λ c. commit p c ms edits) made_words
+  happens w (Binds name) = client_calls w name bind message_words
+  happens w (Uploads name) = client_calls w name (upload p) message_words
+  happens w (Asks name) = client_calls w name ask message_words
+  happens w (Upgrades name) = client_calls w name upgrade upgrade_words
+  happens w (Delivers message to) = if is_node w to then delivers w to (message_at w message) else says w NoNode
+  happens w (Restarts node) = says w (if is_node w node then Opened else NoNode)
+  happens w (Stops node k leaves) = if is_node w node then says (record w { stops = put_at node (Some (record { at = k; leaves = leaves })) w.stops }) Armed else says w NoNode
+  happens w (Injects m) = injects w m
+
+  -- the world after a list of events
+  abbrev pub world_after : World → List (Event I) → World
+  world_after w [] = w
+  world_after w (e ∷ es) = world_after (happens w e).world es
+
+  -- and their outcomes
+  abbrev pub outcomes : World → List (Event I) → List Words
+  outcomes w [] = []
+  outcomes w (e ∷ es) = (happens w e).words ∷ outcomes (happens w e).world es

@@ -1,0 +1,2 @@
+//! Clients, a server and the world between them, over any instructions, states and spelling.
+#![tactic(auto)]
