@@ -3,9 +3,10 @@ use Rattle.std.proofs.Common.{◌≡◌, ⊎_elim, ℕ, suc, Bool, true, false, 
 use Rattle.sync_theory.specs.Grid.{rebase, tail}
 use Rattle.sync_theory.specs.World.{put_at}
 use Rattle.sync_theory.proofs.World.{same_or_not}
-use Rattle.sync_model.specs.Profile.{Profile, Marked, Stuck, apply_all, meet_marked, needs, first_need, Lawful}
+use Rattle.sync_theory.specs.Changesets.{Changeset}
+use Rattle.sync_model.specs.Profile.{Profile, Stuck, apply_all, cross_changesets, needs, first_need, Lawful}
 use Rattle.sync_model.specs.Messages.{Message, Bind, Ident, Upload, Ask, Download, Refused, Stored, Ask2}
-use Rattle.sync_model.specs.Clients.{Client, ClientRecord, Born, Named, Made, Took, Form, Original, mark, ClientDid, ClientRefusal, TooLarge, NumbersFull, OldForm, refuse, if_born, ok_list, client_of, after_record, after_records, makes, crossed, commit, commit_born, commit_applied, upgrade, bind, upload, ask, take as take_message}
+use Rattle.sync_model.specs.Clients.{Client, ClientRecord, Born, Named, Made, Took, Form, Original, changeset_of, ClientStep, ClientRefusal, TooLarge, NumbersFull, OldForm, refuse, if_born, ok_list, client_of, after_record, after_records, makes, crossed, commit, commit_born, commit_applied, upgrade, bind, upload, ask, take as take_message}
 use Rattle.sync_model.specs.Servers.{ServerRecord, server_of, serve}
 use Rattle.sync_model.specs.Worlds.{Stop, Node, World, Event, Joins, Edits, Binds, Uploads, Asks, Upgrades, Delivers, Restarts, Stops, Injects, Outcome, Words, says, at, put, seek, is_there, stopped, has_name, has_id, server_name, messaged, message_words, made_words, took_words, upgrade_words, client_moved, client_ends, client_called, client_calls, server_ends, server_called, is_node, joins, delivers, named_by, names_own, injects, message_at, happens, world_after}
 use Rattle.sync_model.specs.Log.{Stands}
@@ -44,13 +45,13 @@ moved_grow w place nd rs e i x h = ⊎_elim
 module _ {I S : Type 0} (p : Profile I S) where
   -- ---- the clients of a world, over an event
 
-  ends_grow : {A : Type 0} (w : World) (place : ℕ) (nd : Node) (did : ClientDid A) (words : World → Result A ClientRefusal → Outcome) → ((v : World) (a : Result A ClientRefusal) → (words v a).world.clients ≡ v.clients) → at w.clients place ≡ Some nd → (o : Option (List ClientRecord)) → ClientsGrow w (client_ends w place nd did words o).world
+  ends_grow : {A : Type 0} (w : World) (place : ℕ) (nd : Node) (did : ClientStep A) (words : World → Result A ClientRefusal → Outcome) → ((v : World) (a : Result A ClientRefusal) → (words v a).world.clients ≡ v.clients) → at w.clients place ≡ Some nd → (o : Option (List ClientRecord)) → ClientsGrow w (client_ends w place nd did words o).world
   ends_grow w place nd did words same e None i x h =
       let g = moved_grow w place nd did.records e i x h in
       (g.0, ap (λ l. at l i) (same (client_moved w place nd did.records) did.answer) ∙ g.1, g.2)
   ends_grow w place nd did words same e (Some stand) i x h = moved_grow w place nd stand e i x h
 
-  calls_grow : {A : Type 0} (w : World) (name : ℕ) (call : Client I S → ClientDid A) (words : World → Result A ClientRefusal → Outcome) → ((v : World) (a : Result A ClientRefusal) → (words v a).world.clients ≡ v.clients) → ClientsGrow w (client_calls p w name call words).world
+  calls_grow : {A : Type 0} (w : World) (name : ℕ) (call : Client I S → ClientStep A) (words : World → Result A ClientRefusal → Outcome) → ((v : World) (a : Result A ClientRefusal) → (words v a).world.clients ≡ v.clients) → ClientsGrow w (client_calls p w name call words).world
   calls_grow w name call words same = on (seek (has_name name) w.clients) refl
     where
       on : (o : Option (ℕ × Node)) → seek (has_name name) w.clients ≡ o → ClientsGrow w (client_called p w call words o).world
@@ -138,13 +139,13 @@ module _ {I S : Type 0} (p : Profile I S) where
   made_step c (Born id) = ([], sym (append-nil c.made))
   made_step c (Named ident) = ([], sym (append-nil c.made))
   made_step c (Made number ms body) = (record { base = c.cursor; number = number; ms = ms; instrs = ok_list (p.unspell body) } ∷ [], refl)
-  made_step c (Took origin number ms body) = go (origin == c.ident) (rebase (meet_marked p) (map (mark c.ident) c.unsent) (record { origin = origin; number = number; ms = ms; instrs = ok_list (p.unspell body) }))
+  made_step c (Took origin number ms body) = go (origin == c.ident) (rebase (cross_changesets p) (map (changeset_of c.ident) c.unsent) (record { origin = origin; number = number; ms = ms; instrs = ok_list (p.unspell body) }))
     where
-      on : (r : Result (List (Marked I) × Marked I) (ℕ × Stuck)) → (more : List (Original I)) × ((crossed p c r).made ≡ c.made ++ more)
+      on : (r : Result (List (Changeset I) × Changeset I) (ℕ × Stuck)) → (more : List (Original I)) × ((crossed p c r).made ≡ c.made ++ more)
       on (Ok q) = ([], sym (append-nil c.made))
       on (Err f) = ([], sym (append-nil c.made))
 
-      go : (b : Bool) (r : Result (List (Marked I) × Marked I) (ℕ × Stuck)) → (more : List (Original I)) × ((if b then record c { cursor = suc c.cursor; unsent = tail c.unsent } else crossed p c r).made ≡ c.made ++ more)
+      go : (b : Bool) (r : Result (List (Changeset I) × Changeset I) (ℕ × Stuck)) → (more : List (Original I)) × ((if b then record c { cursor = suc c.cursor; unsent = tail c.unsent } else crossed p c r).made ≡ c.made ++ more)
       go true r = ([], sym (append-nil c.made))
       go false r = on r
   made_step c Form = ([], sym (append-nil c.made))
@@ -166,7 +167,7 @@ module _ {I S : Type 0} (p : Profile I S) where
   committed : (c : Client I S) (ms : ℕ) (edits : List I) (number : ℕ) → (commit p c ms edits).answer ≡ Ok number → Committed c ms edits number
   committed c ms edits number e = let r = at_id c.id e in record { number_is = r.0; records = r.1 }
     where
-      unless : (b : Bool) (w : ClientRefusal) (y : ClientDid ℕ) → (y.answer ≡ Ok number → (number ≡ suc (length c.made)) × (y.records ≡ Made number ms (p.spell edits) ∷ [])) → (if b then refuse w else y).answer ≡ Ok number → (number ≡ suc (length c.made)) × ((if b then refuse w else y).records ≡ Made number ms (p.spell edits) ∷ [])
+      unless : (b : Bool) (w : ClientRefusal) (y : ClientStep ℕ) → (y.answer ≡ Ok number → (number ≡ suc (length c.made)) × (y.records ≡ Made number ms (p.spell edits) ∷ [])) → (if b then refuse w else y).answer ≡ Ok number → (number ≡ suc (length c.made)) × ((if b then refuse w else y).records ≡ Made number ms (p.spell edits) ∷ [])
       unless true w y f h = cc
       unless false w y f h = f h
 

@@ -6,9 +6,11 @@ use Rattle.std.proofs.lemmas.List.{take-append-drop}
 use Rattle.sync_theory.specs.Grid.{rebase, tail}
 use Rattle.sync_theory.specs.Logs.{Made as LogMade, of_origin, Nodes}
 use Rattle.sync_theory.proofs.Logs.{length_snoc, origin_append}
-use Rattle.sync_model.specs.Profile.{Profile, Marked, Stuck, ok_part, apply_all, meet_marked, Lawful, needs, first_need, fitting}
+use Rattle.sync_theory.specs.Changesets.{Changeset}
+use Rattle.sync_theory.specs.Lists.{ok_state}
+use Rattle.sync_model.specs.Profile.{Profile, Stuck, apply_all, cross_changesets, Lawful, needs, first_need, fitting}
 use Rattle.sync_model.specs.Messages.{Change, Sent, Message, Bind, Ident, Upload, Ask, Download, Refused, Stored, Ask2}
-use Rattle.sync_model.specs.Clients.{Client, ClientRecord, Born, Named, Made, Took, Form, Original, Unsent, as_made, mark, Did, ClientDid, refuse, answers, appends, if_born, client_of, after_record, after_records, takes_entry, crossed, ClientRefusal, entry_refusal, took, take_one, take_entries, take_ident, take_born, take as take_message, commit, commit_born, commit_applied, upgrade, bind, upload, ask, if_named, change_of, to_upload, settled_from, NotBorn, NotMine, NotNamed, TooLarge, NumbersFull, OldForm, Break, IdentDiffers, Gap, WasRefused}
+use Rattle.sync_model.specs.Clients.{Client, ClientRecord, Born, Named, Made, Took, Form, Original, Unsent, as_made, changeset_of, Step, ClientStep, refuse, answers, appends, if_born, client_of, after_record, after_records, takes_entry, crossed, ClientRefusal, entry_refusal, took, take_one, take_entries, take_ident, take_born, take as take_message, commit, commit_born, commit_applied, upgrade, bind, upload, ask, if_named, change_of, to_upload, settled_from, NotBorn, NotMine, NotNamed, TooLarge, NumbersFull, OldForm, Break, IdentDiffers, Gap, WasRefused}
 use Rattle.sync_model.specs.Servers.{Server, place_of, sent_of}
 use Rattle.sync_model.specs.Worlds.{Node, at, put}
 use Rattle.sync_model.specs.Log.{MayDecline}
@@ -30,31 +32,31 @@ put_put (z ∷ xs) zero x y = refl
 put_put (z ∷ xs) (suc i) x y = ap (λ l. z ∷ l) (put_put xs i x y)
 
 module _ {I S : Type 0} (p : Profile I S) where
-  bears_drop : (n : Nodes (Marked I) S) (d k j : ℕ) (es : List Sent) → Bears p n k es → k + d ≡ j → Bears p n j (drop d es)
+  bears_drop : (n : Nodes (Changeset I) S) (d k j : ℕ) (es : List Sent) → Bears p n k es → k + d ≡ j → Bears p n j (drop d es)
   bears_drop n zero k j es b e = let h : k ≡ j = omega arith in subst (λ i. Bears p n i es) h b
   bears_drop n (suc d) k j [] b e = no_entries
   bears_drop n (suc d) k j (x ∷ es) (an_entry lt is b) e = bears_drop n d (suc k) j es b (omega arith)
 
-  pub took_cursor : (c : Client I S) (x : Marked I) → ((takes_entry p c x).cursor ≡ suc c.cursor) × ((takes_entry p c x).ident ≡ c.ident)
-  took_cursor c x = go (x.origin == c.ident) (rebase (meet_marked p) (map (mark c.ident) c.unsent) x)
+  pub took_cursor : (c : Client I S) (x : Changeset I) → ((takes_entry p c x).cursor ≡ suc c.cursor) × ((takes_entry p c x).ident ≡ c.ident)
+  took_cursor c x = go (x.origin == c.ident) (rebase (cross_changesets p) (map (changeset_of c.ident) c.unsent) x)
     where
-      on : (r : Result (List (Marked I) × Marked I) (ℕ × Stuck)) → ((crossed p c r).cursor ≡ suc c.cursor) × ((crossed p c r).ident ≡ c.ident)
+      on : (r : Result (List (Changeset I) × Changeset I) (ℕ × Stuck)) → ((crossed p c r).cursor ≡ suc c.cursor) × ((crossed p c r).ident ≡ c.ident)
       on (Ok q) = (refl, refl)
       on (Err f) = (refl, refl)
 
-      go : (b : Bool) (r : Result (List (Marked I) × Marked I) (ℕ × Stuck)) → ((if b then record c { cursor = suc c.cursor; unsent = tail c.unsent } else crossed p c r).cursor ≡ suc c.cursor) × ((if b then record c { cursor = suc c.cursor; unsent = tail c.unsent } else crossed p c r).ident ≡ c.ident)
+      go : (b : Bool) (r : Result (List (Changeset I) × Changeset I) (ℕ × Stuck)) → ((if b then record c { cursor = suc c.cursor; unsent = tail c.unsent } else crossed p c r).cursor ≡ suc c.cursor) × ((if b then record c { cursor = suc c.cursor; unsent = tail c.unsent } else crossed p c r).ident ≡ c.ident)
       go true r = (refl, refl)
       go false r = on r
 
   module _ {Fits : S → Type 0} (law : Lawful p Fits) (s : Server I) (inj : List ℕ) where
     -- a client that is named
-    record NamedAs (n : Nodes (Marked I) S) (st : Client I S) : Type 0 where
+    record NamedAs (n : Nodes (Changeset I) S) (st : Client I S) : Type 0 where
       id : ℕ
       born : st.id ≡ Some id
       place : place_of id s.ids ≡ st.ident
       given : Given p n st.ident st
 
-    named_as : (cls : List Node) (n : Nodes (Marked I) S) (sim : Sim p s cls inj n) (i : ℕ) (nd : Node) → at cls i ≡ Some nd → (client_of p nd.records).ident ≢ 0 → NamedAs n (client_of p nd.records)
+    named_as : (cls : List Node) (n : Nodes (Changeset I) S) (sim : Sim p s cls inj n) (i : ℕ) (nd : Node) → at cls i ≡ Some nd → (client_of p nd.records).ident ≢ 0 → NamedAs n (client_of p nd.records)
     named_as cls n sim i nd e ne =
         let w = sim.clients i nd e in
         ⊎_elim (λ h. absurd (ne h.1.unnamed))
@@ -62,7 +64,7 @@ module _ {I S : Type 0} (p : Profile I S) where
         w.is
 
     -- no record
-    still : (cls : List Node) (n : Nodes (Marked I) S) (sim : Sim p s cls inj n) (i : ℕ) (nd : Node) → at cls i ≡ Some nd → Next p s cls inj n i (with_records nd [])
+    still : (cls : List Node) (n : Nodes (Changeset I) S) (sim : Sim p s cls inj n) (i : ℕ) (nd : Node) → at cls i ≡ Some nd → Next p s cls inj n i (with_records nd [])
     still cls n sim i nd e =
         let same = append-nil nd.records in
         let id_same = ap (λ rs. (client_of p rs).id) same in
@@ -73,16 +75,16 @@ module _ {I S : Type 0} (p : Profile I S) where
           later = later_same p s cls inj n sim i nd (with_records nd []) e id_same form;
         }
 
-    still_cut : (cls : List Node) (n : Nodes (Marked I) S) (sim : Sim p s cls inj n) (i : ℕ) (nd : Node) → at cls i ≡ Some nd → (j : ℕ) → Next p s cls inj n i (with_records nd (take j []))
+    still_cut : (cls : List Node) (n : Nodes (Changeset I) S) (sim : Sim p s cls inj n) (i : ℕ) (nd : Node) → at cls i ≡ Some nd → (j : ℕ) → Next p s cls inj n i (with_records nd (take j []))
     still_cut cls n sim i nd e zero = still cls n sim i nd e
     still_cut cls n sim i nd e (suc j) = still cls n sim i nd e
 
-    one_cut : (cls : List Node) (n : Nodes (Marked I) S) (sim : Sim p s cls inj n) (i : ℕ) (nd : Node) → at cls i ≡ Some nd → (r : ClientRecord) → Next p s cls inj n i (with_record nd r) → (j : ℕ) → Next p s cls inj n i (with_records nd (take j (r ∷ [])))
+    one_cut : (cls : List Node) (n : Nodes (Changeset I) S) (sim : Sim p s cls inj n) (i : ℕ) (nd : Node) → at cls i ≡ Some nd → (r : ClientRecord) → Next p s cls inj n i (with_record nd r) → (j : ℕ) → Next p s cls inj n i (with_records nd (take j (r ∷ [])))
     one_cut cls n sim i nd e r x zero = still cls n sim i nd e
     one_cut cls n sim i nd e r x (suc zero) = x
     one_cut cls n sim i nd e r x (suc (suc j)) = x
 
-    next_then : {cls : List Node} {n : Nodes (Marked I) S} {i : ℕ} (nd : Node) (r : ClientRecord) (rs : List ClientRecord) → (a : Next p s cls inj n i (with_record nd r)) → Next p s (put cls i (with_record nd r)) inj a.m i (with_records (with_record nd r) rs) → Next p s cls inj n i (with_records nd (r ∷ rs))
+    next_then : {cls : List Node} {n : Nodes (Changeset I) S} {i : ℕ} (nd : Node) (r : ClientRecord) (rs : List ClientRecord) → (a : Next p s cls inj n i (with_record nd r)) → Next p s (put cls i (with_record nd r)) inj a.m i (with_records (with_record nd r) rs) → Next p s cls inj n i (with_records nd (r ∷ rs))
     next_then {cls} {n} {i} nd r rs a b =
         let same : with_records (with_record nd r) rs ≡ with_records nd (r ∷ rs) = ap (λ l. record nd { records = l }) (append_assoc nd.records (r ∷ []) rs) in
         let clients : put (put cls i (with_record nd r)) i (with_records (with_record nd r) rs) ≡ put cls i (with_records nd (r ∷ rs)) = put_put cls i (with_record nd r) (with_records (with_record nd r) rs) ∙ ap (put cls i) same in
@@ -93,7 +95,7 @@ module _ {I S : Type 0} (p : Profile I S) where
         }
 
     -- one entry of a Download is taken
-    entry_next : (x : Sent) (cls : List Node) (n : Nodes (Marked I) S) (sim : Sim p s cls inj n) (i : ℕ) (nd : Node) → at cls i ≡ Some nd → (client_of p nd.records).ident ≢ 0 → (client_of p nd.records).cursor < length n.log → x ≡ sent_of p (n.entries (client_of p nd.records).cursor) → entry_refusal p (client_of p nd.records) x ≡ None → Next p s cls inj n i (with_record nd (took x))
+    entry_next : (x : Sent) (cls : List Node) (n : Nodes (Changeset I) S) (sim : Sim p s cls inj n) (i : ℕ) (nd : Node) → at cls i ≡ Some nd → (client_of p nd.records).ident ≢ 0 → (client_of p nd.records).cursor < length n.log → x ≡ sent_of p (n.entries (client_of p nd.records).cursor) → entry_refusal p (client_of p nd.records) x ≡ None → Next p s cls inj n i (with_record nd (took x))
     entry_next x cls n sim i nd e ne lt is r_is =
         let v = named_as cls n sim i nd e ne in
         subst (λ y. Next p s cls inj n i (with_record nd (took y))) (sym is) (took_next p law s cls inj n sim i nd e v.id (client_of p nd.records).ident v.born v.place ne refl v.given lt (subst (λ y. entry_refusal p (client_of p nd.records) y ≡ None) is r_is))
@@ -105,12 +107,12 @@ module _ {I S : Type 0} (p : Profile I S) where
         (ap (λ c. c.cursor) now ∙ kept.0, ap (λ c. c.ident) now ∙ kept.1)
 
     -- the entries of a Download are taken, one after the other
-    pub entries_taken : (es : List Sent) (cls : List Node) (n : Nodes (Marked I) S) (sim : Sim p s cls inj n) (i : ℕ) (nd : Node) → at cls i ≡ Some nd → (client_of p nd.records).ident ≢ 0 → Bears p n (client_of p nd.records).cursor es → (st : Client I S) → client_of p nd.records ≡ st → (j : ℕ) → Next p s cls inj n i (with_records nd (take j (take_entries p st es).records))
+    pub entries_taken : (es : List Sent) (cls : List Node) (n : Nodes (Changeset I) S) (sim : Sim p s cls inj n) (i : ℕ) (nd : Node) → at cls i ≡ Some nd → (client_of p nd.records).ident ≢ 0 → Bears p n (client_of p nd.records).cursor es → (st : Client I S) → client_of p nd.records ≡ st → (j : ℕ) → Next p s cls inj n i (with_records nd (take j (take_entries p st es).records))
     entries_taken [] cls n sim i nd e ne b st st_is = still_cut cls n sim i nd e
     entries_taken (x ∷ es) cls n sim i nd e ne (an_entry lt is b) st st_is = go (entry_refusal p st x) refl (entries_taken es)
       where
         go : (r : Option ClientRefusal) → entry_refusal p st x ≡ r
-            → ((cls2 : List Node) (n2 : Nodes (Marked I) S) (sim2 : Sim p s cls2 inj n2) (i2 : ℕ) (nd2 : Node) → at cls2 i2 ≡ Some nd2 → (client_of p nd2.records).ident ≢ 0 → Bears p n2 (client_of p nd2.records).cursor es → (st2 : Client I S) → client_of p nd2.records ≡ st2 → (j : ℕ) → Next p s cls2 inj n2 i2 (with_records nd2 (take j (take_entries p st2 es).records)))
+            → ((cls2 : List Node) (n2 : Nodes (Changeset I) S) (sim2 : Sim p s cls2 inj n2) (i2 : ℕ) (nd2 : Node) → at cls2 i2 ≡ Some nd2 → (client_of p nd2.records).ident ≢ 0 → Bears p n2 (client_of p nd2.records).cursor es → (st2 : Client I S) → client_of p nd2.records ≡ st2 → (j : ℕ) → Next p s cls2 inj n2 i2 (with_records nd2 (take j (take_entries p st2 es).records)))
             → (j : ℕ) → Next p s cls inj n i (with_records nd (take j (take_one r (took x) (take_entries p (after_record p st (took x)) es)).records))
         go (Some why) r_is rec j = still_cut cls n sim i nd e j
         go None r_is rec zero = still cls n sim i nd e
@@ -125,7 +127,7 @@ module _ {I S : Type 0} (p : Profile I S) where
             (after_record p st (took x)) (now ∙ ap (λ c. after_record p c (took x)) st_is) j)
 
     -- and are refused by a mismatch alone
-    pub entries_declined : (es : List Sent) (cls : List Node) (n : Nodes (Marked I) S) (sim : Sim p s cls inj n) (i : ℕ) (nd : Node) → at cls i ≡ Some nd → (client_of p nd.records).ident ≢ 0 → Bears p n (client_of p nd.records).cursor es → AllOld p es ⊎ ((client_of p nd.records).second ≡ true) → (st : Client I S) → client_of p nd.records ≡ st → (why : ClientRefusal) → (take_entries p st es).answer ≡ Err why → MayDecline why
+    pub entries_declined : (es : List Sent) (cls : List Node) (n : Nodes (Changeset I) S) (sim : Sim p s cls inj n) (i : ℕ) (nd : Node) → at cls i ≡ Some nd → (client_of p nd.records).ident ≢ 0 → Bears p n (client_of p nd.records).cursor es → AllOld p es ⊎ ((client_of p nd.records).second ≡ true) → (st : Client I S) → client_of p nd.records ≡ st → (why : ClientRefusal) → (take_entries p st es).answer ≡ Err why → MayDecline why
     entries_declined [] cls n sim i nd e ne b old st st_is why h = cc
     entries_declined (x ∷ es) cls n sim i nd e ne (an_entry lt is b) old st st_is why h = go (entry_refusal p st x) refl h (entries_declined es)
       where
@@ -147,7 +149,7 @@ module _ {I S : Type 0} (p : Profile I S) where
         old_later (inr f) = inr (form_stays p law s cls inj n sim i nd e (took x) f)
 
         go : (r : Option ClientRefusal) → entry_refusal p st x ≡ r → (take_one r (took x) (take_entries p (after_record p st (took x)) es)).answer ≡ Err why
-            → ((cls2 : List Node) (n2 : Nodes (Marked I) S) (sim2 : Sim p s cls2 inj n2) (i2 : ℕ) (nd2 : Node) → at cls2 i2 ≡ Some nd2 → (client_of p nd2.records).ident ≢ 0 → Bears p n2 (client_of p nd2.records).cursor es → AllOld p es ⊎ ((client_of p nd2.records).second ≡ true) → (st2 : Client I S) → client_of p nd2.records ≡ st2 → (why2 : ClientRefusal) → (take_entries p st2 es).answer ≡ Err why2 → MayDecline why2)
+            → ((cls2 : List Node) (n2 : Nodes (Changeset I) S) (sim2 : Sim p s cls2 inj n2) (i2 : ℕ) (nd2 : Node) → at cls2 i2 ≡ Some nd2 → (client_of p nd2.records).ident ≢ 0 → Bears p n2 (client_of p nd2.records).cursor es → AllOld p es ⊎ ((client_of p nd2.records).second ≡ true) → (st2 : Client I S) → client_of p nd2.records ≡ st2 → (why2 : ClientRefusal) → (take_entries p st2 es).answer ≡ Err why2 → MayDecline why2)
             → MayDecline why
         go (Some r) r_is f rec =
             let v = named_as cls n sim i nd e ne in
@@ -163,26 +165,26 @@ module _ {I S : Type 0} (p : Profile I S) where
             (subst (λ k. Bears p a.m k es) (sym kept.0) (bears_last p a.later.grows b))
             (old_later old) (after_record p st (took x)) (now ∙ ap (λ c. after_record p c (took x)) st_is) why f
 
-    module _ (cls : List Node) (n : Nodes (Marked I) S) (sim : Sim p s cls inj n) (i : ℕ) (nd : Node) (e : at cls i ≡ Some nd) where
+    module _ (cls : List Node) (n : Nodes (Changeset I) S) (sim : Sim p s cls inj n) (i : ℕ) (nd : Node) (e : at cls i ≡ Some nd) where
       abbrev st : Client I S
       st = client_of p nd.records
 
       -- all cuts of a call's records
-      abbrev pub Cuts : {A : Type 0} → ClientDid A → Type 0
+      abbrev pub Cuts : {A : Type 0} → ClientStep A → Type 0
       Cuts did = (j : ℕ) → Next p s cls inj n i (with_records nd (take j did.records))
 
-      if_cuts : {A : Type 0} (b : Bool) (x y : ClientDid A) → Cuts x → (b ≡ false → Cuts y) → Cuts (if b then x else y)
+      if_cuts : {A : Type 0} (b : Bool) (x y : ClientStep A) → Cuts x → (b ≡ false → Cuts y) → Cuts (if b then x else y)
       if_cuts true x y c d = c
       if_cuts false x y c d = d refl
 
-      then_cuts : {A : Type 0} (b : Bool) (x y : ClientDid A) → (b ≡ true → Cuts x) → Cuts y → Cuts (if b then x else y)
+      then_cuts : {A : Type 0} (b : Bool) (x y : ClientStep A) → (b ≡ true → Cuts x) → Cuts y → Cuts (if b then x else y)
       then_cuts true x y c d = c refl
       then_cuts false x y c d = d
 
       none_cuts : Cuts {A = ℕ} (refuse NotMine)
       none_cuts = still_cut cls n sim i nd e
 
-      born_cuts : {A : Type 0} (o : Option ℕ) (go : ℕ → ClientDid A) → ((id : ℕ) → o ≡ Some id → Cuts (go id)) → Cuts (if_born o go)
+      born_cuts : {A : Type 0} (o : Option ℕ) (go : ℕ → ClientStep A) → ((id : ℕ) → o ≡ Some id → Cuts (go id)) → Cuts (if_born o go)
       born_cuts None go h = still_cut cls n sim i nd e
       born_cuts (Some id) go h = h id refl
 
@@ -195,7 +197,7 @@ module _ {I S : Type 0} (p : Profile I S) where
           on (apply_all p edits st.objects) refl))))
         where
           on : (r : Result S (ℕ × ℕ)) → apply_all p edits st.objects ≡ r → Cuts (commit_applied (suc (length st.made)) (Made (suc (length st.made)) ms (p.spell edits)) r)
-          on (Ok t) is = one_cut cls n sim i nd e (Made (suc (length st.made)) ms (p.spell edits)) (made_next p law s cls inj n sim i nd e ms edits t (apply_is p edits st.objects ∙ ap ok_part is))
+          on (Ok t) is = one_cut cls n sim i nd e (Made (suc (length st.made)) ms (p.spell edits)) (made_next p law s cls inj n sim i nd e ms edits t (apply_is p edits st.objects ∙ ap ok_state is))
           on (Err b) is = still_cut cls n sim i nd e
 
       pub upgraded : Cuts (upgrade st)
@@ -245,7 +247,7 @@ module _ {I S : Type 0} (p : Profile I S) where
       no_decline : (a : ℕ) (why : ClientRefusal) → ◌≡◌ {A = Result ℕ ClientRefusal} (Ok a) (Err why) → MayDecline why
       no_decline a why h = cc
 
-      if_declined : (b : Bool) (x y : ClientDid ℕ) (why : ClientRefusal) → (b ≡ true → x.answer ≡ Err why → MayDecline why) → (b ≡ false → y.answer ≡ Err why → MayDecline why) → (if b then x else y).answer ≡ Err why → MayDecline why
+      if_declined : (b : Bool) (x y : ClientStep ℕ) (why : ClientRefusal) → (b ≡ true → x.answer ≡ Err why → MayDecline why) → (b ≡ false → y.answer ≡ Err why → MayDecline why) → (if b then x else y).answer ≡ Err why → MayDecline why
       if_declined true x y why f g h = f refl h
       if_declined false x y why f g h = g refl h
 
@@ -319,7 +321,7 @@ module _ {I S : Type 0} (p : Profile I S) where
       pub bind_cuts : Cuts (bind st)
       bind_cuts = born_cuts st.id _ (λ id h. still_cut cls n sim i nd e)
 
-      named_cuts : (did : ClientDid Message) → Cuts did → Cuts (if_named st did)
+      named_cuts : (did : ClientStep Message) → Cuts did → Cuts (if_named st did)
       named_cuts did c = born_cuts st.id _ (λ id h. if_cuts (st.ident == 0) (refuse NotNamed) did (still_cut cls n sim i nd e) (λ b. c))
 
       pub upload_cuts : Cuts (upload p st)
@@ -344,7 +346,7 @@ module _ {I S : Type 0} (p : Profile I S) where
         own = subst (λ d. class s.ids (uuids p cls) d ≡ true) v.place (class_own s.ids (uuids p cls) i v.id (at_map (uuid_of p) cls i nd e ∙ ap (λ x. Some x) v.born) (λ z. ne (sym v.place ∙ z)));
       }
 
-      uploaded_from : (c : ℕ) (pre : List (LogMade (Marked I))) (us : List (Unsent I)) → Uploaded p (pre ++ map (as_log c) (map (λ u. u.original) us)) (length pre) (map (λ u. change_of p u.original) us)
+      uploaded_from : (c : ℕ) (pre : List (LogMade (Changeset I))) (us : List (Unsent I)) → Uploaded p (pre ++ map (as_log c) (map (λ u. u.original) us)) (length pre) (map (λ u. change_of p u.original) us)
       uploaded_from c pre [] = no_changes
       uploaded_from c pre (u ∷ us) =
           let l = append_assoc pre (as_log c u.original ∷ []) (map (as_log c) (map (λ u. u.original) us)) in
@@ -353,7 +355,7 @@ module _ {I S : Type 0} (p : Profile I S) where
           a_change (as_log c u.original) (subst (λ x. at x (length pre) ≡ Some (as_log c u.original)) l h) refl
           (subst₂ (λ x y. Uploaded p x y (map (λ u. change_of p u.original) us)) l k (uploaded_from c (pre ++ as_log c u.original ∷ []) us))
 
-      uploaded_fitting : (ms : List (LogMade (Marked I))) (k most room : ℕ) (hs : List Change) → Uploaded p ms k hs → Uploaded p ms k (fitting (λ h. length h.body) most room hs)
+      uploaded_fitting : (ms : List (LogMade (Changeset I))) (k most room : ℕ) (hs : List Change) → Uploaded p ms k hs → Uploaded p ms k (fitting (λ h. length h.body) most room hs)
       uploaded_fitting ms k most room [] u = u
       uploaded_fitting ms k zero room (h ∷ hs) u = no_changes
       uploaded_fitting ms k (suc most) room (h ∷ hs) (a_change m a b u) = go (nat_le (length h.body) room) (uploaded_fitting ms (suc k) most (room - length h.body) hs u)
@@ -373,7 +375,7 @@ module _ {I S : Type 0} (p : Profile I S) where
           let counted = g.sent_count in
           record { from = length g.sent; known = omega arith; changes = uploaded_fitting (n.mades st.ident) (length g.sent) p.most p.room (map (λ u. change_of p u.original) st.unsent) up }
 
-      if_named_tells : (did : ClientDid Message) (m : Message) → (NamedAs n st → st.ident ≢ 0 → did.answer ≡ Ok m → Tells p n s.ids cls m) → (if_named st did).answer ≡ Ok m → Tells p n s.ids cls m
+      if_named_tells : (did : ClientStep Message) (m : Message) → (NamedAs n st → st.ident ≢ 0 → did.answer ≡ Ok m → Tells p n s.ids cls m) → (if_named st did).answer ≡ Ok m → Tells p n s.ids cls m
       if_named_tells did m then_ h = on st.id h
         where
           at_ident : (b : Bool) → (st.ident == 0) ≡ b → (if b then refuse NotNamed else did).answer ≡ Ok m → Tells p n s.ids cls m

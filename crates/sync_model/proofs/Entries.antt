@@ -5,7 +5,8 @@ use Rattle.sync_theory.specs.World.{put_at}
 use Rattle.sync_theory.specs.Logs.{Made as LogMade, Entry as LogEntry, made_at, of_origin, origin_at, Nodes, open_of, nodes_integrate}
 use Rattle.sync_theory.proofs.Logs.{Rising, AtMost}
 use Rattle.sync_theory.proofs.World.{same_or_not, put_same, put_other}
-use Rattle.sync_model.specs.Profile.{Profile, Marked, act_marked, meet_marked}
+use Rattle.sync_theory.specs.Changesets.{Changeset}
+use Rattle.sync_model.specs.Profile.{Profile, act_changeset, cross_changesets}
 use Rattle.sync_model.specs.Servers.{Server, place_of, last_base}
 use Rattle.sync_model.specs.Worlds.{Node, at}
 use Rattle.sync_model.proofs.Laws.{SameStamp}
@@ -15,17 +16,17 @@ use Rattle.sync_model.proofs.Sim.{no_change, Numbered, NotGiven, Alike, Grows, u
 use Rattle.sync_model.proofs.Steps.{numbered_snoc}
 
 module _ {I S : Type 0} (p : Profile I S) where
-  abbrev pub with_entry : Server I → ℕ → LogMade (Marked I) → Server I
+  abbrev pub with_entry : Server I → ℕ → LogMade (Changeset I) → Server I
   with_entry s c m = record s { log = s.log ++ record { origin = c; base = m.base; change = m.change } ∷ [] }
 
-  module _ (s : Server I) (cls : List Node) (inj : List ℕ) (n : Nodes (Marked I) S) (sim : Sim p s cls inj n) (c : ℕ) (m : LogMade (Marked I)) (x : Marked I) (t : S) (stamp : SameStamp m.change x) (origin : m.change.origin ≡ c) (carried : Carried (meet_marked p) (λ c k. made_at (of_origin c n.log) k) (λ k. origin_at n.log k) c m.base m.change (length n.log) x) (does : act_marked p x n.objects ≡ Some t) where
+  module _ (s : Server I) (cls : List Node) (inj : List ℕ) (n : Nodes (Changeset I) S) (sim : Sim p s cls inj n) (c : ℕ) (m : LogMade (Changeset I)) (x : Changeset I) (t : S) (stamp : SameStamp m.change x) (origin : m.change.origin ≡ c) (carried : Carried (cross_changesets p) (λ c k. made_at (of_origin c n.log) k) (λ k. origin_at n.log k) c m.base m.change (length n.log) x) (does : act_changeset p x n.objects ≡ Some t) where
     abbrev us : List (Option ℕ)
     us = uuids p cls
 
-    abbrev e : LogEntry (Marked I)
+    abbrev e : LogEntry (Changeset I)
     e = record { origin = c; base = m.base; change = m.change }
 
-    new_stamps : (entries : ℕ → Marked I) → ((k : ℕ) → entries k ≡ put_at (length n.log) x n.entries k) → (k : ℕ) (y : LogEntry (Marked I)) → at (n.log ++ e ∷ []) k ≡ Some y → SameStamp y.change (entries k) × (y.change.origin ≡ y.origin)
+    new_stamps : (entries : ℕ → Changeset I) → ((k : ℕ) → entries k ≡ put_at (length n.log) x n.entries k) → (k : ℕ) (y : LogEntry (Changeset I)) → at (n.log ++ e ∷ []) k ≡ Some y → SameStamp y.change (entries k) × (y.change.origin ≡ y.origin)
     new_stamps entries same k y h = ⊎_elim
         (λ old.
         let t1 = sim.stamps k y old in
@@ -37,13 +38,13 @@ module _ {I S : Type 0} (p : Profile I S) where
         (subst₂ (λ a b. SameStamp a.change b) new.1 (sym here) stamp, subst (λ z. z.change.origin ≡ z.origin) new.1 origin))
         (at_snoc n.log e k y h)
 
-    grows_to : (o : Nodes (Marked I) S) → o.log ≡ n.log ++ e ∷ [] → ((k : ℕ) → o.entries k ≡ put_at (length n.log) x n.entries k) → Grows n o
+    grows_to : (o : Nodes (Changeset I) S) → o.log ≡ n.log ++ e ∷ [] → ((k : ℕ) → o.entries k ≡ put_at (length n.log) x n.entries k) → Grows n o
     grows_to o log entries = record { more = e ∷ []; log = log; entries = λ k h. entries k ∙ put_other (length n.log) x n.entries k (λ z. omega arith) }
 
     -- of a client of the exchange
 
-    module _ (more : List (LogMade (Marked I))) (next : n.mades c ≡ of_origin c n.log ++ m ∷ more) (mine : class s.ids us c ≡ true) where
-      abbrev o : Nodes (Marked I) S
+    module _ (more : List (LogMade (Changeset I))) (next : n.mades c ≡ of_origin c n.log ++ m ∷ more) (mine : class s.ids us c ≡ true) where
+      abbrev o : Nodes (Changeset I) S
       o = nodes_integrate n c m x t
 
       open_is : open_of (n.mades c) n.log c ≡ m ∷ more
@@ -52,7 +53,7 @@ module _ {I S : Type 0} (p : Profile I S) where
       pub entry_own : Sim p (with_entry s c m) cls inj o
       entry_own = record {
         log_is = ap (λ l. l ++ e ∷ []) sim.log_is;
-        reached = λ own a. reach_integrate (act_marked p) (meet_marked p) no_change p.empty own n (sim.reached own a) c m more x t open_is (subst (λ l. Rising l) open_is (rising_drop (length (of_origin c n.log)) (n.mades c) (sim.rising c))) carried does;
+        reached = λ own a. reach_integrate (act_changeset p) (cross_changesets p) no_change p.empty own n (sim.reached own a) c m more x t open_is (subst (λ l. Rising l) open_is (rising_drop (length (of_origin c n.log)) (n.mades c) (sim.rising c))) carried does;
         blank_mades = sim.blank_mades;
         blank_cursor = sim.blank_cursor;
         blank_unsent = sim.blank_unsent;
@@ -72,10 +73,10 @@ module _ {I S : Type 0} (p : Profile I S) where
         known = sim.known;
       }
         where
-          origin_here : (n : Nodes (Marked I) S) → of_origin c (n.log ++ e ∷ []) ≡ of_origin c n.log ++ m ∷ []
+          origin_here : (n : Nodes (Changeset I) S) → of_origin c (n.log ++ e ∷ []) ≡ of_origin c n.log ++ m ∷ []
           origin_here n = origin_here_ c m n.log
 
-          origin_other : (n : Nodes (Marked I) S) (d : ℕ) → d ≢ c → of_origin d (n.log ++ e ∷ []) ≡ of_origin d n.log
+          origin_other : (n : Nodes (Changeset I) S) (d : ℕ) → d ≢ c → of_origin d (n.log ++ e ∷ []) ≡ of_origin d n.log
           origin_other n d ne = origin_other_ c m n.log d ne
 
           alike_to : (d : ℕ) → Alike n (nodes_integrate n c m x t) d
@@ -96,7 +97,7 @@ module _ {I S : Type 0} (p : Profile I S) where
     -- of a stranger
 
     module _ (theirs : class s.ids us c ≡ false) (given : c ≢ 0) (there : c ≤ length s.ids) (number : m.change.number ≡ suc (length (of_origin c n.log))) (not_back : last_base (of_origin c n.log) ≤ m.base) (in_history : m.base ≤ length n.log) where
-      abbrev f : Nodes (Marked I) S
+      abbrev f : Nodes (Changeset I) S
       f = nodes_foreign n c m x t
 
       known_all : n.mades c ≡ of_origin c n.log
@@ -127,7 +128,7 @@ module _ {I S : Type 0} (p : Profile I S) where
       pub entry_foreign : Sim p (with_entry s c m) cls inj f
       entry_foreign = record {
         log_is = ap (λ l. l ++ e ∷ []) sim.log_is;
-        reached = λ own a. reach_foreign (act_marked p) (meet_marked p) no_change p.empty own n (sim.reached own a) c m x t (a c given there ∙ theirs) known_all in_history (λ k h. none_above m.base k at_most h) carried does;
+        reached = λ own a. reach_foreign (act_changeset p) (cross_changesets p) no_change p.empty own n (sim.reached own a) c m x t (a c given there ∙ theirs) known_all in_history (λ k h. none_above m.base k at_most h) carried does;
         blank_mades = λ d z. made_other d (not_blank d z) ∙ sim.blank_mades d z;
         blank_cursor = sim.blank_cursor;
         blank_unsent = sim.blank_unsent;

@@ -8,13 +8,14 @@ use Rattle.sync_theory.proofs.Agree.{run_keeps}
 use Rattle.sync_theory.proofs.Converge.{pend_acts, entry_at, state_fits}
 use Rattle.sync_theory.proofs.Take.{state_before}
 use Rattle.sync_theory.proofs.World.{same_or_not, left_nil, le_or_lt, hist_made, state_made}
-use Rattle.sync_model.specs.Profile.{Profile, Marked, act_marked, meet_marked, Lawful}
+use Rattle.sync_theory.specs.Changesets.{Changeset}
+use Rattle.sync_model.specs.Profile.{Profile, act_changeset, cross_changesets, Lawful}
 use Rattle.sync_model.specs.Messages.{Sent}
-use Rattle.sync_model.specs.Clients.{Original, as_made, mark, client_of, tooks_of}
-use Rattle.sync_model.specs.Servers.{Server, server_of, place_of, hist_of, sent_of, server_objects, state_of}
+use Rattle.sync_model.specs.Clients.{Original, as_made, changeset_of, client_of, tooks_of}
+use Rattle.sync_model.specs.Servers.{Server, server_of, place_of, history_of, sent_of, server_objects, state_of}
 use Rattle.sync_model.specs.Clients.{state_or}
 use Rattle.sync_model.specs.Worlds.{Node, World, Event, at, is_there, owner, ident_is, empty_world, world_after}
-use Rattle.sync_model.specs.Log.{as_log, Numbered, no_numbers, a_number, ident_by, ident_of, log, made_by, made_of, made, order, Hist, Pend, At, entries_in, EntryFacts, NamedFacts, UnnamedFacts, WorldFacts}
+use Rattle.sync_model.specs.Log.{as_log, Numbered, no_numbers, a_number, ident_by, ident_of, log, made_by, made_of, made, order, history_in, pending_in, state_in, entries_in, EntryFacts, NamedFacts, UnnamedFacts, WorldFacts}
 use Rattle.sync_model.proofs.Laws.{sets_law}
 use Rattle.sync_model.proofs.Lists.{class, seek_found, seek_map, drop_length, at_there, at_map, class_own}
 use Rattle.sync_model.proofs.Sim.{uuid_of, uuids, Bears, no_entries, an_entry, Given, Sim}
@@ -27,13 +28,13 @@ module _ {I S : Type 0} (p : Profile I S) {Fits : S → Type 0} (law : Lawful p 
   abbrev s : Server I
   s = server_of p w.server
 
-  abbrev n : Nodes (Marked I) S
+  abbrev n : Nodes (Changeset I) S
   n = h.n
 
   sim : Sim p s w.clients w.injected n
   sim = h.sim
 
-  good : Good (class s.ids (uuids p w.clients)) (act_marked p) p.empty (meet_marked p) (world_of n)
+  good : Good (class s.ids (uuids p w.clients)) (act_changeset p) p.empty (cross_changesets p) (world_of n)
   good = good_of p law s w.clients w.injected n sim
 
   log_is : n.log ≡ log p w
@@ -44,7 +45,7 @@ module _ {I S : Type 0} (p : Profile I S) {Fits : S → Type 0} (law : Lawful p 
 
   -- the log of the world is that of the abstract world
 
-  prefix_first : (c : ℕ) (ys : List (LogMade (Marked I))) → n.mades c ≡ ys → ys ≡ [] → of_origin c n.log ≡ []
+  prefix_first : (c : ℕ) (ys : List (LogMade (Changeset I))) → n.mades c ≡ ys → ys ≡ [] → of_origin c n.log ≡ []
   prefix_first c ys e z = let a = sim.ahead c in left_nil (of_origin c n.log) a.0 (sym a.1 ∙ e ∙ z)
 
   made_same : (c : ℕ) → made_of p w c ≡ n.mades c
@@ -87,28 +88,28 @@ module _ {I S : Type 0} (p : Profile I S) {Fits : S → Type 0} (law : Lawful p 
   order_path : order p w ≡ (world_of n).origin
   order_path = λ i k. origin_at (sym log_is i) k
 
-  hist_path : (k : ℕ) → Hist p w k ≡ history (meet_marked p) (world_of n).made (world_of n).origin k
-  hist_path k = ap₂ (λ m o. history (meet_marked p) m o k) made_path order_path
+  hist_path : (k : ℕ) → history_in p w k ≡ history (cross_changesets p) (world_of n).made (world_of n).origin k
+  hist_path k = ap₂ (λ m o. history (cross_changesets p) m o k) made_path order_path
 
-  pend_path : (c k : ℕ) → Pend p w c k ≡ pending (meet_marked p) (world_of n).made (world_of n).origin k c
-  pend_path c k = ap₂ (λ m o. pending (meet_marked p) m o k c) made_path order_path
+  pend_path : (c k : ℕ) → pending_in p w c k ≡ pending (cross_changesets p) (world_of n).made (world_of n).origin k c
+  pend_path c k = ap₂ (λ m o. pending (cross_changesets p) m o k c) made_path order_path
 
-  at_path : (k : ℕ) → At p w k ≡ state_at (act_marked p) p.empty (meet_marked p) (world_of n).made (world_of n).origin k
-  at_path k = ap₂ (λ m o. state_at (act_marked p) p.empty (meet_marked p) m o k) made_path order_path
+  at_path : (k : ℕ) → state_in p w k ≡ state_at (act_changeset p) p.empty (cross_changesets p) (world_of n).made (world_of n).origin k
+  at_path k = ap₂ (λ m o. state_at (act_changeset p) p.empty (cross_changesets p) m o k) made_path order_path
 
-  hist_is : (k : ℕ) → k < length n.log → Hist p w k ≡ Some (n.entries k)
-  hist_is k lt = hist_path k ∙ hist_made (act_marked p) p.empty (meet_marked p) (world_of n) good.log k lt
+  hist_is : (k : ℕ) → k < length n.log → history_in p w k ≡ Some (n.entries k)
+  hist_is k lt = hist_path k ∙ hist_made (act_changeset p) p.empty (cross_changesets p) (world_of n) good.log k lt
 
-  last_state : state_at (act_marked p) p.empty (meet_marked p) (world_of n).made (world_of n).origin (length n.log) ≡ Some n.objects
-  last_state = state_made (act_marked p) p.empty (meet_marked p) (world_of n) good.log (length n.log) (le_refl (length n.log)) ∙ good.log.state
+  last_state : state_at (act_changeset p) p.empty (cross_changesets p) (world_of n).made (world_of n).origin (length n.log) ≡ Some n.objects
+  last_state = state_made (act_changeset p) p.empty (cross_changesets p) (world_of n) good.log (length n.log) (le_refl (length n.log)) ∙ good.log.state
 
   entry_facts : (k : ℕ) → k < length (log p w) → EntryFacts p w k
   entry_facts k lt0 =
       let l = len in
       let lt : k < length n.log = omega arith in
-      let later = state_before (act_marked p) p.empty (meet_marked p) (world_of n).origin (world_of n).made (length n.log) n.objects last_state (suc k) lt in
-      let e = entry_at (act_marked p) p.empty (meet_marked p) (sets_law p law) (world_of n).made (world_of n).origin k later.0 later.1 in
-      let mine = hist_made (act_marked p) p.empty (meet_marked p) (world_of n) good.log k lt in
+      let later = state_before (act_changeset p) p.empty (cross_changesets p) (world_of n).origin (world_of n).made (length n.log) n.objects last_state (suc k) lt in
+      let e = entry_at (act_changeset p) p.empty (cross_changesets p) (sets_law p law) (world_of n).made (world_of n).origin k later.0 later.1 in
+      let mine = hist_made (act_changeset p) p.empty (cross_changesets p) (world_of n) good.log k lt in
       let is = e.is in
       let same : e.entry ≡ n.entries k = cc (is, mine) in
       let o = at_there n.log k lt in
@@ -116,7 +117,7 @@ module _ {I S : Type 0} (p : Profile I S) {Fits : S → Type 0} (law : Lawful p 
       record {
         entry = n.entries k;
         is = hist_is k lt;
-        carried = ap (λ x. hist_of p x k) (sym log_is) ∙ good.log.whole k lt;
+        carried = ap (λ x. history_of p x k) (sym log_is) ∙ good.log.whole k lt;
         original = o.0;
         recorded = subst (λ x. at x k ≡ Some o.0) log_is o.1;
         stamp = t.0;
@@ -124,7 +125,7 @@ module _ {I S : Type 0} (p : Profile I S) {Fits : S → Type 0} (law : Lawful p 
         before = e.was;
         after = later.0;
         state = at_path k ∙ e.state;
-        acts = subst (λ x. act_marked p x e.was ≡ Some later.0) same e.acts;
+        acts = subst (λ x. act_changeset p x e.was ≡ Some later.0) same e.acts;
         next = at_path (suc k) ∙ later.1;
       }
 
@@ -143,37 +144,37 @@ module _ {I S : Type 0} (p : Profile I S) {Fits : S → Type 0} (law : Lawful p 
       mine : class s.ids (uuids p w.clients) (place_of u s.ids) ≡ true
       mine = class_own s.ids (uuids p w.clients) i u (at_map (uuid_of p) w.clients i nd here ∙ ap (λ x. Some x) born) ne
 
-      q : ClientGood (act_marked p) p.empty (meet_marked p) (world_of n) (place_of u s.ids)
+      q : ClientGood (act_changeset p) p.empty (cross_changesets p) (world_of n) (place_of u s.ids)
       q = good.clients (place_of u s.ids) mine
 
-      unsent_ : map (mark (place_of u s.ids)) (client_of p nd.records).unsent ≡ Pend p w (place_of u s.ids) (client_of p nd.records).cursor
-      unsent_ = sym g.unsent ∙ q.unsent_is ∙ ap (λ k. pending (meet_marked p) (world_of n).made (world_of n).origin k (place_of u s.ids)) g.cursor ∙ sym (pend_path (place_of u s.ids) (client_of p nd.records).cursor)
+      unsent_ : map (changeset_of (place_of u s.ids)) (client_of p nd.records).unsent ≡ pending_in p w (place_of u s.ids) (client_of p nd.records).cursor
+      unsent_ = sym g.unsent ∙ q.unsent_is ∙ ap (λ k. pending (cross_changesets p) (world_of n).made (world_of n).origin k (place_of u s.ids)) g.cursor ∙ sym (pend_path (place_of u s.ids) (client_of p nd.records).cursor)
 
       at_place : NamedFacts p w nd
       at_place = record {
         within = subst (λ l. (client_of p nd.records).cursor ≤ length l) log_is g.reach;
         took = tooks_are 0 (tooks_of nd.records) tooks ∙ ap (λ k. map (sent_of p) (entries_in p w k 0)) count;
-        unsent = subst (λ c. map (mark c) (client_of p nd.records).unsent ≡ Pend p w c (client_of p nd.records).cursor) (sym ident_is_) unsent_;
+        unsent = subst (λ c. map (changeset_of c) (client_of p nd.records).unsent ≡ pending_in p w c (client_of p nd.records).cursor) (sym ident_is_) unsent_;
         rebased = subst (λ c. map (λ u. u.original) (client_of p nd.records).unsent ≡ drop (length (of_origin c (take (client_of p nd.records).cursor (log p w)))) (client_of p nd.records).made) (sym ident_is_)
             (sym (ap (drop (length (of_origin (place_of u s.ids) (take (client_of p nd.records).cursor (log p w))))) g.split
             ∙ ap (λ k. drop k (g.sent ++ map (λ u. u.original) (client_of p nd.records).unsent)) (ap (λ l. length (of_origin (place_of u s.ids) (take (client_of p nd.records).cursor l))) (sym log_is) ∙ sym g.sent_count)
             ∙ drop_length g.sent (map (λ u. u.original) (client_of p nd.records).unsent)));
         base = q.client_state.0;
-        state = at_path (client_of p nd.records).cursor ∙ ap (λ k. state_at (act_marked p) p.empty (meet_marked p) (world_of n).made (world_of n).origin k) (sym g.cursor) ∙ q.client_state.1;
-        objects = subst (λ c. run (act_marked p) (Pend p w c (client_of p nd.records).cursor) q.client_state.0 ≡ Some (client_of p nd.records).objects) (sym ident_is_)
-            (ap (λ l. run (act_marked p) l q.client_state.0) (sym unsent_ ∙ sym g.unsent) ∙ q.client_state.2 ∙ ap (λ x. Some x) g.objects);
-        acts = λ k le0 st e. subst (λ c. (t : S) × (run (act_marked p) (Pend p w c k) st ≡ Some t)) (sym ident_is_) (acts_at k le0 st e);
+        state = at_path (client_of p nd.records).cursor ∙ ap (λ k. state_at (act_changeset p) p.empty (cross_changesets p) (world_of n).made (world_of n).origin k) (sym g.cursor) ∙ q.client_state.1;
+        objects = subst (λ c. run (act_changeset p) (pending_in p w c (client_of p nd.records).cursor) q.client_state.0 ≡ Some (client_of p nd.records).objects) (sym ident_is_)
+            (ap (λ l. run (act_changeset p) l q.client_state.0) (sym unsent_ ∙ sym g.unsent) ∙ q.client_state.2 ∙ ap (λ x. Some x) g.objects);
+        acts = λ k le0 st e. subst (λ c. (t : S) × (run (act_changeset p) (pending_in p w c k) st ≡ Some t)) (sym ident_is_) (acts_at k le0 st e);
       }
         where
-          acts_at : (k : ℕ) → k ≤ length (log p w) → (st : S) → At p w k ≡ Some st → (t : S) × (run (act_marked p) (Pend p w (place_of u s.ids) k) st ≡ Some t)
+          acts_at : (k : ℕ) → k ≤ length (log p w) → (st : S) → state_in p w k ≡ Some st → (t : S) × (run (act_changeset p) (pending_in p w (place_of u s.ids) k) st ≡ Some t)
           acts_at k le0 st e =
               let l = len in
-              let a = pend_acts (act_marked p) p.empty (meet_marked p) (sets_law p law) (world_of n).made (world_of n).origin (length n.log) (place_of u s.ids) q.acts k (omega arith) st (sym (at_path k) ∙ e) in
-              (a.0, ap (λ l. run (act_marked p) l st) (pend_path (place_of u s.ids) k) ∙ a.1)
+              let a = pend_acts (act_changeset p) p.empty (cross_changesets p) (sets_law p law) (world_of n).made (world_of n).origin (length n.log) (place_of u s.ids) q.acts k (omega arith) st (sym (at_path k) ∙ e) in
+              (a.0, ap (λ l. run (act_changeset p) l st) (pend_path (place_of u s.ids) k) ∙ a.1)
 
-  changes_zero : (os : List (Original I)) → map (λ m. m.change) (map (as_log 0) os) ≡ map (mark 0) (map as_made os)
+  changes_zero : (os : List (Original I)) → map (λ m. m.change) (map (as_log 0) os) ≡ map (changeset_of 0) (map as_made os)
   changes_zero [] = refl
-  changes_zero (o ∷ os) = ap (λ l. mark 0 (as_made o) ∷ l) (changes_zero os)
+  changes_zero (o ∷ os) = ap (λ l. changeset_of 0 (as_made o) ∷ l) (changes_zero os)
 
   none_of : (ts : List Sent) → length ts ≡ 0 → ts ≡ []
   none_of [] e = refl
@@ -190,31 +191,31 @@ module _ {I S : Type 0} (p : Profile I S) {Fits : S → Type 0} (law : Lawful p 
           cursor = f.1.at_start;
           took = none_of (tooks_of nd.records) (k.tooks_count ∙ f.1.at_start);
           unsent = f.1.unsent;
-          objects = ap (λ l. run (act_marked p) l p.empty) (ap (map (mark 0)) f.1.unsent ∙ sym (changes_zero (client_of p nd.records).made)) ∙ f.1.acts 0;
+          objects = ap (λ l. run (act_changeset p) l p.empty) (ap (map (changeset_of 0)) f.1.unsent ∙ sym (changes_zero (client_of p nd.records).made)) ∙ f.1.acts 0;
         },
       ))
       (λ g. inl (λ z. g.0 (sym is ∙ z), named_facts i nd here k.id k.born g.0 g.1 k.tooks k.tooks_count))
       k.is
 
-  numbered_first : (c k : ℕ) (xs ys : List (LogMade (Marked I))) → Numbered c k (xs ++ ys) → Numbered c k xs
+  numbered_first : (c k : ℕ) (xs ys : List (LogMade (Changeset I))) → Numbered c k (xs ++ ys) → Numbered c k xs
   numbered_first c k [] ys r = no_numbers
   numbered_first c k (x ∷ xs) ys (a_number a b r) = a_number a b (numbered_first c (suc k) xs ys r)
 
-  server_state : At p w (length (log p w)) ≡ Some (server_objects p s)
-  server_state = ap (At p w) (sym len) ∙ at_path (length n.log) ∙ last_state ∙ ap (λ x. Some x) (sym (ap (λ l. state_or p.empty (state_of p l (length l))) (sym log_is) ∙ ap (state_or p.empty) good.log.state))
+  server_state : state_in p w (length (log p w)) ≡ Some (server_objects p s)
+  server_state = ap (state_in p w) (sym len) ∙ at_path (length n.log) ∙ last_state ∙ ap (λ x. Some x) (sym (ap (λ l. state_or p.empty (state_of p l (length l))) (sym log_is) ∙ ap (state_or p.empty) good.log.state))
 
   clients_fit : (i : ℕ) (nd : Node) → at w.clients i ≡ Some nd → Fits (client_of p nd.records).objects
   clients_fit i nd here =
       ⊎_elim
-      (λ g. let f = g.1 in run_keeps Fits (act_marked p) (sets_law p law).keeps (Pend p w (ident_of p w nd) (client_of p nd.records).cursor) f.base (client_of p nd.records).objects (state_fits (act_marked p) p.empty (meet_marked p) (sets_law p law) (made p w) (order p w) (client_of p nd.records).cursor f.base f.state) f.objects)
-      (λ g. let f = g.1 in run_keeps Fits (act_marked p) (sets_law p law).keeps (map (mark 0) (client_of p nd.records).unsent) p.empty (client_of p nd.records).objects law.first f.objects)
+      (λ g. let f = g.1 in run_keeps Fits (act_changeset p) (sets_law p law).keeps (pending_in p w (ident_of p w nd) (client_of p nd.records).cursor) f.base (client_of p nd.records).objects (state_fits (act_changeset p) p.empty (cross_changesets p) (sets_law p law) (made p w) (order p w) (client_of p nd.records).cursor f.base f.state) f.objects)
+      (λ g. let f = g.1 in run_keeps Fits (act_changeset p) (sets_law p law).keeps (map (changeset_of 0) (client_of p nd.records).unsent) p.empty (client_of p nd.records).objects law.first f.objects)
       (client_facts i nd here)
 
   pub world_facts : WorldFacts p Fits w
   world_facts = record {
     entries = entry_facts;
     objects = server_state;
-    fit = state_fits (act_marked p) p.empty (meet_marked p) (sets_law p law) (made p w) (order p w) (length (log p w)) (server_objects p s) server_state;
+    fit = state_fits (act_changeset p) p.empty (cross_changesets p) (sets_law p law) (made p w) (order p w) (length (log p w)) (server_objects p s) server_state;
     clients_fit = clients_fit;
     numbered = λ c. let a = sim.ahead c in subst (λ l. Numbered c 1 (of_origin c l)) log_is (numbered_first c 1 (of_origin c n.log) a.0 (subst (λ l. Numbered c 1 l) a.1 (sim.numbered c)));
     ahead = λ c. let a = sim.ahead c in (a.0, made_same c ∙ a.1 ∙ ap (λ l. of_origin c l ++ a.0) log_is);

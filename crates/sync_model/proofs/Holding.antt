@@ -6,8 +6,8 @@ use Rattle.sync_theory.proofs.Server.{test_true}
 use Rattle.sync_theory.proofs.World.{same_or_not}
 use Rattle.sync_model.specs.Profile.{Profile, Lawful}
 use Rattle.sync_model.specs.Messages.{Message, Bind, Ident, Upload, Ask, Download, Refused, Stored, Ask2}
-use Rattle.sync_model.specs.Clients.{Client, ClientRecord, ClientRefusal, Born, ClientDid, client_of, commit, upgrade, bind, upload, ask, take as take_message}
-use Rattle.sync_model.specs.Servers.{Server, ServerRecord, ServerDid, server_of, after_server, after_all, place_of, serve}
+use Rattle.sync_model.specs.Clients.{Client, ClientRecord, ClientRefusal, Born, ClientStep, client_of, commit, upgrade, bind, upload, ask, take as take_message}
+use Rattle.sync_model.specs.Servers.{Server, ServerRecord, ServerStep, server_of, after_server, after_all, place_of, serve}
 use Rattle.sync_model.specs.Worlds.{Stop, Node, World, Event, Joins, Edits, Binds, Uploads, Asks, Upgrades, Delivers, Restarts, Stops, Injects, Outcome, Words, says, Stopped, Messaged, at, put, seek, is_there, standing, stopped, empty_world, id_is, has_name, has_id, ident_is, is_own, server_name, messaged, message_words, made_words, took_words, upgrade_words, reply_words, client_moved, client_ends, client_called, client_calls, server_moved, server_ends, server_called, is_node, joins, delivers, named_by, names_own, injects, message_at, happens, world_after}
 use Rattle.sync_model.proofs.Lists.{class, at_snoc, at_of_map, place_old, place_new, seek_there, seek_found, seek_map, take_all}
 use Rattle.sync_model.proofs.Sim.{no_change, no_numbers, uuid_of, uuids, Tells, Inv, tells_lasts, inv_later}
@@ -61,23 +61,23 @@ module _ {I S : Type 0} (p : Profile I S) where
       abbrev s : Server I
       s = server_of p w.server
 
-      abbrev Goes : {A : Type 0} → ClientDid A → Type 0
+      abbrev Goes : {A : Type 0} → ClientStep A → Type 0
       Goes did = Cuts p law (server_of p w.server) w.injected w.clients h.n h.sim place nd e did
 
       moved : (rs : List ClientRecord) → Next p (server_of p w.server) w.clients w.injected h.n place (with_records nd rs) → Holds (client_moved w place nd rs)
       moved rs x = inv_later p h x.m x.sim x.later
 
-      whole : {A : Type 0} (did : ClientDid A) → Goes did → Next p (server_of p w.server) w.clients w.injected h.n place (with_records nd did.records)
+      whole : {A : Type 0} (did : ClientStep A) → Goes did → Next p (server_of p w.server) w.clients w.injected h.n place (with_records nd did.records)
       whole did g = subst (λ l. Next p (server_of p w.server) w.clients w.injected h.n place (with_records nd l)) (take_all did.records) (g (length did.records))
 
-      cut : {A : Type 0} (did : ClientDid A) → Goes did → (stand : List ClientRecord) → stopped (w.stops nd.name) did.records ≡ Some stand → Holds (client_moved w place nd stand)
+      cut : {A : Type 0} (did : ClientStep A) → Goes did → (stand : List ClientRecord) → stopped (w.stops nd.name) did.records ≡ Some stand → Holds (client_moved w place nd stand)
       cut did g stand is = let c = cut_by (w.stops nd.name) did.records stand is in subst (λ l. Holds (client_moved w place nd l)) c.1 (moved (take c.0 did.records) (g c.0))
 
-      quiet : {A : Type 0} (did : ClientDid A) (words : World → Result A ClientRefusal → Outcome) → ((v : World) (a : Result A ClientRefusal) → (words v a).world ≡ v) → Goes did → (o : Option (List ClientRecord)) → stopped (w.stops nd.name) did.records ≡ o → Holds (client_ends w place nd did words o).world
+      quiet : {A : Type 0} (did : ClientStep A) (words : World → Result A ClientRefusal → Outcome) → ((v : World) (a : Result A ClientRefusal) → (words v a).world ≡ v) → Goes did → (o : Option (List ClientRecord)) → stopped (w.stops nd.name) did.records ≡ o → Holds (client_ends w place nd did words o).world
       quiet did words same g None is = subst Holds (sym (same (client_moved w place nd did.records) did.answer)) (moved did.records (whole did g))
       quiet did words same g (Some stand) is = cut did g stand is
 
-      loud : (did : ClientDid Message) → Goes did → ((m : Message) → did.answer ≡ Ok m → Tells p h.n (server_of p w.server).ids w.clients m) → (o : Option (List ClientRecord)) → stopped (w.stops nd.name) did.records ≡ o → Holds (client_ends w place nd did message_words o).world
+      loud : (did : ClientStep Message) → Goes did → ((m : Message) → did.answer ≡ Ok m → Tells p h.n (server_of p w.server).ids w.clients m) → (o : Option (List ClientRecord)) → stopped (w.stops nd.name) did.records ≡ o → Holds (client_ends w place nd did message_words o).world
       loud did g tells None is = on did.answer tells
         where
           on : (a : Result Message ClientRefusal) → ((m : Message) → a ≡ Ok m → Tells p h.n (server_of p w.server).ids w.clients m) → Holds (message_words (client_moved w place nd did.records) a).world
@@ -85,14 +85,14 @@ module _ {I S : Type 0} (p : Profile I S) where
           on (Err r) t = moved did.records (whole did g)
       loud did g tells (Some stand) is = cut did g stand is
 
-    called_quiet : {A : Type 0} (w : World) (h : Holds w) (name : ℕ) (call : Client I S → ClientDid A) (words : World → Result A ClientRefusal → Outcome) → ((v : World) (a : Result A ClientRefusal) → (words v a).world ≡ v) → ((place : ℕ) (nd : Node) (e : at w.clients place ≡ Some nd) → Goes w h place nd e (call (client_of p nd.records))) → Holds (client_calls p w name call words).world
+    called_quiet : {A : Type 0} (w : World) (h : Holds w) (name : ℕ) (call : Client I S → ClientStep A) (words : World → Result A ClientRefusal → Outcome) → ((v : World) (a : Result A ClientRefusal) → (words v a).world ≡ v) → ((place : ℕ) (nd : Node) (e : at w.clients place ≡ Some nd) → Goes w h place nd e (call (client_of p nd.records))) → Holds (client_calls p w name call words).world
     called_quiet w h name call words same goes = on (seek (has_name name) w.clients) refl
       where
         on : (o : Option (ℕ × Node)) → seek (has_name name) w.clients ≡ o → Holds (client_called p w call words o).world
         on None is = h
         on (Some q) is = let f = seek_found (has_name name) w.clients q is in quiet w h q.0 q.1 f.here (call (client_of p q.1.records)) words same (goes q.0 q.1 f.here) (stopped (w.stops q.1.name) (call (client_of p q.1.records)).records) refl
 
-    called_loud : (w : World) (h : Holds w) (name : ℕ) (call : Client I S → ClientDid Message) → ((place : ℕ) (nd : Node) (e : at w.clients place ≡ Some nd) → Goes w h place nd e (call (client_of p nd.records))) → ((place : ℕ) (nd : Node) (e : at w.clients place ≡ Some nd) (m : Message) → (call (client_of p nd.records)).answer ≡ Ok m → Tells p h.n (server_of p w.server).ids w.clients m) → Holds (client_calls p w name call message_words).world
+    called_loud : (w : World) (h : Holds w) (name : ℕ) (call : Client I S → ClientStep Message) → ((place : ℕ) (nd : Node) (e : at w.clients place ≡ Some nd) → Goes w h place nd e (call (client_of p nd.records))) → ((place : ℕ) (nd : Node) (e : at w.clients place ≡ Some nd) (m : Message) → (call (client_of p nd.records)).answer ≡ Ok m → Tells p h.n (server_of p w.server).ids w.clients m) → Holds (client_calls p w name call message_words).world
     called_loud w h name call goes tells = on (seek (has_name name) w.clients) refl
       where
         on : (o : Option (ℕ × Node)) → seek (has_name name) w.clients ≡ o → Holds (client_called p w call message_words o).world

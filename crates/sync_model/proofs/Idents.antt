@@ -5,8 +5,9 @@ use Rattle.sync_theory.specs.World.{Reached}
 use Rattle.sync_theory.specs.Logs.{Made as LogMade, of_origin, Nodes, world_of}
 use Rattle.sync_theory.proofs.Logs.{Rising, AtMost, none_over, none_rises}
 use Rattle.sync_theory.proofs.World.{same_or_not, left_nil}
-use Rattle.sync_model.specs.Profile.{Profile, Marked, act_marked, meet_marked}
-use Rattle.sync_model.specs.Clients.{Client, ClientRecord, Born, Original, as_made, mark, client_of}
+use Rattle.sync_theory.specs.Changesets.{Changeset}
+use Rattle.sync_model.specs.Profile.{Profile, act_changeset, cross_changesets}
+use Rattle.sync_model.specs.Clients.{Client, ClientRecord, Born, Original, as_made, changeset_of, client_of}
 use Rattle.sync_model.specs.Servers.{Server, place_of}
 use Rattle.sync_model.specs.Worlds.{Node, at}
 use Rattle.sync_model.proofs.Laws.{SameStamp}
@@ -14,9 +15,9 @@ use Rattle.sync_model.proofs.Lists.{class, place_old, place_new, place_not, plac
 use Rattle.sync_model.proofs.Sim.{as_log, Numbered, no_numbers, no_change, NotGiven, Agrees, Grows, uuid_of, uuids, no_entries, Fresh, Given, ClientIs, Sim, Later, given_lasts, bears_last}
 use Rattle.sync_model.proofs.Steps.{alike_refl, grows_refl, EditedTo, edits_to}
 
-changes_are : {I : Type 0} (c : ℕ) (os : List (Original I)) → map (λ m. m.change) (map (as_log c) os) ≡ map (mark c) (map as_made os)
+changes_are : {I : Type 0} (c : ℕ) (os : List (Original I)) → map (λ m. m.change) (map (as_log c) os) ≡ map (changeset_of c) (map as_made os)
 changes_are c [] = refl
-changes_are c (o ∷ os) = ap (λ l. mark c (as_made o) ∷ l) (changes_are c os)
+changes_are c (o ∷ os) = ap (λ l. changeset_of c (as_made o) ∷ l) (changes_are c os)
 
 originals_are : {I : Type 0} (os : List (Original I)) → os ≡ map (λ u. u.original) (map as_made os)
 originals_are [] = refl
@@ -29,7 +30,7 @@ module _ {I S : Type 0} (p : Profile I S) where
   abbrev pub with_id : Server I → ℕ → Server I
   with_id s v = record s { ids = s.ids ++ v ∷ [] }
 
-  module _ (s : Server I) (cls : List Node) (inj : List ℕ) (n : Nodes (Marked I) S) (sim : Sim p s cls inj n) (v : ℕ) (new : place_of v s.ids ≡ 0) where
+  module _ (s : Server I) (cls : List Node) (inj : List ℕ) (n : Nodes (Changeset I) S) (sim : Sim p s cls inj n) (v : ℕ) (new : place_of v s.ids ≡ 0) where
     abbrev us : List (Option ℕ)
     us = uuids p cls
 
@@ -53,7 +54,7 @@ module _ {I S : Type 0} (p : Profile I S) where
     blank_still d (inl z) = (inl z, λ f. let g = sym f ∙ z in omega arith)
     blank_still d (inr z) = let l = len in (inr (omega arith), λ f. omega arith)
 
-    module _ (m : Nodes (Marked I) S) (ms : List (LogMade (Marked I))) (t : S) (f : EditedTo p n m c ms t) where
+    module _ (m : Nodes (Changeset I) S) (ms : List (LogMade (Changeset I))) (t : S) (f : EditedTo p n m c ms t) where
       grows : Grows n m
       grows = record { more = []; log = f.log ∙ sym (append-nil n.log); entries = λ k h. f.entries k }
 
@@ -80,7 +81,7 @@ module _ {I S : Type 0} (p : Profile I S) where
         tooks_count = w.tooks_count;
       }
 
-      sim_named : Numbered c 1 ms → Rising ms → ((own : ℕ → Bool) → Agrees own (s.ids ++ v ∷ []) us → Reached own (act_marked p) (meet_marked p) no_change p.empty (world_of n) → Reached own (act_marked p) (meet_marked p) no_change p.empty (world_of m)) → (class (s.ids ++ v ∷ []) us c ≡ false → ms ≡ []) → (((i : ℕ) × (at us i ≡ Some (Some v))) ⊎ (place_of v inj ≢ 0)) → ((j : ℕ) (x : Node) → at cls j ≡ Some x → uuid_of p x ≡ Some v → Given p m c (client_of p x.records)) → Sim p (with_id s v) cls inj m
+      sim_named : Numbered c 1 ms → Rising ms → ((own : ℕ → Bool) → Agrees own (s.ids ++ v ∷ []) us → Reached own (act_changeset p) (cross_changesets p) no_change p.empty (world_of n) → Reached own (act_changeset p) (cross_changesets p) no_change p.empty (world_of m)) → (class (s.ids ++ v ∷ []) us c ≡ false → ms ≡ []) → (((i : ℕ) × (at us i ≡ Some (Some v))) ⊎ (place_of v inj ≢ 0)) → ((j : ℕ) (x : Node) → at cls j ≡ Some x → uuid_of p x ≡ Some v → Given p m c (client_of p x.records)) → Sim p (with_id s v) cls inj m
       sim_named numbered rising reached strange known named = record {
         log_is = f.log ∙ sim.log_is;
         reached = λ own a. let l = len in reached own a (sim.reached own (λ d g h. a d g (omega arith) ∙ class_stays s.ids v us d g h));
@@ -134,15 +135,15 @@ module _ {I S : Type 0} (p : Profile I S) where
       some_there : length (of_origin c n.log) ≤ length (n.mades c)
       some_there = let a = ap length none_there in let b : ◌≡◌ {A = ℕ} (length (of_origin c n.log)) 0 = a in omega arith
 
-      made_so : (m : Nodes (Marked I) S) × EditedTo p n m c (map (as_log c) (client_of p nd.records).made) (client_of p nd.records).objects
+      made_so : (m : Nodes (Changeset I) S) × EditedTo p n m c (map (as_log c) (client_of p nd.records).made) (client_of p nd.records).objects
       made_so = edits_to p c (map (as_log c) (client_of p nd.records).made) n (client_of p nd.records).objects (fresh.bases c) (sim.blank_cursor c not_before) some_there
-          (subst (λ x. run (act_marked p) (map (λ m. m.change) (map (as_log c) (client_of p nd.records).made)) x ≡ Some (client_of p nd.records).objects) (sym (sim.blank_objects c not_before)) (fresh.acts c))
+          (subst (λ x. run (act_changeset p) (map (λ m. m.change) (map (as_log c) (client_of p nd.records).made)) x ≡ Some (client_of p nd.records).objects) (sym (sim.blank_objects c not_before)) (fresh.acts c))
 
       given_now : Given p made_so.0 c (client_of p nd.records)
       given_now = record {
         mades = named_mades made_so.0 (map (as_log c) (client_of p nd.records).made) (client_of p nd.records).objects made_so.1;
         cursor = made_so.1.cursor ∙ sim.blank_cursor c not_before ∙ sym fresh.at_start;
-        unsent = made_so.1.unsent ∙ ap (λ l. l ++ map (λ m. m.change) (map (as_log c) (client_of p nd.records).made)) (sim.blank_unsent c not_before) ∙ changes_are c (client_of p nd.records).made ∙ ap (map (mark c)) (sym fresh.unsent);
+        unsent = made_so.1.unsent ∙ ap (λ l. l ++ map (λ m. m.change) (map (as_log c) (client_of p nd.records).made)) (sim.blank_unsent c not_before) ∙ changes_are c (client_of p nd.records).made ∙ ap (map (changeset_of c)) (sym fresh.unsent);
         objects = made_so.1.objects;
         ident = inl fresh.unnamed;
         sent = [];
@@ -160,7 +161,7 @@ module _ {I S : Type 0} (p : Profile I S) where
           let same : nd ≡ x = cc (e, h1) in
           subst (λ y. Given p made_so.0 c (client_of p y.records)) same given_now
 
-      pub bind_own : (m : Nodes (Marked I) S) × Sim p (with_id s v) cls inj m × Later p n s.ids cls m (s.ids ++ v ∷ []) cls
+      pub bind_own : (m : Nodes (Changeset I) S) × Sim p (with_id s v) cls inj m × Later p n s.ids cls m (s.ids ++ v ∷ []) cls
       bind_own =
           let there : at us i ≡ Some (Some v) = at_map (uuid_of p) cls i nd e ∙ ap (λ x. Some x) born in
           let mine : class (s.ids ++ v ∷ []) us c ≡ true = subst (λ d. class (s.ids ++ v ∷ []) us d ≡ true) here (class_own (s.ids ++ v ∷ []) us i v there (λ z. let y = sym here ∙ z in omega arith)) in (
@@ -186,7 +187,7 @@ module _ {I S : Type 0} (p : Profile I S) where
 
   -- ---- a client joins
 
-  pub joined_sim : (s : Server I) (cls : List Node) (inj : List ℕ) (n : Nodes (Marked I) S) → Sim p s cls inj n → (name v : ℕ) → ((i : ℕ) → at (uuids p cls) i ≡ Some (Some v) → ⊥) → place_of v inj ≡ 0 → Sim p s (cls ++ record { name = name; records = Born v ∷ [] } ∷ []) inj n × Later p n s.ids cls n s.ids (cls ++ record { name = name; records = Born v ∷ [] } ∷ [])
+  pub joined_sim : (s : Server I) (cls : List Node) (inj : List ℕ) (n : Nodes (Changeset I) S) → Sim p s cls inj n → (name v : ℕ) → ((i : ℕ) → at (uuids p cls) i ≡ Some (Some v) → ⊥) → place_of v inj ≡ 0 → Sim p s (cls ++ record { name = name; records = Born v ∷ [] } ∷ []) inj n × Later p n s.ids cls n s.ids (cls ++ record { name = name; records = Born v ∷ [] } ∷ [])
   joined_sim s cls inj n sim name v none not_injected = (
     record {
       log_is = sim.log_is;
@@ -244,7 +245,7 @@ module _ {I S : Type 0} (p : Profile I S) where
       one i j u (inr a) (inr b) = a.0 ∙ sym b.0
 
   -- an injected Bind names a uuid
-  pub named_sim : (s : Server I) (cls : List Node) (inj more : List ℕ) (n : Nodes (Marked I) S) → Sim p s cls inj n → Sim p s cls (inj ++ more) n
+  pub named_sim : (s : Server I) (cls : List Node) (inj more : List ℕ) (n : Nodes (Changeset I) S) → Sim p s cls inj n → Sim p s cls (inj ++ more) n
   named_sim s cls inj more n sim = record {
     log_is = sim.log_is;
     reached = sim.reached;
@@ -263,7 +264,7 @@ module _ {I S : Type 0} (p : Profile I S) where
   }
 
   -- the server's file takes form 2
-  pub form_sim : (s : Server I) (cls : List Node) (inj : List ℕ) (n : Nodes (Marked I) S) → Sim p s cls inj n → Sim p (record s { second = true }) cls inj n
+  pub form_sim : (s : Server I) (cls : List Node) (inj : List ℕ) (n : Nodes (Changeset I) S) → Sim p s cls inj n → Sim p (record s { second = true }) cls inj n
   form_sim s cls inj n sim = record {
     log_is = sim.log_is;
     reached = sim.reached;

@@ -3,8 +3,8 @@ use Rattle.std.proofs.Common.{◌≡◌, ℕ, List, [], ◌∷◌, ◌++◌, Som
 use Rattle.std.proofs.lemmas.Bool.{le-leb, lt-leb}
 use Rattle.sync_model.specs.Profile.{Profile}
 use Rattle.sync_model.specs.Messages.{Change, Sent, Refused, Stored}
-use Rattle.sync_model.specs.Clients.{ClientRecord, ClientRefusal, ClientDid, client_of, after_record, entry_refusal, took, take_one, take_entries, after_took, TakenSoFar}
-use Rattle.sync_model.specs.Servers.{ServerRecord, ServerDid, Why, code_of, at_place, server_of, after_all, count, merge, merged, serve_changes, after_served, ServedSoFar}
+use Rattle.sync_model.specs.Clients.{ClientRecord, ClientRefusal, ClientStep, client_of, after_record, entry_refusal, took, take_one, take_entries, after_took, TakenSoFar}
+use Rattle.sync_model.specs.Servers.{ServerRecord, ServerStep, ServerRefusal, code_of, at_place, server_of, after_all, count, merge, merged, serve_changes, after_served, ServedSoFar}
 use Rattle.sync_model.proofs.Holding.{server_append}
 use Rattle.sync_model.proofs.Own.{client_step, if_true, if_false}
 
@@ -22,7 +22,7 @@ module _ {I S : Type 0} (p : Profile I S) (old : List ClientRecord) (all : List 
         ∙ glue (take_entries p (client_of p (now ++ took e ∷ [])) rest);
   }
     where
-      glue : (did : ClientDid ℕ) → after_took t.records (take_one None (took e) did) ≡ after_took (t.records ++ took e ∷ []) did
+      glue : (did : ClientStep ℕ) → after_took t.records (take_one None (took e) did) ≡ after_took (t.records ++ took e ∷ []) did
       glue did = λ i. record { records = sym (append_assoc t.records (took e ∷ []) did.records) i; answer = did.answer }
 
   -- at a refusal, and at the end
@@ -47,7 +47,7 @@ module _ {I S : Type 0} (p : Profile I S) (c : ℕ) (old : List ServerRecord) (a
     same = t.same ∙ ap (after_served t.records) (if_true (nat_le h.number (count (server_of p now) c)) (serve_changes p (server_of p now) c rest) _ (le-leb h.number (count (server_of p now) c) le));
   }
 
-  not_repeat : (now : List ServerRecord) (h : Change) (rest : List Change) (r : Result (List ServerRecord) Why) → count (server_of p now) c < h.number → merge p (server_of p now) c h ≡ r → serve_changes p (server_of p now) c (h ∷ rest) ≡ merged c h.number r (λ new. serve_changes p (after_all p (server_of p now) new) c rest)
+  not_repeat : (now : List ServerRecord) (h : Change) (rest : List Change) (r : Result (List ServerRecord) ServerRefusal) → count (server_of p now) c < h.number → merge p (server_of p now) c h ≡ r → serve_changes p (server_of p now) c (h ∷ rest) ≡ merged c h.number r (λ new. serve_changes p (after_all p (server_of p now) new) c rest)
   not_repeat now h rest r lt is = if_false (nat_le h.number (count (server_of p now) c)) _ (merged c h.number (merge p (server_of p now) c h) (λ new. serve_changes p (after_all p (server_of p now) new) c rest)) (lt-leb h.number (count (server_of p now) c) lt) ∙ ap (λ q. merged c h.number q (λ new. serve_changes p (after_all p (server_of p now) new) c rest)) is
 
   -- an integrated change
@@ -60,11 +60,11 @@ module _ {I S : Type 0} (p : Profile I S) (c : ℕ) (old : List ServerRecord) (a
         ∙ glue (serve_changes p (server_of p (now ++ new)) c rest);
   }
     where
-      glue : (did : ServerDid) → after_served t.records (merged c h.number (Ok new) (λ x. did)) ≡ after_served (t.records ++ new) did
+      glue : (did : ServerStep) → after_served t.records (merged c h.number (Ok new) (λ x. did)) ≡ after_served (t.records ++ new) did
       glue did = λ i. record { records = sym (append_assoc t.records new did.records) i; answer = did.answer }
 
   -- at a refusal, and at the end
-  pub served_stops : (now : List ServerRecord) (h : Change) (rest : List Change) (why : Why) → ServedSoFar p c old now all (h ∷ rest) → count (server_of p now) c < h.number → merge p (server_of p now) c h ≡ Err why → ((serve_changes p (server_of p old) c all).answer ≡ Refused c h.number (code_of why) (at_place why)) × (now ≡ old ++ (serve_changes p (server_of p old) c all).records)
+  pub served_stops : (now : List ServerRecord) (h : Change) (rest : List Change) (why : ServerRefusal) → ServedSoFar p c old now all (h ∷ rest) → count (server_of p now) c < h.number → merge p (server_of p now) c h ≡ Err why → ((serve_changes p (server_of p old) c all).answer ≡ Refused c h.number (code_of why) (at_place why)) × (now ≡ old ++ (serve_changes p (server_of p old) c all).records)
   served_stops now h rest why t lt is =
       let s = t.same ∙ ap (after_served t.records) (not_repeat now h rest (Err why) lt is) in
       (ap (λ d. d.answer) s, t.now_is ∙ ap (λ l. old ++ l) (sym (ap (λ d. d.records) s ∙ append-nil t.records)))

@@ -3,10 +3,11 @@ use Rattle.std.proofs.Common.{◌≡◌, ◌≢◌, ℕ, zero, suc, ◌+◌, ◌
 use Rattle.std.proofs.lemmas.Bool.Decides.{nat_tests}
 use Rattle.std.proofs.lemmas.Bool.{ltb-false}
 use Rattle.sync_theory.proofs.Server.{test_true, test_false}
-use Rattle.sync_model.specs.Profile.{Profile, Marked, Stuck, apply_all, needs, first_need, Lawful}
+use Rattle.sync_theory.specs.Changesets.{Changeset}
+use Rattle.sync_model.specs.Profile.{Profile, Stuck, apply_all, needs, first_need, Lawful}
 use Rattle.sync_model.specs.Messages.{Change, Sent, Message, Bind, Ident, Upload, Ask, Download, Refused, Stored, Ask2}
-use Rattle.sync_model.specs.Clients.{Client, ClientRecord, Born, Named, Made, Took, Form, Did, ClientDid, ClientRefusal, refuse, answers, appends, if_born, after_record, after_records, entry_refusal, took, take_one, take_entries, take_ident, take_born, take as take_message, commit, commit_born, commit_applied, upgrade, NotMine, TooLarge, NumbersFull, OldForm, IdentDiffers, Gap, WasRefused}
-use Rattle.sync_model.specs.Servers.{Server, ServerRecord, Entry, ServerDid, Why, place_of, count, after_server, after_all, is_given, new_records, merge_applied, merge_carried, merge_read, merge, merged, carried_change, serve_changes, serve_bind, serve, refuses, replies, if_there, download, download_first, first_form, IdentsFull, NoSuchIdent, NeedsForm2, AheadOfHistory}
+use Rattle.sync_model.specs.Clients.{Client, ClientRecord, Born, Named, Made, Took, Form, Step, ClientStep, ClientRefusal, refuse, answers, appends, if_born, after_record, after_records, entry_refusal, took, take_one, take_entries, take_ident, take_born, take as take_message, commit, commit_born, commit_applied, upgrade, NotMine, TooLarge, NumbersFull, OldForm, IdentDiffers, Gap, WasRefused}
+use Rattle.sync_model.specs.Servers.{Server, ServerRecord, Entry, ServerStep, ServerRefusal, place_of, count, after_server, after_all, is_given, new_records, merge_applied, merge_carried, merge_read, merge, merged, carried_change, serve_changes, serve_bind, serve, refuses, replies, if_there, download, download_first, first_form, IdentsFull, NoSuchIdent, NeedsForm2, AheadOfHistory}
 use Rattle.sync_model.specs.Worlds.{is_there}
 use Rattle.sync_model.specs.Files.{is_fine, made_acts, client_admits, client_opens, is_second, server_admits, server_opens}
 use Rattle.sync_model.proofs.Serving.{merging}
@@ -41,18 +42,18 @@ module _ {I S : Type 0} (p : Profile I S) where
       go true h k = k h
       go false h k = h
 
-  Good : {A : Type 0} → Client I S → ClientDid A → Type 0
+  Good : {A : Type 0} → Client I S → ClientStep A → Type 0
   Good c did = client_opens p c did.records ≡ true
 
   module _ {Fits : S → Type 0} (law : Lawful p Fits) (c : Client I S) where
     one : (r : ClientRecord) → client_admits p c r ≡ true → client_opens p c (r ∷ []) ≡ true
     one r e = and_both (client_admits p c r) true e refl
 
-    born_good : {A : Type 0} (o : Option ℕ) (go : ℕ → ClientDid A) → ((id : ℕ) → o ≡ Some id → client_opens p c (go id).records ≡ true) → client_opens p c (if_born o go).records ≡ true
+    born_good : {A : Type 0} (o : Option ℕ) (go : ℕ → ClientStep A) → ((id : ℕ) → o ≡ Some id → client_opens p c (go id).records ≡ true) → client_opens p c (if_born o go).records ≡ true
     born_good None go f = refl
     born_good (Some id) go f = f id refl
 
-    unless : {A : Type 0} (b : Bool) (why : ClientRefusal) (y : ClientDid A) → (b ≡ false → client_opens p c y.records ≡ true) → client_opens p c (if b then refuse why else y).records ≡ true
+    unless : {A : Type 0} (b : Bool) (why : ClientRefusal) (y : ClientStep A) → (b ≡ false → client_opens p c y.records ≡ true) → client_opens p c (if b then refuse why else y).records ≡ true
     unless true why y f = refl
     unless false why y f = f refl
 
@@ -135,7 +136,7 @@ module _ {I S : Type 0} (p : Profile I S) where
               let le = ltb-false c.cursor from is in
               entries_open (drop (c.cursor - from) es) c ne (sendable_drop (c.cursor - from) from c.cursor es b (omega arith)) (λ x e. took_cursor p x (record { origin = e.origin; number = e.number; ms = e.ms; instrs = Rattle.sync_model.specs.Clients.ok_list (p.unspell e.body) }))
 
-      if_opens : (b : Bool) (x : ClientDid ℕ) (why : ClientRefusal) → (b ≡ true → client_opens p c x.records ≡ true) → client_opens p c (if b then x else refuse why).records ≡ true
+      if_opens : (b : Bool) (x : ClientStep ℕ) (why : ClientRefusal) → (b ≡ true → client_opens p c x.records ≡ true) → client_opens p c (if b then x else refuse why).records ≡ true
       if_opens true x why f = f refl
       if_opens false x why f = refl
 
@@ -177,7 +178,7 @@ module _ {I S : Type 0} (p : Profile I S) where
   applied_same new old (Ok t) = refl
   applied_same new old (Err b) = refl
 
-  carried_same : (s : Server I) (new old : List ServerRecord) (r : Result (Marked I × List (Marked I)) Stuck) → is_fine (merge_carried p (record s { second = true }) new r) ≡ is_fine (merge_carried p s old r)
+  carried_same : (s : Server I) (new old : List ServerRecord) (r : Result (Changeset I × List (Changeset I)) Stuck) → is_fine (merge_carried p (record s { second = true }) new r) ≡ is_fine (merge_carried p s old r)
   carried_same s new old (Ok q) = applied_same new old (apply_all p q.0.instrs (Rattle.sync_model.specs.Servers.server_objects p s))
   carried_same s new old (Err m) = refl
 
@@ -185,7 +186,7 @@ module _ {I S : Type 0} (p : Profile I S) where
   read_same s c h (Ok is) = carried_same s (new_records p (record s { second = true }) c h is) (new_records p s c h is) (carried_change p s c h is)
   read_same s c h (Err f) = refl
 
-  if_same : (b : Bool) (w : Why) (x y : Result (List ServerRecord) Why) → is_fine x ≡ is_fine y → is_fine (if b then Err w else x) ≡ is_fine (if b then Err w else y)
+  if_same : (b : Bool) (w : ServerRefusal) (x y : Result (List ServerRecord) ServerRefusal) → is_fine x ≡ is_fine y → is_fine (if b then Err w else x) ≡ is_fine (if b then Err w else y)
   if_same true w x y e = refl
   if_same false w x y e = e
 
@@ -203,7 +204,7 @@ module _ {I S : Type 0} (p : Profile I S) where
   changes_open [] s c given ids = refl
   changes_open (h ∷ hs) s c given ids = go (nat_le h.number (count s c)) refl (merge p s c h) refl (changes_open hs s c given ids) (λ new is. changes_open hs (after_all p s new) c (ap (λ l. nat_le 1 c && nat_le c (length l)) (ids s new h is) ∙ given) ids)
     where
-      go : (b : Bool) → nat_le h.number (count s c) ≡ b → (r : Result (List ServerRecord) Why) → merge p s c h ≡ r → server_opens p s (serve_changes p s c hs).records ≡ true → ((new : List ServerRecord) → merge p s c h ≡ Ok new → server_opens p (after_all p s new) (serve_changes p (after_all p s new) c hs).records ≡ true) → server_opens p s (if b then serve_changes p s c hs else merged c h.number r (λ new. serve_changes p (after_all p s new) c hs)).records ≡ true
+      go : (b : Bool) → nat_le h.number (count s c) ≡ b → (r : Result (List ServerRecord) ServerRefusal) → merge p s c h ≡ r → server_opens p s (serve_changes p s c hs).records ≡ true → ((new : List ServerRecord) → merge p s c h ≡ Ok new → server_opens p (after_all p s new) (serve_changes p (after_all p s new) c hs).records ≡ true) → server_opens p s (if b then serve_changes p s c hs else merged c h.number r (λ new. serve_changes p (after_all p s new) c hs)).records ≡ true
       go true b_is r r_is skip next = skip
       go false b_is (Err why) r_is skip next = refl
       go false b_is (Ok new) r_is skip next = server_opens_on s new (serve_changes p (after_all p s new) c hs).records new_opens (next new r_is)
@@ -224,7 +225,7 @@ module _ {I S : Type 0} (p : Profile I S) where
                   and_both (not s.second) _ (not_false s.second b_is)
                   (and_both _ true (entry_opens (record s { second = true }) c h read number given (merge_same s c h ∙ ap is_fine r_is) (ap (λ x. not (x && not true)) a_is)) refl)
 
-  asks_open : (s : Server I) (c cursor : ℕ) (go : List (Marked I) → ServerDid) → ((xs : List (Marked I)) → (go xs).records ≡ []) → server_opens p s (if_there p s c cursor go).records ≡ true
+  asks_open : (s : Server I) (c cursor : ℕ) (go : List (Changeset I) → ServerStep) → ((xs : List (Changeset I)) → (go xs).records ≡ []) → server_opens p s (if_there p s c cursor go).records ≡ true
   asks_open s c cursor go none = on (is_given s c) (nat_lt (length s.log) cursor)
     where
       on : (a b : Bool) → server_opens p s (if not a then refuses c 0 (NoSuchIdent (length s.ids)) else (if b then refuses c 0 (AheadOfHistory (length s.log)) else go (Rattle.sync_model.specs.Servers.entries_from p s.log (length s.log - cursor) cursor))).records ≡ true
@@ -255,7 +256,7 @@ module _ {I S : Type 0} (p : Profile I S) where
       go false is = refl
   serve_opens s (Ask c cursor settled) = asks_open s c cursor (download_first p c cursor) first_open
     where
-      first_open : (xs : List (Marked I)) → (download_first p c cursor xs).records ≡ []
+      first_open : (xs : List (Changeset I)) → (download_first p c cursor xs).records ≡ []
       first_open [] = refl
       first_open (x ∷ xs) = go (needs p x.instrs)
         where

@@ -9,9 +9,10 @@ use Rattle.sync_theory.proofs.Kept.{reached_good}
 use Rattle.sync_theory.proofs.Logs.{Rising, AtMost}
 use Rattle.sync_theory.proofs.Server.{test_true, test_false, if_so, if_not}
 use Rattle.sync_theory.proofs.World.{put_same, put_other}
-use Rattle.sync_model.specs.Profile.{Profile, Marked, Stuck, act, act_marked, meet_marked, Lawful}
+use Rattle.sync_theory.specs.Changesets.{Changeset}
+use Rattle.sync_model.specs.Profile.{Profile, Stuck, act, act_changeset, cross_changesets, Lawful}
 use Rattle.sync_model.specs.Messages.{Sent}
-use Rattle.sync_model.specs.Clients.{Client, ClientRecord, Born, Named, Made, Took, Form, Original, as_made, mark, state_or, ok_list, client_of, after_record, after_records, makes, crossed, took_part, tooks_of}
+use Rattle.sync_model.specs.Clients.{Client, ClientRecord, Born, Named, Made, Took, Form, Original, as_made, changeset_of, state_or, ok_list, client_of, after_record, after_records, makes, crossed, took_part, tooks_of}
 use Rattle.sync_model.specs.Servers.{Server, place_of, sent_of}
 use Rattle.sync_model.specs.Worlds.{Node, at, put}
 use Rattle.sync_model.proofs.Laws.{sets_law}
@@ -79,12 +80,12 @@ module _ {I S : Type 0} (p : Profile I S) where
   pub client_step : (rs : List ClientRecord) (r : ClientRecord) → client_of p (rs ++ r ∷ []) ≡ after_record p (client_of p rs) r
   client_step rs r = after_append _ rs (r ∷ [])
 
-  pub bears_snoc : (n : Nodes (Marked I) S) (j k : ℕ) (ts : List Sent) (e : Sent) → Bears p n j ts → j + length ts ≡ k → k < length n.log → e ≡ sent_of p (n.entries k) → Bears p n j (ts ++ e ∷ [])
+  pub bears_snoc : (n : Nodes (Changeset I) S) (j k : ℕ) (ts : List Sent) (e : Sent) → Bears p n j ts → j + length ts ≡ k → k < length n.log → e ≡ sent_of p (n.entries k) → Bears p n j (ts ++ e ∷ [])
   bears_snoc n j k [] e no_entries h l is = let same : k ≡ j = omega arith in an_entry (omega arith) (is ∙ ap (λ i. sent_of p (n.entries i)) same) no_entries
   bears_snoc n j k (t ∷ ts) e (an_entry a b r) h l is = an_entry a b (bears_snoc n (suc j) k ts e r (omega arith) l is)
 
   -- a client by its state
-  pub client_is : (n : Nodes (Marked I) S) (ids : List ℕ) (rs : List ClientRecord) (st : Client I S) (id : ℕ) → client_of p rs ≡ st → st.id ≡ Some id → ((place_of id ids ≡ 0) × Fresh p st) ⊎ ((place_of id ids ≢ 0) × Given p n (place_of id ids) st) → Bears p n 0 (tooks_of rs) → length (tooks_of rs) ≡ st.cursor → ClientIs p n ids rs
+  pub client_is : (n : Nodes (Changeset I) S) (ids : List ℕ) (rs : List ClientRecord) (st : Client I S) (id : ℕ) → client_of p rs ≡ st → st.id ≡ Some id → ((place_of id ids ≡ 0) × Fresh p st) ⊎ ((place_of id ids ≢ 0) × Given p n (place_of id ids) st) → Bears p n 0 (tooks_of rs) → length (tooks_of rs) ≡ st.cursor → ClientIs p n ids rs
   client_is n ids rs st id e born is tooks count = record {
     id = id;
     born = ap (λ c. c.id) e ∙ born;
@@ -97,27 +98,27 @@ module _ {I S : Type 0} (p : Profile I S) where
   second_stays c (Born id) h = h
   second_stays c (Named ident) h = h
   second_stays c (Made number ms body) h = h
-  second_stays c (Took origin number ms body) h = go (origin == c.ident) (rebase (meet_marked p) (map (mark c.ident) c.unsent) (record { origin = origin; number = number; ms = ms; instrs = ok_list (p.unspell body) }))
+  second_stays c (Took origin number ms body) h = go (origin == c.ident) (rebase (cross_changesets p) (map (changeset_of c.ident) c.unsent) (record { origin = origin; number = number; ms = ms; instrs = ok_list (p.unspell body) }))
     where
-      on : (r : Result (List (Marked I) × Marked I) (ℕ × Stuck)) → (crossed p c r).second ≡ true
+      on : (r : Result (List (Changeset I) × Changeset I) (ℕ × Stuck)) → (crossed p c r).second ≡ true
       on (Ok q) = h
       on (Err f) = h
 
-      go : (b : Bool) (r : Result (List (Marked I) × Marked I) (ℕ × Stuck)) → (if b then record c { cursor = suc c.cursor; unsent = tail c.unsent } else crossed p c r).second ≡ true
+      go : (b : Bool) (r : Result (List (Changeset I) × Changeset I) (ℕ × Stuck)) → (if b then record c { cursor = suc c.cursor; unsent = tail c.unsent } else crossed p c r).second ≡ true
       go true r = h
       go false r = on r
   second_stays c Form h = refl
 
-  pub record Next (s : Server I) (cls : List Node) (inj : List ℕ) (n : Nodes (Marked I) S) (i : ℕ) (nd2 : Node) : Type 0 where
-    pub m : Nodes (Marked I) S
+  pub record Next (s : Server I) (cls : List Node) (inj : List ℕ) (n : Nodes (Changeset I) S) (i : ℕ) (nd2 : Node) : Type 0 where
+    pub m : Nodes (Changeset I) S
     pub sim : Sim p s (put cls i nd2) inj m
     pub later : Later p n s.ids cls m s.ids (put cls i nd2)
 
   -- what holds of the abstract world
-  pub good_of : {Fits : S → Type 0} (law : Lawful p Fits) (s : Server I) (cls : List Node) (inj : List ℕ) (n : Nodes (Marked I) S) → Sim p s cls inj n → Good (class s.ids (uuids p cls)) (act_marked p) p.empty (meet_marked p) (world_of n)
-  good_of law s cls inj n sim = reached_good (class s.ids (uuids p cls)) (act_marked p) p.empty (meet_marked p) (sets_law p law) {any = no_change} (sim.reached (class s.ids (uuids p cls)) (λ c g h. refl))
+  pub good_of : {Fits : S → Type 0} (law : Lawful p Fits) (s : Server I) (cls : List Node) (inj : List ℕ) (n : Nodes (Changeset I) S) → Sim p s cls inj n → Good (class s.ids (uuids p cls)) (act_changeset p) p.empty (cross_changesets p) (world_of n)
+  good_of law s cls inj n sim = reached_good (class s.ids (uuids p cls)) (act_changeset p) p.empty (cross_changesets p) (sets_law p law) {any = no_change} (sim.reached (class s.ids (uuids p cls)) (λ c g h. refl))
 
-  module _ {Fits : S → Type 0} (law : Lawful p Fits) (s : Server I) (cls : List Node) (inj : List ℕ) (n : Nodes (Marked I) S) (sim : Sim p s cls inj n) (i : ℕ) (nd : Node) (e : at cls i ≡ Some nd) where
+  module _ {Fits : S → Type 0} (law : Lawful p Fits) (s : Server I) (cls : List Node) (inj : List ℕ) (n : Nodes (Changeset I) S) (sim : Sim p s cls inj n) (i : ℕ) (nd : Node) (e : at cls i ≡ Some nd) where
     abbrev st : Client I S
     st = client_of p nd.records
 
@@ -182,8 +183,8 @@ module _ {I S : Type 0} (p : Profile I S) where
         numbered = λ c. subst (λ l. Numbered c 1 l) (sym (map_snoc (as_log c) st.made o)) (numbered_snoc c 1 (map (as_log c) st.made) (as_log c o) (f.numbered c) refl (let l = length_map (as_log c) st.made in omega arith));
         bases = λ c. subst (λ l. AtMost 0 l) (sym (map_snoc (as_log c) st.made o)) (most_snoc 0 (map (as_log c) st.made) (as_log c o) (f.bases c) (let z = f.at_start in omega arith));
         rising = λ c. subst (λ l. Rising l) (sym (map_snoc (as_log c) st.made o)) (rising_snoc (map (as_log c) st.made) (as_log c o) (f.rising c) (most_more 0 st.cursor (omega arith) (f.bases c)));
-        acts = λ c. subst (λ l. run (act_marked p) l p.empty ≡ Some t) (sym (ap (map (λ m. m.change)) (map_snoc (as_log c) st.made o) ∙ map_snoc (λ m. m.change) (map (as_log c) st.made) (as_log c o)))
-            (run_both (act_marked p) (map (λ m. m.change) (map (as_log c) st.made)) (mark c (as_made o) ∷ []) p.empty st.objects (f.acts c) (alone (act_marked p) (mark c (as_made o)) st.objects t does));
+        acts = λ c. subst (λ l. run (act_changeset p) l p.empty ≡ Some t) (sym (ap (map (λ m. m.change)) (map_snoc (as_log c) st.made o) ∙ map_snoc (λ m. m.change) (map (as_log c) st.made) (as_log c o)))
+            (run_both (act_changeset p) (map (λ m. m.change) (map (as_log c) st.made)) (changeset_of c (as_made o) ∷ []) p.empty st.objects (f.acts c) (alone (act_changeset p) (changeset_of c (as_made o)) st.objects t does));
       }
 
       made_fresh : (place_of was.id s.ids ≡ 0) → Fresh p st → Next s cls inj n i (with_record nd made)
@@ -199,11 +200,11 @@ module _ {I S : Type 0} (p : Profile I S) where
       made_given : (place_of was.id s.ids ≢ 0) → Given p n (place_of was.id s.ids) st → Next s cls inj n i (with_record nd made)
       made_given ne g =
           let c = place_of was.id s.ids in
-          let x : Marked I = mark (place_of was.id s.ids) (as_made o) in
-          let m : Nodes (Marked I) S = nodes_edited n (place_of was.id s.ids) x t in
+          let x : Changeset I = changeset_of (place_of was.id s.ids) (as_made o) in
+          let m : Nodes (Changeset I) S = nodes_edited n (place_of was.id s.ids) x t in
           let h = ap (λ c. c.id) makes_is in
           let a = sim.ahead (place_of was.id s.ids) in
-          let q : LogMade (Marked I) = record { base = n.cursor (place_of was.id s.ids); change = x } in
+          let q : LogMade (Changeset I) = record { base = n.cursor (place_of was.id s.ids); change = x } in
           let made_here : m.mades (place_of was.id s.ids) ≡ n.mades (place_of was.id s.ids) ++ q ∷ [] = put_same (place_of was.id s.ids) (n.mades (place_of was.id s.ids) ++ q ∷ []) n.mades in
           let some_there : length (of_origin (place_of was.id s.ids) n.log) ≤ length (n.mades (place_of was.id s.ids)) = let l = ap length a.1 in let k = length-append (of_origin (place_of was.id s.ids) n.log) a.0 in omega arith in
           let given_cursor = g.cursor in
@@ -213,7 +214,7 @@ module _ {I S : Type 0} (p : Profile I S) where
           let given2 : Given p m (place_of was.id s.ids) st2 = record {
             mades = made_here ∙ ap₂ (λ l b. l ++ record { base = b; change = x } ∷ []) g.mades g.cursor ∙ sym (map_snoc (as_log (place_of was.id s.ids)) st.made o);
             cursor = g.cursor;
-            unsent = put_same (place_of was.id s.ids) (n.unsent (place_of was.id s.ids) ++ x ∷ []) n.unsent ∙ ap (λ l. l ++ x ∷ []) g.unsent ∙ sym (map_snoc (mark (place_of was.id s.ids)) st.unsent (as_made o));
+            unsent = put_same (place_of was.id s.ids) (n.unsent (place_of was.id s.ids) ++ x ∷ []) n.unsent ∙ ap (λ l. l ++ x ∷ []) g.unsent ∙ sym (map_snoc (changeset_of (place_of was.id s.ids)) st.unsent (as_made o));
             objects = put_same (place_of was.id s.ids) t n.client_objects;
             ident = g.ident;
             sent = g.sent;
@@ -225,7 +226,7 @@ module _ {I S : Type 0} (p : Profile I S) where
           record {
             m = m;
             sim = sim_moves p s cls inj n sim i nd (with_record nd made) e h (form_stays made) was.id (place_of was.id s.ids) was.born refl ne m refl (λ k. refl) beside
-                (λ own ag. reach_edit (act_marked p) (meet_marked p) no_change p.empty own n (sim.reached own ag) (place_of was.id s.ids) x t (ag (place_of was.id s.ids) ne (place_within was.id s.ids) ∙ mine) some_there (ap (run (act p) edits) g.objects ∙ does))
+                (λ own ag. reach_edit (act_changeset p) (cross_changesets p) no_change p.empty own n (sim.reached own ag) (place_of was.id s.ids) x t (ag (place_of was.id s.ids) ne (place_within was.id s.ids) ∙ mine) some_there (ap (run (act p) edits) g.objects ∙ does))
                 (a.0 ++ q ∷ [])
                 (made_here ∙ ap (λ l. l ++ q ∷ []) a.1 ∙ append_assoc (of_origin (place_of was.id s.ids) n.log) a.0 (q ∷ []))
                 (subst (λ l. Numbered (place_of was.id s.ids) 1 l) (sym made_here) (numbered_snoc (place_of was.id s.ids) 1 (n.mades (place_of was.id s.ids)) q (sim.numbered (place_of was.id s.ids)) refl (let l = ap length g.mades ∙ length_map (as_log (place_of was.id s.ids)) st.made in omega arith)))

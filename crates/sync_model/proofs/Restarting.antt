@@ -7,8 +7,8 @@ use Rattle.sync_theory.proofs.Server.{test_true, if_so}
 use Rattle.sync_theory.proofs.World.{same_or_not}
 use Rattle.sync_model.specs.Profile.{Profile, Lawful}
 use Rattle.sync_model.specs.Messages.{Change, Sent, Message, Bind, Ident, Upload, Ask, Download, Refused, Stored, Ask2}
-use Rattle.sync_model.specs.Clients.{Client, ClientRecord, ClientRefusal, Born, Did, ClientDid, no_client, client_of, after_records, commit, upgrade, bind, upload, ask, if_born, if_named, answers, refuse, NotNamed, take as take_message}
-use Rattle.sync_model.specs.Servers.{Server, ServerRecord, Entry, ServerDid, Why, no_server, server_of, after_server, after_all, sent_of, serve, merge, is_given, count, last_base}
+use Rattle.sync_model.specs.Clients.{Client, ClientRecord, ClientRefusal, Born, Step, ClientStep, no_client, client_of, after_records, commit, upgrade, bind, upload, ask, if_born, if_named, answers, refuse, NotNamed, take as take_message}
+use Rattle.sync_model.specs.Servers.{Server, ServerRecord, Entry, ServerStep, ServerRefusal, no_server, server_of, after_server, after_all, sent_of, serve, merge, is_given, count, last_base}
 use Rattle.sync_model.specs.Worlds.{Stop, Node, World, Event, Joins, Edits, Binds, Uploads, Asks, Upgrades, Delivers, Restarts, Stops, Injects, Outcome, says, at, put, seek, is_there, stopped, has_name, has_id, server_name, message_words, made_words, took_words, upgrade_words, client_moved, client_ends, client_called, client_calls, server_ends, server_called, is_node, joins, delivers, named_by, names_own, injects, message_at, happens, empty_world, world_after}
 use Rattle.sync_model.specs.Files.{FilesOpen, is_fine, client_opens, server_admits, server_opens, is_second}
 use Rattle.sync_model.proofs.Lists.{at_put, at_put_other, at_snoc, at_there, seek_found, take_all}
@@ -46,7 +46,7 @@ module _ {I S : Type 0} (p : Profile I S) where
   not_full : (s : Server I) (c : ℕ) (h : Change) → is_fine (merge p s c h) ≡ true → length s.log ≢ p.full
   not_full s c h e = on (merge p s c h) refl e
     where
-      on : (r : Result (List ServerRecord) Why) → merge p s c h ≡ r → is_fine r ≡ true → length s.log ≢ p.full
+      on : (r : Result (List ServerRecord) ServerRefusal) → merge p s c h ≡ r → is_fine r ≡ true → length s.log ≢ p.full
       on (Ok new) is f = (merging p s c h new is).unfilled
       on (Err why) is f = cc
 
@@ -118,13 +118,13 @@ module _ {I S : Type 0} (p : Profile I S) where
       server = f.server;
     }
 
-    ends_open : {A : Type 0} (place : ℕ) (nd : Node) → at w.clients place ≡ Some nd → (did : ClientDid A) (words : World → Result A ClientRefusal → Outcome) → ((v : World) (a : Result A ClientRefusal) → FilesOpen p v → FilesOpen p (words v a).world) → client_opens p (client_of p nd.records) did.records ≡ true → (o : Option (List ClientRecord)) → stopped (w.stops nd.name) did.records ≡ o → FilesOpen p (client_ends w place nd did words o).world
+    ends_open : {A : Type 0} (place : ℕ) (nd : Node) → at w.clients place ≡ Some nd → (did : ClientStep A) (words : World → Result A ClientRefusal → Outcome) → ((v : World) (a : Result A ClientRefusal) → FilesOpen p v → FilesOpen p (words v a).world) → client_opens p (client_of p nd.records) did.records ≡ true → (o : Option (List ClientRecord)) → stopped (w.stops nd.name) did.records ≡ o → FilesOpen p (client_ends w place nd did words o).world
     ends_open place nd e did words keeps opens None is = keeps (client_moved w place nd did.records) did.answer (moved_open place nd e did.records opens)
     ends_open place nd e did words keeps opens (Some stand) is =
         let c = cut_by (w.stops nd.name) did.records stand is in
         subst (λ l. FilesOpen p (client_moved w place nd l)) c.1 (moved_open place nd e (take c.0 did.records) (client_opens_cut p c.0 (client_of p nd.records) did.records opens))
 
-    calls_open : {A : Type 0} (name : ℕ) (call : Client I S → ClientDid A) (words : World → Result A ClientRefusal → Outcome) → ((v : World) (a : Result A ClientRefusal) → FilesOpen p v → FilesOpen p (words v a).world) → ((c : Client I S) → client_opens p c (call c).records ≡ true) → FilesOpen p (client_calls p w name call words).world
+    calls_open : {A : Type 0} (name : ℕ) (call : Client I S → ClientStep A) (words : World → Result A ClientRefusal → Outcome) → ((v : World) (a : Result A ClientRefusal) → FilesOpen p v → FilesOpen p (words v a).world) → ((c : Client I S) → client_opens p c (call c).records ≡ true) → FilesOpen p (client_calls p w name call words).world
     calls_open name call words keeps opens = on (seek (has_name name) w.clients) refl
       where
         on : (o : Option (ℕ × Node)) → seek (has_name name) w.clients ≡ o → FilesOpen p (client_called p w call words o).world

@@ -7,11 +7,13 @@ use Rattle.sync_theory.specs.Grid.{Carried, carry, reciprocal, tail}
 use Rattle.sync_theory.specs.Logs.{Made as LogMade, Entry as LogEntry, made_at, of_origin, origin_at, Nodes, world_of}
 use Rattle.sync_theory.proofs.Recip.{carry_carried}
 use Rattle.sync_theory.proofs.Server.{test_true}
-use Rattle.sync_model.specs.Profile.{Profile, Marked, Stuck, ok_part, apply_all, act_marked, meet_marked, Lawful, needs, fitting, IsNamedKind}
+use Rattle.sync_theory.specs.Changesets.{Changeset}
+use Rattle.sync_theory.specs.Lists.{ok_state}
+use Rattle.sync_model.specs.Profile.{Profile, Stuck, apply_all, act_changeset, cross_changesets, Lawful, needs, fitting, IsNamedKind}
 use Rattle.sync_model.proofs.Mismatches.{carry_kind}
 use Rattle.sync_model.specs.Messages.{Change, Sent, Message, Bind, Ident, Upload, Ask, Download, Refused, Stored, Ask2}
-use Rattle.sync_model.specs.Clients.{Did, state_or, ok_list, change_of}
-use Rattle.sync_model.specs.Servers.{Server, ServerRecord, Client, Entry, Form, ServerDid, Why, NumberGap, BaseBack, AheadOfHistory, HistoryFull, code_of, at_place, place_of, last_base, after_server, after_all, entry_of, made_in, hist_of, state_of, entries_from, server_objects, count, new_records, merge_applied, merge_carried, carried_change, merge_read, merge, merged, serve_changes, sent_of, serve_bind, download, first_form, download_first, if_there, is_given, serve, refuses, replies}
+use Rattle.sync_model.specs.Clients.{Step, state_or, ok_list, change_of}
+use Rattle.sync_model.specs.Servers.{Server, ServerRecord, Client, Entry, Form, ServerStep, ServerRefusal, NumberGap, BaseBack, AheadOfHistory, HistoryFull, code_of, at_place, place_of, last_base, after_server, after_all, entry_of, made_in, history_of, state_of, entries_from, server_objects, count, new_records, merge_applied, merge_carried, carried_change, merge_read, merge, merged, serve_changes, sent_of, serve_bind, download, first_form, download_first, if_there, is_given, serve, refuses, replies}
 use Rattle.sync_model.specs.Worlds.{Node, at}
 use Rattle.sync_model.specs.Log.{MayRefuse, IsFair}
 use Rattle.sync_theory.proofs.Integrate.{server_acts}
@@ -36,7 +38,7 @@ at_head [] [] m e = cc
 at_head [] (y ∷ ys) m e = let h : y ≡ m = cc in ap (λ z. z ∷ ys) h
 at_head (x ∷ xs) ys m e = at_head xs ys m e
 
-pub numbered_at : {I : Type 0} {c k : ℕ} {ms : List (LogMade (Marked I))} (i : ℕ) (m : LogMade (Marked I)) → Numbered c k ms → at ms i ≡ Some m → (m.change.number ≡ k + i) × (m.change.origin ≡ c)
+pub numbered_at : {I : Type 0} {c k : ℕ} {ms : List (LogMade (Changeset I))} (i : ℕ) (m : LogMade (Changeset I)) → Numbered c k ms → at ms i ≡ Some m → (m.change.number ≡ k + i) × (m.change.origin ≡ c)
 numbered_at i m no_numbers e = cc
 numbered_at zero m (a_number {m = q} g h r) e = let f : q ≡ m = cc in (ap (λ x. x.change.number) (sym f) ∙ h ∙ plus_zero, ap (λ x. x.change.origin) (sym f) ∙ g)
   where
@@ -45,7 +47,7 @@ numbered_at zero m (a_number {m = q} g h r) e = let f : q ≡ m = cc in (ap (λ 
 numbered_at (suc i) m (a_number g h r) e = let f = numbered_at i m r e in (omega arith, f.1)
 
 module _ {I S : Type 0} (p : Profile I S) where
-  pub later_then : {n m o : Nodes (Marked I) S} {ids ids2 ids3 : List ℕ} {cls cls2 cls3 : List Node} → Later p n ids cls m ids2 cls2 → Later p m ids2 cls2 o ids3 cls3 → Later p n ids cls o ids3 cls3
+  pub later_then : {n m o : Nodes (Changeset I) S} {ids ids2 ids3 : List ℕ} {cls cls2 cls3 : List Node} → Later p n ids cls m ids2 cls2 → Later p m ids2 cls2 o ids3 cls3 → Later p n ids cls o ids3 cls3
   later_then {n} {m} {o} {ids} {ids2} a b =
       let g = a.grows in
       let h = b.grows in
@@ -62,29 +64,29 @@ module _ {I S : Type 0} (p : Profile I S) where
         forms = λ c f. b.forms c (a.forms c f);
       }
 
-  pub record ServerNext (s : Server I) (cls : List Node) (inj : List ℕ) (n : Nodes (Marked I) S) (s2 : Server I) : Type 0 where
-    pub m : Nodes (Marked I) S
+  pub record ServerNext (s : Server I) (cls : List Node) (inj : List ℕ) (n : Nodes (Changeset I) S) (s2 : Server I) : Type 0 where
+    pub m : Nodes (Changeset I) S
     pub sim : Sim p s2 cls inj m
     pub later : Later p n s.ids cls m s2.ids cls
 
-  abbrev pub stay : (s : Server I) (cls : List Node) (inj : List ℕ) (n : Nodes (Marked I) S) → Sim p s cls inj n → ServerNext s cls inj n s
+  abbrev pub stay : (s : Server I) (cls : List Node) (inj : List ℕ) (n : Nodes (Changeset I) S) → Sim p s cls inj n → ServerNext s cls inj n s
   stay s cls inj n sim = record { m = n; sim = sim; later = later_refl p n s.ids cls }
 
-  next_then : {s s2 s3 : Server I} {cls : List Node} {inj : List ℕ} {n : Nodes (Marked I) S} → (a : ServerNext s cls inj n s2) → ServerNext s2 cls inj a.m s3 → ServerNext s cls inj n s3
+  next_then : {s s2 s3 : Server I} {cls : List Node} {inj : List ℕ} {n : Nodes (Changeset I) S} → (a : ServerNext s cls inj n s2) → ServerNext s2 cls inj a.m s3 → ServerNext s cls inj n s3
   next_then a b = record { m = b.m; sim = b.sim; later = later_then a.later b.later }
 
   -- the records of an answer may be cut anywhere
-  pub record Served (s : Server I) (cls : List Node) (inj : List ℕ) (n : Nodes (Marked I) S) (did : ServerDid) : Type 0 where
+  pub record Served (s : Server I) (cls : List Node) (inj : List ℕ) (n : Nodes (Changeset I) S) (did : ServerStep) : Type 0 where
     pub cut : (j : ℕ) → ServerNext s cls inj n (after_all p s (take j did.records))
     pub done : ServerNext s cls inj n (after_all p s did.records)
     pub tells : Tells p done.m (after_all p s did.records).ids cls did.answer
 
   -- no records
-  silent : (s : Server I) (cls : List Node) (inj : List ℕ) (n : Nodes (Marked I) S) → Sim p s cls inj n → (j : ℕ) → ServerNext s cls inj n (after_all p s (take j []))
+  silent : (s : Server I) (cls : List Node) (inj : List ℕ) (n : Nodes (Changeset I) S) → Sim p s cls inj n → (j : ℕ) → ServerNext s cls inj n (after_all p s (take j []))
   silent s cls inj n sim zero = stay s cls inj n sim
   silent s cls inj n sim (suc j) = stay s cls inj n sim
 
-  answered : (s : Server I) (cls : List Node) (inj : List ℕ) (n : Nodes (Marked I) S) → Sim p s cls inj n → (m : Message) → Tells p n s.ids cls m → Served s cls inj n (replies m)
+  answered : (s : Server I) (cls : List Node) (inj : List ℕ) (n : Nodes (Changeset I) S) → Sim p s cls inj n → (m : Message) → Tells p n s.ids cls m → Served s cls inj n (replies m)
   answered s cls inj n sim m t = record { cut = silent s cls inj n sim; done = stay s cls inj n sim; tells = t }
 
   -- ---- a change that is integrated
@@ -96,29 +98,29 @@ module _ {I S : Type 0} (p : Profile I S) where
     pub unfilled : length s.log ≢ p.full
     pub instrs : List I
     pub read : p.unspell h.body ≡ Ok instrs
-    pub entry : Marked I
-    pub others : List (Marked I)
+    pub entry : Changeset I
+    pub others : List (Changeset I)
     pub carried : carried_change p s c h instrs ≡ Ok (entry, others)
     pub state : S
-    pub acts : act_marked p entry (server_objects p s) ≡ Some state
+    pub acts : act_changeset p entry (server_objects p s) ≡ Some state
     pub new_is : new ≡ new_records p s c h instrs
 
-  record Applied (s : Server I) (x : Marked I) (mine new : List ServerRecord) : Type 0 where
+  record Applied (s : Server I) (x : Changeset I) (mine new : List ServerRecord) : Type 0 where
     state : S
-    acts : act_marked p x (server_objects p s) ≡ Some state
+    acts : act_changeset p x (server_objects p s) ≡ Some state
     new_is : new ≡ mine
 
-  applied : (s : Server I) (x : Marked I) (mine new : List ServerRecord) (r : Result S (ℕ × ℕ)) → apply_all p x.instrs (server_objects p s) ≡ r → merge_applied mine r ≡ Ok new → Applied s x mine new
-  applied s x mine new (Ok t) is e = record { state = t; acts = apply_is p x.instrs (server_objects p s) ∙ ap ok_part is; new_is = cc }
+  applied : (s : Server I) (x : Changeset I) (mine new : List ServerRecord) (r : Result S (ℕ × ℕ)) → apply_all p x.instrs (server_objects p s) ≡ r → merge_applied mine r ≡ Ok new → Applied s x mine new
+  applied s x mine new (Ok t) is e = record { state = t; acts = apply_is p x.instrs (server_objects p s) ∙ ap ok_state is; new_is = cc }
   applied s x mine new (Err b) is e = cc
 
-  record CarriedOn (s : Server I) (mine new : List ServerRecord) (r : Result (Marked I × List (Marked I)) Stuck) : Type 0 where
-    entry : Marked I
-    others : List (Marked I)
+  record CarriedOn (s : Server I) (mine new : List ServerRecord) (r : Result (Changeset I × List (Changeset I)) Stuck) : Type 0 where
+    entry : Changeset I
+    others : List (Changeset I)
     is : r ≡ Ok (entry, others)
     then_ : Applied s entry mine new
 
-  carried_on : (s : Server I) (mine new : List ServerRecord) (r : Result (Marked I × List (Marked I)) Stuck) → merge_carried p s mine r ≡ Ok new → CarriedOn s mine new r
+  carried_on : (s : Server I) (mine new : List ServerRecord) (r : Result (Changeset I × List (Changeset I)) Stuck) → merge_carried p s mine r ≡ Ok new → CarriedOn s mine new r
   carried_on s mine new (Ok q) e = record { entry = q.0; others = q.1; is = refl; then_ = applied s q.0 mine new (apply_all p q.0.instrs (server_objects p s)) refl e }
   carried_on s mine new (Err m) e = cc
 
@@ -155,7 +157,7 @@ module _ {I S : Type 0} (p : Profile I S) where
 
   -- ---- an upload
 
-  abbrev pub made_of : ℕ → Change → List I → LogMade (Marked I)
+  abbrev pub made_of : ℕ → Change → List I → LogMade (Changeset I)
   made_of c h is = record { base = h.base; change = record { origin = c; number = h.number; ms = h.ms; instrs = is } }
 
   -- of a message that is known to carry nothing
@@ -169,7 +171,7 @@ module _ {I S : Type 0} (p : Profile I S) where
   IsPlain (Refused c number code place) = Unit {0}
   IsPlain (Stored c number) = Unit {0}
 
-  plain_tells : (n : Nodes (Marked I) S) (ids : List ℕ) (cls : List Node) (m : Message) → IsPlain m → Tells p n ids cls m
+  plain_tells : (n : Nodes (Changeset I) S) (ids : List ℕ) (cls : List Node) (m : Message) → IsPlain m → Tells p n ids cls m
   plain_tells n ids us (Bind u) t = absurd t
   plain_tells n ids us (Ident u c) t = absurd t
   plain_tells n ids us (Upload c hs) t = absurd t
@@ -183,11 +185,11 @@ module _ {I S : Type 0} (p : Profile I S) where
   upload_plain s c [] = tt
   upload_plain s c (h ∷ hs) = go (nat_le h.number (count s c)) (merge p s c h) (upload_plain s c hs) (λ new. upload_plain (after_all p s new) c hs)
     where
-      on : (r : Result (List ServerRecord) Why) → ((new : List ServerRecord) → IsPlain (serve_changes p (after_all p s new) c hs).answer) → IsPlain (merged c h.number r (λ new. serve_changes p (after_all p s new) c hs)).answer
+      on : (r : Result (List ServerRecord) ServerRefusal) → ((new : List ServerRecord) → IsPlain (serve_changes p (after_all p s new) c hs).answer) → IsPlain (merged c h.number r (λ new. serve_changes p (after_all p s new) c hs)).answer
       on (Ok new) t = t new
       on (Err why) t = tt
 
-      go : (b : Bool) (r : Result (List ServerRecord) Why) → IsPlain (serve_changes p s c hs).answer → ((new : List ServerRecord) → IsPlain (serve_changes p (after_all p s new) c hs).answer) → IsPlain (if b then serve_changes p s c hs else merged c h.number r (λ new. serve_changes p (after_all p s new) c hs)).answer
+      go : (b : Bool) (r : Result (List ServerRecord) ServerRefusal) → IsPlain (serve_changes p s c hs).answer → ((new : List ServerRecord) → IsPlain (serve_changes p (after_all p s new) c hs).answer) → IsPlain (if b then serve_changes p s c hs else merged c h.number r (λ new. serve_changes p (after_all p s new) c hs)).answer
       go true r skip t = skip
       go false r skip t = on r t
 
@@ -195,35 +197,35 @@ module _ {I S : Type 0} (p : Profile I S) where
     abbrev us : List (Option ℕ)
     us = uuids p cls
 
-    carried_of : (s : Server I) (n : Nodes (Marked I) S) (sim : Sim p s cls inj n) (c : ℕ) (h : Change) (is : List I) (x : Marked I) (es : List (Marked I)) → h.base ≤ length s.log → carried_change p s c h is ≡ Ok (x, es) → Carried (meet_marked p) (λ c k. made_at (of_origin c n.log) k) (λ k. origin_at n.log k) c h.base (made_of c h is).change (length n.log) x
+    carried_of : (s : Server I) (n : Nodes (Changeset I) S) (sim : Sim p s cls inj n) (c : ℕ) (h : Change) (is : List I) (x : Changeset I) (es : List (Changeset I)) → h.base ≤ length s.log → carried_change p s c h is ≡ Ok (x, es) → Carried (cross_changesets p) (λ c k. made_at (of_origin c n.log) k) (λ k. origin_at n.log k) c h.base (made_of c h is).change (length n.log) x
     carried_of s n sim c h is x es a r =
         let good = good_of p law s cls inj n sim in
-        let e = subst (λ l. carry (meet_marked p) (made_of c h is).change (reciprocal (meet_marked p) (made_in p l) (λ k. origin_at l k) c (length l - h.base) h.base) ≡ Ok (x, es)) (sym sim.log_is) r in
+        let e = subst (λ l. carry (cross_changesets p) (made_of c h is).change (reciprocal (cross_changesets p) (made_in p l) (λ k. origin_at l k) c (length l - h.base) h.base) ≡ Ok (x, es)) (sym sim.log_is) r in
         let l = ap length sim.log_is in
-        carry_carried (meet_marked p) (λ c k. made_at (of_origin c n.log) k) (λ k. origin_at n.log k) c (length n.log - h.base) h.base (made_of c h is).change x es (length n.log) (omega arith) (λ k b lt ne. good.log.clear c k lt ne) e
+        carry_carried (cross_changesets p) (λ c k. made_at (of_origin c n.log) k) (λ k. origin_at n.log k) c (length n.log - h.base) h.base (made_of c h is).change x es (length n.log) (omega arith) (λ k b lt ne. good.log.clear c k lt ne) e
 
-    objects_of : (s : Server I) (n : Nodes (Marked I) S) → Sim p s cls inj n → server_objects p s ≡ n.objects
+    objects_of : (s : Server I) (n : Nodes (Changeset I) S) → Sim p s cls inj n → server_objects p s ≡ n.objects
     objects_of s n sim = ap (λ l. state_or p.empty (state_of p l (length l))) (sym sim.log_is) ∙ ap (state_or p.empty) (good_of p law s cls inj n sim).log.state
 
     -- what the server's merge gives the abstract world
-    module _ (s : Server I) (n : Nodes (Marked I) S) (sim : Sim p s cls inj n) (c : ℕ) (h : Change) (new : List ServerRecord) (g : Merging s c h new) where
-      carried_here : Carried (meet_marked p) (λ c k. made_at (of_origin c n.log) k) (λ k. origin_at n.log k) c h.base (made_of c h g.instrs).change (length n.log) g.entry
+    module _ (s : Server I) (n : Nodes (Changeset I) S) (sim : Sim p s cls inj n) (c : ℕ) (h : Change) (new : List ServerRecord) (g : Merging s c h new) where
+      carried_here : Carried (cross_changesets p) (λ c k. made_at (of_origin c n.log) k) (λ k. origin_at n.log k) c h.base (made_of c h g.instrs).change (length n.log) g.entry
       carried_here = carried_of s n sim c h g.instrs g.entry g.others g.ahead g.carried
 
       objects_are : server_objects p s ≡ n.objects
       objects_are = objects_of s n sim
 
-      acts_here : act_marked p g.entry n.objects ≡ Some g.state
-      acts_here = ap (act_marked p g.entry) (sym objects_are) ∙ g.acts
+      acts_here : act_changeset p g.entry n.objects ≡ Some g.state
+      acts_here = ap (act_changeset p g.entry) (sym objects_are) ∙ g.acts
 
       stamp_here : SameStamp (made_of c h g.instrs).change g.entry
-      stamp_here = carry_stamp p (reciprocal (meet_marked p) (made_in p s.log) (λ k. origin_at s.log k) c (length s.log - h.base) h.base) (made_of c h g.instrs).change g.entry g.others g.carried
+      stamp_here = carry_stamp p (reciprocal (cross_changesets p) (made_in p s.log) (λ k. origin_at s.log k) c (length s.log - h.base) h.base) (made_of c h g.instrs).change g.entry g.others g.carried
 
       after_entry : (s1 : Server I) → after_server p s1 (Entry c h.number h.base h.ms h.body) ≡ with_entry p s1 c (made_of c h g.instrs)
       after_entry s1 = ap (λ r. record s1 { log = s1.log ++ entry_of c h (ok_list r) ∷ [] }) g.read
 
       -- the records may be cut before, between and behind
-      module _ (o : Nodes (Marked I) S) (entry1 : (s1 : Server I) → Sim p s1 cls inj n → s1.log ≡ s.log → s1.ids ≡ s.ids → Sim p (with_entry p s1 c (made_of c h g.instrs)) cls inj o) (later1 : Later p n s.ids cls o s.ids cls) where
+      module _ (o : Nodes (Changeset I) S) (entry1 : (s1 : Server I) → Sim p s1 cls inj n → s1.log ≡ s.log → s1.ids ≡ s.ids → Sim p (with_entry p s1 c (made_of c h g.instrs)) cls inj o) (later1 : Later p n s.ids cls o s.ids cls) where
         to_entry : (s1 : Server I) → Sim p s1 cls inj n → s1.log ≡ s.log → s1.ids ≡ s.ids → ServerNext s cls inj n (after_server p s1 (Entry c h.number h.base h.ms h.body))
         to_entry s1 sim1 l i = record {
           m = o;
@@ -274,7 +276,7 @@ module _ {I S : Type 0} (p : Profile I S) where
 
     -- the changes of a client of the exchange
 
-    own_change : (n : Nodes (Marked I) S) (c f : ℕ) (m : LogMade (Marked I)) (h : Change) (is : List I) → Numbered c 1 (n.mades c) → at (n.mades c) f ≡ Some m → h ≡ change_of p (record { base = m.base; number = m.change.number; ms = m.change.ms; instrs = m.change.instrs }) → p.unspell h.body ≡ Ok is → made_of c h is ≡ m
+    own_change : (n : Nodes (Changeset I) S) (c f : ℕ) (m : LogMade (Changeset I)) (h : Change) (is : List I) → Numbered c 1 (n.mades c) → at (n.mades c) f ≡ Some m → h ≡ change_of p (record { base = m.base; number = m.change.number; ms = m.change.ms; instrs = m.change.instrs }) → p.unspell h.body ≡ Ok is → made_of c h is ≡ m
     own_change n c f m h is numbered here h_is read =
         let b = ap (λ z. z.base) h_is in
         let k = ap (λ z. z.number) h_is in
@@ -285,7 +287,7 @@ module _ {I S : Type 0} (p : Profile I S) where
         let instrs : is ≡ m.change.instrs = cc (read, body, back) in
         λ i. record { base = b i; change = record { origin = sym o i; number = k i; ms = ms i; instrs = instrs i } }
 
-    pub serve_own : (hs : List Change) (s : Server I) (n : Nodes (Marked I) S) (sim : Sim p s cls inj n) (c f : ℕ) → c ≢ 0 → c ≤ length s.ids → class s.ids us c ≡ true → f ≤ length (of_origin c n.log) → Uploaded p (n.mades c) f hs → (j : ℕ) → ServerNext s cls inj n (after_all p s (take j (serve_changes p s c hs).records))
+    pub serve_own : (hs : List Change) (s : Server I) (n : Nodes (Changeset I) S) (sim : Sim p s cls inj n) (c f : ℕ) → c ≢ 0 → c ≤ length s.ids → class s.ids us c ≡ true → f ≤ length (of_origin c n.log) → Uploaded p (n.mades c) f hs → (j : ℕ) → ServerNext s cls inj n (after_all p s (take j (serve_changes p s c hs).records))
     serve_own [] s n sim c f given there mine known up = silent s cls inj n sim
     serve_own (h ∷ hs) s n sim c f given there mine known (a_change m here h_is up) =
         go (nat_le h.number (count s c)) refl (merge p s c h) refl (serve_own hs)
@@ -296,11 +298,11 @@ module _ {I S : Type 0} (p : Profile I S) where
         count_is : count s c ≡ length (of_origin c n.log)
         count_is = ap (λ l. length (of_origin c l)) (sym sim.log_is)
 
-        at_end : (xs ys : List (LogMade (Marked I))) → n.mades c ≡ xs ++ ys → f ≡ length xs → n.mades c ≡ xs ++ m ∷ tail ys
+        at_end : (xs ys : List (LogMade (Changeset I))) → n.mades c ≡ xs ++ ys → f ≡ length xs → n.mades c ≡ xs ++ m ∷ tail ys
         at_end xs ys e is = e ∙ ap (λ l. xs ++ l) (at_head xs ys m (subst₂ (λ l k. at l k ≡ Some m) e is here))
 
-        go : (b : Bool) → nat_le h.number (count s c) ≡ b → (r : Result (List ServerRecord) Why) → merge p s c h ≡ r
-            → ((s2 : Server I) (n2 : Nodes (Marked I) S) (sim2 : Sim p s2 cls inj n2) (c2 f2 : ℕ) → c2 ≢ 0 → c2 ≤ length s2.ids → class s2.ids us c2 ≡ true → f2 ≤ length (of_origin c2 n2.log) → Uploaded p (n2.mades c2) f2 hs → (j : ℕ) → ServerNext s2 cls inj n2 (after_all p s2 (take j (serve_changes p s2 c2 hs).records)))
+        go : (b : Bool) → nat_le h.number (count s c) ≡ b → (r : Result (List ServerRecord) ServerRefusal) → merge p s c h ≡ r
+            → ((s2 : Server I) (n2 : Nodes (Changeset I) S) (sim2 : Sim p s2 cls inj n2) (c2 f2 : ℕ) → c2 ≢ 0 → c2 ≤ length s2.ids → class s2.ids us c2 ≡ true → f2 ≤ length (of_origin c2 n2.log) → Uploaded p (n2.mades c2) f2 hs → (j : ℕ) → ServerNext s2 cls inj n2 (after_all p s2 (take j (serve_changes p s2 c2 hs).records)))
             → (j : ℕ) → ServerNext s cls inj n (after_all p s (take j (if b then serve_changes p s c hs else merged c h.number r (λ new. serve_changes p (after_all p s new) c hs)).records))
         go true b_is r r_is rec =
             let le : h.number ≤ count s c = grind (arith, nat_tests) in
@@ -317,7 +319,7 @@ module _ {I S : Type 0} (p : Profile I S) where
             let same = own_change n c f m h g.instrs (sim.numbered c) here h_is g.read in
             let ahead = sim.ahead c in
             let next : n.mades c ≡ of_origin c n.log ++ made_of c h g.instrs ∷ tail ahead.0 = at_end (of_origin c n.log) ahead.0 ahead.1 f_is ∙ ap (λ z. of_origin c n.log ++ z ∷ tail ahead.0) (sym same) in
-            let o : Nodes (Marked I) S = Rattle.sync_theory.specs.Logs.nodes_integrate n c (made_of c h g.instrs) g.entry g.state in
+            let o : Nodes (Changeset I) S = Rattle.sync_theory.specs.Logs.nodes_integrate n c (made_of c h g.instrs) g.entry g.state in
             let longer_ = ap length (Rattle.sync_model.proofs.Moves.origin_here c (made_of c h g.instrs) n.log) ∙ Rattle.sync_theory.proofs.Logs.length_snoc (of_origin c n.log) (made_of c h g.instrs) in
             cut_at s n sim c h new g o
             (λ s1 sim1 l i. entry_own p s1 cls inj n sim1 c (made_of c h g.instrs) g.entry g.state (stamp_here s n sim c h new g) refl (carried_here s n sim c h new g) (acts_here s n sim c h new g) (tail ahead.0) next (ap (λ z. class z us c) i ∙ mine))
@@ -331,12 +333,12 @@ module _ {I S : Type 0} (p : Profile I S) where
 
     -- they are refused by a mismatch or a full history alone
 
-    if_fair : {A : Type 0} (b : Bool) (w : Why) (r : Result A Why) (why : Why) → (b ≡ true → MayRefuse w) → (b ≡ false → r ≡ Err why → MayRefuse why) → (if b then Err w else r) ≡ Err why → MayRefuse why
+    if_fair : {A : Type 0} (b : Bool) (w : ServerRefusal) (r : Result A ServerRefusal) (why : ServerRefusal) → (b ≡ true → MayRefuse w) → (b ≡ false → r ≡ Err why → MayRefuse why) → (if b then Err w else r) ≡ Err why → MayRefuse why
     if_fair true w r why f g e = let same : w ≡ why = cc in subst MayRefuse same (f refl)
     if_fair false w r why f g e = g refl e
 
     -- what a client made has its base in the history
-    made_within : (s : Server I) (n : Nodes (Marked I) S) (sim : Sim p s cls inj n) (c k : ℕ) (m : LogMade (Marked I)) → class s.ids us c ≡ true → at (n.mades c) k ≡ Some m → m.base ≤ length n.log
+    made_within : (s : Server I) (n : Nodes (Changeset I) S) (sim : Sim p s cls inj n) (c k : ℕ) (m : LogMade (Changeset I)) → class s.ids us c ≡ true → at (n.mades c) k ≡ Some m → m.base ≤ length n.log
     made_within s n sim c k m mine here =
         let o = own_class s.ids us c mine in
         let nd = at_of_map (uuid_of p) cls o.0 (Some o.1) o.2 in
@@ -356,7 +358,7 @@ module _ {I S : Type 0} (p : Profile I S) where
         not_zero : c ≡ 0 → ⊥
         not_zero z = own_not_zero s.ids us c mine z
 
-    own_fair : (s : Server I) (n : Nodes (Marked I) S) (sim : Sim p s cls inj n) (c : ℕ) (m : LogMade (Marked I)) (more : List (LogMade (Marked I))) (h : Change) → class s.ids us c ≡ true → n.mades c ≡ of_origin c n.log ++ m ∷ more → h ≡ change_of p (record { base = m.base; number = m.change.number; ms = m.change.ms; instrs = m.change.instrs }) → made_of c h m.change.instrs ≡ m → h.number ≡ suc (length (of_origin c n.log)) → (why : Why) → merge p s c h ≡ Err why → MayRefuse why
+    own_fair : (s : Server I) (n : Nodes (Changeset I) S) (sim : Sim p s cls inj n) (c : ℕ) (m : LogMade (Changeset I)) (more : List (LogMade (Changeset I))) (h : Change) → class s.ids us c ≡ true → n.mades c ≡ of_origin c n.log ++ m ∷ more → h ≡ change_of p (record { base = m.base; number = m.change.number; ms = m.change.ms; instrs = m.change.instrs }) → made_of c h m.change.instrs ≡ m → h.number ≡ suc (length (of_origin c n.log)) → (why : ServerRefusal) → merge p s c h ≡ Err why → MayRefuse why
     own_fair s n sim c m more h mine next h_is same number why e =
         if_fair (nat_lt (suc (count s c)) h.number) (NumberGap (suc (count s c))) _ why (λ b. absurd (not_lt (suc (count s c)) h.number b (let k = counted in omega arith))) (λ b e1.
         if_fair (nat_lt h.base (last_base (of_origin c s.log))) (BaseBack (last_base (of_origin c s.log))) _ why (λ b2. absurd (not_lt h.base (last_base (of_origin c s.log)) b2 back)) (λ b2 e2.
@@ -378,7 +380,7 @@ module _ {I S : Type 0} (p : Profile I S) where
         here : at (n.mades c) (length (of_origin c n.log)) ≡ Some m
         here = ap (λ z. at z (length (of_origin c n.log))) next ∙ at_start (of_origin c n.log)
           where
-            at_start : (xs : List (LogMade (Marked I))) → at (xs ++ m ∷ more) (length xs) ≡ Some m
+            at_start : (xs : List (LogMade (Changeset I))) → at (xs ++ m ∷ more) (length xs) ≡ Some m
             at_start [] = refl
             at_start (x ∷ xs) = at_start xs
 
@@ -391,37 +393,37 @@ module _ {I S : Type 0} (p : Profile I S) where
         open_is : Rattle.sync_theory.specs.Logs.open_of (n.mades c) n.log c ≡ m ∷ more
         open_is = ap (drop (length (of_origin c n.log))) next ∙ drop_length (of_origin c n.log) (m ∷ more)
 
-        acts : (x : Marked I) → Carried (meet_marked p) (λ c k. made_at (of_origin c n.log) k) (λ k. origin_at n.log k) c m.base m.change (length n.log) x → (t : S) × (act_marked p x n.objects ≡ Some t)
+        acts : (x : Changeset I) → Carried (cross_changesets p) (λ c k. made_at (of_origin c n.log) k) (λ k. origin_at n.log k) c m.base m.change (length n.log) x → (t : S) × (act_changeset p x n.objects ≡ Some t)
         acts x r =
             let good = good_of p law s cls inj n sim in
             let rises : Rising (m ∷ more) = subst (λ l. Rising l) open_is (rising_drop (length (of_origin c n.log)) (n.mades c) (sim.rising c)) in
-            server_acts (act_marked p) p.empty (meet_marked p) (world_of n) good.log c m.base m.change (made_at more m.base) x (waiting_here n c m more open_is) (waiting_none n c m more open_is rises) r (sets_law p law) (good.clients c mine)
+            server_acts (act_changeset p) p.empty (cross_changesets p) (world_of n) good.log c m.base m.change (made_at more m.base) x (waiting_here n c m more open_is) (waiting_none n c m more open_is rises) r (sets_law p law) (good.clients c mine)
 
         readable : merge_read p s c h (p.unspell h.body) ≡ Err why → MayRefuse why
         readable e = carries (carried_change p s c h m.change.instrs) refl (ap (merge_read p s c h) (sym body_is) ∙ e)
           where
-            applies : {t : S} (new : List ServerRecord) (r : Result S (ℕ × ℕ)) → ok_part r ≡ Some t → merge_applied new r ≡ Err why → MayRefuse why
+            applies : {t : S} (new : List ServerRecord) (r : Result S (ℕ × ℕ)) → ok_state r ≡ Some t → merge_applied new r ≡ Err why → MayRefuse why
             applies new (Ok t) f g = cc
             applies new (Err b) f g = cc
 
-            carries : (r : Result (Marked I × List (Marked I)) Stuck) → carried_change p s c h m.change.instrs ≡ r → merge_carried p s (new_records p s c h m.change.instrs) r ≡ Err why → MayRefuse why
+            carries : (r : Result (Changeset I × List (Changeset I)) Stuck) → carried_change p s c h m.change.instrs ≡ r → merge_carried p s (new_records p s c h m.change.instrs) r ≡ Err why → MayRefuse why
             carries (Err f) is e =
-                let same_why : Why.Mismatch f.0 f.2 ≡ why = cc in
+                let same_why : ServerRefusal.Mismatch f.0 f.2 ≡ why = cc in
                 let good = good_of p law s cls inj n sim in
                 let rises : Rising (m ∷ more) = subst (λ l. Rising l) open_is (rising_drop (length (of_origin c n.log)) (n.mades c) (sim.rising c)) in
-                let stuck = subst (λ l. carry (meet_marked p) (made_of c h m.change.instrs).change (reciprocal (meet_marked p) (made_in p l) (λ k. origin_at l k) c (length l - h.base) h.base) ≡ Err f) (sym sim.log_is) is in
-                let stuck1 = subst (λ z. carry (meet_marked p) z.change (reciprocal (meet_marked p) (made_in p n.log) (λ k. origin_at n.log k) c (length n.log - z.base) z.base) ≡ Err f) same stuck in
+                let stuck = subst (λ l. carry (cross_changesets p) (made_of c h m.change.instrs).change (reciprocal (cross_changesets p) (made_in p l) (λ k. origin_at l k) c (length l - h.base) h.base) ≡ Err f) (sym sim.log_is) is in
+                let stuck1 = subst (λ z. carry (cross_changesets p) z.change (reciprocal (cross_changesets p) (made_in p n.log) (λ k. origin_at n.log k) c (length n.log - z.base) z.base) ≡ Err f) same stuck in
                 let in_it = in_history in
                 let l = ap length sim.log_is in
                 let b = base_is in
-                subst MayRefuse same_why (carry_kind (act_marked p) p.empty (meet_marked p) (λ m. IsNamedKind m.2) (sets_law p law) (sets_kinds p law) (world_of n) good.log c m.base (good.clients c mine) m.change (made_at more m.base) (waiting_here n c m more open_is) (waiting_none n c m more open_is rises) (length n.log - m.base) (omega arith) f stuck1)
+                subst MayRefuse same_why (carry_kind (act_changeset p) p.empty (cross_changesets p) (λ m. IsNamedKind m.2) (sets_law p law) (sets_kinds p law) (world_of n) good.log c m.base (good.clients c mine) m.change (made_at more m.base) (waiting_here n c m more open_is) (waiting_none n c m more open_is rises) (length n.log - m.base) (omega arith) f stuck1)
             carries (Ok q) is e =
                 let r0 = carried_of s n sim c h m.change.instrs q.0 q.1 in_history is in
-                let r1 = subst (λ z. Carried (meet_marked p) (λ c k. made_at (of_origin c n.log) k) (λ k. origin_at n.log k) c z.base z.change (length n.log) q.0) same r0 in
+                let r1 = subst (λ z. Carried (cross_changesets p) (λ c k. made_at (of_origin c n.log) k) (λ k. origin_at n.log k) c z.base z.change (length n.log) q.0) same r0 in
                 let a = acts q.0 r1 in
-                applies (new_records p s c h m.change.instrs) (apply_all p q.0.instrs (server_objects p s)) (sym (apply_is p q.0.instrs (server_objects p s)) ∙ ap (act_marked p q.0) (objects_of s n sim) ∙ a.1) e
+                applies (new_records p s c h m.change.instrs) (apply_all p q.0.instrs (server_objects p s)) (sym (apply_is p q.0.instrs (server_objects p s)) ∙ ap (act_changeset p q.0) (objects_of s n sim) ∙ a.1) e
 
-    pub own_answers : (hs : List Change) (s : Server I) (n : Nodes (Marked I) S) (sim : Sim p s cls inj n) (c f : ℕ) → c ≢ 0 → c ≤ length s.ids → class s.ids us c ≡ true → f ≤ length (of_origin c n.log) → Uploaded p (n.mades c) f hs → IsFair (serve_changes p s c hs).answer
+    pub own_answers : (hs : List Change) (s : Server I) (n : Nodes (Changeset I) S) (sim : Sim p s cls inj n) (c f : ℕ) → c ≢ 0 → c ≤ length s.ids → class s.ids us c ≡ true → f ≤ length (of_origin c n.log) → Uploaded p (n.mades c) f hs → IsFair (serve_changes p s c hs).answer
     own_answers [] s n sim c f given there mine known up = tt
     own_answers (h ∷ hs) s n sim c f given there mine known (a_change m here h_is up) =
         go (nat_le h.number (count s c)) refl (merge p s c h) refl (own_answers hs)
@@ -432,11 +434,11 @@ module _ {I S : Type 0} (p : Profile I S) where
         count_is : count s c ≡ length (of_origin c n.log)
         count_is = ap (λ l. length (of_origin c l)) (sym sim.log_is)
 
-        at_end : (xs ys : List (LogMade (Marked I))) → n.mades c ≡ xs ++ ys → f ≡ length xs → n.mades c ≡ xs ++ m ∷ tail ys
+        at_end : (xs ys : List (LogMade (Changeset I))) → n.mades c ≡ xs ++ ys → f ≡ length xs → n.mades c ≡ xs ++ m ∷ tail ys
         at_end xs ys e is = e ∙ ap (λ l. xs ++ l) (at_head xs ys m (subst₂ (λ l k. at l k ≡ Some m) e is here))
 
-        go : (b : Bool) → nat_le h.number (count s c) ≡ b → (r : Result (List ServerRecord) Why) → merge p s c h ≡ r
-            → ((s2 : Server I) (n2 : Nodes (Marked I) S) (sim2 : Sim p s2 cls inj n2) (c2 f2 : ℕ) → c2 ≢ 0 → c2 ≤ length s2.ids → class s2.ids us c2 ≡ true → f2 ≤ length (of_origin c2 n2.log) → Uploaded p (n2.mades c2) f2 hs → IsFair (serve_changes p s2 c2 hs).answer)
+        go : (b : Bool) → nat_le h.number (count s c) ≡ b → (r : Result (List ServerRecord) ServerRefusal) → merge p s c h ≡ r
+            → ((s2 : Server I) (n2 : Nodes (Changeset I) S) (sim2 : Sim p s2 cls inj n2) (c2 f2 : ℕ) → c2 ≢ 0 → c2 ≤ length s2.ids → class s2.ids us c2 ≡ true → f2 ≤ length (of_origin c2 n2.log) → Uploaded p (n2.mades c2) f2 hs → IsFair (serve_changes p s2 c2 hs).answer)
             → IsFair (if b then serve_changes p s c hs else merged c h.number r (λ new. serve_changes p (after_all p s new) c hs)).answer
         go true b_is r r_is rec =
             let le : h.number ≤ count s c = grind (arith, nat_tests) in
@@ -451,8 +453,8 @@ module _ {I S : Type 0} (p : Profile I S) where
             let ahead = sim.ahead c in
             on r r_is rec f_is (at_end (of_origin c n.log) ahead.0 ahead.1 f_is)
           where
-            on : (r : Result (List ServerRecord) Why) → merge p s c h ≡ r
-                → ((s2 : Server I) (n2 : Nodes (Marked I) S) (sim2 : Sim p s2 cls inj n2) (c2 f2 : ℕ) → c2 ≢ 0 → c2 ≤ length s2.ids → class s2.ids us c2 ≡ true → f2 ≤ length (of_origin c2 n2.log) → Uploaded p (n2.mades c2) f2 hs → IsFair (serve_changes p s2 c2 hs).answer)
+            on : (r : Result (List ServerRecord) ServerRefusal) → merge p s c h ≡ r
+                → ((s2 : Server I) (n2 : Nodes (Changeset I) S) (sim2 : Sim p s2 cls inj n2) (c2 f2 : ℕ) → c2 ≢ 0 → c2 ≤ length s2.ids → class s2.ids us c2 ≡ true → f2 ≤ length (of_origin c2 n2.log) → Uploaded p (n2.mades c2) f2 hs → IsFair (serve_changes p s2 c2 hs).answer)
                 → f ≡ length (of_origin c n.log) → n.mades c ≡ of_origin c n.log ++ m ∷ tail (sim.ahead c).0
                 → IsFair (merged c h.number r (λ new. serve_changes p (after_all p s new) c hs)).answer
             on (Err why) r_is rec f_is next =
@@ -464,7 +466,7 @@ module _ {I S : Type 0} (p : Profile I S) where
                 let g = merging s c h new r_is in
                 let same = own_change n c f m h g.instrs (sim.numbered c) here h_is g.read in
                 let next : n.mades c ≡ of_origin c n.log ++ made_of c h g.instrs ∷ tail (sim.ahead c).0 = next0 ∙ ap (λ z. of_origin c n.log ++ z ∷ tail (sim.ahead c).0) (sym same) in
-                let o : Nodes (Marked I) S = Rattle.sync_theory.specs.Logs.nodes_integrate n c (made_of c h g.instrs) g.entry g.state in
+                let o : Nodes (Changeset I) S = Rattle.sync_theory.specs.Logs.nodes_integrate n c (made_of c h g.instrs) g.entry g.state in
                 let longer_ = ap length (Rattle.sync_model.proofs.Moves.origin_here c (made_of c h g.instrs) n.log) ∙ Rattle.sync_theory.proofs.Logs.length_snoc (of_origin c n.log) (made_of c h g.instrs) in
                 let all = entered s n sim c h new g o
                 (λ s1 sim1 l i. entry_own p s1 cls inj n sim1 c (made_of c h g.instrs) g.entry g.state (stamp_here s n sim c h new g) refl (carried_here s n sim c h new g) (acts_here s n sim c h new g) (tail (sim.ahead c).0) next (ap (λ z. class z us c) i ∙ mine))
@@ -476,13 +478,13 @@ module _ {I S : Type 0} (p : Profile I S) where
 
     -- the changes of a stranger
 
-    pub serve_foreign : (hs : List Change) (s : Server I) (n : Nodes (Marked I) S) (sim : Sim p s cls inj n) (c : ℕ) → c ≢ 0 → c ≤ length s.ids → class s.ids us c ≡ false → (j : ℕ) → ServerNext s cls inj n (after_all p s (take j (serve_changes p s c hs).records))
+    pub serve_foreign : (hs : List Change) (s : Server I) (n : Nodes (Changeset I) S) (sim : Sim p s cls inj n) (c : ℕ) → c ≢ 0 → c ≤ length s.ids → class s.ids us c ≡ false → (j : ℕ) → ServerNext s cls inj n (after_all p s (take j (serve_changes p s c hs).records))
     serve_foreign [] s n sim c given there theirs = silent s cls inj n sim
     serve_foreign (h ∷ hs) s n sim c given there theirs =
         go (nat_le h.number (count s c)) refl (merge p s c h) refl (serve_foreign hs)
       where
-        go : (b : Bool) → nat_le h.number (count s c) ≡ b → (r : Result (List ServerRecord) Why) → merge p s c h ≡ r
-            → ((s2 : Server I) (n2 : Nodes (Marked I) S) (sim2 : Sim p s2 cls inj n2) (c2 : ℕ) → c2 ≢ 0 → c2 ≤ length s2.ids → class s2.ids us c2 ≡ false → (j : ℕ) → ServerNext s2 cls inj n2 (after_all p s2 (take j (serve_changes p s2 c2 hs).records)))
+        go : (b : Bool) → nat_le h.number (count s c) ≡ b → (r : Result (List ServerRecord) ServerRefusal) → merge p s c h ≡ r
+            → ((s2 : Server I) (n2 : Nodes (Changeset I) S) (sim2 : Sim p s2 cls inj n2) (c2 : ℕ) → c2 ≢ 0 → c2 ≤ length s2.ids → class s2.ids us c2 ≡ false → (j : ℕ) → ServerNext s2 cls inj n2 (after_all p s2 (take j (serve_changes p s2 c2 hs).records)))
             → (j : ℕ) → ServerNext s cls inj n (after_all p s (take j (if b then serve_changes p s c hs else merged c h.number r (λ new. serve_changes p (after_all p s new) c hs)).records))
         go true b_is r r_is rec = rec s n sim c given there theirs
         go false b_is (Err why) r_is rec = silent s cls inj n sim
@@ -494,7 +496,7 @@ module _ {I S : Type 0} (p : Profile I S) where
             let number : h.number ≡ suc (length (of_origin c n.log)) = omega arith in
             let back = subst (λ l. last_base (of_origin c l) ≤ h.base) (sym sim.log_is) g.back in
             let ahead = subst (λ l. h.base ≤ length l) (sym sim.log_is) g.ahead in
-            let o : Nodes (Marked I) S = Rattle.sync_model.proofs.Moves.nodes_foreign n c (made_of c h g.instrs) g.entry g.state in
+            let o : Nodes (Changeset I) S = Rattle.sync_model.proofs.Moves.nodes_foreign n c (made_of c h g.instrs) g.entry g.state in
             cut_at s n sim c h new g o
             (λ s1 sim1 l i. entry_foreign p s1 cls inj n sim1 c (made_of c h g.instrs) g.entry g.state (stamp_here s n sim c h new g) refl (carried_here s n sim c h new g) (acts_here s n sim c h new g) (ap (λ z. class z us c) i ∙ theirs) given (subst (λ z. c ≤ length z) (sym i) there) number back ahead)
             (entry_foreign_later p s cls inj n sim c (made_of c h g.instrs) g.entry g.state (stamp_here s n sim c h new g) refl (carried_here s n sim c h new g) (acts_here s n sim c h new g) theirs given there number back ahead)
@@ -505,14 +507,14 @@ module _ {I S : Type 0} (p : Profile I S) where
 
     -- ---- a download
 
-    pub entries_bear : (s : Server I) (n : Nodes (Marked I) S) → Sim p s cls inj n → (d k : ℕ) → k + d ≤ length n.log → Bears p n k (map (sent_of p) (entries_from p s.log d k))
+    pub entries_bear : (s : Server I) (n : Nodes (Changeset I) S) → Sim p s cls inj n → (d k : ℕ) → k + d ≤ length n.log → Bears p n k (map (sent_of p) (entries_from p s.log d k))
     entries_bear s n sim zero k h = no_entries
     entries_bear s n sim (suc d) k h =
         let w = (good_of p law s cls inj n sim).log.whole k (omega arith) in
-        let is : hist_of p s.log k ≡ Some (n.entries k) = ap (λ l. hist_of p l k) (sym sim.log_is) ∙ w in
+        let is : history_of p s.log k ≡ Some (n.entries k) = ap (λ l. history_of p l k) (sym sim.log_is) ∙ w in
         subst (λ r. Bears p n k (map (sent_of p) (kept r ++ entries_from p s.log d (suc k)))) (sym is) (an_entry (omega arith) refl (entries_bear s n sim d (suc k) (omega arith)))
 
-    bears_fitting : (n : Nodes (Marked I) S) (k most room : ℕ) (es : List Sent) → Bears p n k es → Bears p n k (fitting (λ e. length e.body) most room es)
+    bears_fitting : (n : Nodes (Changeset I) S) (k most room : ℕ) (es : List Sent) → Bears p n k es → Bears p n k (fitting (λ e. length e.body) most room es)
     bears_fitting n k most room [] b = b
     bears_fitting n k zero room (e ∷ es) b = no_entries
     bears_fitting n k (suc most) room (e ∷ es) (an_entry lt is b) = go (nat_le (length e.body) room) (bears_fitting n (suc k) most (room - length e.body) es b)
@@ -521,7 +523,7 @@ module _ {I S : Type 0} (p : Profile I S) where
         go true r = an_entry lt is r
         go false r = no_entries
 
-    bears_first : (n : Nodes (Marked I) S) (k : ℕ) (xs : List (Marked I)) → Bears p n k (map (sent_of p) xs) → Bears p n k (map (sent_of p) (first_form p xs))
+    bears_first : (n : Nodes (Changeset I) S) (k : ℕ) (xs : List (Changeset I)) → Bears p n k (map (sent_of p) xs) → Bears p n k (map (sent_of p) (first_form p xs))
     bears_first n k [] b = no_entries
     bears_first n k (x ∷ xs) (an_entry lt is b) = go (needs p x.instrs) (bears_first n (suc k) xs b)
       where
@@ -538,7 +540,7 @@ module _ {I S : Type 0} (p : Profile I S) where
         go true r = an_old h r
         go false r = no_more_old
 
-    old_first : (xs : List (Marked I)) → AllOld p (map (sent_of p) (first_form p xs))
+    old_first : (xs : List (Changeset I)) → AllOld p (map (sent_of p) (first_form p xs))
     old_first [] = no_more_old
     old_first (x ∷ xs) = go (needs p x.instrs) refl (old_first xs)
       where
@@ -546,12 +548,12 @@ module _ {I S : Type 0} (p : Profile I S) where
         go true is r = no_more_old
         go false is r = an_old (ap (λ q. needs p (ok_list q)) (law.spelled x.instrs) ∙ is) r
 
-    module _ (s : Server I) (n : Nodes (Marked I) S) (sim : Sim p s cls inj n) where
-      downloaded : (c cursor : ℕ) (xs : List (Marked I)) → c ≢ 0 → c ≤ length s.ids → Bears p n cursor (map (sent_of p) xs) → (class s.ids us c ≡ true → Reads p n cls s.ids c cursor (map (sent_of p) xs)) → Served s cls inj n (download p c cursor xs)
+    module _ (s : Server I) (n : Nodes (Changeset I) S) (sim : Sim p s cls inj n) where
+      downloaded : (c cursor : ℕ) (xs : List (Changeset I)) → c ≢ 0 → c ≤ length s.ids → Bears p n cursor (map (sent_of p) xs) → (class s.ids us c ≡ true → Reads p n cls s.ids c cursor (map (sent_of p) xs)) → Served s cls inj n (download p c cursor xs)
       downloaded c cursor xs given there b reads = answered s cls inj n sim (Download c cursor (fitting (λ e. length e.body) p.most p.room (map (sent_of p) xs)))
           (given, bears_fitting n cursor p.most p.room (map (sent_of p) xs) b, there, λ own. let r = reads own in record { before = r.before; form = ⊎_elim (λ o. inl (old_fitting p.most p.room (map (sent_of p) xs) o)) (λ f. inr f) r.form })
 
-      downloaded_first : (c cursor : ℕ) (xs : List (Marked I)) → c ≢ 0 → c ≤ length s.ids → Bears p n cursor (map (sent_of p) xs) → (class s.ids us c ≡ true → cursor ≤ n.cursor c) → Served s cls inj n (download_first p c cursor xs)
+      downloaded_first : (c cursor : ℕ) (xs : List (Changeset I)) → c ≢ 0 → c ≤ length s.ids → Bears p n cursor (map (sent_of p) xs) → (class s.ids us c ≡ true → cursor ≤ n.cursor c) → Served s cls inj n (download_first p c cursor xs)
       downloaded_first c cursor [] given there b before = downloaded c cursor [] given there b (λ own. record { before = before own; form = inl no_more_old })
       downloaded_first c cursor (x ∷ xs) given there b before = go (needs p x.instrs) (downloaded c cursor (first_form p (x ∷ xs)) given there (bears_first n cursor (x ∷ xs) b) (λ own. record { before = before own; form = inl (old_first (x ∷ xs)) }))
         where
@@ -559,7 +561,7 @@ module _ {I S : Type 0} (p : Profile I S) where
           go true r = answered s cls inj n sim _ tt
           go false r = r
 
-      asked : (c cursor : ℕ) (go : List (Marked I) → ServerDid) → (c ≢ 0 → c ≤ length s.ids → (xs : List (Marked I)) → Bears p n cursor (map (sent_of p) xs) → Served s cls inj n (go xs)) → Served s cls inj n (if_there p s c cursor go)
+      asked : (c cursor : ℕ) (go : List (Changeset I) → ServerStep) → (c ≢ 0 → c ≤ length s.ids → (xs : List (Changeset I)) → Bears p n cursor (map (sent_of p) xs) → Served s cls inj n (go xs)) → Served s cls inj n (if_there p s c cursor go)
       asked c cursor go then_ = first (is_given s c) refl (nat_lt (length s.log) cursor) refl
         where
           given_then : (a b : Bool) → (a && b) ≡ true → (a ≡ true) × (b ≡ true)
@@ -664,7 +666,7 @@ module _ {I S : Type 0} (p : Profile I S) where
           above : {k : ℕ} → k ≢ 0 → 1 ≤ k
           above {k} ne = omega (arith, ne)
 
-      asks_fair : (c cursor : ℕ) (go : List (Marked I) → ServerDid) → Mine p s.ids us c → cursor ≤ n.cursor c → ((xs : List (Marked I)) → IsFair (go xs).answer) → IsFair (if_there p s c cursor go).answer
+      asks_fair : (c cursor : ℕ) (go : List (Changeset I) → ServerStep) → Mine p s.ids us c → cursor ≤ n.cursor c → ((xs : List (Changeset I)) → IsFair (go xs).answer) → IsFair (if_there p s c cursor go).answer
       asks_fair c cursor go m le fair_ = first (is_given s c) (given_so c m) (nat_lt (length s.log) cursor) refl
         where
           first : (a : Bool) → a ≡ true → (b : Bool) → nat_lt (length s.log) cursor ≡ b → IsFair (if not a then refuses c 0 (Rattle.sync_model.specs.Servers.NoSuchIdent (length s.ids)) else (if b then refuses c 0 (Rattle.sync_model.specs.Servers.AheadOfHistory (length s.log)) else go (entries_from p s.log (length s.log - cursor) cursor))).answer
@@ -693,7 +695,7 @@ module _ {I S : Type 0} (p : Profile I S) where
           go false is = cc
       fair (Ask c cursor settled) t = asks_fair c cursor (download_first p c cursor) t.0 t.1 (λ xs. first_fair xs)
         where
-          first_fair : (xs : List (Marked I)) → IsFair (download_first p c cursor xs).answer
+          first_fair : (xs : List (Changeset I)) → IsFair (download_first p c cursor xs).answer
           first_fair [] = tt
           first_fair (x ∷ xs) = go (needs p x.instrs)
             where

@@ -6,7 +6,8 @@ use Rattle.sync_theory.specs.Logs.{Made as LogMade, of_origin, Nodes, world_of, 
 use Rattle.sync_theory.proofs.Agree.{then_gives}
 use Rattle.sync_theory.proofs.Logs.{Rising, AtMost, one_within, length_snoc}
 use Rattle.sync_theory.proofs.World.{same_or_not, put_same, put_other}
-use Rattle.sync_model.specs.Profile.{Profile, Marked, act_marked, meet_marked}
+use Rattle.sync_theory.specs.Changesets.{Changeset}
+use Rattle.sync_model.specs.Profile.{Profile, act_changeset, cross_changesets}
 use Rattle.sync_model.specs.Clients.{client_of}
 use Rattle.sync_model.specs.Servers.{Server, place_of}
 use Rattle.sync_model.specs.Worlds.{Node, at, put}
@@ -21,17 +22,17 @@ alike_refl n c = record { mades = refl; cursor = refl; unsent = refl; objects = 
 pub grows_refl : {X S : Type 0} (n : Nodes X S) → Grows n n
 grows_refl n = record { more = []; log = sym (append-nil n.log); entries = λ k h. refl }
 
-pub numbered_snoc : {I : Type 0} (c k : ℕ) (ms : List (LogMade (Marked I))) (m : LogMade (Marked I)) → Numbered c k ms → m.change.origin ≡ c → m.change.number ≡ k + length ms → Numbered c k (ms ++ m ∷ [])
+pub numbered_snoc : {I : Type 0} (c k : ℕ) (ms : List (LogMade (Changeset I))) (m : LogMade (Changeset I)) → Numbered c k ms → m.change.origin ≡ c → m.change.number ≡ k + length ms → Numbered c k (ms ++ m ∷ [])
 numbered_snoc c k [] m no_numbers o e = a_number o (omega arith) no_numbers
 numbered_snoc c k (n ∷ ms) m (a_number g h r) o e = a_number g h (numbered_snoc c (suc k) ms m r o (omega arith))
 
 module _ {I S : Type 0} (p : Profile I S) where
-  pub later_refl : (n : Nodes (Marked I) S) (ids : List ℕ) (cls : List Node) → Later p n ids cls n ids cls
+  pub later_refl : (n : Nodes (Changeset I) S) (ids : List ℕ) (cls : List Node) → Later p n ids cls n ids cls
   later_refl n ids cls = record { grows = grows_refl n; mades = λ c. ([], sym (append-nil (n.mades c))); more_ids = []; ids_are = sym (append-nil ids); still_own = λ c h l. refl; still_there = λ i u e. e; cursors = λ c. le_refl (n.cursor c); forms = λ c f. f }
 
   -- ---- one client's records
 
-  clients_put : (m : Nodes (Marked I) S) (ids : List ℕ) (cls : List Node) (i : ℕ) (nd nd2 : Node) → at cls i ≡ Some nd → ClientIs p m ids nd2.records → ((j : ℕ) (other : Node) → j ≢ i → at cls j ≡ Some other → ClientIs p m ids other.records) → (j : ℕ) (x : Node) → at (put cls i nd2) j ≡ Some x → ClientIs p m ids x.records
+  clients_put : (m : Nodes (Changeset I) S) (ids : List ℕ) (cls : List Node) (i : ℕ) (nd nd2 : Node) → at cls i ≡ Some nd → ClientIs p m ids nd2.records → ((j : ℕ) (other : Node) → j ≢ i → at cls j ≡ Some other → ClientIs p m ids other.records) → (j : ℕ) (x : Node) → at (put cls i nd2) j ≡ Some x → ClientIs p m ids x.records
   clients_put m ids cls i nd nd2 e here others j x h = ⊎_elim
       (λ is.
       let a = at_put cls i nd nd2 e in
@@ -44,7 +45,7 @@ module _ {I S : Type 0} (p : Profile I S) where
   pub uuids_put : (cls : List Node) (i : ℕ) (nd nd2 : Node) → at cls i ≡ Some nd → uuid_of p nd2 ≡ uuid_of p nd → uuids p (put cls i nd2) ≡ uuids p cls
   uuids_put cls i nd nd2 e h = map_put (uuid_of p) cls i nd nd2 e h
 
-  module _ (s : Server I) (cls : List Node) (inj : List ℕ) (n : Nodes (Marked I) S) (sim : Sim p s cls inj n) (i : ℕ) (nd nd2 : Node) (e : at cls i ≡ Some nd) (same_id : uuid_of p nd2 ≡ uuid_of p nd) (keeps_form : (client_of p nd.records).second ≡ true → (client_of p nd2.records).second ≡ true) where
+  module _ (s : Server I) (cls : List Node) (inj : List ℕ) (n : Nodes (Changeset I) S) (sim : Sim p s cls inj n) (i : ℕ) (nd nd2 : Node) (e : at cls i ≡ Some nd) (same_id : uuid_of p nd2 ≡ uuid_of p nd) (keeps_form : (client_of p nd.records).second ≡ true → (client_of p nd2.records).second ≡ true) where
     us_are : uuids p (put cls i nd2) ≡ uuids p cls
     us_are = uuids_put cls i nd nd2 e same_id
 
@@ -90,7 +91,7 @@ module _ {I S : Type 0} (p : Profile I S) where
     }
 
     -- a client of ident c moves
-    module _ (u c : ℕ) (born : uuid_of p nd ≡ Some u) (place : place_of u s.ids ≡ c) (given : c ≢ 0) (m : Nodes (Marked I) S) (log_same : m.log ≡ n.log) (entries_same : (k : ℕ) → m.entries k ≡ n.entries k) (beside : (d : ℕ) → d ≢ c → Alike n m d) where
+    module _ (u c : ℕ) (born : uuid_of p nd ≡ Some u) (place : place_of u s.ids ≡ c) (given : c ≢ 0) (m : Nodes (Changeset I) S) (log_same : m.log ≡ n.log) (entries_same : (k : ℕ) → m.entries k ≡ n.entries k) (beside : (d : ℕ) → d ≢ c → Alike n m d) where
       own_here : class s.ids (uuids p cls) c ≡ true
       own_here = subst (λ d. class s.ids (uuids p cls) d ≡ true) place (class_own s.ids (uuids p cls) i u (at_map (uuid_of p) cls i nd e ∙ ap (λ x. Some x) born) (λ z. given (sym place ∙ z)))
 
@@ -107,7 +108,7 @@ module _ {I S : Type 0} (p : Profile I S) where
       not_blank d (inl z) f = given (sym f ∙ z)
       not_blank d (inr z) f = let w = place_within u s.ids in let h = place in omega arith
 
-      pub sim_moves : ((own : ℕ → Bool) → Agrees own s.ids (uuids p cls) → Reached own (act_marked p) (meet_marked p) no_change p.empty (world_of m)) → (rest : List (LogMade (Marked I))) → m.mades c ≡ of_origin c m.log ++ rest → Numbered c 1 (m.mades c) → Rising (m.mades c) → ClientIs p m s.ids nd2.records → Sim p s (put cls i nd2) inj m
+      pub sim_moves : ((own : ℕ → Bool) → Agrees own s.ids (uuids p cls) → Reached own (act_changeset p) (cross_changesets p) no_change p.empty (world_of m)) → (rest : List (LogMade (Changeset I))) → m.mades c ≡ of_origin c m.log ++ rest → Numbered c 1 (m.mades c) → Rising (m.mades c) → ClientIs p m s.ids nd2.records → Sim p s (put cls i nd2) inj m
       sim_moves reached rest rest_is numbered rising here = record {
         log_is = log_same ∙ sim.log_is;
         reached = λ own a. reached own (subst (λ us. Agrees own s.ids us) us_are a);
@@ -131,7 +132,7 @@ module _ {I S : Type 0} (p : Profile I S) where
         known = λ w g. ⊎_elim (λ h. inl (h.0, subst (λ us. at us h.0 ≡ Some (Some w)) (sym us_are) h.1)) (λ h. inr h) (sim.known w g);
       }
 
-      pub later_moves : (more : List (LogMade (Marked I))) → m.mades c ≡ n.mades c ++ more → n.cursor c ≤ m.cursor c → Later p n s.ids cls m s.ids (put cls i nd2)
+      pub later_moves : (more : List (LogMade (Changeset I))) → m.mades c ≡ n.mades c ++ more → n.cursor c ≤ m.cursor c → Later p n s.ids cls m s.ids (put cls i nd2)
       later_moves more f on = record {
         grows = grows_here;
         mades = λ d. ⊎_elim (λ is. (more, subst (λ x. m.mades x ≡ n.mades x ++ more) (sym is) f)) (λ ne. ([], (beside d ne).mades ∙ sym (append-nil (n.mades d)))) (same_or_not d c);
@@ -146,7 +147,7 @@ module _ {I S : Type 0} (p : Profile I S) where
   -- ---- the server's records
 
   -- the class of a new ident, and all that was made before its client had one
-  pub record EditedTo (n m : Nodes (Marked I) S) (c : ℕ) (ms : List (LogMade (Marked I))) (t : S) : Type 0 where
+  pub record EditedTo (n m : Nodes (Changeset I) S) (c : ℕ) (ms : List (LogMade (Changeset I))) (t : S) : Type 0 where
     pub log : m.log ≡ n.log
     pub entries : (k : ℕ) → m.entries k ≡ n.entries k
     pub beside : (d : ℕ) → d ≢ c → Alike n m d
@@ -154,22 +155,22 @@ module _ {I S : Type 0} (p : Profile I S) where
     pub cursor : m.cursor c ≡ n.cursor c
     pub unsent : m.unsent c ≡ n.unsent c ++ map (λ q. q.change) ms
     pub objects : m.client_objects c ≡ t
-    pub reached : (own : ℕ → Bool) → own c ≡ true → Reached own (act_marked p) (meet_marked p) no_change p.empty (world_of n) → Reached own (act_marked p) (meet_marked p) no_change p.empty (world_of m)
+    pub reached : (own : ℕ → Bool) → own c ≡ true → Reached own (act_changeset p) (cross_changesets p) no_change p.empty (world_of n) → Reached own (act_changeset p) (cross_changesets p) no_change p.empty (world_of m)
 
-  alike_then : {n m o : Nodes (Marked I) S} {d : ℕ} → Alike n m d → Alike m o d → Alike n o d
+  alike_then : {n m o : Nodes (Changeset I) S} {d : ℕ} → Alike n m d → Alike m o d → Alike n o d
   alike_then a b = record { mades = b.mades ∙ a.mades; cursor = b.cursor ∙ a.cursor; unsent = b.unsent ∙ a.unsent; objects = b.objects ∙ a.objects }
 
-  pub edits_to : (c : ℕ) (ms : List (LogMade (Marked I))) (n : Nodes (Marked I) S) (t : S) → AtMost 0 ms → n.cursor c ≡ 0 → length (of_origin c n.log) ≤ length (n.mades c) → run (act_marked p) (map (λ q. q.change) ms) (n.client_objects c) ≡ Some t → (m : Nodes (Marked I) S) × EditedTo n m c ms t
+  pub edits_to : (c : ℕ) (ms : List (LogMade (Changeset I))) (n : Nodes (Changeset I) S) (t : S) → AtMost 0 ms → n.cursor c ≡ 0 → length (of_origin c n.log) ≤ length (n.mades c) → run (act_changeset p) (map (λ q. q.change) ms) (n.client_objects c) ≡ Some t → (m : Nodes (Changeset I) S) × EditedTo n m c ms t
   edits_to c [] n t a z h r = (n, record { log = refl; entries = λ k. refl; beside = λ d ne. alike_refl n d; mades = sym (append-nil (n.mades c)); cursor = refl; unsent = sym (append-nil (n.unsent c)); objects = cc; reached = λ own o q. q })
   edits_to c (q ∷ ms) n t (one_within b a) z h r =
-      let g = then_gives (act_marked p q.change (n.client_objects c)) (run (act_marked p) (map (λ q. q.change) ms)) t r in
-      let n1 : Nodes (Marked I) S = nodes_edited n c q.change g.mid in
+      let g = then_gives (act_changeset p q.change (n.client_objects c)) (run (act_changeset p) (map (λ q. q.change) ms)) t r in
+      let n1 : Nodes (Changeset I) S = nodes_edited n c q.change g.mid in
       let same : record { base = n.cursor c; change = q.change } ≡ q = λ i. record { base = first n c q z b i; change = q.change } in
       let made1 : n1.mades c ≡ n.mades c ++ q ∷ [] = put_same c (n.mades c ++ record { base = n.cursor c; change = q.change } ∷ []) n.mades ∙ ap (λ x. n.mades c ++ x ∷ []) same in
       let unsent1 : n1.unsent c ≡ n.unsent c ++ q.change ∷ [] = put_same c (n.unsent c ++ q.change ∷ []) n.unsent in
       let objects1 : n1.client_objects c ≡ g.mid = put_same c g.mid n.client_objects in
       let len1 = ap length made1 ∙ length_snoc (n.mades c) q in
-      let rest = edits_to c ms n1 t a z (omega (arith, len1)) (ap (run (act_marked p) (map (λ q. q.change) ms)) objects1 ∙ g.on) in
+      let rest = edits_to c ms n1 t a z (omega (arith, len1)) (ap (run (act_changeset p) (map (λ q. q.change) ms)) objects1 ∙ g.on) in
       let m = rest.0 in
       let f = rest.1 in (
         m,
@@ -181,9 +182,9 @@ module _ {I S : Type 0} (p : Profile I S) where
           cursor = f.cursor;
           unsent = f.unsent ∙ ap (λ l. l ++ map (λ q. q.change) ms) unsent1 ∙ append_assoc (n.unsent c) (q.change ∷ []) (map (λ q. q.change) ms);
           objects = f.objects;
-          reached = λ own o w. f.reached own o (reach_edit (act_marked p) (meet_marked p) no_change p.empty own n w c q.change g.mid o h g.was);
+          reached = λ own o w. f.reached own o (reach_edit (act_changeset p) (cross_changesets p) no_change p.empty own n w c q.change g.mid o h g.was);
         },
       )
     where
-      first : (n : Nodes (Marked I) S) (c : ℕ) (q : LogMade (Marked I)) → n.cursor c ≡ 0 → q.base ≤ 0 → n.cursor c ≡ q.base
+      first : (n : Nodes (Changeset I) S) (c : ℕ) (q : LogMade (Changeset I)) → n.cursor c ≡ 0 → q.base ≤ 0 → n.cursor c ≡ q.base
       first n c q z b = omega arith

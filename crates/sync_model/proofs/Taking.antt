@@ -8,8 +8,10 @@ use Rattle.sync_theory.proofs.Logs.{length_snoc}
 use Rattle.sync_theory.proofs.Take.{own_head, never_breaks}
 use Rattle.sync_theory.proofs.Server.{test_true, test_false}
 use Rattle.sync_theory.proofs.World.{same_or_not, put_same, put_other}
-use Rattle.sync_model.specs.Profile.{Profile, Marked, Stuck, ok_part, apply_all, act_marked, meet_marked, Lawful, needs}
-use Rattle.sync_model.specs.Clients.{Client, ClientRecord, Took, Original, Unsent, mark, carried_to, state_or, ok_list, client_of, after_record, crossed, takes_entry, tooks_of, took, marked, ClientRefusal, Mismatch, Forked, NotApplicable, applied_refusal, entry_refusal, read_refusal, crossed_refusal, own_refusal}
+use Rattle.sync_theory.specs.Changesets.{Changeset}
+use Rattle.sync_theory.specs.Lists.{ok_state}
+use Rattle.sync_model.specs.Profile.{Profile, Stuck, apply_all, act_changeset, cross_changesets, Lawful, needs}
+use Rattle.sync_model.specs.Clients.{Client, ClientRecord, Took, Original, Unsent, changeset_of, carried_to, state_or, ok_list, client_of, after_record, crossed, takes_entry, tooks_of, took, sent_changeset, ClientRefusal, Mismatch, Forked, NotApplicable, applied_refusal, entry_refusal, read_refusal, crossed_refusal, own_refusal}
 use Rattle.sync_model.specs.Servers.{Server, place_of, sent_of}
 use Rattle.sync_model.specs.Log.{MayDecline}
 use Rattle.sync_model.specs.Profile.{same_bytes, IsNamedKind}
@@ -44,26 +46,26 @@ none_is false x y z e f = f
 
 module _ {I S : Type 0} (p : Profile I S) where
   -- an entry that isn't refused crosses the list and acts
-  pub record Crossing (c : Client I S) (r : Result (List (Marked I) × Marked I) (ℕ × Stuck)) : Type 0 where
-    pub us : List (Marked I)
-    pub entry : Marked I
+  pub record Crossing (c : Client I S) (r : Result (List (Changeset I) × Changeset I) (ℕ × Stuck)) : Type 0 where
+    pub us : List (Changeset I)
+    pub entry : Changeset I
     pub is : r ≡ Ok (us, entry)
     pub state : S
-    pub acts : act_marked p entry c.objects ≡ Some state
+    pub acts : act_changeset p entry c.objects ≡ Some state
 
-  applied : (c : Client I S) (us : List (Marked I)) (f : Marked I) (r : Result S (ℕ × ℕ)) → apply_all p f.instrs c.objects ≡ r → applied_refusal c.cursor r ≡ None → Crossing c (Ok (us, f))
-  applied c us f (Ok t) is e = record { us = us; entry = f; is = refl; state = t; acts = apply_is p f.instrs c.objects ∙ ap ok_part is }
+  applied : (c : Client I S) (us : List (Changeset I)) (f : Changeset I) (r : Result S (ℕ × ℕ)) → apply_all p f.instrs c.objects ≡ r → applied_refusal c.cursor r ≡ None → Crossing c (Ok (us, f))
+  applied c us f (Ok t) is e = record { us = us; entry = f; is = refl; state = t; acts = apply_is p f.instrs c.objects ∙ ap ok_state is }
   applied c us f (Err b) is e = cc
 
-  pub crossing : (c : Client I S) (r : Result (List (Marked I) × Marked I) (ℕ × Stuck)) → crossed_refusal p c r ≡ None → Crossing c r
+  pub crossing : (c : Client I S) (r : Result (List (Changeset I) × Changeset I) (ℕ × Stuck)) → crossed_refusal p c r ≡ None → Crossing c r
   crossing c (Ok q) e = applied c q.0 q.1 (apply_all p q.1.instrs c.objects) refl e
   crossing c (Err f) e = cc
 
-  module _ {Fits : S → Type 0} (law : Lawful p Fits) (s : Server I) (cls : List Node) (inj : List ℕ) (n : Nodes (Marked I) S) (sim : Sim p s cls inj n) (i : ℕ) (nd : Node) (e : at cls i ≡ Some nd) where
+  module _ {Fits : S → Type 0} (law : Lawful p Fits) (s : Server I) (cls : List Node) (inj : List ℕ) (n : Nodes (Changeset I) S) (sim : Sim p s cls inj n) (i : ℕ) (nd : Node) (e : at cls i ≡ Some nd) where
     abbrev st : Client I S
     st = client_of p nd.records
 
-    abbrev x : Marked I
+    abbrev x : Changeset I
     x = n.entries st.cursor
 
     -- an entry of the history, at the cursor of a client of ident c
@@ -71,7 +73,7 @@ module _ {I S : Type 0} (p : Profile I S) where
       abbrev r : ClientRecord
       r = took (sent_of p x)
 
-      there : (y : LogEntry (Marked I)) × (at n.log st.cursor ≡ Some y)
+      there : (y : LogEntry (Changeset I)) × (at n.log st.cursor ≡ Some y)
       there = at_there n.log st.cursor lt
 
       pub origin_is : x.origin ≡ origin_at n.log st.cursor
@@ -92,12 +94,12 @@ module _ {I S : Type 0} (p : Profile I S) where
       lt_world : n.cursor c < length n.log
       lt_world = let h = g.cursor in omega arith
 
-      good : Good (class s.ids (uuids p cls)) (act_marked p) p.empty (meet_marked p) (world_of n)
+      good : Good (class s.ids (uuids p cls)) (act_changeset p) p.empty (cross_changesets p) (world_of n)
       good = good_of p law s cls inj n sim
 
       -- the next state of the client, whatever the entry's origin
-      module _ (us : List (Marked I)) (t : S) (unsent2 : List (Unsent I)) (state : client_of p (nd.records ++ r ∷ []) ≡ record st { cursor = suc st.cursor; unsent = unsent2; objects = t }) (unsent_is : us ≡ map (mark c) unsent2) (sent2 : List (Original I)) (split2 : st.made ≡ sent2 ++ map (λ v. v.original) unsent2) (count2 : length sent2 ≡ length (of_origin c (take (suc st.cursor) n.log))) (reached : (own : ℕ → Bool) → Agrees own s.ids (uuids p cls) → Reached own (act_marked p) (meet_marked p) no_change p.empty (world_of (nodes_taken n c us t))) where
-        abbrev m : Nodes (Marked I) S
+      module _ (us : List (Changeset I)) (t : S) (unsent2 : List (Unsent I)) (state : client_of p (nd.records ++ r ∷ []) ≡ record st { cursor = suc st.cursor; unsent = unsent2; objects = t }) (unsent_is : us ≡ map (changeset_of c) unsent2) (sent2 : List (Original I)) (split2 : st.made ≡ sent2 ++ map (λ v. v.original) unsent2) (count2 : length sent2 ≡ length (of_origin c (take (suc st.cursor) n.log))) (reached : (own : ℕ → Bool) → Agrees own s.ids (uuids p cls) → Reached own (act_changeset p) (cross_changesets p) no_change p.empty (world_of (nodes_taken n c us t))) where
+        abbrev m : Nodes (Changeset I) S
         m = nodes_taken n c us t
 
         abbrev st2 : Client I S
@@ -148,49 +150,49 @@ module _ {I S : Type 0} (p : Profile I S) where
       module _ (own : x.origin ≡ c) where
         pub head_is_it : n.unsent c ≡ x ∷ tail (n.unsent c)
         head_is_it =
-            let h = own_head (act_marked p) p.empty (meet_marked p) (world_of n) good.log c (good.clients c mine) lt_world (sets_law p law) (ap (λ k. origin_at n.log k) g.cursor ∙ sym origin_is ∙ own) in
+            let h = own_head (act_changeset p) p.empty (cross_changesets p) (world_of n) good.log c (good.clients c mine) lt_world (sets_law p law) (ap (λ k. origin_at n.log k) g.cursor ∙ sym origin_is ∙ own) in
             h ∙ ap (λ k. n.entries k ∷ tail (n.unsent c)) g.cursor
 
         first : (v : Unsent I) × (st.unsent ≡ v ∷ tail st.unsent)
-        first = headed (mark c) st.unsent x (tail (n.unsent c)) (sym g.unsent ∙ head_is_it)
+        first = headed (changeset_of c) st.unsent x (tail (n.unsent c)) (sym g.unsent ∙ head_is_it)
 
         pub took_own : Next p s cls inj n i (with_record nd r)
         took_own =
             moved (tail (n.unsent c)) (n.client_objects c) (tail st.unsent)
             (takes_is ∙ if_true (x.origin == st.ident) (record st { cursor = suc st.cursor; unsent = tail st.unsent }) _ (test_true x.origin st.ident (own ∙ sym ident)) ∙ ap (λ t. record st { cursor = suc st.cursor; unsent = tail st.unsent; objects = t }) (sym g.objects))
-            (ap tail g.unsent ∙ map_tail (mark c) st.unsent)
+            (ap tail g.unsent ∙ map_tail (changeset_of c) st.unsent)
             (g.sent ++ first.0.original ∷ [])
             (g.split ∙ ap (λ l. g.sent ++ map (λ v. v.original) l) first.1 ∙ sym (append_assoc g.sent (first.0.original ∷ []) (map (λ v. v.original) (tail st.unsent))))
             (length_snoc g.sent first.0.original ∙ ap suc g.sent_count ∙ sym (count_own c st.cursor n.log lt (sym origin_is ∙ own)))
-            (λ own_ ag. reach_own (act_marked p) (meet_marked p) no_change p.empty own_ n (sim.reached own_ ag) c (tail (n.unsent c)) (own_now own_ ag) lt_world (ap (λ k. origin_at n.log k) g.cursor ∙ sym origin_is ∙ own) (head_is_it ∙ ap (λ k. n.entries k ∷ tail (n.unsent c)) (sym g.cursor)))
+            (λ own_ ag. reach_own (act_changeset p) (cross_changesets p) no_change p.empty own_ n (sim.reached own_ ag) c (tail (n.unsent c)) (own_now own_ ag) lt_world (ap (λ k. origin_at n.log k) g.cursor ∙ sym origin_is ∙ own) (head_is_it ∙ ap (λ k. n.entries k ∷ tail (n.unsent c)) (sym g.cursor)))
 
       -- an entry of another
 
-      module _ (other : x.origin ≢ c) (q : Crossing st (rebase (meet_marked p) (map (mark st.ident) st.unsent) x)) where
-        met : rebase (meet_marked p) (map (mark c) st.unsent) x ≡ Ok (q.us, q.entry)
-        met = subst (λ d. rebase (meet_marked p) (map (mark d) st.unsent) x ≡ Ok (q.us, q.entry)) ident q.is
+      module _ (other : x.origin ≢ c) (q : Crossing st (rebase (cross_changesets p) (map (changeset_of st.ident) st.unsent) x)) where
+        met : rebase (cross_changesets p) (map (changeset_of c) st.unsent) x ≡ Ok (q.us, q.entry)
+        met = subst (λ d. rebase (cross_changesets p) (map (changeset_of d) st.unsent) x ≡ Ok (q.us, q.entry)) ident q.is
 
         pub took_other : Next p s cls inj n i (with_record nd r)
         took_other =
-            let th = over_through (meet_marked p) (map (mark c) st.unsent) q.us x q.entry met in
+            let th = over_through (cross_changesets p) (map (changeset_of c) st.unsent) q.us x q.entry met in
             moved q.us q.state (carried_to st.unsent q.us)
-            (takes_is ∙ if_false (x.origin == st.ident) _ (crossed p st (rebase (meet_marked p) (map (mark st.ident) st.unsent) x)) (test_false x.origin st.ident (λ h. other (h ∙ ident))) ∙ ap (crossed p st) q.is ∙ ap (λ t. record st { cursor = suc st.cursor; unsent = carried_to st.unsent q.us; objects = state_or st.objects t }) q.acts)
+            (takes_is ∙ if_false (x.origin == st.ident) _ (crossed p st (rebase (cross_changesets p) (map (changeset_of st.ident) st.unsent) x)) (test_false x.origin st.ident (λ h. other (h ∙ ident))) ∙ ap (crossed p st) q.is ∙ ap (λ t. record st { cursor = suc st.cursor; unsent = carried_to st.unsent q.us; objects = state_or st.objects t }) q.acts)
             (sym (carried_marks p c st.unsent th))
             g.sent
             (g.split ∙ ap (λ l. g.sent ++ l) (sym (carried_originals p c st.unsent th)))
             (g.sent_count ∙ sym (count_other c st.cursor n.log lt (λ h. other (origin_is ∙ h))))
-            (λ own_ ag. reach_take (act_marked p) (meet_marked p) no_change p.empty own_ n (sim.reached own_ ag) c q.us q.entry q.state (own_now own_ ag) lt_world (λ h. other (origin_is ∙ ap (λ k. origin_at n.log k) (sym g.cursor) ∙ h))
-            (ap₂ (λ l k. rebase (meet_marked p) l (n.entries k)) g.unsent g.cursor ∙ met) (ap (act_marked p q.entry) g.objects ∙ q.acts))
+            (λ own_ ag. reach_take (act_changeset p) (cross_changesets p) no_change p.empty own_ n (sim.reached own_ ag) c q.us q.entry q.state (own_now own_ ag) lt_world (λ h. other (origin_is ∙ ap (λ k. origin_at n.log k) (sym g.cursor) ∙ h))
+            (ap₂ (λ l k. rebase (cross_changesets p) l (n.entries k)) g.unsent g.cursor ∙ met) (ap (act_changeset p q.entry) g.objects ∙ q.acts))
 
       -- whichever, where it isn't refused
 
       pub took_next : entry_refusal p st (sent_of p x) ≡ None → Next p s cls inj n i (with_record nd r)
       took_next none =
           let read : read_refusal p st (sent_of p x) (Ok x.instrs) ≡ None = ap (read_refusal p st (sent_of p x)) (sym (law.spelled x.instrs)) ∙ none in
-          let formed = not_some (needs p x.instrs && not st.second) _ (if x.origin == st.ident then own_refusal p st.unsent (sent_of p x) else crossed_refusal p st (rebase (meet_marked p) (map (mark st.ident) st.unsent) x)) read in
+          let formed = not_some (needs p x.instrs && not st.second) _ (if x.origin == st.ident then own_refusal p st.unsent (sent_of p x) else crossed_refusal p st (rebase (cross_changesets p) (map (changeset_of st.ident) st.unsent) x)) read in
           ⊎_elim
           (λ own. took_own own)
-          (λ other. took_other other (crossing st (rebase (meet_marked p) (map (mark st.ident) st.unsent) x) (sym (if_false (x.origin == st.ident) _ (crossed_refusal p st (rebase (meet_marked p) (map (mark st.ident) st.unsent) x)) (test_false x.origin st.ident (λ h. other (h ∙ ident)))) ∙ formed)))
+          (λ other. took_other other (crossing st (rebase (cross_changesets p) (map (changeset_of st.ident) st.unsent) x) (sym (if_false (x.origin == st.ident) _ (crossed_refusal p st (rebase (cross_changesets p) (map (changeset_of st.ident) st.unsent) x)) (test_false x.origin st.ident (λ h. other (h ∙ ident)))) ∙ formed)))
           (same_or_not x.origin c)
 
       -- and it is refused by a mismatch alone
@@ -201,10 +203,10 @@ module _ {I S : Type 0} (p : Profile I S) where
           v : Unsent I
           v = (first own).0
 
-          is : mark c v ≡ x
-          is = heads (ap (map (mark c)) (sym (first own).1) ∙ sym g.unsent ∙ head_is_it own)
+          is : changeset_of c v ≡ x
+          is = heads (ap (map (changeset_of c)) (sym (first own).1) ∙ sym g.unsent ∙ head_is_it own)
             where
-              heads : {y z : Marked I} {ys zs : List (Marked I)} → y ∷ ys ≡ z ∷ zs → y ≡ z
+              heads : {y z : Changeset I} {ys zs : List (Changeset I)} → y ∷ ys ≡ z ∷ zs → y ≡ z
               heads e = cc
 
           tests : ((v.original.number == x.number) && ((v.original.ms == x.ms) && same_bytes (p.spell v.current) (p.spell x.instrs))) ≡ true
@@ -213,23 +215,23 @@ module _ {I S : Type 0} (p : Profile I S) where
           same : own_refusal p (v ∷ tail st.unsent) (sent_of p x) ≡ None
           same = if_true ((v.original.number == x.number) && ((v.original.ms == x.ms) && same_bytes (p.spell v.current) (p.spell x.instrs))) None (Some (Forked x.number)) tests
 
-      other_never : x.origin ≢ c → (why : ClientRefusal) → (r : Result (List (Marked I) × Marked I) (ℕ × Stuck)) → rebase (meet_marked p) (map (mark c) st.unsent) x ≡ r → crossed_refusal p st r ≡ Some why → MayDecline why
+      other_never : x.origin ≢ c → (why : ClientRefusal) → (r : Result (List (Changeset I) × Changeset I) (ℕ × Stuck)) → rebase (cross_changesets p) (map (changeset_of c) st.unsent) x ≡ r → crossed_refusal p st r ≡ Some why → MayDecline why
       other_never ne why (Err f) is e =
           let same : Mismatch st.cursor (Rattle.sync_model.specs.Clients.number_at f.0 st.unsent) f.1.2 ≡ why = cc in
-          subst MayDecline same (take_kind (act_marked p) p.empty (meet_marked p) (λ m. IsNamedKind m.2) (sets_law p law) (sets_kinds p law) (world_of n) good.log c (good.clients c mine) lt_world f (ap₂ (λ l k. rebase (meet_marked p) l (n.entries k)) g.unsent g.cursor ∙ is))
+          subst MayDecline same (take_kind (act_changeset p) p.empty (cross_changesets p) (λ m. IsNamedKind m.2) (sets_law p law) (sets_kinds p law) (world_of n) good.log c (good.clients c mine) lt_world f (ap₂ (λ l k. rebase (cross_changesets p) l (n.entries k)) g.unsent g.cursor ∙ is))
       other_never ne why (Ok q) is e =
-          let a = never_breaks (act_marked p) p.empty (meet_marked p) (world_of n) good.log c (good.clients c mine) lt_world (sets_law p law) q.0 q.1 (ap₂ (λ l k. rebase (meet_marked p) l (n.entries k)) g.unsent g.cursor ∙ is) in
-          applies (apply_all p q.1.instrs st.objects) (sym (apply_is p q.1.instrs st.objects) ∙ ap (act_marked p q.1) (sym g.objects) ∙ a.1) e
+          let a = never_breaks (act_changeset p) p.empty (cross_changesets p) (world_of n) good.log c (good.clients c mine) lt_world (sets_law p law) q.0 q.1 (ap₂ (λ l k. rebase (cross_changesets p) l (n.entries k)) g.unsent g.cursor ∙ is) in
+          applies (apply_all p q.1.instrs st.objects) (sym (apply_is p q.1.instrs st.objects) ∙ ap (act_changeset p q.1) (sym g.objects) ∙ a.1) e
         where
-          applies : {t : S} (r : Result S (ℕ × ℕ)) → ok_part r ≡ Some t → applied_refusal st.cursor r ≡ Some why → MayDecline why
+          applies : {t : S} (r : Result S (ℕ × ℕ)) → ok_state r ≡ Some t → applied_refusal st.cursor r ≡ Some why → MayDecline why
           applies (Ok s) f h = absurd (some_none why h)
           applies (Err b) f h = cc
 
       pub refused_only : (why : ClientRefusal) → (needs p x.instrs && not st.second) ≡ false → entry_refusal p st (sent_of p x) ≡ Some why → MayDecline why
       refused_only why old e =
           let read : read_refusal p st (sent_of p x) (Ok x.instrs) ≡ Some why = ap (read_refusal p st (sent_of p x)) (sym (law.spelled x.instrs)) ∙ e in
-          let formed = none_is (needs p x.instrs && not st.second) _ (if x.origin == st.ident then own_refusal p st.unsent (sent_of p x) else crossed_refusal p st (rebase (meet_marked p) (map (mark st.ident) st.unsent) x)) why old read in
+          let formed = none_is (needs p x.instrs && not st.second) _ (if x.origin == st.ident then own_refusal p st.unsent (sent_of p x) else crossed_refusal p st (rebase (cross_changesets p) (map (changeset_of st.ident) st.unsent) x)) why old read in
           ⊎_elim
           (λ own. absurd (some_none why (sym (own_never own) ∙ sym (if_true (x.origin == st.ident) (own_refusal p st.unsent (sent_of p x)) _ (test_true x.origin st.ident (own ∙ sym ident))) ∙ formed)))
-          (λ other. other_never other why (rebase (meet_marked p) (map (mark st.ident) st.unsent) x) (ap (λ d. rebase (meet_marked p) (map (mark d) st.unsent) x) (sym ident)) (none_is (x.origin == st.ident) _ (crossed_refusal p st (rebase (meet_marked p) (map (mark st.ident) st.unsent) x)) why (test_false x.origin st.ident (λ h. other (h ∙ ident))) formed))
+          (λ other. other_never other why (rebase (cross_changesets p) (map (changeset_of st.ident) st.unsent) x) (ap (λ d. rebase (cross_changesets p) (map (changeset_of d) st.unsent) x) (sym ident)) (none_is (x.origin == st.ident) _ (crossed_refusal p st (rebase (cross_changesets p) (map (changeset_of st.ident) st.unsent) x)) why (test_false x.origin st.ident (λ h. other (h ∙ ident))) formed))
           (same_or_not x.origin c)

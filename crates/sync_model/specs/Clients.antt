@@ -2,7 +2,8 @@
 use Rattle.std.specs.Prelude.{◌≡◌, ℕ, zero, suc, ◌-◌, Bool, true, false, ◌&&◌, not, List, [], ◌∷◌, ◌++◌, Option, Some, None, Result, Ok, Err, nat_lt, ◌==◌, if◌then◌else◌, map, drop, length}
 use Rattle.sync_theory.specs.Lists.{run}
 use Rattle.sync_theory.specs.Grid.{rebase, tail}
-use Rattle.sync_model.specs.Profile.{Profile, Marked, Stuck, act, apply_all, act_marked, meet_marked, needs, first_need, same_bytes, fitting}
+use Rattle.sync_theory.specs.Changesets.{Changeset}
+use Rattle.sync_model.specs.Profile.{Profile, Stuck, act, apply_all, act_changeset, cross_changesets, needs, first_need, same_bytes, fitting}
 use Rattle.sync_model.specs.Messages.{Change, Sent, Message, Bind, Ident, Upload, Ask, Download, Refused, Stored, Ask2}
 
 pub data ClientRecord : Type 0 where
@@ -39,13 +40,13 @@ abbrev pub as_made : {I : Type 0} → Original I → Unsent I
 as_made o = record { original = o; current = o.instrs }
 
 -- an unsent changeset in the grid
-abbrev pub mark : {I : Type 0} → ℕ → Unsent I → Marked I
-mark ident u = record { origin = ident; number = u.original.number; ms = u.original.ms; instrs = u.current }
+abbrev pub changeset_of : {I : Type 0} → ℕ → Unsent I → Changeset I
+changeset_of ident u = record { origin = ident; number = u.original.number; ms = u.original.ms; instrs = u.current }
 
-abbrev pub with_current : {I : Type 0} → Unsent I → Marked I → Unsent I
+abbrev pub with_current : {I : Type 0} → Unsent I → Changeset I → Unsent I
 with_current u x = record u { current = x.instrs }
 
-abbrev pub carried_to : {I : Type 0} → List (Unsent I) → List (Marked I) → List (Unsent I)
+abbrev pub carried_to : {I : Type 0} → List (Unsent I) → List (Changeset I) → List (Unsent I)
 carried_to [] xs = []
 carried_to (u ∷ us) [] = []
 carried_to (u ∷ us) (x ∷ xs) = with_current u x ∷ carried_to us xs
@@ -89,37 +90,37 @@ pub data ClientRefusal : Type 0 where
   WasRefused : (number code : ℕ) → ClientRefusal
 
 -- the records that a call appends, and its answer
-pub record Did (R A : Type 0) : Type 0 where
+pub record Step (R A : Type 0) : Type 0 where
   pub records : List R
   pub answer : A
 
-abbrev pub ClientDid : Type 0 → Type 0
-ClientDid A = Did ClientRecord (Result A ClientRefusal)
+abbrev pub ClientStep : Type 0 → Type 0
+ClientStep A = Step ClientRecord (Result A ClientRefusal)
 
-abbrev pub refuse : {A : Type 0} → ClientRefusal → ClientDid A
+abbrev pub refuse : {A : Type 0} → ClientRefusal → ClientStep A
 refuse r = record { records = []; answer = Err r }
 
-abbrev pub answers : {A : Type 0} → A → ClientDid A
+abbrev pub answers : {A : Type 0} → A → ClientStep A
 answers a = record { records = []; answer = Ok a }
 
-abbrev pub appends : {A : Type 0} → ClientRecord → A → ClientDid A
+abbrev pub appends : {A : Type 0} → ClientRecord → A → ClientStep A
 appends r a = record { records = r ∷ []; answer = Ok a }
 
-abbrev pub if_born : {A : Type 0} → Option ℕ → (ℕ → ClientDid A) → ClientDid A
+abbrev pub if_born : {A : Type 0} → Option ℕ → (ℕ → ClientStep A) → ClientStep A
 if_born None go = refuse NotBorn
 if_born (Some id) go = go id
 
-abbrev pub commit_applied : {S : Type 0} → ℕ → ClientRecord → Result S (ℕ × ℕ) → ClientDid ℕ
+abbrev pub commit_applied : {S : Type 0} → ℕ → ClientRecord → Result S (ℕ × ℕ) → ClientStep ℕ
 commit_applied number made (Ok s) = appends made number
 commit_applied number made (Err b) = refuse (Break b.0 b.1)
 
-abbrev pub upgrade : {I S : Type 0} → Client I S → ClientDid Bool
+abbrev pub upgrade : {I S : Type 0} → Client I S → ClientStep Bool
 upgrade c = if_born c.id (λ id. if c.second then answers false else appends Form true)
 
-abbrev pub bind : {I S : Type 0} → Client I S → ClientDid Message
+abbrev pub bind : {I S : Type 0} → Client I S → ClientStep Message
 bind c = if_born c.id (λ id. answers (Bind id))
 
-abbrev pub if_named : {A I S : Type 0} → Client I S → ClientDid A → ClientDid A
+abbrev pub if_named : {A I S : Type 0} → Client I S → ClientStep A → ClientStep A
 if_named c did = if_born c.id (λ id. if c.ident == 0 then refuse NotNamed else did)
 
 -- the base of the oldest unsent changeset
@@ -127,7 +128,7 @@ abbrev pub settled_from : {I : Type 0} → ℕ → List (Unsent I) → ℕ
 settled_from cursor [] = cursor
 settled_from cursor (u ∷ us) = u.original.base
 
-abbrev pub ask : {I S : Type 0} → Client I S → ClientDid Message
+abbrev pub ask : {I S : Type 0} → Client I S → ClientStep Message
 ask c = if_named c (answers (if c.second then Ask2 c.ident c.cursor (settled_from c.cursor c.unsent) else Ask c.ident c.cursor (settled_from c.cursor c.unsent)))
 
 abbrev pub number_at : {I : Type 0} → ℕ → List (Unsent I) → ℕ
@@ -139,17 +140,17 @@ abbrev pub applied_refusal : {S : Type 0} → ℕ → Result S (ℕ × ℕ) → 
 applied_refusal version (Ok s) = None
 applied_refusal version (Err b) = Some (NotApplicable version b.0 b.1)
 
-abbrev pub marked : {I : Type 0} → Sent → List I → Marked I
-marked e is = record { origin = e.origin; number = e.number; ms = e.ms; instrs = is }
+abbrev pub sent_changeset : {I : Type 0} → Sent → List I → Changeset I
+sent_changeset e is = record { origin = e.origin; number = e.number; ms = e.ms; instrs = is }
 
 abbrev pub took : Sent → ClientRecord
 took e = Took e.origin e.number e.ms e.body
 
-abbrev pub take_one : Option ClientRefusal → ClientRecord → ClientDid ℕ → ClientDid ℕ
+abbrev pub take_one : Option ClientRefusal → ClientRecord → ClientStep ℕ → ClientStep ℕ
 take_one (Some r) record_ rest = refuse r
 take_one None record_ rest = record { records = record_ ∷ rest.records; answer = rest.answer }
 
-abbrev pub take_ident : {I S : Type 0} → Client I S → ℕ → ClientDid ℕ
+abbrev pub take_ident : {I S : Type 0} → Client I S → ℕ → ClientStep ℕ
 take_ident c ident = if c.ident == 0 then appends (Named ident) c.cursor else if c.ident == ident then answers c.cursor else refuse (IdentDiffers c.ident ident)
 
 module _ {I S : Type 0} (p : Profile I S) where
@@ -161,13 +162,13 @@ module _ {I S : Type 0} (p : Profile I S) where
   abbrev pub makes : Client I S → Original I → Client I S
   makes c o = record c { made = c.made ++ o ∷ []; unsent = c.unsent ++ as_made o ∷ []; objects = state_or c.objects (run (act p) o.instrs c.objects) }
 
-  abbrev pub crossed : Client I S → Result (List (Marked I) × Marked I) (ℕ × Stuck) → Client I S
-  crossed c (Ok q) = record c { cursor = suc c.cursor; unsent = carried_to c.unsent q.0; objects = state_or c.objects (act_marked p q.1 c.objects) }
+  abbrev pub crossed : Client I S → Result (List (Changeset I) × Changeset I) (ℕ × Stuck) → Client I S
+  crossed c (Ok q) = record c { cursor = suc c.cursor; unsent = carried_to c.unsent q.0; objects = state_or c.objects (act_changeset p q.1 c.objects) }
   crossed c (Err f) = record c { cursor = suc c.cursor }
 
   -- an own entry removes the head of the unsent list; any other crosses the list and acts on the objects
-  abbrev pub takes_entry : Client I S → Marked I → Client I S
-  takes_entry c e = if e.origin == c.ident then record c { cursor = suc c.cursor; unsent = tail c.unsent } else crossed c (rebase (meet_marked p) (map (mark c.ident) c.unsent) e)
+  abbrev pub takes_entry : Client I S → Changeset I → Client I S
+  takes_entry c e = if e.origin == c.ident then record c { cursor = suc c.cursor; unsent = tail c.unsent } else crossed c (rebase (cross_changesets p) (map (changeset_of c.ident) c.unsent) e)
 
   abbrev pub after_record : Client I S → ClientRecord → Client I S
   after_record c (Born id) = record c { id = Some id }
@@ -185,14 +186,14 @@ module _ {I S : Type 0} (p : Profile I S) where
 
   -- ---- its calls
 
-  abbrev pub commit_born : Client I S → ℕ → List I → ℕ → ClientDid ℕ
+  abbrev pub commit_born : Client I S → ℕ → List I → ℕ → ClientStep ℕ
   commit_born c ms edits id =
       if not (p.is_small edits) then refuse TooLarge
       else if length c.made == p.full then refuse NumbersFull
       else if needs p edits && not c.second then refuse (OldForm (first_need p edits))
       else commit_applied (suc (length c.made)) (Made (suc (length c.made)) ms (p.spell edits)) (apply_all p edits c.objects)
 
-  abbrev pub commit : Client I S → ℕ → List I → ClientDid ℕ
+  abbrev pub commit : Client I S → ℕ → List I → ClientStep ℕ
   commit c ms edits = if_born c.id (commit_born c ms edits)
 
   abbrev pub change_of : Original I → Change
@@ -201,7 +202,7 @@ module _ {I S : Type 0} (p : Profile I S) where
   abbrev pub to_upload : Client I S → List Change
   to_upload c = fitting (λ h. length h.body) p.most p.room (map (λ u. change_of u.original) c.unsent)
 
-  abbrev pub upload : Client I S → ClientDid Message
+  abbrev pub upload : Client I S → ClientStep Message
   upload c = if_named c (answers (Upload c.ident (to_upload c)))
 
   -- ---- a message comes
@@ -210,7 +211,7 @@ module _ {I S : Type 0} (p : Profile I S) where
   own_refusal [] e = Some (Forked e.number)
   own_refusal (u ∷ us) e = if (u.original.number == e.number) && ((u.original.ms == e.ms) && same_bytes (p.spell u.current) e.body) then None else Some (Forked e.number)
 
-  abbrev pub crossed_refusal : Client I S → Result (List (Marked I) × Marked I) (ℕ × Stuck) → Option ClientRefusal
+  abbrev pub crossed_refusal : Client I S → Result (List (Changeset I) × Changeset I) (ℕ × Stuck) → Option ClientRefusal
   crossed_refusal c (Ok q) = applied_refusal c.cursor (apply_all p q.1.instrs c.objects)
   crossed_refusal c (Err f) = Some (Mismatch c.cursor (number_at f.0 c.unsent) f.1.2)
 
@@ -219,17 +220,17 @@ module _ {I S : Type 0} (p : Profile I S) where
   read_refusal c e (Ok is) =
       if needs p is && not c.second then Some (OldEntry c.cursor)
       else if e.origin == c.ident then own_refusal c.unsent e
-      else crossed_refusal c (rebase (meet_marked p) (map (mark c.ident) c.unsent) (marked e is))
+      else crossed_refusal c (rebase (cross_changesets p) (map (changeset_of c.ident) c.unsent) (sent_changeset e is))
 
   -- why an entry isn't taken
   abbrev pub entry_refusal : Client I S → Sent → Option ClientRefusal
   entry_refusal c e = read_refusal c e (p.unspell e.body)
 
-  abbrev pub take_entries : Client I S → List Sent → ClientDid ℕ
+  abbrev pub take_entries : Client I S → List Sent → ClientStep ℕ
   take_entries c [] = answers c.cursor
   take_entries c (e ∷ es) = take_one (entry_refusal c e) (took e) (take_entries (after_record c (took e)) es)
 
-  abbrev pub take_born : Client I S → Message → ℕ → ClientDid ℕ
+  abbrev pub take_born : Client I S → Message → ℕ → ClientStep ℕ
   take_born c (Bind u) id = refuse NotMine
   take_born c (Upload ident changes) id = refuse NotMine
   take_born c (Ask ident cursor settled) id = refuse NotMine
@@ -241,11 +242,11 @@ module _ {I S : Type 0} (p : Profile I S) where
       if ident == c.ident then (if nat_lt c.cursor from then refuse (Gap c.cursor from) else take_entries c (drop (c.cursor - from) entries))
       else refuse NotMine
 
-  abbrev pub take : Client I S → Message → ClientDid ℕ
+  abbrev pub take : Client I S → Message → ClientStep ℕ
   take c m = if_born c.id (take_born c m)
 
 -- what a call did after these records
-abbrev pub after_took : {A : Type 0} → List ClientRecord → ClientDid A → ClientDid A
+abbrev pub after_took : {A : Type 0} → List ClientRecord → ClientStep A → ClientStep A
 after_took rs did = record { records = rs ++ did.records; answer = did.answer }
 
 -- a Download is taken so far: these records were appended, and these entries are left

@@ -3,26 +3,27 @@ use Rattle.std.specs.Prelude.{◌≡◌, ◌≢◌, ◌⊎◌, ◌<◌, ◌≤�
 use Rattle.sync_theory.specs.Lists.{run, kept}
 use Rattle.sync_theory.specs.Grid.{history, pending, state_at}
 use Rattle.sync_theory.specs.Logs.{Made as LogMade, Entry as LogEntry, made_at, of_origin, origin_at}
-use Rattle.sync_model.specs.Profile.{Profile, Marked, act_marked, meet_marked, IsNamedKind}
+use Rattle.sync_theory.specs.Changesets.{Changeset}
+use Rattle.sync_model.specs.Profile.{Profile, act_changeset, cross_changesets, IsNamedKind}
 use Rattle.sync_model.specs.Messages.{Message, Bind, Ident, Upload, Ask, Download, Refused, Stored, Ask2}
-use Rattle.sync_model.specs.Clients.{Original, as_made, mark, client_of, tooks_of, take as take_message, ClientRefusal, NotBorn, NotNamed, TooLarge, NumbersFull, OldForm, Break, NotMine, IdentDiffers, Gap, BadBody, OldEntry, Mismatch, Forked, NotApplicable, WasRefused}
-use Rattle.sync_model.specs.Servers.{Why, NumberGap, BaseBack, AheadOfHistory, HistoryFull, BadBytes, NoSuchIdent, IdentsFull, NotForServer, NeedsForm2, code_of, at_place, server_of, place_of, hist_of, sent_of, server_objects, serve}
+use Rattle.sync_model.specs.Clients.{Original, as_made, changeset_of, client_of, tooks_of, take as take_message, ClientRefusal, NotBorn, NotNamed, TooLarge, NumbersFull, OldForm, Break, NotMine, IdentDiffers, Gap, BadBody, OldEntry, Mismatch, Forked, NotApplicable, WasRefused}
+use Rattle.sync_model.specs.Servers.{ServerRefusal, NumberGap, BaseBack, AheadOfHistory, HistoryFull, BadBytes, NoSuchIdent, IdentsFull, NotForServer, NeedsForm2, code_of, at_place, server_of, place_of, history_of, sent_of, server_objects, serve}
 use Rattle.sync_model.specs.Worlds.{Node, World, at, owner}
 
 -- an original in the log of ident c
-abbrev pub as_log : {I : Type 0} → ℕ → Original I → LogMade (Marked I)
-as_log c o = record { base = o.base; change = mark c (as_made o) }
+abbrev pub as_log : {I : Type 0} → ℕ → Original I → LogMade (Changeset I)
+as_log c o = record { base = o.base; change = changeset_of c (as_made o) }
 
 -- two changesets that differ in their instructions alone
-pub record SameStamp {I : Type 0} (a b : Marked I) : Type 0 where
+pub record SameStamp {I : Type 0} (a b : Changeset I) : Type 0 where
   pub origin : b.origin ≡ a.origin
   pub number : b.number ≡ a.number
   pub ms : b.ms ≡ a.ms
 
 -- these are of ident c, and the numbers rise by one
-pub data Numbered {I : Type 0} (c : ℕ) : ℕ → List (LogMade (Marked I)) → Type 0 where
+pub data Numbered {I : Type 0} (c : ℕ) : ℕ → List (LogMade (Changeset I)) → Type 0 where
   no_numbers : {k : ℕ} → Numbered c k []
-  a_number : {k : ℕ} {m : LogMade (Marked I)} {ms : List (LogMade (Marked I))} → m.change.origin ≡ c → m.change.number ≡ k → Numbered c (suc k) ms → Numbered c k (m ∷ ms)
+  a_number : {k : ℕ} {m : LogMade (Changeset I)} {ms : List (LogMade (Changeset I))} → m.change.origin ≡ c → m.change.number ≡ k → Numbered c (suc k) ms → Numbered c k (m ∷ ms)
 
 -- a client that takes a message of the exchange may refuse it by these alone
 abbrev pub MayDecline : ClientRefusal → Type 0
@@ -43,14 +44,14 @@ MayDecline (NotApplicable version place code) = ⊥
 MayDecline (WasRefused number code) = Unit {0}
 
 -- and the server one that a client of the exchange made, by these alone
-abbrev pub MayRefuse : Why → Type 0
+abbrev pub MayRefuse : ServerRefusal → Type 0
 MayRefuse (NumberGap n) = ⊥
 MayRefuse (BaseBack n) = ⊥
 MayRefuse (AheadOfHistory n) = ⊥
 MayRefuse (HistoryFull n) = Unit {0}
 MayRefuse (BadBytes offset rule) = ⊥
-MayRefuse (Why.Mismatch place kind) = IsNamedKind kind
-MayRefuse (Why.Break place code) = ⊥
+MayRefuse (ServerRefusal.Mismatch place kind) = IsNamedKind kind
+MayRefuse (ServerRefusal.Break place code) = ⊥
 MayRefuse (NoSuchIdent n) = ⊥
 MayRefuse (IdentsFull n) = Unit {0}
 MayRefuse NotForServer = Unit {0}
@@ -58,7 +59,7 @@ MayRefuse (NeedsForm2 n) = Unit {0}
 
 -- a reply is no refusal but such a one
 abbrev pub IsFair : Message → Type 0
-IsFair (Refused ident number code place) = (why : Why) × (code ≡ code_of why) × (place ≡ at_place why) × MayRefuse why
+IsFair (Refused ident number code place) = (why : ServerRefusal) × (code ≡ code_of why) × (place ≡ at_place why) × MayRefuse why
 IsFair (Bind u) = Unit {0}
 IsFair (Ident u c) = Unit {0}
 IsFair (Upload c changes) = Unit {0}
@@ -79,18 +80,18 @@ module _ {I S : Type 0} (p : Profile I S) where
   abbrev pub ident_of : World → Node → ℕ
   ident_of w nd = ident_by (ids w) (client_of p nd.records).id
 
-  abbrev pub log : World → List (LogEntry (Marked I))
+  abbrev pub log : World → List (LogEntry (Changeset I))
   log w = (server_of p w.server).log
 
-  abbrev pub made_by : ℕ → Option (ℕ × Node) → List (LogMade (Marked I)) → List (LogMade (Marked I))
+  abbrev pub made_by : ℕ → Option (ℕ × Node) → List (LogMade (Changeset I)) → List (LogMade (Changeset I))
   made_by c (Some q) others = map (as_log c) (client_of p q.1.records).made
   made_by c None others = others
 
   -- what a client of the exchange made; of any other ident what the server integrated
-  abbrev pub made_of : World → ℕ → List (LogMade (Marked I))
+  abbrev pub made_of : World → ℕ → List (LogMade (Changeset I))
   made_of w c = made_by c (owner p w.clients (ids w) c) (of_origin c (log w))
 
-  abbrev pub made : World → ℕ → ℕ → List (Marked I)
+  abbrev pub made : World → ℕ → ℕ → List (Changeset I)
   made w c k = made_at (made_of w c) k
 
   abbrev pub order : World → ℕ → ℕ
@@ -98,39 +99,39 @@ module _ {I S : Type 0} (p : Profile I S) where
 
   -- ---- the history, and what is unsent at a version
 
-  abbrev pub Hist : World → ℕ → Option (Marked I)
-  Hist w k = history (meet_marked p) (made w) (order w) k
+  abbrev pub history_in : World → ℕ → Option (Changeset I)
+  history_in w k = history (cross_changesets p) (made w) (order w) k
 
-  abbrev pub Pend : World → ℕ → ℕ → List (Marked I)
-  Pend w c k = pending (meet_marked p) (made w) (order w) k c
+  abbrev pub pending_in : World → ℕ → ℕ → List (Changeset I)
+  pending_in w c k = pending (cross_changesets p) (made w) (order w) k c
 
-  abbrev pub At : World → ℕ → Option S
-  At w k = state_at (act_marked p) p.empty (meet_marked p) (made w) (order w) k
+  abbrev pub state_in : World → ℕ → Option S
+  state_in w k = state_at (act_changeset p) p.empty (cross_changesets p) (made w) (order w) k
 
   -- so many entries from a version on
-  abbrev pub entries_in : World → ℕ → ℕ → List (Marked I)
+  abbrev pub entries_in : World → ℕ → ℕ → List (Changeset I)
   entries_in w zero k = []
-  entries_in w (suc n) k = kept (Hist w k) ++ entries_in w n (suc k)
+  entries_in w (suc n) k = kept (history_in w k) ++ entries_in w n (suc k)
 
   -- ---- what holds of a world
 
   -- an entry of the history
   pub record EntryFacts (w : World) (k : ℕ) : Type 0 where
-    pub entry : Marked I
+    pub entry : Changeset I
     -- it is that of the log of what the clients made, and the server has the same by carrying
-    pub is : Hist w k ≡ Some entry
-    pub carried : hist_of p (log w) k ≡ Some entry
+    pub is : history_in w k ≡ Some entry
+    pub carried : history_of p (log w) k ≡ Some entry
     -- it has the stamp of the original that the server integrated
-    pub original : LogEntry (Marked I)
+    pub original : LogEntry (Changeset I)
     pub recorded : at (log w) k ≡ Some original
     pub stamp : SameStamp original.change entry
     pub origin : original.change.origin ≡ original.origin
     -- it acts
     pub before : S
     pub after : S
-    pub state : At w k ≡ Some before
-    pub acts : act_marked p entry before ≡ Some after
-    pub next : At w (suc k) ≡ Some after
+    pub state : state_in w k ≡ Some before
+    pub acts : act_changeset p entry before ≡ Some after
+    pub next : state_in w (suc k) ≡ Some after
 
   -- a client whose uuid the server knows
   pub record NamedFacts (w : World) (nd : Node) : Type 0 where
@@ -138,21 +139,21 @@ module _ {I S : Type 0} (p : Profile I S) where
     -- it took the first entries of the history
     pub took : tooks_of nd.records ≡ map (sent_of p) (entries_in w (client_of p nd.records).cursor 0)
     -- its unsent changesets are its place in the grid: those that it made beyond the ones that it took
-    pub unsent : map (mark (ident_of w nd)) (client_of p nd.records).unsent ≡ Pend w (ident_of w nd) (client_of p nd.records).cursor
+    pub unsent : map (changeset_of (ident_of w nd)) (client_of p nd.records).unsent ≡ pending_in w (ident_of w nd) (client_of p nd.records).cursor
     pub rebased : map (λ u. u.original) (client_of p nd.records).unsent ≡ drop (length (of_origin (ident_of w nd) (take (client_of p nd.records).cursor (log w)))) (client_of p nd.records).made
     -- its objects are the state at its cursor on which they acted
     pub base : S
-    pub state : At w (client_of p nd.records).cursor ≡ Some base
-    pub objects : run (act_marked p) (Pend w (ident_of w nd) (client_of p nd.records).cursor) base ≡ Some (client_of p nd.records).objects
+    pub state : state_in w (client_of p nd.records).cursor ≡ Some base
+    pub objects : run (act_changeset p) (pending_in w (ident_of w nd) (client_of p nd.records).cursor) base ≡ Some (client_of p nd.records).objects
     -- what it had unsent at any version acts there
-    pub acts : (k : ℕ) → k ≤ length (log w) → (s : S) → At w k ≡ Some s → (t : S) × (run (act_marked p) (Pend w (ident_of w nd) k) s ≡ Some t)
+    pub acts : (k : ℕ) → k ≤ length (log w) → (s : S) → state_in w k ≡ Some s → (t : S) × (run (act_changeset p) (pending_in w (ident_of w nd) k) s ≡ Some t)
 
   -- any other client: it took nothing, and its objects are what it made
   pub record UnnamedFacts (nd : Node) : Type 0 where
     pub cursor : (client_of p nd.records).cursor ≡ 0
     pub took : tooks_of nd.records ≡ []
     pub unsent : (client_of p nd.records).unsent ≡ map as_made (client_of p nd.records).made
-    pub objects : run (act_marked p) (map (mark 0) (client_of p nd.records).unsent) p.empty ≡ Some (client_of p nd.records).objects
+    pub objects : run (act_changeset p) (map (changeset_of 0) (client_of p nd.records).unsent) p.empty ≡ Some (client_of p nd.records).objects
 
   -- a transaction stands at its number among those that its client made
   pub record Stands (w : World) (name number ms : ℕ) (edits : List I) : Type 0 where
@@ -169,13 +170,13 @@ module _ {I S : Type 0} (p : Profile I S) where
   pub record WorldFacts (Fits : S → Type 0) (w : World) : Type 0 where
     pub entries : (k : ℕ) → k < length (log w) → EntryFacts w k
     -- the server's objects are the state after all entries
-    pub objects : At w (length (log w)) ≡ Some (server_objects p (server_of p w.server))
+    pub objects : state_in w (length (log w)) ≡ Some (server_objects p (server_of p w.server))
     -- the objects of each node are a state that fits
     pub fit : Fits (server_objects p (server_of p w.server))
     pub clients_fit : (i : ℕ) (nd : Node) → at w.clients i ≡ Some nd → Fits (client_of p nd.records).objects
     -- each change is integrated once, in order
     pub numbered : (c : ℕ) → Numbered c 1 (of_origin c (log w))
-    pub ahead : (c : ℕ) → (rest : List (LogMade (Marked I))) × (made_of w c ≡ of_origin c (log w) ++ rest)
+    pub ahead : (c : ℕ) → (rest : List (LogMade (Changeset I))) × (made_of w c ≡ of_origin c (log w) ++ rest)
     -- what the next delivery may answer
     pub declines : (k : ℕ) (m : Message) → at w.messages k ≡ Some m → (i : ℕ) (nd : Node) → at w.clients i ≡ Some nd → (why : ClientRefusal) → (take_message p (client_of p nd.records) m).answer ≡ Err why → MayDecline why
     pub replies : (k : ℕ) (m : Message) → at w.messages k ≡ Some m → IsFair (serve p (server_of p w.server) m).answer

@@ -1,6 +1,7 @@
 -- What the nodes stand on: instructions, states, the rule table, the spelling of changesets, and the limits.
 use Rattle.std.specs.Prelude.{◌≡◌, ◌⊎◌, ℕ, zero, suc, ◌-◌, Bool, true, false, ◌&&◌, ◌||◌, List, [], ◌∷◌, Option, Some, None, Result, Ok, Err, IfOk, IfErr, nat_lt, nat_le, ◌==◌, if◌then◌else◌}
-use Rattle.sync_theory.specs.Lists.{cross, run, Keeps, TwoSided}
+use Rattle.sync_theory.specs.Changesets.{Changeset, cross_sets, act_set}
+use Rattle.sync_theory.specs.Lists.{ok_state, Keeps, TwoSided}
 use Rattle.sync_theory.specs.Grid.{Meet}
 
 pub record Profile (I S : Type 0) : Type 0 where
@@ -23,13 +24,6 @@ pub record Profile (I S : Type 0) : Type 0 where
   pub room : ℕ
   pub full : ℕ
 
--- a changeset with its origin and its number
-pub record Marked (I : Type 0) : Type 0 where
-  pub origin : ℕ
-  pub number : ℕ
-  pub ms : ℕ
-  pub instrs : List I
-
 -- where they mismatch: the left place, the right place and the kind
 abbrev pub Stuck : Type 0
 Stuck = ℕ × ℕ × ℕ
@@ -37,18 +31,6 @@ Stuck = ℕ × ℕ × ℕ
 -- the kinds of mismatch that two instructions may have where both act: TablesDiffer, ColumnsDiffer and Range
 abbrev pub IsNamedKind : ℕ → Type 0
 IsNamedKind kind = ((kind ≡ 1) ⊎ (kind ≡ 2)) ⊎ (kind ≡ 4)
-
-abbrev pub ok_part : {S E : Type 0} → Result S E → Option S
-ok_part (Ok s) = Some s
-ok_part (Err e) = None
-
--- the first stamp is the later one
-abbrev pub is_later : {I : Type 0} → Marked I → Marked I → Bool
-is_later a b = nat_lt b.ms a.ms || ((a.ms == b.ms) && nat_lt b.origin a.origin)
-
-abbrev pub with_lists : {I : Type 0} → Marked I → Marked I → Result (List I × List I) Stuck → Result (Marked I × Marked I) Stuck
-with_lists a b (Ok q) = Ok (record a { instrs = q.0 }, record b { instrs = q.1 })
-with_lists a b (Err m) = Err m
 
 abbrev pub one_more : {S : Type 0} → Result S (ℕ × ℕ) → Result S (ℕ × ℕ)
 one_more (Ok s) = Ok s
@@ -72,18 +54,18 @@ fitting size (suc n) room (x ∷ xs) = if nat_le (size x) room then x ∷ fittin
 
 module _ {I S : Type 0} (p : Profile I S) where
   abbrev pub act : I → S → Option S
-  act i s = ok_part (p.apply i s)
+  act i s = ok_state (p.apply i s)
 
   -- the state after all instructions, or the place and the code of the first break
   abbrev pub apply_all : List I → S → Result S (ℕ × ℕ)
   apply_all [] s = Ok s
   apply_all (i ∷ is) s = apply_then (p.apply i s) (apply_all is)
 
-  abbrev pub act_marked : Marked I → S → Option S
-  act_marked x s = run act x.instrs s
+  abbrev pub act_changeset : Changeset I → S → Option S
+  act_changeset = act_set act
 
-  abbrev pub meet_marked : Meet (Marked I) Stuck
-  meet_marked a b = with_lists a b (cross (λ x y. p.meet x y (is_later a b)) a.instrs b.instrs)
+  abbrev pub cross_changesets : Meet (Changeset I) Stuck
+  cross_changesets = cross_sets p.meet
 
   -- some instruction of the list needs version 2
   abbrev pub needs : List I → Bool

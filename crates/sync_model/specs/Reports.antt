@@ -1,11 +1,12 @@
 -- The report of a world: read off the nodes, and computed from the log.
 use Rattle.std.specs.Prelude.{ℕ, List, length, map, if◌then◌else◌, ◌==◌}
 use Rattle.sync_theory.specs.Lists.{and_then, run}
-use Rattle.sync_model.specs.Profile.{Profile, Marked, act_marked}
-use Rattle.sync_model.specs.Clients.{as_made, mark, client_of, state_or}
+use Rattle.sync_theory.specs.Changesets.{Changeset}
+use Rattle.sync_model.specs.Profile.{Profile, act_changeset}
+use Rattle.sync_model.specs.Clients.{as_made, changeset_of, client_of, state_or}
 use Rattle.sync_model.specs.Servers.{server_of, server_objects, entries_from}
 use Rattle.sync_model.specs.Worlds.{Node, World}
-use Rattle.sync_model.specs.Log.{ident_of, log, entries_in, At, Pend}
+use Rattle.sync_model.specs.Log.{ident_of, log, entries_in, state_in, pending_in}
 
 pub record ClientLine (S : Type 0) : Type 0 where
   pub name : ℕ
@@ -15,7 +16,7 @@ pub record ClientLine (S : Type 0) : Type 0 where
   pub objects : S
 
 pub record Report (I S : Type 0) : Type 0 where
-  pub entries : List (Marked I)
+  pub entries : List (Changeset I)
   pub objects : S
   pub clients : List (ClientLine S)
 
@@ -31,8 +32,8 @@ module _ {I S : Type 0} (p : Profile I S) where
   -- ---- as the log has it
 
   -- what is unsent of a client whose uuid the server doesn't know is all that it made
-  abbrev pub unsent_in : World → Node → List (Marked I)
-  unsent_in w nd = if ident_of p w nd == 0 then map (mark 0) (map as_made (client_of p nd.records).made) else Pend p w (ident_of p w nd) (client_of p nd.records).cursor
+  abbrev pub unsent_in : World → Node → List (Changeset I)
+  unsent_in w nd = if ident_of p w nd == 0 then map (changeset_of 0) (map as_made (client_of p nd.records).made) else pending_in p w (ident_of p w nd) (client_of p nd.records).cursor
 
   abbrev pub log_line : World → Node → ClientLine S
   log_line w nd = record {
@@ -40,8 +41,8 @@ module _ {I S : Type 0} (p : Profile I S) where
     ident = (client_of p nd.records).ident;
     cursor = (client_of p nd.records).cursor;
     unsent = length (unsent_in w nd);
-    objects = state_or p.empty (and_then (At p w (client_of p nd.records).cursor) (run (act_marked p) (unsent_in w nd)));
+    objects = state_or p.empty (and_then (state_in p w (client_of p nd.records).cursor) (run (act_changeset p) (unsent_in w nd)));
   }
 
   abbrev pub report_by_log : World → Report I S
-  report_by_log w = record { entries = entries_in p w (length (log p w)) 0; objects = state_or p.empty (At p w (length (log p w))); clients = map (log_line w) w.clients }
+  report_by_log w = record { entries = entries_in p w (length (log p w)) 0; objects = state_or p.empty (state_in p w (length (log p w))); clients = map (log_line w) w.clients }

@@ -3,8 +3,8 @@ use Rattle.std.specs.Prelude.{ℕ, zero, suc, ◌+◌, ◌-◌, ◌*◌, ◌/◌
 use Rattle.sync_theory.specs.World.{put_at}
 use Rattle.sync_model.specs.Profile.{Profile}
 use Rattle.sync_model.specs.Messages.{Message, Bind, Upload, Ask, Ask2}
-use Rattle.sync_model.specs.Clients.{Client, ClientRecord, Born, ClientRefusal, ClientDid, client_of, commit, upgrade, bind, upload, ask, take as take_message}
-use Rattle.sync_model.specs.Servers.{ServerRecord, ServerDid, server_of, place_of, serve}
+use Rattle.sync_model.specs.Clients.{Client, ClientRecord, Born, ClientRefusal, ClientStep, client_of, commit, upgrade, bind, upload, ask, take as take_message}
+use Rattle.sync_model.specs.Servers.{ServerRecord, ServerStep, server_of, place_of, serve}
 
 pub data Leaves : Type 0 where
   Drop : Leaves
@@ -156,14 +156,14 @@ reply_words w m = says (record w { messages = w.messages ++ m ∷ [] }) (Replied
 abbrev pub client_moved : World → ℕ → Node → List ClientRecord → World
 client_moved w place n new = record w { clients = put w.clients place (record n { records = n.records ++ new }); stops = put_at n.name None w.stops }
 
-abbrev pub client_ends : {A : Type 0} → World → ℕ → Node → ClientDid A → (World → Result A ClientRefusal → Outcome) → Option (List ClientRecord) → Outcome
+abbrev pub client_ends : {A : Type 0} → World → ℕ → Node → ClientStep A → (World → Result A ClientRefusal → Outcome) → Option (List ClientRecord) → Outcome
 client_ends w place n did words None = words (client_moved w place n did.records) did.answer
 client_ends w place n did words (Some stand) = says (client_moved w place n stand) Stopped
 
 abbrev pub server_moved : World → List ServerRecord → World
 server_moved w new = record w { server = w.server ++ new; stops = put_at server_name None w.stops }
 
-abbrev pub server_ends : World → ServerDid → Option (List ServerRecord) → Outcome
+abbrev pub server_ends : World → ServerStep → Option (List ServerRecord) → Outcome
 server_ends w did None = reply_words (server_moved w did.records) did.answer
 server_ends w did (Some stand) = says (server_moved w stand) Stopped
 
@@ -192,12 +192,12 @@ module _ {I S : Type 0} (p : Profile I S) where
 
   -- ---- calls
 
-  abbrev pub client_called : {A : Type 0} → World → (Client I S → ClientDid A) → (World → Result A ClientRefusal → Outcome) → Option (ℕ × Node) → Outcome
+  abbrev pub client_called : {A : Type 0} → World → (Client I S → ClientStep A) → (World → Result A ClientRefusal → Outcome) → Option (ℕ × Node) → Outcome
   client_called w call words None = says w NoNode
   client_called w call words (Some q) =
       client_ends w q.0 q.1 (call (client_of p q.1.records)) words (stopped (w.stops q.1.name) (call (client_of p q.1.records)).records)
 
-  abbrev pub client_calls : {A : Type 0} → World → ℕ → (Client I S → ClientDid A) → (World → Result A ClientRefusal → Outcome) → Outcome
+  abbrev pub client_calls : {A : Type 0} → World → ℕ → (Client I S → ClientStep A) → (World → Result A ClientRefusal → Outcome) → Outcome
   client_calls w name call words = client_called w call words (seek (has_name name) w.clients)
 
   abbrev pub server_called : World → Message → Outcome
