@@ -1,14 +1,16 @@
 -- A transaction that was acknowledged stands at its number for ever.
-use Rattle.std.proofs.Common.{◌≡◌, ⊎_elim, ℕ, suc, Bool, true, false, ◌&&◌, ◌||◌, not, List, [], ◌∷◌, ◌++◌, Option, Some, None, Result, Ok, Err, refl, sym, ap, ◌∙◌, subst, append_assoc, append-nil, if◌then◌else◌, ◌==◌, length, map, eqb-true}
+use Rattle.std.proofs.Common.{◌≡◌, ⊎_elim, ℕ, suc, Bool, true, false, ◌&&◌, ◌||◌, not, List, [], ◌∷◌, ◌++◌, Option, Some, None, Result, Ok, Err, refl, sym, ap, ◌∙◌, subst, append_assoc, append-nil, if◌then◌else◌, ◌==◌, length, map}
+use Rattle.sync_model.specs.Bytes.{Name, Uuid}
+use Rattle.sync_model.proofs.Bytes.{bytes_same}
+use Rattle.std.specs.Prelude.{bytes_eq}
 use Rattle.sync_theory.specs.Grid.{rebase, tail}
-use Rattle.sync_theory.specs.World.{put_at}
 use Rattle.sync_theory.proofs.World.{same_or_not}
 use Rattle.sync_theory.specs.Changesets.{Changeset}
 use Rattle.sync_model.specs.Profile.{Profile, Stuck, apply_all, cross_changesets, needs, first_need, Lawful}
 use Rattle.sync_model.specs.Messages.{Message, Bind, Ident, Upload, Ask, Download, Refused, Stored, Ask2}
 use Rattle.sync_model.specs.Clients.{Client, ClientRecord, Born, Named, Made, Took, Form, Original, changeset_of, ClientStep, ClientRefusal, TooLarge, NumbersFull, OldForm, refuse, if_born, ok_list, client_of, after_record, after_records, makes, crossed, commit, commit_born, commit_applied, upgrade, bind, upload, ask, take as take_message}
 use Rattle.sync_model.specs.Servers.{ServerRecord, server_of, serve}
-use Rattle.sync_model.specs.Worlds.{Stop, Node, World, Event, Joins, Edits, Binds, Uploads, Asks, Upgrades, Delivers, Restarts, Stops, Injects, Outcome, Words, says, at, put, seek, is_there, stopped, has_name, has_id, server_name, messaged, message_words, made_words, took_words, upgrade_words, client_moved, client_ends, client_called, client_calls, server_ends, server_called, is_node, joins, delivers, named_by, names_own, injects, message_at, happens, world_after}
+use Rattle.sync_model.specs.Worlds.{arm, Stop, Node, World, Event, Joins, Edits, Binds, Uploads, Asks, Upgrades, Delivers, Restarts, Stops, Injects, Outcome, Words, says, at, put, seek, is_there, stopped, has_name, has_id, server_name, messaged, message_words, made_words, took_words, upgrade_words, client_moved, client_ends, client_called, client_calls, server_ends, server_called, is_node, joins, delivers, named_by, names_own, injects, message_at, happens, world_after}
 use Rattle.sync_model.specs.Log.{Stands}
 use Rattle.sync_model.proofs.Lists.{at_put, at_put_other, at_snoc_old, at_new, seek_found}
 use Rattle.sync_model.proofs.Own.{after_append, client_step}
@@ -51,7 +53,7 @@ module _ {I S : Type 0} (p : Profile I S) where
       (g.0, ap (λ l. at l i) (same (client_moved w place nd did.records) did.answer) ∙ g.1, g.2)
   ends_grow w place nd did words same e (Some stand) i x h = moved_grow w place nd stand e i x h
 
-  calls_grow : {A : Type 0} (w : World) (name : ℕ) (call : Client I S → ClientStep A) (words : World → Result A ClientRefusal → Outcome) → ((v : World) (a : Result A ClientRefusal) → (words v a).world.clients ≡ v.clients) → ClientsGrow w (client_calls p w name call words).world
+  calls_grow : {A : Type 0} (w : World) (name : Name) (call : Client I S → ClientStep A) (words : World → Result A ClientRefusal → Outcome) → ((v : World) (a : Result A ClientRefusal) → (words v a).world.clients ≡ v.clients) → ClientsGrow w (client_calls p w name call words).world
   calls_grow w name call words same = on (seek (has_name name) w.clients) refl
     where
       on : (o : Option (ℕ × Node)) → seek (has_name name) w.clients ≡ o → ClientsGrow w (client_called p w call words o).world
@@ -92,7 +94,7 @@ module _ {I S : Type 0} (p : Profile I S) where
   named_grow w (Stored c number) g = g
 
   pub event_grow : (w : World) (e : Event I) → ClientsGrow w (happens p w e).world
-  event_grow w (Joins name id) = go (is_node w name) (is_there (seek (has_id p id) w.clients) || is_there (seek (λ u. id == u) w.injected))
+  event_grow w (Joins name id) = go (is_node w name) (is_there (seek (has_id p id) w.clients) || is_there (seek (λ u. bytes_eq id u) w.injected))
     where
       go : (a b : Bool) → ClientsGrow w (if a then says w Rattle.sync_model.specs.Worlds.NameTaken else (if b then says w Rattle.sync_model.specs.Worlds.UuidTaken else says (record w { clients = w.clients ++ record { name = name; records = Born id ∷ [] } ∷ [] }) (Rattle.sync_model.specs.Worlds.Joined name))).world
       go true b i nd h = grow_refl w i nd h
@@ -111,12 +113,12 @@ module _ {I S : Type 0} (p : Profile I S) where
 
       go : (b : Bool) (m : Option Message) → ClientsGrow w (if b then delivers p w to m else says w Rattle.sync_model.specs.Worlds.NoNode).world
       go true None = grow_refl w
-      go true (Some m) = comes (to == server_name) m
+      go true (Some m) = comes (bytes_eq to server_name) m
       go false m = grow_refl w
   event_grow w (Restarts node) = grow_refl w
   event_grow w (Stops node k leaves) = go (is_node w node)
     where
-      go : (b : Bool) → ClientsGrow w (if b then says (record w { stops = put_at node (Some (record { at = k; leaves = leaves })) w.stops }) Rattle.sync_model.specs.Worlds.Armed else says w Rattle.sync_model.specs.Worlds.NoNode).world
+      go : (b : Bool) → ClientsGrow w (if b then says (record w { stops = arm node (Some (record { at = k; leaves = leaves })) w.stops }) Rattle.sync_model.specs.Worlds.Armed else says w Rattle.sync_model.specs.Worlds.NoNode).world
       go true = grow_refl w
       go false = grow_refl w
   event_grow w (Injects None) = grow_refl w
@@ -175,12 +177,12 @@ module _ {I S : Type 0} (p : Profile I S) where
       applied (Ok t) h = let same : suc (length c.made) ≡ number = cc in (sym same, ap (λ k. Made k ms (p.spell edits) ∷ []) same)
       applied (Err b) h = cc
 
-      at_id : (o : Option ℕ) → (if_born o (commit_born p c ms edits)).answer ≡ Ok number → (number ≡ suc (length c.made)) × ((if_born o (commit_born p c ms edits)).records ≡ Made number ms (p.spell edits) ∷ [])
+      at_id : (o : Option Uuid) → (if_born o (λ id. commit_born p c ms edits)).answer ≡ Ok number → (number ≡ suc (length c.made)) × ((if_born o (λ id. commit_born p c ms edits)).records ≡ Made number ms (p.spell edits) ∷ [])
       at_id None h = cc
       at_id (Some id) h =
           unless (not (p.is_small edits)) TooLarge _ (unless (length c.made == p.full) NumbersFull _ (unless (needs p edits && not c.second) (OldForm (first_need p edits)) _ (applied (apply_all p edits c.objects)))) h
 
-  pub acknowledged : {Fits : S → Type 0} → Lawful p Fits → (w : World) (name ms number : ℕ) (edits : List I) → (happens p w (Edits name ms edits)).words ≡ Rattle.sync_model.specs.Worlds.Made number → (es : List (Event I)) → Stands p (world_after p (happens p w (Edits name ms edits)).world es) name number ms edits
+  pub acknowledged : {Fits : S → Type 0} → Lawful p Fits → (w : World) (name : Name) (ms number : ℕ) (edits : List I) → (happens p w (Edits name ms edits)).words ≡ Rattle.sync_model.specs.Worlds.Made number → (es : List (Event I)) → Stands p (world_after p (happens p w (Edits name ms edits)).world es) name number ms edits
   acknowledged law w name ms number edits words es = on (seek (has_name name) w.clients) refl words
     where
       later : (v : World) (q : ℕ × Node) → at w.clients q.0 ≡ Some q.1 → q.1.name ≡ name → at v.clients q.0 ≡ Some (with_records q.1 (commit p (client_of p q.1.records) ms edits).records) → Committed (client_of p q.1.records) ms edits number → Stands p (world_after p v es) name number ms edits
@@ -215,4 +217,4 @@ module _ {I S : Type 0} (p : Profile I S) where
 
       on : (o : Option (ℕ × Node)) → seek (has_name name) w.clients ≡ o → (client_called p w (λ c. commit p c ms edits) made_words o).words ≡ Rattle.sync_model.specs.Worlds.Made number → Stands p (world_after p (client_called p w (λ c. commit p c ms edits) made_words o).world es) name number ms edits
       on None is e = cc
-      on (Some q) is e = let f = seek_found (has_name name) w.clients q is in ended q f.here (sym (eqb-true name q.1.name f.passes)) (stopped (w.stops q.1.name) (commit p (client_of p q.1.records) ms edits).records) e
+      on (Some q) is e = let f = seek_found (has_name name) w.clients q is in ended q f.here (sym (bytes_same name q.1.name f.passes)) (stopped (w.stops q.1.name) (commit p (client_of p q.1.records) ms edits).records) e

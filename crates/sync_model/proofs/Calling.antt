@@ -3,6 +3,9 @@ use Rattle.std.proofs.Common.{◌≡◌, ◌≢◌, ◌⊎◌, inl, inr, ⊎_eli
 use Rattle.std.proofs.lemmas.Bool.Decides.{nat_tests}
 use Rattle.std.proofs.lemmas.Bool.{ltb-false}
 use Rattle.std.proofs.lemmas.List.{take-append-drop}
+use Rattle.sync_model.specs.Bytes.{Uuid}
+use Rattle.sync_model.proofs.Bytes.{bytes_same}
+use Rattle.std.specs.Prelude.{bytes_eq}
 use Rattle.sync_theory.specs.Grid.{rebase, tail}
 use Rattle.sync_theory.specs.Logs.{Made as LogMade, of_origin, Nodes}
 use Rattle.sync_theory.proofs.Logs.{length_snoc, origin_append}
@@ -48,10 +51,10 @@ module _ {I S : Type 0} (p : Profile I S) where
       go true r = (refl, refl)
       go false r = on r
 
-  module _ {Fits : S → Type 0} (law : Lawful p Fits) (s : Server I) (inj : List ℕ) where
+  module _ {Fits : S → Type 0} (law : Lawful p Fits) (s : Server I) (inj : List Uuid) where
     -- a client that is named
     record NamedAs (n : Nodes (Changeset I) S) (st : Client I S) : Type 0 where
-      id : ℕ
+      id : Uuid
       born : st.id ≡ Some id
       place : place_of id s.ids ≡ st.ident
       given : Given p n st.ident st
@@ -184,13 +187,13 @@ module _ {I S : Type 0} (p : Profile I S) where
       none_cuts : Cuts {A = ℕ} (refuse NotMine)
       none_cuts = still_cut cls n sim i nd e
 
-      born_cuts : {A : Type 0} (o : Option ℕ) (go : ℕ → ClientStep A) → ((id : ℕ) → o ≡ Some id → Cuts (go id)) → Cuts (if_born o go)
+      born_cuts : {A : Type 0} (o : Option Uuid) (go : Uuid → ClientStep A) → ((id : Uuid) → o ≡ Some id → Cuts (go id)) → Cuts (if_born o go)
       born_cuts None go h = still_cut cls n sim i nd e
       born_cuts (Some id) go h = h id refl
 
       -- a transaction
       pub committed : (ms : ℕ) (edits : List I) → Cuts (commit p st ms edits)
-      committed ms edits = born_cuts st.id (commit_born p st ms edits) (λ id h.
+      committed ms edits = born_cuts st.id (λ id. commit_born p st ms edits) (λ id h.
           if_cuts (not (p.is_small edits)) (refuse TooLarge) _ (still_cut cls n sim i nd e) (λ a.
           if_cuts (length st.made == p.full) (refuse NumbersFull) _ (still_cut cls n sim i nd e) (λ b.
           if_cuts (needs p edits && not st.second) (refuse (OldForm (first_need p edits))) _ (still_cut cls n sim i nd e) (λ d.
@@ -207,7 +210,7 @@ module _ {I S : Type 0} (p : Profile I S) where
       pub message_taken : (m : Message) → Tells p n s.ids cls m → Cuts (take_message p st m)
       message_taken m t = born_cuts st.id (take_born p st m) (λ id h. on m t id h)
         where
-          ident_taken : (id c : ℕ) → st.id ≡ Some id → place_of id s.ids ≡ c → c ≢ 0 → Cuts (take_ident st c)
+          ident_taken : (id : Uuid) (c : ℕ) → st.id ≡ Some id → place_of id s.ids ≡ c → c ≢ 0 → Cuts (take_ident st c)
           ident_taken id c born place given =
               if_named (st.ident == 0) (if_cuts (st.ident == c) (answers st.cursor) (refuse (IdentDiffers st.ident c)) (still_cut cls n sim i nd e) (λ z. still_cut cls n sim i nd e))
             where
@@ -222,12 +225,12 @@ module _ {I S : Type 0} (p : Profile I S) where
               if_named true d = one_cut cls n sim i nd e (Named c) (named p law s cls inj n sim i nd e c same_id given)
               if_named false d = d
 
-          on : (m : Message) → Tells p n s.ids cls m → (id : ℕ) → st.id ≡ Some id → Cuts (take_born p st m id)
+          on : (m : Message) → Tells p n s.ids cls m → (id : Uuid) → st.id ≡ Some id → Cuts (take_born p st m id)
           on (Bind u) t id h = none_cuts
           on (Upload c hs) t id h = none_cuts
           on (Ask c cursor settled) t id h = none_cuts
           on (Ask2 c cursor settled) t id h = none_cuts
-          on (Ident u c) t id h = then_cuts (u == id) (take_ident st c) (refuse NotMine) (λ b. ident_taken id c h (ap (λ x. place_of x s.ids) (sym (eqb-true u id b)) ∙ t.0) t.1) none_cuts
+          on (Ident u c) t id h = then_cuts (bytes_eq u id) (take_ident st c) (refuse NotMine) (λ b. ident_taken id c h (ap (λ x. place_of x s.ids) (sym (bytes_same u id b)) ∙ t.0) t.1) none_cuts
           on (Stored c number) t id h = if_cuts (c == st.ident) (answers st.cursor) (refuse NotMine) (still_cut cls n sim i nd e) (λ b. none_cuts)
           on (Refused c number code place) t id h = if_cuts (c == st.ident) (refuse (WasRefused number code)) (refuse NotMine) (still_cut cls n sim i nd e) (λ b. none_cuts)
           on (Download c from es) t id h =
@@ -254,10 +257,10 @@ module _ {I S : Type 0} (p : Profile I S) where
       pub message_declined : (m : Message) → Tells p n s.ids cls m → (why : ClientRefusal) → (take_message p st m).answer ≡ Err why → MayDecline why
       message_declined m t why h = at_id st.id refl h
         where
-          known : (id : ℕ) → st.id ≡ Some id → (was p law s cls inj n sim i nd e).id ≡ id
+          known : (id : Uuid) → st.id ≡ Some id → (was p law s cls inj n sim i nd e).id ≡ id
           known id born = let w = (was p law s cls inj n sim i nd e) in let b = w.born in cc
 
-          ident_declined : (id c : ℕ) → st.id ≡ Some id → place_of id s.ids ≡ c → c ≢ 0 → (take_ident st c).answer ≡ Err why → MayDecline why
+          ident_declined : (id : Uuid) (c : ℕ) → st.id ≡ Some id → place_of id s.ids ≡ c → c ≢ 0 → (take_ident st c).answer ≡ Err why → MayDecline why
           ident_declined id c born place given f =
               if_declined (st.ident == 0) (appends (Named c) st.cursor) _ why (λ b g. no_decline st.cursor why g)
               (λ b g. if_declined (st.ident == c) (answers st.cursor) (refuse (IdentDiffers st.ident c)) why (λ d k. no_decline st.cursor why k) (λ d k. absurd (differs b d)) g) f
@@ -302,17 +305,17 @@ module _ {I S : Type 0} (p : Profile I S) where
                   let nodes : nd ≡ o.nd = cc (here, e) in
                   ap (λ x. (client_of p x.records).second) nodes ∙ o.second
 
-          on : (m : Message) → Tells p n s.ids cls m → (id : ℕ) → st.id ≡ Some id → (take_born p st m id).answer ≡ Err why → MayDecline why
+          on : (m : Message) → Tells p n s.ids cls m → (id : Uuid) → st.id ≡ Some id → (take_born p st m id).answer ≡ Err why → MayDecline why
           on (Bind u) t id b f = decline NotMine why tt f
           on (Upload c hs) t id b f = decline NotMine why tt f
           on (Ask c cursor settled) t id b f = decline NotMine why tt f
           on (Ask2 c cursor settled) t id b f = decline NotMine why tt f
-          on (Ident u c) t id b f = if_declined (u == id) (take_ident st c) (refuse NotMine) why (λ x g. ident_declined id c b (ap (λ y. place_of y s.ids) (sym (eqb-true u id x)) ∙ t.0) t.1 g) (λ x g. decline NotMine why tt g) f
+          on (Ident u c) t id b f = if_declined (bytes_eq u id) (take_ident st c) (refuse NotMine) why (λ x g. ident_declined id c b (ap (λ y. place_of y s.ids) (sym (bytes_same u id x)) ∙ t.0) t.1 g) (λ x g. decline NotMine why tt g) f
           on (Stored c number) t id b f = if_declined (c == st.ident) (answers st.cursor) (refuse NotMine) why (λ x g. no_decline st.cursor why g) (λ x g. decline NotMine why tt g) f
           on (Refused c number code place) t id b f = if_declined (c == st.ident) (refuse (WasRefused number code)) (refuse NotMine) why (λ x g. decline (WasRefused number code) why tt g) (λ x g. decline NotMine why tt g) f
           on (Download c from es) t id b f = if_declined (c == st.ident) _ (refuse NotMine) why (λ x g. download_declined c from es t (eqb-true c st.ident x) g) (λ x g. decline NotMine why tt g) f
 
-          at_id : (o : Option ℕ) → st.id ≡ o → (if_born o (take_born p st m)).answer ≡ Err why → MayDecline why
+          at_id : (o : Option Uuid) → st.id ≡ o → (if_born o (take_born p st m)).answer ≡ Err why → MayDecline why
           at_id None o_is f = let w = (was p law s cls inj n sim i nd e).born in cc
           at_id (Some id) o_is f = on m t id o_is f
 
@@ -333,7 +336,7 @@ module _ {I S : Type 0} (p : Profile I S) where
       pub bind_tells : (m : Message) → (bind st).answer ≡ Ok m → Tells p n s.ids cls m
       bind_tells m h = on st.id refl h
         where
-          on : (o : Option ℕ) → st.id ≡ o → (if_born o (λ id. answers (Bind id))).answer ≡ Ok m → Tells p n s.ids cls m
+          on : (o : Option Uuid) → st.id ≡ o → (if_born o (λ id. answers (Bind id))).answer ≡ Ok m → Tells p n s.ids cls m
           on None is h = cc
           on (Some id) is h =
               let same : Bind id ≡ m = cc in
@@ -382,7 +385,7 @@ module _ {I S : Type 0} (p : Profile I S) where
           at_ident true is h = cc
           at_ident false is h = let ne : st.ident ≢ 0 = λ z. grind (arith, nat_tests) in then_ (named_as cls n sim i nd e ne) ne h
 
-          on : (o : Option ℕ) → (if_born o (λ id. if st.ident == 0 then refuse NotNamed else did)).answer ≡ Ok m → Tells p n s.ids cls m
+          on : (o : Option Uuid) → (if_born o (λ id. if st.ident == 0 then refuse NotNamed else did)).answer ≡ Ok m → Tells p n s.ids cls m
           on None h = cc
           on (Some id) h = at_ident (st.ident == 0) refl h
 

@@ -1,5 +1,6 @@
 -- The server appends an entry.
 use Rattle.std.proofs.Common.{◌≡◌, ◌≢◌, inl, inr, ⊎_elim, ℕ, suc, ◌≤◌, true, false, List, [], ◌∷◌, ◌++◌, Option, Some, refl, sym, ap, ◌∙◌, subst, subst₂, arith, append_assoc, append-nil, length, drop, le_refl}
+use Rattle.sync_model.specs.Bytes.{Uuid}
 use Rattle.sync_theory.specs.Grid.{Carried}
 use Rattle.sync_theory.specs.World.{put_at}
 use Rattle.sync_theory.specs.Logs.{Made as LogMade, Entry as LogEntry, made_at, of_origin, origin_at, Nodes, open_of, nodes_integrate}
@@ -19,8 +20,8 @@ module _ {I S : Type 0} (p : Profile I S) where
   abbrev pub with_entry : Server I → ℕ → LogMade (Changeset I) → Server I
   with_entry s c m = record s { log = s.log ++ record { origin = c; base = m.base; change = m.change } ∷ [] }
 
-  module _ (s : Server I) (cls : List Node) (inj : List ℕ) (n : Nodes (Changeset I) S) (sim : Sim p s cls inj n) (c : ℕ) (m : LogMade (Changeset I)) (x : Changeset I) (t : S) (stamp : SameStamp m.change x) (origin : m.change.origin ≡ c) (carried : Carried (cross_changesets p) (λ c k. made_at (of_origin c n.log) k) (λ k. origin_at n.log k) c m.base m.change (length n.log) x) (does : act_changeset p x n.objects ≡ Some t) where
-    abbrev us : List (Option ℕ)
+  module _ (s : Server I) (cls : List Node) (inj : List Uuid) (n : Nodes (Changeset I) S) (sim : Sim p s cls inj n) (c : ℕ) (m : LogMade (Changeset I)) (x : Changeset I) (t : S) (stamp : SameStamp m.change x) (origin : m.change.origin ≡ c) (carried : Carried (cross_changesets p) (λ c k. made_at (of_origin c n.log) k) (λ k. origin_at n.log k) c m.base m.change (length n.log) x) (does : act_changeset p x n.objects ≡ Some t) where
+    abbrev us : List (Option Uuid)
     us = uuids p cls
 
     abbrev e : LogEntry (Changeset I)
@@ -155,7 +156,7 @@ module _ {I S : Type 0} (p : Profile I S) where
         known = sim.known;
       }
         where
-          own_other : (i : ℕ) (nd : Node) (u : ℕ) → at cls i ≡ Some nd → uuid_of p nd ≡ Some u → place_of u s.ids ≢ 0 → place_of u s.ids ≢ c
+          own_other : (i : ℕ) (nd : Node) (u : Uuid) → at cls i ≡ Some nd → uuid_of p nd ≡ Some u → place_of u s.ids ≢ 0 → place_of u s.ids ≢ c
           own_other i nd u h b g is =
               let o = class_own s.ids us i u (at_map (uuid_of p) cls i nd h ∙ ap (λ y. Some y) b) g in
               let r = ap (class s.ids us) is in

@@ -1,5 +1,6 @@
 -- What holds of every world, said of its records.
 use Rattle.std.proofs.Common.{◌≡◌, ◌≢◌, ◌⊎◌, inl, inr, ⊎_elim, ℕ, suc, ◌<◌, ◌≤◌, Bool, true, false, ◌&&◌, not, List, [], ◌∷◌, ◌++◌, Option, Some, None, refl, sym, ap, ap₂, ◌∙◌, subst, arith, length, drop, take, map, ◌==◌, eqb-true, le_refl}
+use Rattle.sync_model.specs.Bytes.{Uuid}
 use Rattle.sync_theory.specs.Lists.{run, kept}
 use Rattle.sync_theory.specs.Grid.{history, pending, state_at}
 use Rattle.sync_theory.specs.World.{Good, ClientGood}
@@ -51,7 +52,7 @@ module _ {I S : Type 0} (p : Profile I S) {Fits : S → Type 0} (law : Lawful p 
   made_same : (c : ℕ) → made_of p w c ≡ n.mades c
   made_same c = go (owner p w.clients s.ids c) refl
     where
-      of_client : (q : ℕ × Node) → at w.clients q.0 ≡ Some q.1 → (o : Option ℕ) → (client_of p q.1.records).id ≡ o → ident_is s.ids c o ≡ true → map (as_log c) (client_of p q.1.records).made ≡ n.mades c
+      of_client : (q : ℕ × Node) → at w.clients q.0 ≡ Some q.1 → (o : Option Uuid) → (client_of p q.1.records).id ≡ o → ident_is s.ids c o ≡ true → map (as_log c) (client_of p q.1.records).made ≡ n.mades c
       of_client q here None o_is t = cc
       of_client q here (Some u) o_is t =
           let k = sim.clients q.0 q.1 here in
@@ -135,7 +136,7 @@ module _ {I S : Type 0} (p : Profile I S) {Fits : S → Type 0} (law : Lawful p 
   tooks_are k [] no_entries = refl
   tooks_are k (t ∷ ts) (an_entry lt is b) = ap₂ (λ x l. x ∷ l) is (tooks_are (suc k) ts b) ∙ ap (λ r. map (sent_of p) (kept r ++ entries_in p w (length ts) (suc k))) (sym (hist_is k lt))
 
-  named_facts : (i : ℕ) (nd : Node) (here : at w.clients i ≡ Some nd) (u : ℕ) (born : (client_of p nd.records).id ≡ Some u) → place_of u s.ids ≢ 0 → Given p n (place_of u s.ids) (client_of p nd.records) → Bears p n 0 (tooks_of nd.records) → length (tooks_of nd.records) ≡ (client_of p nd.records).cursor → NamedFacts p w nd
+  named_facts : (i : ℕ) (nd : Node) (here : at w.clients i ≡ Some nd) (u : Uuid) (born : (client_of p nd.records).id ≡ Some u) → place_of u s.ids ≢ 0 → Given p n (place_of u s.ids) (client_of p nd.records) → Bears p n 0 (tooks_of nd.records) → length (tooks_of nd.records) ≡ (client_of p nd.records).cursor → NamedFacts p w nd
   named_facts i nd here u born ne g tooks count = at_place
     where
       ident_is_ : ident_of p w nd ≡ place_of u s.ids

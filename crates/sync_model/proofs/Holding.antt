@@ -1,14 +1,16 @@
 -- Each event keeps what holds of a world.
-use Rattle.std.proofs.Common.{◌≡◌, ◌≢◌, inl, inr, ⊎_elim, ℕ, zero, suc, ◌*◌, Bool, true, false, ◌||◌, List, [], ◌∷◌, ◌++◌, Option, Some, None, Result, Ok, Err, refl, sym, ap, ◌∙◌, subst, arith, if◌then◌else◌, ◌==◌, length, take, nat_le}
-use Rattle.sync_theory.specs.World.{put_at, at_first}
+use Rattle.std.proofs.Common.{◌≡◌, ◌≢◌, inl, inr, ⊎_elim, ℕ, zero, suc, ◌*◌, Bool, true, false, ◌||◌, List, [], ◌∷◌, ◌++◌, Option, Some, None, Result, Ok, Err, refl, sym, ap, ◌∙◌, subst, arith, if◌then◌else◌, length, take, nat_le}
+use Rattle.sync_model.specs.Bytes.{Name, Uuid}
+use Rattle.sync_model.proofs.Bytes.{bytes_true}
+use Rattle.std.specs.Prelude.{bytes_eq}
+use Rattle.sync_theory.specs.World.{at_first}
 use Rattle.sync_theory.proofs.Logs.{none_rises}
-use Rattle.sync_theory.proofs.Server.{test_true}
 use Rattle.sync_theory.proofs.World.{same_or_not}
 use Rattle.sync_model.specs.Profile.{Profile, Lawful}
 use Rattle.sync_model.specs.Messages.{Message, Bind, Ident, Upload, Ask, Download, Refused, Stored, Ask2}
 use Rattle.sync_model.specs.Clients.{Client, ClientRecord, ClientRefusal, Born, ClientStep, client_of, commit, upgrade, bind, upload, ask, take as take_message}
 use Rattle.sync_model.specs.Servers.{Server, ServerRecord, ServerStep, server_of, after_server, after_all, place_of, serve}
-use Rattle.sync_model.specs.Worlds.{Stop, Node, World, Event, Joins, Edits, Binds, Uploads, Asks, Upgrades, Delivers, Restarts, Stops, Injects, Outcome, Words, says, Stopped, Messaged, at, put, seek, is_there, standing, stopped, empty_world, id_is, has_name, has_id, ident_is, is_own, server_name, messaged, message_words, made_words, took_words, upgrade_words, reply_words, client_moved, client_ends, client_called, client_calls, server_moved, server_ends, server_called, is_node, joins, delivers, named_by, names_own, injects, message_at, happens, world_after}
+use Rattle.sync_model.specs.Worlds.{arm, Stop, Node, World, Event, Joins, Edits, Binds, Uploads, Asks, Upgrades, Delivers, Restarts, Stops, Injects, Outcome, Words, says, Stopped, Messaged, at, put, seek, is_there, standing, stopped, empty_world, id_is, has_name, has_id, ident_is, is_own, server_name, messaged, message_words, made_words, took_words, upgrade_words, reply_words, client_moved, client_ends, client_called, client_calls, server_moved, server_ends, server_called, is_node, joins, delivers, named_by, names_own, injects, message_at, happens, world_after}
 use Rattle.sync_model.proofs.Lists.{class, at_snoc, at_of_map, place_old, place_new, seek_there, seek_found, seek_map, take_all}
 use Rattle.sync_model.proofs.Sim.{no_change, no_numbers, uuid_of, uuids, Tells, Inv, tells_lasts, inv_later}
 use Rattle.sync_model.proofs.Idents.{joined_sim, named_sim}
@@ -25,11 +27,11 @@ cut_by {R} (Some s) rs stand e = go (nat_le s.at (4 * length rs)) e
     go true e = (standing s, cc)
     go false e = cc
 
-not_named : (u : ℕ) (vs : List ℕ) → is_there (seek (λ v. u == v) vs) ≡ false → place_of u vs ≡ 0
+not_named : (u : Uuid) (vs : List Uuid) → is_there (seek (λ v. bytes_eq u v) vs) ≡ false → place_of u vs ≡ 0
 not_named u [] e = refl
-not_named u (v ∷ vs) e = go (u == v) (seek (λ v. u == v) vs) e (not_named u vs)
+not_named u (v ∷ vs) e = go (bytes_eq u v) (seek (λ v. bytes_eq u v) vs) e (not_named u vs)
   where
-    go : (b : Bool) (q : Option (ℕ × ℕ)) → is_there (if b then Some (0, v) else Rattle.sync_model.specs.Worlds.further q) ≡ false → (is_there q ≡ false → place_of u vs ≡ 0) → (if b then 1 else Rattle.sync_model.specs.Servers.one_on (place_of u vs)) ≡ 0
+    go : (b : Bool) (q : Option (ℕ × Uuid)) → is_there (if b then Some (0, v) else Rattle.sync_model.specs.Worlds.further q) ≡ false → (is_there q ≡ false → place_of u vs ≡ 0) → (if b then 1 else Rattle.sync_model.specs.Servers.one_on (place_of u vs)) ≡ 0
     go true q h ih = cc
     go false None h ih = ap Rattle.sync_model.specs.Servers.one_on (ih refl)
     go false (Some q) h ih = cc
@@ -47,7 +49,7 @@ module _ {I S : Type 0} (p : Profile I S) where
   abbrev pub Holds : World → Type 0
   Holds w = Inv p (server_of p w.server) w.clients w.messages w.injected
 
-  one_more_message : {s : Server I} {cls : List Node} {msgs : List Message} {inj : List ℕ} (h : Inv p s cls msgs inj) (m : Message) → Tells p h.n s.ids cls m → Inv p s cls (msgs ++ m ∷ []) inj
+  one_more_message : {s : Server I} {cls : List Node} {msgs : List Message} {inj : List Uuid} (h : Inv p s cls msgs inj) (m : Message) → Tells p h.n s.ids cls m → Inv p s cls (msgs ++ m ∷ []) inj
   one_more_message {s} {cls} {msgs} h m t = record {
     n = h.n;
     sim = h.sim;
@@ -85,14 +87,14 @@ module _ {I S : Type 0} (p : Profile I S) where
           on (Err r) t = moved did.records (whole did g)
       loud did g tells (Some stand) is = cut did g stand is
 
-    called_quiet : {A : Type 0} (w : World) (h : Holds w) (name : ℕ) (call : Client I S → ClientStep A) (words : World → Result A ClientRefusal → Outcome) → ((v : World) (a : Result A ClientRefusal) → (words v a).world ≡ v) → ((place : ℕ) (nd : Node) (e : at w.clients place ≡ Some nd) → Goes w h place nd e (call (client_of p nd.records))) → Holds (client_calls p w name call words).world
+    called_quiet : {A : Type 0} (w : World) (h : Holds w) (name : Name) (call : Client I S → ClientStep A) (words : World → Result A ClientRefusal → Outcome) → ((v : World) (a : Result A ClientRefusal) → (words v a).world ≡ v) → ((place : ℕ) (nd : Node) (e : at w.clients place ≡ Some nd) → Goes w h place nd e (call (client_of p nd.records))) → Holds (client_calls p w name call words).world
     called_quiet w h name call words same goes = on (seek (has_name name) w.clients) refl
       where
         on : (o : Option (ℕ × Node)) → seek (has_name name) w.clients ≡ o → Holds (client_called p w call words o).world
         on None is = h
         on (Some q) is = let f = seek_found (has_name name) w.clients q is in quiet w h q.0 q.1 f.here (call (client_of p q.1.records)) words same (goes q.0 q.1 f.here) (stopped (w.stops q.1.name) (call (client_of p q.1.records)).records) refl
 
-    called_loud : (w : World) (h : Holds w) (name : ℕ) (call : Client I S → ClientStep Message) → ((place : ℕ) (nd : Node) (e : at w.clients place ≡ Some nd) → Goes w h place nd e (call (client_of p nd.records))) → ((place : ℕ) (nd : Node) (e : at w.clients place ≡ Some nd) (m : Message) → (call (client_of p nd.records)).answer ≡ Ok m → Tells p h.n (server_of p w.server).ids w.clients m) → Holds (client_calls p w name call message_words).world
+    called_loud : (w : World) (h : Holds w) (name : Name) (call : Client I S → ClientStep Message) → ((place : ℕ) (nd : Node) (e : at w.clients place ≡ Some nd) → Goes w h place nd e (call (client_of p nd.records))) → ((place : ℕ) (nd : Node) (e : at w.clients place ≡ Some nd) (m : Message) → (call (client_of p nd.records)).answer ≡ Ok m → Tells p h.n (server_of p w.server).ids w.clients m) → Holds (client_calls p w name call message_words).world
     called_loud w h name call goes tells = on (seek (has_name name) w.clients) refl
       where
         on : (o : Option (ℕ × Node)) → seek (has_name name) w.clients ≡ o → Holds (client_called p w call message_words o).world
@@ -130,27 +132,27 @@ module _ {I S : Type 0} (p : Profile I S) where
     comes_told w h (Refused c number code place) t = tt
     comes_told w h (Stored c number) t = tt
 
-    joins_holds : (w : World) → Holds w → (name id : ℕ) → Holds (joins p w name id).world
-    joins_holds w h name id = go (is_node w name) (is_there (seek (has_id p id) w.clients) || is_there (seek (λ u. id == u) w.injected)) refl
+    joins_holds : (w : World) → Holds w → (name id : Uuid) → Holds (joins p w name id).world
+    joins_holds w h name id = go (is_node w name) (is_there (seek (has_id p id) w.clients) || is_there (seek (λ u. bytes_eq id u) w.injected)) refl
       where
-        free : (is_there (seek (has_id p id) w.clients) || is_there (seek (λ u. id == u) w.injected)) ≡ false → (i : ℕ) → at (uuids p w.clients) i ≡ Some (Some id) → ⊥
+        free : (is_there (seek (has_id p id) w.clients) || is_there (seek (λ u. bytes_eq id u) w.injected)) ≡ false → (i : ℕ) → at (uuids p w.clients) i ≡ Some (Some id) → ⊥
         free f i e =
             let nd = at_of_map (uuid_of p) w.clients i (Some id) e in
-            let there = seek_there (has_id p id) w.clients i nd.0 nd.1 (ap (id_is id) nd.2 ∙ test_true id id refl) in
-            let none = (neither (is_there (seek (has_id p id) w.clients)) (is_there (seek (λ u. id == u) w.injected)) f).0 in
+            let there = seek_there (has_id p id) w.clients i nd.0 nd.1 (ap (id_is id) nd.2 ∙ bytes_true id id refl) in
+            let none = (neither (is_there (seek (has_id p id) w.clients)) (is_there (seek (λ u. bytes_eq id u) w.injected)) f).0 in
             cc (there, none)
 
-        go : (a b : Bool) → (is_there (seek (has_id p id) w.clients) || is_there (seek (λ u. id == u) w.injected)) ≡ b → Holds (if a then says w Rattle.sync_model.specs.Worlds.NameTaken else (if b then says w Rattle.sync_model.specs.Worlds.UuidTaken else says (record w { clients = w.clients ++ record { name = name; records = Born id ∷ [] } ∷ [] }) (Rattle.sync_model.specs.Worlds.Joined name))).world
+        go : (a b : Bool) → (is_there (seek (has_id p id) w.clients) || is_there (seek (λ u. bytes_eq id u) w.injected)) ≡ b → Holds (if a then says w Rattle.sync_model.specs.Worlds.NameTaken else (if b then says w Rattle.sync_model.specs.Worlds.UuidTaken else says (record w { clients = w.clients ++ record { name = name; records = Born id ∷ [] } ∷ [] }) (Rattle.sync_model.specs.Worlds.Joined name))).world
         go true b b_is = h
         go false true b_is = h
         go false false b_is =
-            let new = not_named id w.injected (neither (is_there (seek (has_id p id) w.clients)) (is_there (seek (λ u. id == u) w.injected)) b_is).1 in
+            let new = not_named id w.injected (neither (is_there (seek (has_id p id) w.clients)) (is_there (seek (λ u. bytes_eq id u) w.injected)) b_is).1 in
             let j = joined_sim p (server_of p w.server) w.clients w.injected h.n h.sim name id (free b_is) new in
             inv_later p h h.n j.0 j.1
 
-    delivers_holds : (w : World) (h : Holds w) (to : ℕ) (m : Option Message) → ((q : Message) → m ≡ Some q → Tells p h.n (server_of p w.server).ids w.clients q) → Holds (delivers p w to m).world
+    delivers_holds : (w : World) (h : Holds w) (to : Name) (m : Option Message) → ((q : Message) → m ≡ Some q → Tells p h.n (server_of p w.server).ids w.clients q) → Holds (delivers p w to m).world
     delivers_holds w h to None t = h
-    delivers_holds w h to (Some m) t = go (to == server_name)
+    delivers_holds w h to (Some m) t = go (bytes_eq to server_name)
       where
         go : (b : Bool) → Holds (if b then server_called p w m else client_calls p w to (λ c. take_message p c m) took_words).world
         go true = server_holds w h m (comes_told w h m (t m refl))
@@ -170,7 +172,7 @@ module _ {I S : Type 0} (p : Profile I S) where
         both : {b : Bool} → b ≡ true → b ≡ false → ⊥
         both e f = cc
 
-        named : (u : ℕ) → place_of u (w.injected ++ u ∷ []) ≢ 0
+        named : (u : Uuid) → place_of u (w.injected ++ u ∷ []) ≢ 0
         named u z = ⊎_elim (λ none. let f = place_new u w.injected none in absurd (omega arith)) (λ some. some (sym (place_old u w.injected (u ∷ []) some) ∙ z)) (same_or_not (place_of u w.injected) 0)
 
         comes : (m : Message) → names_own p w m ≡ false → Holds (server_called p (named_by w m) m).world
@@ -214,7 +216,7 @@ module _ {I S : Type 0} (p : Profile I S) where
     happens_holds w h (Restarts node) = h
     happens_holds w h (Stops node k leaves) = go (is_node w node)
       where
-        go : (b : Bool) → Holds (if b then says (record w { stops = put_at node (Some (record { at = k; leaves = leaves })) w.stops }) Rattle.sync_model.specs.Worlds.Armed else says w Rattle.sync_model.specs.Worlds.NoNode).world
+        go : (b : Bool) → Holds (if b then says (record w { stops = arm node (Some (record { at = k; leaves = leaves })) w.stops }) Rattle.sync_model.specs.Worlds.Armed else says w Rattle.sync_model.specs.Worlds.NoNode).world
         go true = h
         go false = h
     happens_holds w h (Injects m) = injects_holds w h m

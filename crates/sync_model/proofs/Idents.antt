@@ -1,5 +1,7 @@
 -- An ident is given, a client joins, an injected Bind names a uuid.
 use Rattle.std.proofs.Common.{◌≡◌, ◌≢◌, ◌⊎◌, inl, inr, ⊎_elim, ℕ, suc, ◌≤◌, Bool, true, false, List, [], ◌∷◌, ◌++◌, Option, Some, refl, sym, ap, ◌∙◌, subst, subst₂, arith, append-nil, length, take, map, le_refl}
+use Rattle.sync_model.specs.Bytes.{Name, Uuid}
+use Rattle.sync_model.proofs.Bytes.{one_or_other}
 use Rattle.sync_theory.specs.Lists.{run}
 use Rattle.sync_theory.specs.World.{Reached}
 use Rattle.sync_theory.specs.Logs.{Made as LogMade, of_origin, Nodes, world_of}
@@ -27,11 +29,11 @@ some_is : {A : Type 0} (a b : A) → Some a ≡ Some b → a ≡ b
 some_is a b e = cc
 
 module _ {I S : Type 0} (p : Profile I S) where
-  abbrev pub with_id : Server I → ℕ → Server I
+  abbrev pub with_id : Server I → Uuid → Server I
   with_id s v = record s { ids = s.ids ++ v ∷ [] }
 
-  module _ (s : Server I) (cls : List Node) (inj : List ℕ) (n : Nodes (Changeset I) S) (sim : Sim p s cls inj n) (v : ℕ) (new : place_of v s.ids ≡ 0) where
-    abbrev us : List (Option ℕ)
+  module _ (s : Server I) (cls : List Node) (inj : List Uuid) (n : Nodes (Changeset I) S) (sim : Sim p s cls inj n) (v : Uuid) (new : place_of v s.ids ≡ 0) where
+    abbrev us : List (Option Uuid)
     us = uuids p cls
 
     abbrev c : ℕ
@@ -71,7 +73,7 @@ module _ {I S : Type 0} (p : Profile I S) where
             let at_c : place_of w.id (s.ids ++ v ∷ []) ≡ c = ap (λ x. place_of x (s.ids ++ v ∷ [])) same ∙ here in
             inr (λ z. let y = sym at_c ∙ z in absurd (omega arith), subst (λ d. Given p m d (client_of p rs)) (sym at_c) (named (w.born ∙ ap (λ x. Some x) same))))
             (λ ne. inl (place_not w.id v s.ids ne h.0, h.1))
-            (same_or_not w.id v))
+            (one_or_other w.id v))
             (λ h.
             let old = place_old w.id s.ids (v ∷ []) h.0 in
             let l = place_within w.id s.ids in
@@ -105,7 +107,7 @@ module _ {I S : Type 0} (p : Profile I S) where
         known = λ u g. ⊎_elim
             (λ is. subst (λ x. ((i : ℕ) × (at us i ≡ Some (Some x))) ⊎ (place_of x inj ≢ 0)) (sym is) known)
             (λ ne. ⊎_elim (λ z. absurd (g (place_not u v s.ids ne z))) (λ z. sim.known u z) (same_or_not (place_of u s.ids) 0))
-            (same_or_not u v);
+            (one_or_other u v);
       }
 
       later_named : Later p n s.ids cls m (s.ids ++ v ∷ []) cls
@@ -187,7 +189,7 @@ module _ {I S : Type 0} (p : Profile I S) where
 
   -- ---- a client joins
 
-  pub joined_sim : (s : Server I) (cls : List Node) (inj : List ℕ) (n : Nodes (Changeset I) S) → Sim p s cls inj n → (name v : ℕ) → ((i : ℕ) → at (uuids p cls) i ≡ Some (Some v) → ⊥) → place_of v inj ≡ 0 → Sim p s (cls ++ record { name = name; records = Born v ∷ [] } ∷ []) inj n × Later p n s.ids cls n s.ids (cls ++ record { name = name; records = Born v ∷ [] } ∷ [])
+  pub joined_sim : (s : Server I) (cls : List Node) (inj : List Uuid) (n : Nodes (Changeset I) S) → Sim p s cls inj n → (name : Name) (v : Uuid) → ((i : ℕ) → at (uuids p cls) i ≡ Some (Some v) → ⊥) → place_of v inj ≡ 0 → Sim p s (cls ++ record { name = name; records = Born v ∷ [] } ∷ []) inj n × Later p n s.ids cls n s.ids (cls ++ record { name = name; records = Born v ∷ [] } ∷ [])
   joined_sim s cls inj n sim name v none not_injected = (
     record {
       log_is = sim.log_is;
@@ -223,7 +225,7 @@ module _ {I S : Type 0} (p : Profile I S) where
       us_are : uuids p (cls ++ record { name = name; records = Born v ∷ [] } ∷ []) ≡ uuids p cls ++ Some v ∷ []
       us_are = map_snoc (uuid_of p) cls (record { name = name; records = Born v ∷ [] })
 
-      still : (i u : ℕ) → at (uuids p cls) i ≡ Some (Some u) → at (uuids p (cls ++ record { name = name; records = Born v ∷ [] } ∷ [])) i ≡ Some (Some u)
+      still : (i : ℕ) (u : Uuid) → at (uuids p cls) i ≡ Some (Some u) → at (uuids p (cls ++ record { name = name; records = Born v ∷ [] } ∷ [])) i ≡ Some (Some u)
       still i u h = subst (λ us. at us i ≡ Some (Some u)) (sym us_are) (at_snoc_old (uuids p cls) (Some v ∷ []) i (Some u) h)
 
       unknown : place_of v s.ids ≡ 0
@@ -238,14 +240,14 @@ module _ {I S : Type 0} (p : Profile I S) where
         tooks_count = refl;
       }
 
-      one : (i j u : ℕ) → (at (uuids p cls) i ≡ Some (Some u)) ⊎ ((i ≡ length (uuids p cls)) × (Some v ≡ Some u)) → (at (uuids p cls) j ≡ Some (Some u)) ⊎ ((j ≡ length (uuids p cls)) × (Some v ≡ Some u)) → i ≡ j
+      one : (i j : ℕ) (u : Uuid) → (at (uuids p cls) i ≡ Some (Some u)) ⊎ ((i ≡ length (uuids p cls)) × (Some v ≡ Some u)) → (at (uuids p cls) j ≡ Some (Some u)) ⊎ ((j ≡ length (uuids p cls)) × (Some v ≡ Some u)) → i ≡ j
       one i j u (inl a) (inl b) = sim.distinct i j u a b
       one i j u (inl a) (inr b) = absurd (none i (a ∙ ap (λ x. Some x) (sym b.1)))
       one i j u (inr a) (inl b) = absurd (none j (b ∙ ap (λ x. Some x) (sym a.1)))
       one i j u (inr a) (inr b) = a.0 ∙ sym b.0
 
   -- an injected Bind names a uuid
-  pub named_sim : (s : Server I) (cls : List Node) (inj more : List ℕ) (n : Nodes (Changeset I) S) → Sim p s cls inj n → Sim p s cls (inj ++ more) n
+  pub named_sim : (s : Server I) (cls : List Node) (inj more : List Uuid) (n : Nodes (Changeset I) S) → Sim p s cls inj n → Sim p s cls (inj ++ more) n
   named_sim s cls inj more n sim = record {
     log_is = sim.log_is;
     reached = sim.reached;
@@ -264,7 +266,7 @@ module _ {I S : Type 0} (p : Profile I S) where
   }
 
   -- the server's file takes form 2
-  pub form_sim : (s : Server I) (cls : List Node) (inj : List ℕ) (n : Nodes (Changeset I) S) → Sim p s cls inj n → Sim p (record s { second = true }) cls inj n
+  pub form_sim : (s : Server I) (cls : List Node) (inj : List Uuid) (n : Nodes (Changeset I) S) → Sim p s cls inj n → Sim p (record s { second = true }) cls inj n
   form_sim s cls inj n sim = record {
     log_is = sim.log_is;
     reached = sim.reached;

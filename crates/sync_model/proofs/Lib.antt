@@ -1,4 +1,5 @@
-pub mod Rows
+pub mod Bytes
+mod Examples
 pub mod Laws
 pub mod Lists
 pub mod Moves

@@ -2,6 +2,8 @@
 use Rattle.std.proofs.Common.{◌≡◌, ◌≢◌, ℕ, zero, suc, ◌+◌, ◌-◌, ◌<◌, Bool, true, false, ◌&&◌, not, List, [], ◌∷◌, ◌++◌, Option, Some, None, Result, Ok, Err, refl, sym, ap, ap₂, ◌∙◌, subst, arith, if◌then◌else◌, ◌==◌, length, drop, take, nat_le, nat_lt, eqb-true}
 use Rattle.std.proofs.lemmas.Bool.Decides.{nat_tests}
 use Rattle.std.proofs.lemmas.Bool.{ltb-false}
+use Rattle.sync_model.specs.Bytes.{Uuid}
+use Rattle.std.specs.Prelude.{bytes_eq}
 use Rattle.sync_theory.proofs.Server.{test_true, test_false}
 use Rattle.sync_theory.specs.Changesets.{Changeset}
 use Rattle.sync_model.specs.Profile.{Profile, Stuck, apply_all, needs, first_need, Lawful}
@@ -49,7 +51,7 @@ module _ {I S : Type 0} (p : Profile I S) where
     one : (r : ClientRecord) → client_admits p c r ≡ true → client_opens p c (r ∷ []) ≡ true
     one r e = and_both (client_admits p c r) true e refl
 
-    born_good : {A : Type 0} (o : Option ℕ) (go : ℕ → ClientStep A) → ((id : ℕ) → o ≡ Some id → client_opens p c (go id).records ≡ true) → client_opens p c (if_born o go).records ≡ true
+    born_good : {A : Type 0} (o : Option Uuid) (go : Uuid → ClientStep A) → ((id : Uuid) → o ≡ Some id → client_opens p c (go id).records ≡ true) → client_opens p c (if_born o go).records ≡ true
     born_good None go f = refl
     born_good (Some id) go f = f id refl
 
@@ -58,11 +60,11 @@ module _ {I S : Type 0} (p : Profile I S) where
     unless false why y f = f refl
 
     pub commit_opens : (ms : ℕ) (edits : List I) → client_opens p c (commit p c ms edits).records ≡ true
-    commit_opens ms edits = born_good c.id (commit_born p c ms edits) (λ id is.
+    commit_opens ms edits = born_good c.id (λ id. commit_born p c ms edits) (λ id is.
         unless (not (p.is_small edits)) TooLarge _ (λ a. unless (length c.made == p.full) NumbersFull _ (λ b. unless (needs p edits && not c.second) (OldForm (first_need p edits)) _ (λ old.
         on is old (apply_all p edits c.objects) refl))))
       where
-        on : {id : ℕ} → c.id ≡ Some id → (needs p edits && not c.second) ≡ false → (r : Result S (ℕ × ℕ)) → apply_all p edits c.objects ≡ r → client_opens p c (commit_applied (suc (length c.made)) (Made (suc (length c.made)) ms (p.spell edits)) r).records ≡ true
+        on : {id : Uuid} → c.id ≡ Some id → (needs p edits && not c.second) ≡ false → (r : Result S (ℕ × ℕ)) → apply_all p edits c.objects ≡ r → client_opens p c (commit_applied (suc (length c.made)) (Made (suc (length c.made)) ms (p.spell edits)) r).records ≡ true
         on is old (Ok t) r_is = one (Made (suc (length c.made)) ms (p.spell edits))
             (and_both (is_there c.id) _ (ap is_there is)
             (and_both (suc (length c.made) == suc (length c.made)) _ (test_true (suc (length c.made)) (suc (length c.made)) refl)
@@ -72,7 +74,7 @@ module _ {I S : Type 0} (p : Profile I S) where
     pub upgrade_opens : client_opens p c (upgrade c).records ≡ true
     upgrade_opens = born_good c.id _ (λ id is. go is c.second refl)
       where
-        go : {id : ℕ} → c.id ≡ Some id → (b : Bool) → c.second ≡ b → client_opens p c (if b then answers false else appends Form true).records ≡ true
+        go : {id : Uuid} → c.id ≡ Some id → (b : Bool) → c.second ≡ b → client_opens p c (if b then answers false else appends Form true).records ≡ true
         go is true e = refl
         go is false e = one Form (and_both (is_there c.id) (not c.second) (ap is_there is) (not_false c.second e))
 
@@ -119,7 +121,7 @@ module _ {I S : Type 0} (p : Profile I S) where
   pub take_opens : (c : Client I S) (m : Message) → IsMessage m → client_opens p c (take_message p c m).records ≡ true
   take_opens c m ok = at_id c.id refl
     where
-      ident_opens : {id : ℕ} (ident : ℕ) → c.id ≡ Some id → ident ≢ 0 → client_opens p c (take_ident c ident).records ≡ true
+      ident_opens : {id : Uuid} (ident : ℕ) → c.id ≡ Some id → ident ≢ 0 → client_opens p c (take_ident c ident).records ≡ true
       ident_opens ident is ne = go (c.ident == 0) refl (c.ident == ident)
         where
           go : (a : Bool) → (c.ident == 0) ≡ a → (b : Bool) → client_opens p c (if a then appends (Named ident) c.cursor else (if b then answers c.cursor else refuse (IdentDiffers c.ident ident))).records ≡ true
@@ -140,17 +142,17 @@ module _ {I S : Type 0} (p : Profile I S) where
       if_opens true x why f = f refl
       if_opens false x why f = refl
 
-      on : {id : ℕ} → c.id ≡ Some id → (m : Message) → IsMessage m → client_opens p c (take_born p c m id).records ≡ true
+      on : {id : Uuid} → c.id ≡ Some id → (m : Message) → IsMessage m → client_opens p c (take_born p c m id).records ≡ true
       on is (Bind u) ok = refl
       on is (Upload k hs) ok = refl
       on is (Ask k cursor settled) ok = refl
       on is (Ask2 k cursor settled) ok = refl
-      on {id} is (Ident u k) ok = if_opens (u == id) (take_ident c k) NotMine (λ b. ident_opens k is ok)
+      on {id} is (Ident u k) ok = if_opens (bytes_eq u id) (take_ident c k) NotMine (λ b. ident_opens k is ok)
       on is (Stored k number) ok = if_opens (k == c.ident) (answers c.cursor) NotMine (λ b. refl)
       on is (Refused k number code place) ok = if_opens (k == c.ident) (refuse (WasRefused number code)) NotMine (λ b. refl)
       on is (Download k from es) ok = if_opens (k == c.ident) _ NotMine (λ b. entries_ok from es (λ z. ok.0 (eqb-true k c.ident b ∙ z)) ok.1)
 
-      at_id : (o : Option ℕ) → c.id ≡ o → client_opens p c (if_born o (take_born p c m)).records ≡ true
+      at_id : (o : Option Uuid) → c.id ≡ o → client_opens p c (if_born o (take_born p c m)).records ≡ true
       at_id None is = refl
       at_id (Some id) is = on is m ok
 

@@ -1,5 +1,6 @@
 -- A client appends a record.
 use Rattle.std.proofs.Common.{◌≡◌, ◌≢◌, ◌⊎◌, inl, inr, ⊎_elim, ℕ, zero, suc, ◌+◌, ◌<◌, ◌≤◌, Bool, true, false, List, [], ◌∷◌, ◌++◌, Option, Some, None, Result, Ok, Err, refl, sym, ap, ap₂, ◌∙◌, subst, arith, append_assoc, append-nil, if◌then◌else◌, ◌==◌, length, take, map, length-append, le_refl}
+use Rattle.sync_model.specs.Bytes.{Uuid}
 use Rattle.sync_theory.specs.Lists.{run}
 use Rattle.sync_theory.specs.Grid.{rebase, tail}
 use Rattle.sync_theory.specs.World.{Good}
@@ -85,7 +86,7 @@ module _ {I S : Type 0} (p : Profile I S) where
   bears_snoc n j k (t ∷ ts) e (an_entry a b r) h l is = an_entry a b (bears_snoc n (suc j) k ts e r (omega arith) l is)
 
   -- a client by its state
-  pub client_is : (n : Nodes (Changeset I) S) (ids : List ℕ) (rs : List ClientRecord) (st : Client I S) (id : ℕ) → client_of p rs ≡ st → st.id ≡ Some id → ((place_of id ids ≡ 0) × Fresh p st) ⊎ ((place_of id ids ≢ 0) × Given p n (place_of id ids) st) → Bears p n 0 (tooks_of rs) → length (tooks_of rs) ≡ st.cursor → ClientIs p n ids rs
+  pub client_is : (n : Nodes (Changeset I) S) (ids : List Uuid) (rs : List ClientRecord) (st : Client I S) (id : Uuid) → client_of p rs ≡ st → st.id ≡ Some id → ((place_of id ids ≡ 0) × Fresh p st) ⊎ ((place_of id ids ≢ 0) × Given p n (place_of id ids) st) → Bears p n 0 (tooks_of rs) → length (tooks_of rs) ≡ st.cursor → ClientIs p n ids rs
   client_is n ids rs st id e born is tooks count = record {
     id = id;
     born = ap (λ c. c.id) e ∙ born;
@@ -109,16 +110,16 @@ module _ {I S : Type 0} (p : Profile I S) where
       go false r = on r
   second_stays c Form h = refl
 
-  pub record Next (s : Server I) (cls : List Node) (inj : List ℕ) (n : Nodes (Changeset I) S) (i : ℕ) (nd2 : Node) : Type 0 where
+  pub record Next (s : Server I) (cls : List Node) (inj : List Uuid) (n : Nodes (Changeset I) S) (i : ℕ) (nd2 : Node) : Type 0 where
     pub m : Nodes (Changeset I) S
     pub sim : Sim p s (put cls i nd2) inj m
     pub later : Later p n s.ids cls m s.ids (put cls i nd2)
 
   -- what holds of the abstract world
-  pub good_of : {Fits : S → Type 0} (law : Lawful p Fits) (s : Server I) (cls : List Node) (inj : List ℕ) (n : Nodes (Changeset I) S) → Sim p s cls inj n → Good (class s.ids (uuids p cls)) (act_changeset p) p.empty (cross_changesets p) (world_of n)
+  pub good_of : {Fits : S → Type 0} (law : Lawful p Fits) (s : Server I) (cls : List Node) (inj : List Uuid) (n : Nodes (Changeset I) S) → Sim p s cls inj n → Good (class s.ids (uuids p cls)) (act_changeset p) p.empty (cross_changesets p) (world_of n)
   good_of law s cls inj n sim = reached_good (class s.ids (uuids p cls)) (act_changeset p) p.empty (cross_changesets p) (sets_law p law) {any = no_change} (sim.reached (class s.ids (uuids p cls)) (λ c g h. refl))
 
-  module _ {Fits : S → Type 0} (law : Lawful p Fits) (s : Server I) (cls : List Node) (inj : List ℕ) (n : Nodes (Changeset I) S) (sim : Sim p s cls inj n) (i : ℕ) (nd : Node) (e : at cls i ≡ Some nd) where
+  module _ {Fits : S → Type 0} (law : Lawful p Fits) (s : Server I) (cls : List Node) (inj : List Uuid) (n : Nodes (Changeset I) S) (sim : Sim p s cls inj n) (i : ℕ) (nd : Node) (e : at cls i ≡ Some nd) where
     abbrev st : Client I S
     st = client_of p nd.records
 

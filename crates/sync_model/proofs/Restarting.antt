@@ -1,6 +1,7 @@
 -- In every world that events make, opening accepts each node's records: so a restart never fails.
 use Rattle.std.proofs.Common.{◌≡◌, ◌≢◌, inl, ⊎_elim, ℕ, zero, suc, ◌≤◌, Bool, true, false, ◌&&◌, ◌||◌, not, List, [], ◌∷◌, ◌++◌, Option, Some, None, Result, Ok, Err, refl, sym, ap, ◌∙◌, subst, arith, if◌then◌else◌, ◌==◌, length, take}
-use Rattle.sync_theory.specs.World.{put_at}
+use Rattle.sync_model.specs.Bytes.{Name, Uuid}
+use Rattle.std.specs.Prelude.{bytes_eq}
 use Rattle.sync_theory.specs.Logs.{Made as LogMade, Entry as LogEntry, of_origin}
 use Rattle.sync_theory.proofs.Logs.{length_snoc}
 use Rattle.sync_theory.proofs.Server.{test_true, if_so}
@@ -9,7 +10,7 @@ use Rattle.sync_model.specs.Profile.{Profile, Lawful}
 use Rattle.sync_model.specs.Messages.{Change, Sent, Message, Bind, Ident, Upload, Ask, Download, Refused, Stored, Ask2}
 use Rattle.sync_model.specs.Clients.{Client, ClientRecord, ClientRefusal, Born, Step, ClientStep, no_client, client_of, after_records, commit, upgrade, bind, upload, ask, if_born, if_named, answers, refuse, NotNamed, take as take_message}
 use Rattle.sync_model.specs.Servers.{Server, ServerRecord, Entry, ServerStep, ServerRefusal, no_server, server_of, after_server, after_all, sent_of, serve, merge, is_given, count, last_base}
-use Rattle.sync_model.specs.Worlds.{Stop, Node, World, Event, Joins, Edits, Binds, Uploads, Asks, Upgrades, Delivers, Restarts, Stops, Injects, Outcome, says, at, put, seek, is_there, stopped, has_name, has_id, server_name, message_words, made_words, took_words, upgrade_words, client_moved, client_ends, client_called, client_calls, server_ends, server_called, is_node, joins, delivers, named_by, names_own, injects, message_at, happens, empty_world, world_after}
+use Rattle.sync_model.specs.Worlds.{arm, Stop, Node, World, Event, Joins, Edits, Binds, Uploads, Asks, Upgrades, Delivers, Restarts, Stops, Injects, Outcome, says, at, put, seek, is_there, stopped, has_name, has_id, server_name, message_words, made_words, took_words, upgrade_words, client_moved, client_ends, client_called, client_calls, server_ends, server_called, is_node, joins, delivers, named_by, names_own, injects, message_at, happens, empty_world, world_after}
 use Rattle.sync_model.specs.Files.{FilesOpen, is_fine, client_opens, server_admits, server_opens, is_second}
 use Rattle.sync_model.proofs.Lists.{at_put, at_put_other, at_snoc, at_there, seek_found, take_all}
 use Rattle.sync_model.proofs.Sim.{Bears, no_entries, an_entry, Sim, Tells}
@@ -124,7 +125,7 @@ module _ {I S : Type 0} (p : Profile I S) where
         let c = cut_by (w.stops nd.name) did.records stand is in
         subst (λ l. FilesOpen p (client_moved w place nd l)) c.1 (moved_open place nd e (take c.0 did.records) (client_opens_cut p c.0 (client_of p nd.records) did.records opens))
 
-    calls_open : {A : Type 0} (name : ℕ) (call : Client I S → ClientStep A) (words : World → Result A ClientRefusal → Outcome) → ((v : World) (a : Result A ClientRefusal) → FilesOpen p v → FilesOpen p (words v a).world) → ((c : Client I S) → client_opens p c (call c).records ≡ true) → FilesOpen p (client_calls p w name call words).world
+    calls_open : {A : Type 0} (name : Name) (call : Client I S → ClientStep A) (words : World → Result A ClientRefusal → Outcome) → ((v : World) (a : Result A ClientRefusal) → FilesOpen p v → FilesOpen p (words v a).world) → ((c : Client I S) → client_opens p c (call c).records ≡ true) → FilesOpen p (client_calls p w name call words).world
     calls_open name call words keeps opens = on (seek (has_name name) w.clients) refl
       where
         on : (o : Option (ℕ × Node)) → seek (has_name name) w.clients ≡ o → FilesOpen p (client_called p w call words o).world
@@ -165,20 +166,20 @@ module _ {I S : Type 0} (p : Profile I S) where
   bind_opens : (c : Client I S) → client_opens p c (bind c).records ≡ true
   bind_opens c = on c.id
     where
-      on : (o : Option ℕ) → client_opens p c (if_born o (λ id. answers (Bind id))).records ≡ true
+      on : (o : Option Uuid) → client_opens p c (if_born o (λ id. answers (Bind id))).records ≡ true
       on None = refl
       on (Some id) = refl
 
   named_opens : (c : Client I S) (m : Message) → client_opens p c (if_named c (answers m)).records ≡ true
   named_opens c m = on c.id (c.ident == 0)
     where
-      on : (o : Option ℕ) (b : Bool) → client_opens p c (if_born o (λ id. if b then refuse NotNamed else answers m)).records ≡ true
+      on : (o : Option Uuid) (b : Bool) → client_opens p c (if_born o (λ id. if b then refuse NotNamed else answers m)).records ≡ true
       on None b = refl
       on (Some id) true = refl
       on (Some id) false = refl
 
   event_opens : {Fits : S → Type 0} → Lawful p Fits → (w : World) → Holds p w → FilesOpen p w → (e : Event I) → FilesOpen p (happens p w e).world
-  event_opens law w h f (Joins name id) = go (is_node w name) (is_there (seek (has_id p id) w.clients) || is_there (seek (λ u. id == u) w.injected))
+  event_opens law w h f (Joins name id) = go (is_node w name) (is_there (seek (has_id p id) w.clients) || is_there (seek (λ u. bytes_eq id u) w.injected))
     where
       go : (a b : Bool) → FilesOpen p (if a then says w Rattle.sync_model.specs.Worlds.NameTaken else (if b then says w Rattle.sync_model.specs.Worlds.UuidTaken else says (record w { clients = w.clients ++ record { name = name; records = Born id ∷ [] } ∷ [] }) (Rattle.sync_model.specs.Worlds.Joined name))).world
       go true b = f
@@ -200,7 +201,7 @@ module _ {I S : Type 0} (p : Profile I S) where
 
       some : (o : Option Message) → ((m : Message) → o ≡ Some m → IsMessage p m) → FilesOpen p (delivers p w to o).world
       some None t = f
-      some (Some m) t = comes (to == server_name) m (t m refl)
+      some (Some m) t = comes (bytes_eq to server_name) m (t m refl)
 
       none : {m : Message} → None ≡ Some m → ⊥
       none e = cc
@@ -212,7 +213,7 @@ module _ {I S : Type 0} (p : Profile I S) where
   event_opens law w h f (Restarts node) = f
   event_opens law w h f (Stops node k leaves) = go (is_node w node)
     where
-      go : (b : Bool) → FilesOpen p (if b then says (record w { stops = put_at node (Some (record { at = k; leaves = leaves })) w.stops }) Rattle.sync_model.specs.Worlds.Armed else says w Rattle.sync_model.specs.Worlds.NoNode).world
+      go : (b : Bool) → FilesOpen p (if b then says (record w { stops = arm node (Some (record { at = k; leaves = leaves })) w.stops }) Rattle.sync_model.specs.Worlds.Armed else says w Rattle.sync_model.specs.Worlds.NoNode).world
       go true = record { clients = f.clients; server = f.server }
       go false = f
   event_opens law w h f (Injects None) = f

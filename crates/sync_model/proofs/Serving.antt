@@ -2,6 +2,7 @@
 use Rattle.std.proofs.Common.{◌≡◌, ◌≢◌, ◌⊎◌, inl, inr, ⊎_elim, ℕ, zero, suc, ◌+◌, ◌-◌, ◌<◌, ◌≤◌, Bool, true, false, ◌&&◌, not, List, [], ◌∷◌, ◌++◌, Option, Some, Result, Ok, Err, refl, sym, ap, ◌∙◌, subst, subst₂, arith, append_assoc, if◌then◌else◌, ◌==◌, length, drop, take, map, length-append, nat_le, nat_lt, eqb-true}
 use Rattle.std.proofs.lemmas.Bool.Decides.{nat_tests}
 use Rattle.std.proofs.lemmas.Bool.{ltb-false, le-leb}
+use Rattle.sync_model.specs.Bytes.{Uuid}
 use Rattle.sync_theory.specs.Lists.{kept}
 use Rattle.sync_theory.specs.Grid.{Carried, carry, reciprocal, tail}
 use Rattle.sync_theory.specs.Logs.{Made as LogMade, Entry as LogEntry, made_at, of_origin, origin_at, Nodes, world_of}
@@ -47,7 +48,7 @@ numbered_at zero m (a_number {m = q} g h r) e = let f : q ≡ m = cc in (ap (λ 
 numbered_at (suc i) m (a_number g h r) e = let f = numbered_at i m r e in (omega arith, f.1)
 
 module _ {I S : Type 0} (p : Profile I S) where
-  pub later_then : {n m o : Nodes (Changeset I) S} {ids ids2 ids3 : List ℕ} {cls cls2 cls3 : List Node} → Later p n ids cls m ids2 cls2 → Later p m ids2 cls2 o ids3 cls3 → Later p n ids cls o ids3 cls3
+  pub later_then : {n m o : Nodes (Changeset I) S} {ids ids2 ids3 : List Uuid} {cls cls2 cls3 : List Node} → Later p n ids cls m ids2 cls2 → Later p m ids2 cls2 o ids3 cls3 → Later p n ids cls o ids3 cls3
   later_then {n} {m} {o} {ids} {ids2} a b =
       let g = a.grows in
       let h = b.grows in
@@ -64,29 +65,29 @@ module _ {I S : Type 0} (p : Profile I S) where
         forms = λ c f. b.forms c (a.forms c f);
       }
 
-  pub record ServerNext (s : Server I) (cls : List Node) (inj : List ℕ) (n : Nodes (Changeset I) S) (s2 : Server I) : Type 0 where
+  pub record ServerNext (s : Server I) (cls : List Node) (inj : List Uuid) (n : Nodes (Changeset I) S) (s2 : Server I) : Type 0 where
     pub m : Nodes (Changeset I) S
     pub sim : Sim p s2 cls inj m
     pub later : Later p n s.ids cls m s2.ids cls
 
-  abbrev pub stay : (s : Server I) (cls : List Node) (inj : List ℕ) (n : Nodes (Changeset I) S) → Sim p s cls inj n → ServerNext s cls inj n s
+  abbrev pub stay : (s : Server I) (cls : List Node) (inj : List Uuid) (n : Nodes (Changeset I) S) → Sim p s cls inj n → ServerNext s cls inj n s
   stay s cls inj n sim = record { m = n; sim = sim; later = later_refl p n s.ids cls }
 
-  next_then : {s s2 s3 : Server I} {cls : List Node} {inj : List ℕ} {n : Nodes (Changeset I) S} → (a : ServerNext s cls inj n s2) → ServerNext s2 cls inj a.m s3 → ServerNext s cls inj n s3
+  next_then : {s s2 s3 : Server I} {cls : List Node} {inj : List Uuid} {n : Nodes (Changeset I) S} → (a : ServerNext s cls inj n s2) → ServerNext s2 cls inj a.m s3 → ServerNext s cls inj n s3
   next_then a b = record { m = b.m; sim = b.sim; later = later_then a.later b.later }
 
   -- the records of an answer may be cut anywhere
-  pub record Served (s : Server I) (cls : List Node) (inj : List ℕ) (n : Nodes (Changeset I) S) (did : ServerStep) : Type 0 where
+  pub record Served (s : Server I) (cls : List Node) (inj : List Uuid) (n : Nodes (Changeset I) S) (did : ServerStep) : Type 0 where
     pub cut : (j : ℕ) → ServerNext s cls inj n (after_all p s (take j did.records))
     pub done : ServerNext s cls inj n (after_all p s did.records)
     pub tells : Tells p done.m (after_all p s did.records).ids cls did.answer
 
   -- no records
-  silent : (s : Server I) (cls : List Node) (inj : List ℕ) (n : Nodes (Changeset I) S) → Sim p s cls inj n → (j : ℕ) → ServerNext s cls inj n (after_all p s (take j []))
+  silent : (s : Server I) (cls : List Node) (inj : List Uuid) (n : Nodes (Changeset I) S) → Sim p s cls inj n → (j : ℕ) → ServerNext s cls inj n (after_all p s (take j []))
   silent s cls inj n sim zero = stay s cls inj n sim
   silent s cls inj n sim (suc j) = stay s cls inj n sim
 
-  answered : (s : Server I) (cls : List Node) (inj : List ℕ) (n : Nodes (Changeset I) S) → Sim p s cls inj n → (m : Message) → Tells p n s.ids cls m → Served s cls inj n (replies m)
+  answered : (s : Server I) (cls : List Node) (inj : List Uuid) (n : Nodes (Changeset I) S) → Sim p s cls inj n → (m : Message) → Tells p n s.ids cls m → Served s cls inj n (replies m)
   answered s cls inj n sim m t = record { cut = silent s cls inj n sim; done = stay s cls inj n sim; tells = t }
 
   -- ---- a change that is integrated
@@ -171,7 +172,7 @@ module _ {I S : Type 0} (p : Profile I S) where
   IsPlain (Refused c number code place) = Unit {0}
   IsPlain (Stored c number) = Unit {0}
 
-  plain_tells : (n : Nodes (Changeset I) S) (ids : List ℕ) (cls : List Node) (m : Message) → IsPlain m → Tells p n ids cls m
+  plain_tells : (n : Nodes (Changeset I) S) (ids : List Uuid) (cls : List Node) (m : Message) → IsPlain m → Tells p n ids cls m
   plain_tells n ids us (Bind u) t = absurd t
   plain_tells n ids us (Ident u c) t = absurd t
   plain_tells n ids us (Upload c hs) t = absurd t
@@ -193,8 +194,8 @@ module _ {I S : Type 0} (p : Profile I S) where
       go true r skip t = skip
       go false r skip t = on r t
 
-  module _ {Fits : S → Type 0} (law : Lawful p Fits) (cls : List Node) (inj : List ℕ) where
-    abbrev us : List (Option ℕ)
+  module _ {Fits : S → Type 0} (law : Lawful p Fits) (cls : List Node) (inj : List Uuid) where
+    abbrev us : List (Option Uuid)
     us = uuids p cls
 
     carried_of : (s : Server I) (n : Nodes (Changeset I) S) (sim : Sim p s cls inj n) (c : ℕ) (h : Change) (is : List I) (x : Changeset I) (es : List (Changeset I)) → h.base ≤ length s.log → carried_change p s c h is ≡ Ok (x, es) → Carried (cross_changesets p) (λ c k. made_at (of_origin c n.log) k) (λ k. origin_at n.log k) c h.base (made_of c h is).change (length n.log) x
@@ -600,7 +601,7 @@ module _ {I S : Type 0} (p : Profile I S) where
           let done = subst (λ l. ServerNext s cls inj n (after_all p s l)) (take_all (serve_changes p s c hs).records) (cut (length (serve_changes p s c hs).records)) in
           record { cut = cut; done = done; tells = plain_tells done.m (after_all p s (serve_changes p s c hs).records).ids cls (serve_changes p s c hs).answer (upload_plain s c hs) }
 
-      bind_next : (u : ℕ) → Comes (Bind u) → place_of u s.ids ≡ 0 → ServerNext s cls inj n (with_id p s u)
+      bind_next : (u : Uuid) → Comes (Bind u) → place_of u s.ids ≡ 0 → ServerNext s cls inj n (with_id p s u)
       bind_next u comes new = at_client (find_uuid u us) comes
         where
           at_client : ((i : ℕ) × (at us i ≡ Some (Some u))) ⊎ ((i : ℕ) → at us i ≡ Some (Some u) → ⊥) → Comes (Bind u) → ServerNext s cls inj n (with_id p s u)
@@ -611,7 +612,7 @@ module _ {I S : Type 0} (p : Profile I S) where
           at_client (inr none) (inl h) = absurd (none h.0 h.1)
           at_client (inr none) (inr injected) = let b = bind_foreign p s cls inj n sim u new injected none in record { m = n; sim = b.0; later = b.1 }
 
-      bound : (u : ℕ) → Comes (Bind u) → Served s cls inj n (serve_bind p s u)
+      bound : (u : Uuid) → Comes (Bind u) → Served s cls inj n (serve_bind p s u)
       bound u comes = go (place_of u s.ids == 0) refl (length s.ids == p.full)
         where
           nonzero : place_of u s.ids ≢ 0 → Tells p n s.ids cls (Ident u (place_of u s.ids))

@@ -1,5 +1,6 @@
 -- What holds between the records of the nodes and the abstract world.
 use Rattle.std.proofs.Common.{◌≡◌, ◌≢◌, ◌⊎◌, inl, inr, ⊎_elim, ℕ, suc, ◌<◌, ◌≤◌, Bool, true, false, List, [], ◌∷◌, ◌++◌, Option, Some, sym, ap, ◌∙◌, subst, arith, length, take, map, length-append}
+use Rattle.sync_model.specs.Bytes.{Uuid}
 use Rattle.sync_theory.specs.Lists.{run}
 use Rattle.sync_theory.specs.World.{Reached}
 use Rattle.sync_theory.specs.Logs.{Made as LogMade, Entry as LogEntry, of_origin, Nodes, world_of}
@@ -17,11 +18,11 @@ abbrev pub no_change : {I : Type 0} → Changeset I
 no_change = record { origin = 0; number = 0; ms = 0; instrs = [] }
 
 -- an ident that isn't given
-abbrev pub NotGiven : ℕ → List ℕ → Type 0
+abbrev pub NotGiven : ℕ → List Uuid → Type 0
 NotGiven c ids = (c ≡ 0) ⊎ (length ids < c)
 
 -- a map from idents to whether they are own ones, for those that are given
-abbrev pub Agrees : (ℕ → Bool) → List ℕ → List (Option ℕ) → Type 0
+abbrev pub Agrees : (ℕ → Bool) → List Uuid → List (Option Uuid) → Type 0
 Agrees own ids us = (c : ℕ) → c ≢ 0 → c ≤ length ids → own c ≡ class ids us c
 
 -- the same for one client
@@ -38,10 +39,10 @@ pub record Grows {X S : Type 0} (n m : Nodes X S) : Type 0 where
   pub entries : (k : ℕ) → k < length n.log → m.entries k ≡ n.entries k
 
 module _ {I S : Type 0} (p : Profile I S) where
-  abbrev pub uuid_of : Node → Option ℕ
+  abbrev pub uuid_of : Node → Option Uuid
   uuid_of nd = (client_of p nd.records).id
 
-  abbrev pub uuids : List Node → List (Option ℕ)
+  abbrev pub uuids : List Node → List (Option Uuid)
   uuids cls = map uuid_of cls
 
   -- these are the entries from version k on
@@ -78,14 +79,14 @@ module _ {I S : Type 0} (p : Profile I S) where
     pub within : AtMost st.cursor (n.mades c)
     pub reach : st.cursor ≤ length n.log
 
-  pub record ClientIs (n : Nodes (Changeset I) S) (ids : List ℕ) (rs : List ClientRecord) : Type 0 where
-    pub id : ℕ
+  pub record ClientIs (n : Nodes (Changeset I) S) (ids : List Uuid) (rs : List ClientRecord) : Type 0 where
+    pub id : Uuid
     pub born : (client_of p rs).id ≡ Some id
     pub is : ((place_of id ids ≡ 0) × Fresh (client_of p rs)) ⊎ ((place_of id ids ≢ 0) × Given n (place_of id ids) (client_of p rs))
     pub tooks : Bears n 0 (tooks_of rs)
     pub tooks_count : length (tooks_of rs) ≡ (client_of p rs).cursor
 
-  pub record Sim (s : Server I) (cls : List Node) (inj : List ℕ) (n : Nodes (Changeset I) S) : Type 0 where
+  pub record Sim (s : Server I) (cls : List Node) (inj : List Uuid) (n : Nodes (Changeset I) S) : Type 0 where
     pub log_is : n.log ≡ s.log
     pub reached : (own : ℕ → Bool) → Agrees own s.ids (uuids cls) → Reached own (act_changeset p) (cross_changesets p) no_change p.empty (world_of n)
     -- nothing of idents that aren't given
@@ -101,17 +102,17 @@ module _ {I S : Type 0} (p : Profile I S) where
     pub stamps : (k : ℕ) (e : LogEntry (Changeset I)) → at n.log k ≡ Some e → SameStamp e.change (n.entries k) × (e.change.origin ≡ e.origin)
     pub clients : (i : ℕ) (nd : Node) → at cls i ≡ Some nd → ClientIs n s.ids nd.records
     pub strangers : (c : ℕ) → c ≢ 0 → c ≤ length s.ids → class s.ids (uuids cls) c ≡ false → n.mades c ≡ of_origin c n.log
-    pub distinct : (i j u : ℕ) → at (uuids cls) i ≡ Some (Some u) → at (uuids cls) j ≡ Some (Some u) → i ≡ j
+    pub distinct : (i j : ℕ) (u : Uuid) → at (uuids cls) i ≡ Some (Some u) → at (uuids cls) j ≡ Some (Some u) → i ≡ j
     -- each uuid that the server knows is a client's, or an injected Bind named it
-    pub known : (u : ℕ) → place_of u s.ids ≢ 0 → ((i : ℕ) × (at (uuids cls) i ≡ Some (Some u))) ⊎ (place_of u inj ≢ 0)
+    pub known : (u : Uuid) → place_of u s.ids ≢ 0 → ((i : ℕ) × (at (uuids cls) i ≡ Some (Some u))) ⊎ (place_of u inj ≢ 0)
 
   -- the client of ident c has form 2
-  pub record HasForm (cls : List Node) (ids : List ℕ) (c : ℕ) : Type 0 where
+  pub record HasForm (cls : List Node) (ids : List Uuid) (c : ℕ) : Type 0 where
     pub some_place : c ≢ 0
     pub i : ℕ
     pub nd : Node
     pub here : at cls i ≡ Some nd
-    pub id : ℕ
+    pub id : Uuid
     pub born : uuid_of nd ≡ Some id
     pub place : place_of id ids ≡ c
     pub second : (client_of p nd.records).second ≡ true
@@ -124,11 +125,11 @@ module _ {I S : Type 0} (p : Profile I S) where
     an_old : {e : Sent} {es : List Sent} → needs p (ok_list (p.unspell e.body)) ≡ false → AllOld es → AllOld (e ∷ es)
 
   -- a download for an own ident begins at or before its client's cursor, and has no entries for which the client has no form
-  pub record Reads (n : Nodes (Changeset I) S) (cls : List Node) (ids : List ℕ) (c from : ℕ) (es : List Sent) : Type 0 where
+  pub record Reads (n : Nodes (Changeset I) S) (cls : List Node) (ids : List Uuid) (c from : ℕ) (es : List Sent) : Type 0 where
     pub before : from ≤ n.cursor c
     pub form : AllOld es ⊎ HasForm cls ids c
 
-  pub record Mine (ids : List ℕ) (us : List (Option ℕ)) (c : ℕ) : Type 0 where
+  pub record Mine (ids : List Uuid) (us : List (Option Uuid)) (c : ℕ) : Type 0 where
     pub given : c ≢ 0
     pub there : c ≤ length ids
     pub own : class ids us c ≡ true
@@ -138,7 +139,7 @@ module _ {I S : Type 0} (p : Profile I S) where
     pub known : from ≤ length (of_origin c n.log)
     pub changes : Uploaded (n.mades c) from hs
 
-  abbrev pub Tells : Nodes (Changeset I) S → List ℕ → List Node → Message → Type 0
+  abbrev pub Tells : Nodes (Changeset I) S → List Uuid → List Node → Message → Type 0
   Tells n ids cls (Bind u) = (i : ℕ) × (at (uuids cls) i ≡ Some (Some u))
   Tells n ids cls (Ident u c) = (place_of u ids ≡ c) × (c ≢ 0)
   Tells n ids cls (Upload c hs) = Mine ids (uuids cls) c × TellsUpload n c hs
@@ -149,17 +150,17 @@ module _ {I S : Type 0} (p : Profile I S) where
   Tells n ids cls (Stored c number) = Unit {0}
 
   -- from one moment to a later one
-  pub record Later (n : Nodes (Changeset I) S) (ids : List ℕ) (cls : List Node) (m : Nodes (Changeset I) S) (ids2 : List ℕ) (cls2 : List Node) : Type 0 where
+  pub record Later (n : Nodes (Changeset I) S) (ids : List Uuid) (cls : List Node) (m : Nodes (Changeset I) S) (ids2 : List Uuid) (cls2 : List Node) : Type 0 where
     pub grows : Grows n m
     pub mades : (c : ℕ) → (more : List (LogMade (Changeset I))) × (m.mades c ≡ n.mades c ++ more)
-    pub more_ids : List ℕ
+    pub more_ids : List Uuid
     pub ids_are : ids2 ≡ ids ++ more_ids
     pub still_own : (c : ℕ) → c ≢ 0 → c ≤ length ids → class ids2 (uuids cls2) c ≡ class ids (uuids cls) c
-    pub still_there : (i u : ℕ) → at (uuids cls) i ≡ Some (Some u) → at (uuids cls2) i ≡ Some (Some u)
+    pub still_there : (i : ℕ) (u : Uuid) → at (uuids cls) i ≡ Some (Some u) → at (uuids cls2) i ≡ Some (Some u)
     pub cursors : (c : ℕ) → n.cursor c ≤ m.cursor c
     pub forms : (c : ℕ) → HasForm cls ids c → HasForm cls2 ids2 c
 
-  pub record Inv (s : Server I) (cls : List Node) (msgs : List Message) (inj : List ℕ) : Type 0 where
+  pub record Inv (s : Server I) (cls : List Node) (msgs : List Message) (inj : List Uuid) : Type 0 where
     pub n : Nodes (Changeset I) S
     pub sim : Sim s cls inj n
     pub tells : (k : ℕ) (m : Message) → at msgs k ≡ Some m → Tells n s.ids cls m
@@ -183,14 +184,14 @@ module _ {I S : Type 0} (p : Profile I S) where
       let f = length-append (of_origin c n.log) (of_origin c g.more) in
       omega arith
 
-  pub mine_lasts : {n m : Nodes (Changeset I) S} {ids ids2 : List ℕ} {cls cls2 : List Node} {c : ℕ} → Later n ids cls m ids2 cls2 → Mine ids (uuids cls) c → Mine ids2 (uuids cls2) c
+  pub mine_lasts : {n m : Nodes (Changeset I) S} {ids ids2 : List Uuid} {cls cls2 : List Node} {c : ℕ} → Later n ids cls m ids2 cls2 → Mine ids (uuids cls) c → Mine ids2 (uuids cls2) c
   mine_lasts {ids = ids} {c = c} l w =
       let e = ap length l.ids_are in
       let f = length-append ids l.more_ids in
       let h = w.there in
       record { given = w.given; there = omega arith; own = l.still_own c w.given w.there ∙ w.own }
 
-  pub tells_lasts : {n m : Nodes (Changeset I) S} {ids ids2 : List ℕ} {cls cls2 : List Node} → Later n ids cls m ids2 cls2 → (q : Message) → Tells n ids cls q → Tells m ids2 cls2 q
+  pub tells_lasts : {n m : Nodes (Changeset I) S} {ids ids2 : List Uuid} {cls cls2 : List Node} → Later n ids cls m ids2 cls2 → (q : Message) → Tells n ids cls q → Tells m ids2 cls2 q
   tells_lasts l (Bind u) t = (t.0, l.still_there t.0 u t.1)
   tells_lasts {ids = ids} l (Ident u c) t = (ap (place_of u) l.ids_are ∙ place_old u ids l.more_ids (λ e. t.1 (sym t.0 ∙ e)) ∙ t.0, t.1)
   tells_lasts {n} {m} l (Upload c hs) t =
@@ -217,7 +218,7 @@ module _ {I S : Type 0} (p : Profile I S) where
   tells_lasts l (Refused c number code place) t = tt
   tells_lasts l (Stored c number) t = tt
 
-  abbrev pub inv_later : {s s2 : Server I} {cls cls2 : List Node} {msgs : List Message} {inj inj2 : List ℕ} → (i : Inv s cls msgs inj) (m : Nodes (Changeset I) S) → Sim s2 cls2 inj2 m → Later i.n s.ids cls m s2.ids cls2 → Inv s2 cls2 msgs inj2
+  abbrev pub inv_later : {s s2 : Server I} {cls cls2 : List Node} {msgs : List Message} {inj inj2 : List Uuid} → (i : Inv s cls msgs inj) (m : Nodes (Changeset I) S) → Sim s2 cls2 inj2 m → Later i.n s.ids cls m s2.ids cls2 → Inv s2 cls2 msgs inj2
   inv_later i m sim l = record { n = m; sim = sim; tells = λ k q e. tells_lasts l q (i.tells k q e) }
 
   pub given_lasts : {n m : Nodes (Changeset I) S} {c : ℕ} {st : Client I S} → Grows n m → Alike n m c → Given n c st → Given m c st
@@ -237,7 +238,7 @@ module _ {I S : Type 0} (p : Profile I S) where
         reach = omega arith;
       }
 
-  pub client_lasts : {n m : Nodes (Changeset I) S} {ids : List ℕ} {rs : List ClientRecord} → Grows n m → ((u : ℕ) → (client_of p rs).id ≡ Some u → place_of u ids ≢ 0 → Alike n m (place_of u ids)) → ClientIs n ids rs → ClientIs m ids rs
+  pub client_lasts : {n m : Nodes (Changeset I) S} {ids : List Uuid} {rs : List ClientRecord} → Grows n m → ((u : Uuid) → (client_of p rs).id ≡ Some u → place_of u ids ≢ 0 → Alike n m (place_of u ids)) → ClientIs n ids rs → ClientIs m ids rs
   client_lasts g a v = record {
     id = v.id;
     born = v.born;

@@ -1,5 +1,6 @@
 -- Each record that a node appends keeps what holds between the records and the abstract world.
 use Rattle.std.proofs.Common.{◌≡◌, ◌≢◌, inl, inr, ⊎_elim, ℕ, suc, ◌+◌, ◌≤◌, Bool, true, List, [], ◌∷◌, ◌++◌, Some, refl, sym, ap, ◌∙◌, subst, arith, append_assoc, append-nil, length, map, le_refl}
+use Rattle.sync_model.specs.Bytes.{Uuid}
 use Rattle.sync_theory.specs.Lists.{run}
 use Rattle.sync_theory.specs.World.{Reached}
 use Rattle.sync_theory.specs.Logs.{Made as LogMade, of_origin, Nodes, world_of, nodes_edited}
@@ -27,12 +28,12 @@ numbered_snoc c k [] m no_numbers o e = a_number o (omega arith) no_numbers
 numbered_snoc c k (n ∷ ms) m (a_number g h r) o e = a_number g h (numbered_snoc c (suc k) ms m r o (omega arith))
 
 module _ {I S : Type 0} (p : Profile I S) where
-  pub later_refl : (n : Nodes (Changeset I) S) (ids : List ℕ) (cls : List Node) → Later p n ids cls n ids cls
+  pub later_refl : (n : Nodes (Changeset I) S) (ids : List Uuid) (cls : List Node) → Later p n ids cls n ids cls
   later_refl n ids cls = record { grows = grows_refl n; mades = λ c. ([], sym (append-nil (n.mades c))); more_ids = []; ids_are = sym (append-nil ids); still_own = λ c h l. refl; still_there = λ i u e. e; cursors = λ c. le_refl (n.cursor c); forms = λ c f. f }
 
   -- ---- one client's records
 
-  clients_put : (m : Nodes (Changeset I) S) (ids : List ℕ) (cls : List Node) (i : ℕ) (nd nd2 : Node) → at cls i ≡ Some nd → ClientIs p m ids nd2.records → ((j : ℕ) (other : Node) → j ≢ i → at cls j ≡ Some other → ClientIs p m ids other.records) → (j : ℕ) (x : Node) → at (put cls i nd2) j ≡ Some x → ClientIs p m ids x.records
+  clients_put : (m : Nodes (Changeset I) S) (ids : List Uuid) (cls : List Node) (i : ℕ) (nd nd2 : Node) → at cls i ≡ Some nd → ClientIs p m ids nd2.records → ((j : ℕ) (other : Node) → j ≢ i → at cls j ≡ Some other → ClientIs p m ids other.records) → (j : ℕ) (x : Node) → at (put cls i nd2) j ≡ Some x → ClientIs p m ids x.records
   clients_put m ids cls i nd nd2 e here others j x h = ⊎_elim
       (λ is.
       let a = at_put cls i nd nd2 e in
@@ -45,7 +46,7 @@ module _ {I S : Type 0} (p : Profile I S) where
   pub uuids_put : (cls : List Node) (i : ℕ) (nd nd2 : Node) → at cls i ≡ Some nd → uuid_of p nd2 ≡ uuid_of p nd → uuids p (put cls i nd2) ≡ uuids p cls
   uuids_put cls i nd nd2 e h = map_put (uuid_of p) cls i nd nd2 e h
 
-  module _ (s : Server I) (cls : List Node) (inj : List ℕ) (n : Nodes (Changeset I) S) (sim : Sim p s cls inj n) (i : ℕ) (nd nd2 : Node) (e : at cls i ≡ Some nd) (same_id : uuid_of p nd2 ≡ uuid_of p nd) (keeps_form : (client_of p nd.records).second ≡ true → (client_of p nd2.records).second ≡ true) where
+  module _ (s : Server I) (cls : List Node) (inj : List Uuid) (n : Nodes (Changeset I) S) (sim : Sim p s cls inj n) (i : ℕ) (nd nd2 : Node) (e : at cls i ≡ Some nd) (same_id : uuid_of p nd2 ≡ uuid_of p nd) (keeps_form : (client_of p nd.records).second ≡ true → (client_of p nd2.records).second ≡ true) where
     us_are : uuids p (put cls i nd2) ≡ uuids p cls
     us_are = uuids_put cls i nd nd2 e same_id
 
@@ -91,7 +92,7 @@ module _ {I S : Type 0} (p : Profile I S) where
     }
 
     -- a client of ident c moves
-    module _ (u c : ℕ) (born : uuid_of p nd ≡ Some u) (place : place_of u s.ids ≡ c) (given : c ≢ 0) (m : Nodes (Changeset I) S) (log_same : m.log ≡ n.log) (entries_same : (k : ℕ) → m.entries k ≡ n.entries k) (beside : (d : ℕ) → d ≢ c → Alike n m d) where
+    module _ (u : Uuid) (c : ℕ) (born : uuid_of p nd ≡ Some u) (place : place_of u s.ids ≡ c) (given : c ≢ 0) (m : Nodes (Changeset I) S) (log_same : m.log ≡ n.log) (entries_same : (k : ℕ) → m.entries k ≡ n.entries k) (beside : (d : ℕ) → d ≢ c → Alike n m d) where
       own_here : class s.ids (uuids p cls) c ≡ true
       own_here = subst (λ d. class s.ids (uuids p cls) d ≡ true) place (class_own s.ids (uuids p cls) i u (at_map (uuid_of p) cls i nd e ∙ ap (λ x. Some x) born) (λ z. given (sym place ∙ z)))
 
@@ -99,7 +100,7 @@ module _ {I S : Type 0} (p : Profile I S) where
       grows_here = record { more = []; log = log_same ∙ sym (append-nil n.log); entries = λ k h. entries_same k }
 
       -- the others have other idents
-      other_ident : (j w : ℕ) (other : Node) → j ≢ i → at cls j ≡ Some other → uuid_of p other ≡ Some w → place_of w s.ids ≢ 0 → place_of w s.ids ≢ c
+      other_ident : (j : ℕ) (w : Uuid) (other : Node) → j ≢ i → at cls j ≡ Some other → uuid_of p other ≡ Some w → place_of w s.ids ≢ 0 → place_of w s.ids ≢ c
       other_ident j w other ne h b g f =
           let is = place_one w u s.ids g (f ∙ sym place) in
           ne (sim.distinct j i u (at_map (uuid_of p) cls j other h ∙ ap (λ x. Some x) (b ∙ ap (λ x. Some x) is)) (at_map (uuid_of p) cls i nd e ∙ ap (λ x. Some x) born))

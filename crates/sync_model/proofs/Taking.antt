@@ -1,5 +1,7 @@
 -- A client takes an entry.
 use Rattle.std.proofs.Common.{◌≡◌, ◌≢◌, inr, ⊎_elim, ℕ, suc, ◌<◌, ◌≤◌, Bool, true, false, ◌&&◌, not, List, [], ◌∷◌, ◌++◌, Option, Some, None, Result, Ok, Err, refl, sym, ap, ap₂, ◌∙◌, subst, arith, append_assoc, append-nil, if◌then◌else◌, ◌==◌, length, take, map}
+use Rattle.std.specs.Prelude.{bytes_eq}
+use Rattle.sync_model.specs.Bytes.{Uuid}
 use Rattle.sync_theory.specs.Grid.{rebase, tail}
 use Rattle.sync_theory.specs.World.{Reached, Good}
 use Rattle.sync_theory.specs.Logs.{Entry as LogEntry, of_origin, origin_at, Nodes, world_of}
@@ -14,7 +16,7 @@ use Rattle.sync_model.specs.Profile.{Profile, Stuck, apply_all, act_changeset, c
 use Rattle.sync_model.specs.Clients.{Client, ClientRecord, Took, Original, Unsent, changeset_of, carried_to, state_or, ok_list, client_of, after_record, crossed, takes_entry, tooks_of, took, sent_changeset, ClientRefusal, Mismatch, Forked, NotApplicable, applied_refusal, entry_refusal, read_refusal, crossed_refusal, own_refusal}
 use Rattle.sync_model.specs.Servers.{Server, place_of, sent_of}
 use Rattle.sync_model.specs.Log.{MayDecline}
-use Rattle.sync_model.specs.Profile.{same_bytes, IsNamedKind}
+use Rattle.sync_model.specs.Profile.{IsNamedKind}
 use Rattle.sync_model.proofs.Mismatches.{take_kind}
 use Rattle.sync_model.specs.Worlds.{Node, at}
 use Rattle.sync_model.proofs.Laws.{apply_is, sets_law, sets_kinds, carried_marks, carried_originals}
@@ -24,9 +26,9 @@ use Rattle.sync_model.proofs.Sim.{no_change, Agrees, Alike, uuid_of, uuids, Bear
 use Rattle.sync_model.proofs.Steps.{sim_moves, later_moves}
 use Rattle.sync_model.proofs.Own.{if_true, if_false, not_some, map_tail, headed, origin_at_is, count_own, count_other, tooks_append, with_record, client_step, bears_snoc, client_is, Next, good_of, was, form_stays}
 
-bytes_same : (bs : List ℕ) → same_bytes bs bs ≡ true
+bytes_same : (bs : List ℕ) → bytes_eq bs bs ≡ true
 bytes_same [] = refl
-bytes_same (b ∷ bs) = both (b == b) (same_bytes bs bs) (test_true b b refl) (bytes_same bs)
+bytes_same (b ∷ bs) = both (b == b) (bytes_eq bs bs) (test_true b b refl) (bytes_same bs)
   where
     both : (a c : Bool) → a ≡ true → c ≡ true → (a && c) ≡ true
     both true c e f = f
@@ -61,7 +63,7 @@ module _ {I S : Type 0} (p : Profile I S) where
   crossing c (Ok q) e = applied c q.0 q.1 (apply_all p q.1.instrs c.objects) refl e
   crossing c (Err f) e = cc
 
-  module _ {Fits : S → Type 0} (law : Lawful p Fits) (s : Server I) (cls : List Node) (inj : List ℕ) (n : Nodes (Changeset I) S) (sim : Sim p s cls inj n) (i : ℕ) (nd : Node) (e : at cls i ≡ Some nd) where
+  module _ {Fits : S → Type 0} (law : Lawful p Fits) (s : Server I) (cls : List Node) (inj : List Uuid) (n : Nodes (Changeset I) S) (sim : Sim p s cls inj n) (i : ℕ) (nd : Node) (e : at cls i ≡ Some nd) where
     abbrev st : Client I S
     st = client_of p nd.records
 
@@ -69,7 +71,7 @@ module _ {I S : Type 0} (p : Profile I S) where
     x = n.entries st.cursor
 
     -- an entry of the history, at the cursor of a client of ident c
-    module _ (u c : ℕ) (born : st.id ≡ Some u) (place : place_of u s.ids ≡ c) (given : c ≢ 0) (ident : st.ident ≡ c) (g : Given p n c st) (lt : st.cursor < length n.log) where
+    module _ (u : Uuid) (c : ℕ) (born : st.id ≡ Some u) (place : place_of u s.ids ≡ c) (given : c ≢ 0) (ident : st.ident ≡ c) (g : Given p n c st) (lt : st.cursor < length n.log) where
       abbrev r : ClientRecord
       r = took (sent_of p x)
 
@@ -209,11 +211,11 @@ module _ {I S : Type 0} (p : Profile I S) where
               heads : {y z : Changeset I} {ys zs : List (Changeset I)} → y ∷ ys ≡ z ∷ zs → y ≡ z
               heads e = cc
 
-          tests : ((v.original.number == x.number) && ((v.original.ms == x.ms) && same_bytes (p.spell v.current) (p.spell x.instrs))) ≡ true
-          tests = all_three (v.original.number == x.number) (v.original.ms == x.ms) (same_bytes (p.spell v.current) (p.spell x.instrs)) (test_true v.original.number x.number (ap (λ y. y.number) is)) (test_true v.original.ms x.ms (ap (λ y. y.ms) is)) (ap (λ y. same_bytes (p.spell v.current) (p.spell y.instrs)) (sym is) ∙ bytes_same (p.spell v.current))
+          tests : ((v.original.number == x.number) && ((v.original.ms == x.ms) && bytes_eq (p.spell v.current) (p.spell x.instrs))) ≡ true
+          tests = all_three (v.original.number == x.number) (v.original.ms == x.ms) (bytes_eq (p.spell v.current) (p.spell x.instrs)) (test_true v.original.number x.number (ap (λ y. y.number) is)) (test_true v.original.ms x.ms (ap (λ y. y.ms) is)) (ap (λ y. bytes_eq (p.spell v.current) (p.spell y.instrs)) (sym is) ∙ bytes_same (p.spell v.current))
 
           same : own_refusal p (v ∷ tail st.unsent) (sent_of p x) ≡ None
-          same = if_true ((v.original.number == x.number) && ((v.original.ms == x.ms) && same_bytes (p.spell v.current) (p.spell x.instrs))) None (Some (Forked x.number)) tests
+          same = if_true ((v.original.number == x.number) && ((v.original.ms == x.ms) && bytes_eq (p.spell v.current) (p.spell x.instrs))) None (Some (Forked x.number)) tests
 
       other_never : x.origin ≢ c → (why : ClientRefusal) → (r : Result (List (Changeset I) × Changeset I) (ℕ × Stuck)) → rebase (cross_changesets p) (map (changeset_of c) st.unsent) x ≡ r → crossed_refusal p st r ≡ Some why → MayDecline why
       other_never ne why (Err f) is e =

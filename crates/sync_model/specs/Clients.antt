@@ -1,16 +1,17 @@
 -- A client is a list of records. What they stand for, and its calls.
-use Rattle.std.specs.Prelude.{◌≡◌, ℕ, zero, suc, ◌-◌, Bool, true, false, ◌&&◌, not, List, [], ◌∷◌, ◌++◌, Option, Some, None, Result, Ok, Err, nat_lt, ◌==◌, if◌then◌else◌, map, drop, length}
+use Rattle.std.specs.Prelude.{⊤, bytes_eq, ◌≡◌, ℕ, zero, suc, ◌-◌, Bool, true, false, ◌&&◌, not, List, [], ◌∷◌, ◌++◌, Option, Some, None, Result, Ok, Err, nat_lt, ◌==◌, if◌then◌else◌, map, drop, length}
 use Rattle.sync_theory.specs.Lists.{run}
 use Rattle.sync_theory.specs.Grid.{rebase, tail}
 use Rattle.sync_theory.specs.Changesets.{Changeset}
-use Rattle.sync_model.specs.Profile.{Profile, Stuck, act, apply_all, act_changeset, cross_changesets, needs, first_need, same_bytes, fitting}
+use Rattle.sync_model.specs.Profile.{Profile, Stuck, act, apply_all, act_changeset, cross_changesets, needs, first_need, fitting}
+use Rattle.sync_model.specs.Bytes.{Bytes, Uuid}
 use Rattle.sync_model.specs.Messages.{Change, Sent, Message, Bind, Ident, Upload, Ask, Download, Refused, Stored, Ask2}
 
 pub data ClientRecord : Type 0 where
-  Born : (id : ℕ) → ClientRecord
+  Born : (id : Uuid) → ClientRecord
   Named : (ident : ℕ) → ClientRecord
-  Made : (number ms : ℕ) (body : List ℕ) → ClientRecord
-  Took : (origin number ms : ℕ) (body : List ℕ) → ClientRecord
+  Made : (number ms : ℕ) (body : Bytes) → ClientRecord
+  Took : (origin number ms : ℕ) (body : Bytes) → ClientRecord
   Form : ClientRecord
 
 -- a changeset as it was made
@@ -27,7 +28,7 @@ pub record Unsent (I : Type 0) : Type 0 where
 
 pub record Client (I S : Type 0) : Type 0 where
   -- the uuid and the ident, 0 where none is kept
-  pub id : Option ℕ
+  pub id : Option Uuid
   pub ident : ℕ
   -- the file is in form 2
   pub second : Bool
@@ -74,6 +75,7 @@ tooks_of (r ∷ rs) = took_part r ++ tooks_of rs
 -- why a client refuses a call
 pub data ClientRefusal : Type 0 where
   NotBorn : ClientRefusal
+  AlreadyBorn : ClientRefusal
   NotNamed : ClientRefusal
   TooLarge : ClientRefusal
   NumbersFull : ClientRefusal
@@ -106,7 +108,13 @@ answers a = record { records = []; answer = Ok a }
 abbrev pub appends : {A : Type 0} → ClientRecord → A → ClientStep A
 appends r a = record { records = r ∷ []; answer = Ok a }
 
-abbrev pub if_born : {A : Type 0} → Option ℕ → (ℕ → ClientStep A) → ClientStep A
+-- a client that has its uuid can't get another
+abbrev pub born_once : {A : Type 0} → Option Uuid → ClientStep A → ClientStep A
+born_once None did = did
+born_once (Some id) did = refuse AlreadyBorn
+
+-- what is done where the client has its uuid
+abbrev pub if_born : {A : Type 0} → Option Uuid → (Uuid → ClientStep A) → ClientStep A
 if_born None go = refuse NotBorn
 if_born (Some id) go = go id
 
@@ -114,6 +122,11 @@ abbrev pub commit_applied : {S : Type 0} → ℕ → ClientRecord → Result S (
 commit_applied number made (Ok s) = appends made number
 commit_applied number made (Err b) = refuse (Break b.0 b.1)
 
+-- a file begins with the client's uuid
+abbrev pub born : {I S : Type 0} → Client I S → Uuid → ClientStep ⊤
+born c id = born_once c.id (appends (Born id) tt)
+
+-- from then on it may hold changesets of the second version; true where it is new
 abbrev pub upgrade : {I S : Type 0} → Client I S → ClientStep Bool
 upgrade c = if_born c.id (λ id. if c.second then answers false else appends Form true)
 
@@ -186,15 +199,15 @@ module _ {I S : Type 0} (p : Profile I S) where
 
   -- ---- its calls
 
-  abbrev pub commit_born : Client I S → ℕ → List I → ℕ → ClientStep ℕ
-  commit_born c ms edits id =
+  abbrev pub commit_born : Client I S → ℕ → List I → ClientStep ℕ
+  commit_born c ms edits =
       if not (p.is_small edits) then refuse TooLarge
       else if length c.made == p.full then refuse NumbersFull
       else if needs p edits && not c.second then refuse (OldForm (first_need p edits))
       else commit_applied (suc (length c.made)) (Made (suc (length c.made)) ms (p.spell edits)) (apply_all p edits c.objects)
 
   abbrev pub commit : Client I S → ℕ → List I → ClientStep ℕ
-  commit c ms edits = if_born c.id (commit_born c ms edits)
+  commit c ms edits = if_born c.id (λ id. commit_born c ms edits)
 
   abbrev pub change_of : Original I → Change
   change_of o = record { number = o.number; base = o.base; ms = o.ms; body = p.spell o.instrs }
@@ -209,7 +222,7 @@ module _ {I S : Type 0} (p : Profile I S) where
 
   abbrev pub own_refusal : List (Unsent I) → Sent → Option ClientRefusal
   own_refusal [] e = Some (Forked e.number)
-  own_refusal (u ∷ us) e = if (u.original.number == e.number) && ((u.original.ms == e.ms) && same_bytes (p.spell u.current) e.body) then None else Some (Forked e.number)
+  own_refusal (u ∷ us) e = if (u.original.number == e.number) && ((u.original.ms == e.ms) && bytes_eq (p.spell u.current) e.body) then None else Some (Forked e.number)
 
   abbrev pub crossed_refusal : Client I S → Result (List (Changeset I) × Changeset I) (ℕ × Stuck) → Option ClientRefusal
   crossed_refusal c (Ok q) = applied_refusal c.cursor (apply_all p q.1.instrs c.objects)
@@ -230,12 +243,12 @@ module _ {I S : Type 0} (p : Profile I S) where
   take_entries c [] = answers c.cursor
   take_entries c (e ∷ es) = take_one (entry_refusal c e) (took e) (take_entries (after_record c (took e)) es)
 
-  abbrev pub take_born : Client I S → Message → ℕ → ClientStep ℕ
+  abbrev pub take_born : Client I S → Message → Uuid → ClientStep ℕ
   take_born c (Bind u) id = refuse NotMine
   take_born c (Upload ident changes) id = refuse NotMine
   take_born c (Ask ident cursor settled) id = refuse NotMine
   take_born c (Ask2 ident cursor settled) id = refuse NotMine
-  take_born c (Ident u ident) id = if u == id then take_ident c ident else refuse NotMine
+  take_born c (Ident u ident) id = if bytes_eq u id then take_ident c ident else refuse NotMine
   take_born c (Stored ident number) id = if ident == c.ident then answers c.cursor else refuse NotMine
   take_born c (Refused ident number code place) id = if ident == c.ident then refuse (WasRefused number code) else refuse NotMine
   take_born c (Download ident from entries) id =

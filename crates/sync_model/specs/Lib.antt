@@ -1,3 +1,4 @@
+pub mod Bytes
 pub mod Profile
 pub mod Messages
 pub mod Clients

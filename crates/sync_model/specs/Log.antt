@@ -5,8 +5,9 @@ use Rattle.sync_theory.specs.Grid.{history, pending, state_at}
 use Rattle.sync_theory.specs.Logs.{Made as LogMade, Entry as LogEntry, made_at, of_origin, origin_at}
 use Rattle.sync_theory.specs.Changesets.{Changeset}
 use Rattle.sync_model.specs.Profile.{Profile, act_changeset, cross_changesets, IsNamedKind}
+use Rattle.sync_model.specs.Bytes.{Name, Uuid}
 use Rattle.sync_model.specs.Messages.{Message, Bind, Ident, Upload, Ask, Download, Refused, Stored, Ask2}
-use Rattle.sync_model.specs.Clients.{Original, as_made, changeset_of, client_of, tooks_of, take as take_message, ClientRefusal, NotBorn, NotNamed, TooLarge, NumbersFull, OldForm, Break, NotMine, IdentDiffers, Gap, BadBody, OldEntry, Mismatch, Forked, NotApplicable, WasRefused}
+use Rattle.sync_model.specs.Clients.{Original, as_made, changeset_of, client_of, tooks_of, take as take_message, ClientRefusal, NotBorn, AlreadyBorn, NotNamed, TooLarge, NumbersFull, OldForm, Break, NotMine, IdentDiffers, Gap, BadBody, OldEntry, Mismatch, Forked, NotApplicable, WasRefused}
 use Rattle.sync_model.specs.Servers.{ServerRefusal, NumberGap, BaseBack, AheadOfHistory, HistoryFull, BadBytes, NoSuchIdent, IdentsFull, NotForServer, NeedsForm2, code_of, at_place, server_of, place_of, history_of, sent_of, server_objects, serve}
 use Rattle.sync_model.specs.Worlds.{Node, World, at, owner}
 
@@ -28,6 +29,7 @@ pub data Numbered {I : Type 0} (c : ℕ) : ℕ → List (LogMade (Changeset I)) 
 -- a client that takes a message of the exchange may refuse it by these alone
 abbrev pub MayDecline : ClientRefusal → Type 0
 MayDecline NotBorn = ⊥
+MayDecline AlreadyBorn = ⊥
 MayDecline NotNamed = ⊥
 MayDecline TooLarge = ⊥
 MayDecline NumbersFull = ⊥
@@ -68,12 +70,12 @@ IsFair (Ask2 c cursor settled) = Unit {0}
 IsFair (Download c from entries) = Unit {0}
 IsFair (Stored c number) = Unit {0}
 
-abbrev pub ident_by : List ℕ → Option ℕ → ℕ
+abbrev pub ident_by : List Uuid → Option Uuid → ℕ
 ident_by ids None = 0
 ident_by ids (Some u) = place_of u ids
 
 module _ {I S : Type 0} (p : Profile I S) where
-  abbrev pub ids : World → List ℕ
+  abbrev pub ids : World → List Uuid
   ids w = (server_of p w.server).ids
 
   -- a client's ident: the place of its uuid, or 0
@@ -156,7 +158,7 @@ module _ {I S : Type 0} (p : Profile I S) where
     pub objects : run (act_changeset p) (map (changeset_of 0) (client_of p nd.records).unsent) p.empty ≡ Some (client_of p nd.records).objects
 
   -- a transaction stands at its number among those that its client made
-  pub record Stands (w : World) (name number ms : ℕ) (edits : List I) : Type 0 where
+  pub record Stands (w : World) (name : Name) (number ms : ℕ) (edits : List I) : Type 0 where
     pub place : ℕ
     pub node : Node
     pub here : at w.clients place ≡ Some node

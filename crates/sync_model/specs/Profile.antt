@@ -1,7 +1,8 @@
 -- What the nodes stand on: instructions, states, the rule table, the spelling of changesets, and the limits.
-use Rattle.std.specs.Prelude.{◌≡◌, ◌⊎◌, ℕ, zero, suc, ◌-◌, Bool, true, false, ◌&&◌, ◌||◌, List, [], ◌∷◌, Option, Some, None, Result, Ok, Err, IfOk, IfErr, nat_lt, nat_le, ◌==◌, if◌then◌else◌}
+use Rattle.std.specs.Prelude.{◌≡◌, ◌⊎◌, ℕ, zero, suc, ◌-◌, Bool, false, ◌||◌, List, [], ◌∷◌, Option, Some, Result, Ok, Err, IfOk, IfErr, nat_le, if◌then◌else◌}
 use Rattle.sync_theory.specs.Changesets.{Changeset, cross_sets, act_set}
 use Rattle.sync_theory.specs.Lists.{ok_state, Keeps, TwoSided}
+use Rattle.sync_model.specs.Bytes.{Bytes}
 use Rattle.sync_theory.specs.Grid.{Meet}
 
 pub record Profile (I S : Type 0) : Type 0 where
@@ -12,9 +13,9 @@ pub record Profile (I S : Type 0) : Type 0 where
   -- what is left of two instructions, or the kind of their mismatch; true where the left one is later
   pub meet : I → I → Bool → Result (Option I × Option I) ℕ
   -- the bytes of a list of instructions
-  pub spell : List I → List ℕ
+  pub spell : List I → Bytes
   -- and back, or the offset and the rule of the first fault
-  pub unspell : List ℕ → Result (List I) (ℕ × ℕ)
+  pub unspell : Bytes → Result (List I) (ℕ × ℕ)
   -- the limits of a changeset hold
   pub is_small : List I → Bool
   -- version 1 of the bytes has no form for it
@@ -39,12 +40,6 @@ one_more (Err b) = Err (suc b.0, b.1)
 abbrev pub apply_then : {S : Type 0} → Result S ℕ → (S → Result S (ℕ × ℕ)) → Result S (ℕ × ℕ)
 apply_then (Ok s) go = one_more (go s)
 apply_then (Err code) go = Err (0, code)
-
-abbrev pub same_bytes : List ℕ → List ℕ → Bool
-same_bytes [] [] = true
-same_bytes [] (b ∷ bs) = false
-same_bytes (a ∷ as_) [] = false
-same_bytes (a ∷ as_) (b ∷ bs) = (a == b) && same_bytes as_ bs
 
 -- the longest beginning with at most so many items and so many bytes
 abbrev pub fitting : {A : Type 0} → (A → ℕ) → ℕ → ℕ → List A → List A
@@ -84,4 +79,4 @@ module _ {I S : Type 0} (p : Profile I S) where
     pub two_sided : (later : Bool) → TwoSided Fits act (λ a b. p.meet a b later)
     pub kinds : (later : Bool) (a b : I) (s sa sb : S) → Fits s → act a s ≡ Some sa → act b s ≡ Some sb → IfErr (p.meet a b later) IsNamedKind
     pub spelled : (is : List I) → p.unspell (p.spell is) ≡ Ok is
-    pub spelling : (bytes : List ℕ) → IfOk (p.unspell bytes) (λ is. p.spell is ≡ bytes)
+    pub spelling : (bytes : Bytes) → IfOk (p.unspell bytes) (λ is. p.spell is ≡ bytes)

@@ -3,13 +3,14 @@ use Rattle.std.specs.Prelude.{ℕ, List, length, map, if◌then◌else◌, ◌==
 use Rattle.sync_theory.specs.Lists.{and_then, run}
 use Rattle.sync_theory.specs.Changesets.{Changeset}
 use Rattle.sync_model.specs.Profile.{Profile, act_changeset}
+use Rattle.sync_model.specs.Bytes.{Name}
 use Rattle.sync_model.specs.Clients.{as_made, changeset_of, client_of, state_or}
 use Rattle.sync_model.specs.Servers.{server_of, server_objects, entries_from}
 use Rattle.sync_model.specs.Worlds.{Node, World}
 use Rattle.sync_model.specs.Log.{ident_of, log, entries_in, state_in, pending_in}
 
 pub record ClientLine (S : Type 0) : Type 0 where
-  pub name : ℕ
+  pub name : Name
   pub ident : ℕ
   pub cursor : ℕ
   pub unsent : ℕ

@@ -1,21 +1,22 @@
 -- A server is a list of records. What they stand for, and its answers.
-use Rattle.std.specs.Prelude.{◌≡◌, ℕ, zero, suc, ◌-◌, Bool, true, false, ◌&&◌, not, List, [], ◌∷◌, ◌++◌, Option, Result, Ok, Err, nat_lt, nat_le, ◌==◌, if◌then◌else◌, map, length}
+use Rattle.std.specs.Prelude.{bytes_eq, ◌≡◌, ℕ, zero, suc, ◌-◌, Bool, true, false, ◌&&◌, not, List, [], ◌∷◌, ◌++◌, Option, Result, Ok, Err, nat_lt, nat_le, ◌==◌, if◌then◌else◌, map, length}
 use Rattle.sync_theory.specs.Lists.{kept}
 use Rattle.sync_theory.specs.Grid.{history, state_at, reciprocal, carry}
 use Rattle.sync_theory.specs.Logs.{Made as LogMade, Entry as LogEntry, made_at, of_origin, origin_at}
 use Rattle.sync_theory.specs.Changesets.{Changeset}
 use Rattle.sync_model.specs.Profile.{Profile, Stuck, apply_all, act_changeset, cross_changesets, needs, fitting}
+use Rattle.sync_model.specs.Bytes.{Bytes, Uuid}
 use Rattle.sync_model.specs.Messages.{Change, Sent, Message, Bind, Ident, Upload, Ask, Download, Refused, Stored, Ask2}
 use Rattle.sync_model.specs.Clients.{Step, state_or, ok_list}
 
 pub data ServerRecord : Type 0 where
-  Client : (id : ℕ) → ServerRecord
-  Entry : (origin number base ms : ℕ) (body : List ℕ) → ServerRecord
+  Client : (id : Uuid) → ServerRecord
+  Entry : (origin number base ms : ℕ) (body : Bytes) → ServerRecord
   Form : ServerRecord
 
 pub record Server (I : Type 0) : Type 0 where
   -- the uuids, in the order of their idents
-  pub ids : List ℕ
+  pub ids : List Uuid
   -- the file is in form 2
   pub second : Bool
   -- the integrated originals
@@ -26,9 +27,9 @@ one_on zero = zero
 one_on (suc n) = suc (suc n)
 
 -- the place of a uuid, counted from 1, or 0 where it isn't there
-abbrev pub place_of : ℕ → List ℕ → ℕ
+abbrev pub place_of : Uuid → List Uuid → ℕ
 place_of u [] = 0
-place_of u (v ∷ vs) = if u == v then 1 else one_on (place_of u vs)
+place_of u (v ∷ vs) = if bytes_eq u v then 1 else one_on (place_of u vs)
 
 -- why a server refuses
 pub data ServerRefusal : Type 0 where
@@ -171,7 +172,7 @@ module _ {I S : Type 0} (p : Profile I S) where
 
   -- ---- the other messages
 
-  abbrev pub serve_bind : Server I → ℕ → ServerStep
+  abbrev pub serve_bind : Server I → Uuid → ServerStep
   serve_bind s u =
       if not (place_of u s.ids == 0) then replies (Ident u (place_of u s.ids))
       else if length s.ids == p.full then refuses 0 0 (IdentsFull (length s.ids))

@@ -1,6 +1,6 @@
 -- The world: a server, clients and all messages that were made. What each event makes of it.
-use Rattle.std.specs.Prelude.{ℕ, zero, suc, ◌+◌, ◌-◌, ◌*◌, ◌/◌, ◌%◌, Bool, true, false, ◌&&◌, ◌||◌, not, List, [], ◌∷◌, ◌++◌, Option, Some, None, Result, Ok, Err, nat_le, ◌==◌, if◌then◌else◌, length, take}
-use Rattle.sync_theory.specs.World.{put_at}
+use Rattle.std.specs.Prelude.{bytes_eq, ℕ, zero, suc, ◌+◌, ◌-◌, ◌*◌, ◌/◌, ◌%◌, Bool, true, false, ◌&&◌, ◌||◌, not, List, [], ◌∷◌, ◌++◌, Option, Some, None, Result, Ok, Err, nat_le, ◌==◌, if◌then◌else◌, length, take}
+use Rattle.sync_model.specs.Bytes.{Name, Uuid}
 use Rattle.sync_model.specs.Profile.{Profile}
 use Rattle.sync_model.specs.Messages.{Message, Bind, Upload, Ask, Ask2}
 use Rattle.sync_model.specs.Clients.{Client, ClientRecord, Born, ClientRefusal, ClientStep, client_of, commit, upgrade, bind, upload, ask, take as take_message}
@@ -16,7 +16,7 @@ pub record Stop : Type 0 where
   pub leaves : Leaves
 
 pub record Node : Type 0 where
-  pub name : ℕ
+  pub name : Name
   pub records : List ClientRecord
 
 pub record World : Type 0 where
@@ -26,29 +26,29 @@ pub record World : Type 0 where
   -- all that were made
   pub messages : List Message
   -- the uuids that injected Binds named
-  pub injected : List ℕ
+  pub injected : List Uuid
   -- by the names of nodes
-  pub stops : ℕ → Option Stop
+  pub stops : Name → Option Stop
 
--- the server's name
-abbrev pub server_name : ℕ
-server_name = 0
+-- the server's name, which is "server"
+abbrev pub server_name : Name
+server_name = 115 ∷ 101 ∷ 114 ∷ 118 ∷ 101 ∷ 114 ∷ []
 
 pub data Event (I : Type 0) : Type 0 where
-  Joins : (name id : ℕ) → Event I
-  Edits : (client ms : ℕ) (edits : List I) → Event I
-  Binds : (client : ℕ) → Event I
-  Uploads : (client : ℕ) → Event I
-  Asks : (client : ℕ) → Event I
-  Upgrades : (client : ℕ) → Event I
-  Delivers : (message to : ℕ) → Event I
-  Restarts : (node : ℕ) → Event I
-  Stops : (node at : ℕ) (leaves : Leaves) → Event I
+  Joins : (name : Name) (id : Uuid) → Event I
+  Edits : (client : Name) (ms : ℕ) (edits : List I) → Event I
+  Binds : (client : Name) → Event I
+  Uploads : (client : Name) → Event I
+  Asks : (client : Name) → Event I
+  Upgrades : (client : Name) → Event I
+  Delivers : (message : ℕ) (to : Name) → Event I
+  Restarts : (node : Name) → Event I
+  Stops : (node : Name) (at : ℕ) (leaves : Leaves) → Event I
   -- none where the bytes are no message
   Injects : (message : Option Message) → Event I
 
 pub data Words : Type 0 where
-  Joined : (name : ℕ) → Words
+  Joined : (name : Name) → Words
   Made : (number : ℕ) → Words
   Messaged : (place : ℕ) → Words
   Took : (cursor : ℕ) → Words
@@ -118,14 +118,14 @@ stopped (Some s) rs = if nat_le s.at (4 * length rs) then Some (take (standing s
 abbrev pub empty_world : World
 empty_world = record { server = []; clients = []; messages = []; injected = []; stops = λ name. None }
 
-abbrev pub id_is : ℕ → Option ℕ → Bool
+abbrev pub id_is : Uuid → Option Uuid → Bool
 id_is u None = false
-id_is u (Some v) = u == v
+id_is u (Some v) = bytes_eq u v
 
-abbrev pub has_name : ℕ → Node → Bool
-has_name name c = name == c.name
+abbrev pub has_name : Name → Node → Bool
+has_name name c = bytes_eq name c.name
 
-abbrev pub ident_is : List ℕ → ℕ → Option ℕ → Bool
+abbrev pub ident_is : List Uuid → ℕ → Option Uuid → Bool
 ident_is ids c None = false
 ident_is ids c (Some u) = (c == place_of u ids) && not (c == 0)
 
@@ -152,23 +152,27 @@ upgrade_words w (Err r) = says w (Declined r)
 abbrev pub reply_words : World → Message → Outcome
 reply_words w m = says (record w { messages = w.messages ++ m ∷ [] }) (Replied (suc (length w.messages)) m)
 
+-- the stops, with another one for this node
+abbrev pub arm : Name → Option Stop → (Name → Option Stop) → Name → Option Stop
+arm node stop stops name = if bytes_eq name node then stop else stops name
+
 -- a client's records after a call, which ends the arming
 abbrev pub client_moved : World → ℕ → Node → List ClientRecord → World
-client_moved w place n new = record w { clients = put w.clients place (record n { records = n.records ++ new }); stops = put_at n.name None w.stops }
+client_moved w place n new = record w { clients = put w.clients place (record n { records = n.records ++ new }); stops = arm n.name None w.stops }
 
 abbrev pub client_ends : {A : Type 0} → World → ℕ → Node → ClientStep A → (World → Result A ClientRefusal → Outcome) → Option (List ClientRecord) → Outcome
 client_ends w place n did words None = words (client_moved w place n did.records) did.answer
 client_ends w place n did words (Some stand) = says (client_moved w place n stand) Stopped
 
 abbrev pub server_moved : World → List ServerRecord → World
-server_moved w new = record w { server = w.server ++ new; stops = put_at server_name None w.stops }
+server_moved w new = record w { server = w.server ++ new; stops = arm server_name None w.stops }
 
 abbrev pub server_ends : World → ServerStep → Option (List ServerRecord) → Outcome
 server_ends w did None = reply_words (server_moved w did.records) did.answer
 server_ends w did (Some stand) = says (server_moved w stand) Stopped
 
-abbrev pub is_node : World → ℕ → Bool
-is_node w name = (name == server_name) || is_there (seek (has_name name) w.clients)
+abbrev pub is_node : World → Name → Bool
+is_node w name = bytes_eq name server_name || is_there (seek (has_name name) w.clients)
 
 abbrev pub named_by : World → Message → World
 named_by w (Bind u) = record w { injected = w.injected ++ u ∷ [] }
@@ -180,11 +184,11 @@ message_at w zero = None
 message_at w (suc n) = at w.messages n
 
 module _ {I S : Type 0} (p : Profile I S) where
-  abbrev pub has_id : ℕ → Node → Bool
+  abbrev pub has_id : Uuid → Node → Bool
   has_id u c = id_is u (client_of p c.records).id
 
   -- the client of the exchange to whose uuid the server gave this ident
-  abbrev pub owner : List Node → List ℕ → ℕ → Option (ℕ × Node)
+  abbrev pub owner : List Node → List Uuid → ℕ → Option (ℕ × Node)
   owner clients ids c = seek (λ n. ident_is ids c (client_of p n.records).id) clients
 
   abbrev pub is_own : World → ℕ → Bool
@@ -197,7 +201,7 @@ module _ {I S : Type 0} (p : Profile I S) where
   client_called w call words (Some q) =
       client_ends w q.0 q.1 (call (client_of p q.1.records)) words (stopped (w.stops q.1.name) (call (client_of p q.1.records)).records)
 
-  abbrev pub client_calls : {A : Type 0} → World → ℕ → (Client I S → ClientStep A) → (World → Result A ClientRefusal → Outcome) → Outcome
+  abbrev pub client_calls : {A : Type 0} → World → Name → (Client I S → ClientStep A) → (World → Result A ClientRefusal → Outcome) → Outcome
   client_calls w name call words = client_called w call words (seek (has_name name) w.clients)
 
   abbrev pub server_called : World → Message → Outcome
@@ -205,15 +209,15 @@ module _ {I S : Type 0} (p : Profile I S) where
 
   -- ---- events
 
-  abbrev pub joins : World → ℕ → ℕ → Outcome
+  abbrev pub joins : World → Name → Uuid → Outcome
   joins w name id =
       if is_node w name then says w NameTaken
-      else if is_there (seek (has_id id) w.clients) || is_there (seek (λ u. id == u) w.injected) then says w UuidTaken
+      else if is_there (seek (has_id id) w.clients) || is_there (seek (λ u. bytes_eq id u) w.injected) then says w UuidTaken
       else says (record w { clients = w.clients ++ record { name = name; records = Born id ∷ [] } ∷ [] }) (Joined name)
 
-  abbrev pub delivers : World → ℕ → Option Message → Outcome
+  abbrev pub delivers : World → Name → Option Message → Outcome
   delivers w to None = says w NoMessage
-  delivers w to (Some m) = if to == server_name then server_called w m else client_calls w to (λ c. take_message p c m) took_words
+  delivers w to (Some m) = if bytes_eq to server_name then server_called w m else client_calls w to (λ c. take_message p c m) took_words
 
   abbrev pub names_own : World → Message → Bool
   names_own w (Upload c changes) = is_own w c
@@ -234,7 +238,7 @@ module _ {I S : Type 0} (p : Profile I S) where
   happens w (Upgrades name) = client_calls w name upgrade upgrade_words
   happens w (Delivers message to) = if is_node w to then delivers w to (message_at w message) else says w NoNode
   happens w (Restarts node) = says w (if is_node w node then Opened else NoNode)
-  happens w (Stops node k leaves) = if is_node w node then says (record w { stops = put_at node (Some (record { at = k; leaves = leaves })) w.stops }) Armed else says w NoNode
+  happens w (Stops node k leaves) = if is_node w node then says (record w { stops = arm node (Some (record { at = k; leaves = leaves })) w.stops }) Armed else says w NoNode
   happens w (Injects m) = injects w m
 
   -- the world after a list of events
