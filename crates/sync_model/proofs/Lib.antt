@@ -19,3 +19,5 @@ pub mod Opening
 pub mod Restarting
 pub mod Reporting
 pub mod Loops
+pub mod Alone
+pub mod Keeping

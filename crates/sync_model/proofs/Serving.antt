@@ -198,28 +198,28 @@ module _ {I S : Type 0} (p : Profile I S) where
     abbrev us : List (Option Uuid)
     us = uuids p cls
 
-    carried_of : (s : Server I) (n : Nodes (Changeset I) S) (sim : Sim p s cls inj n) (c : ℕ) (h : Change) (is : List I) (x : Changeset I) (es : List (Changeset I)) → h.base ≤ length s.log → carried_change p s c h is ≡ Ok (x, es) → Carried (cross_changesets p) (λ c k. made_at (of_origin c n.log) k) (λ k. origin_at n.log k) c h.base (made_of c h is).change (length n.log) x
+    pub carried_of : (s : Server I) (n : Nodes (Changeset I) S) (sim : Sim p s cls inj n) (c : ℕ) (h : Change) (is : List I) (x : Changeset I) (es : List (Changeset I)) → h.base ≤ length s.log → carried_change p s c h is ≡ Ok (x, es) → Carried (cross_changesets p) (λ c k. made_at (of_origin c n.log) k) (λ k. origin_at n.log k) c h.base (made_of c h is).change (length n.log) x
     carried_of s n sim c h is x es a r =
         let good = good_of p law s cls inj n sim in
         let e = subst (λ l. carry (cross_changesets p) (made_of c h is).change (reciprocal (cross_changesets p) (made_in p l) (λ k. origin_at l k) c (length l - h.base) h.base) ≡ Ok (x, es)) (sym sim.log_is) r in
         let l = ap length sim.log_is in
         carry_carried (cross_changesets p) (λ c k. made_at (of_origin c n.log) k) (λ k. origin_at n.log k) c (length n.log - h.base) h.base (made_of c h is).change x es (length n.log) (omega arith) (λ k b lt ne. good.log.clear c k lt ne) e
 
-    objects_of : (s : Server I) (n : Nodes (Changeset I) S) → Sim p s cls inj n → server_objects p s ≡ n.objects
+    pub objects_of : (s : Server I) (n : Nodes (Changeset I) S) → Sim p s cls inj n → server_objects p s ≡ n.objects
     objects_of s n sim = ap (λ l. state_or p.empty (state_of p l (length l))) (sym sim.log_is) ∙ ap (state_or p.empty) (good_of p law s cls inj n sim).log.state
 
     -- what the server's merge gives the abstract world
     module _ (s : Server I) (n : Nodes (Changeset I) S) (sim : Sim p s cls inj n) (c : ℕ) (h : Change) (new : List ServerRecord) (g : Merging s c h new) where
-      carried_here : Carried (cross_changesets p) (λ c k. made_at (of_origin c n.log) k) (λ k. origin_at n.log k) c h.base (made_of c h g.instrs).change (length n.log) g.entry
+      pub carried_here : Carried (cross_changesets p) (λ c k. made_at (of_origin c n.log) k) (λ k. origin_at n.log k) c h.base (made_of c h g.instrs).change (length n.log) g.entry
       carried_here = carried_of s n sim c h g.instrs g.entry g.others g.ahead g.carried
 
       objects_are : server_objects p s ≡ n.objects
       objects_are = objects_of s n sim
 
-      acts_here : act_changeset p g.entry n.objects ≡ Some g.state
+      pub acts_here : act_changeset p g.entry n.objects ≡ Some g.state
       acts_here = ap (act_changeset p g.entry) (sym objects_are) ∙ g.acts
 
-      stamp_here : SameStamp (made_of c h g.instrs).change g.entry
+      pub stamp_here : SameStamp (made_of c h g.instrs).change g.entry
       stamp_here = carry_stamp p (reciprocal (cross_changesets p) (made_in p s.log) (λ k. origin_at s.log k) c (length s.log - h.base) h.base) (made_of c h g.instrs).change g.entry g.others g.carried
 
       after_entry : (s1 : Server I) → after_server p s1 (Entry c h.number h.base h.ms h.body) ≡ with_entry p s1 c (made_of c h g.instrs)

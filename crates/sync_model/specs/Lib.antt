@@ -6,5 +6,6 @@ pub mod Servers
 pub mod Worlds
 pub mod Log
 pub mod Files
+pub mod Parts
 pub mod Reports
 pub mod Toy
