@@ -21,3 +21,4 @@ pub mod Reporting
 pub mod Loops
 pub mod Alone
 pub mod Keeping
+pub mod Parts

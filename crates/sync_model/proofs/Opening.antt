@@ -202,6 +202,22 @@ module _ {I S : Type 0} (p : Profile I S) where
       (and_both (h.number == suc (count s c)) _ (test_true h.number (suc (count s c)) number)
       (and_both (not (is_second p (p.unspell h.body) && not s.second)) _ (ap (λ r. not (is_second p r && not s.second)) read ∙ form) fine))
 
+  -- the records of a change that is integrated
+  pub new_opens : (s : Server I) (c : ℕ) (h : Change) (new : List ServerRecord) → is_given s c ≡ true → count s c < h.number → merge p s c h ≡ Ok new → server_opens p s new ≡ true
+  new_opens s c h new given gt r_is =
+      let g = merging p s c h new r_is in
+      let gap = g.gap in
+      let number : h.number ≡ suc (count s c) = omega arith in
+      subst (λ l. server_opens p s l ≡ true) (sym g.new_is) (on (needs p g.instrs) s.second refl refl g.read number)
+    where
+      on : {is : List I} (a b : Bool) → needs p is ≡ a → s.second ≡ b → p.unspell h.body ≡ Ok is → h.number ≡ suc (count s c) → server_opens p s ((if a && not b then ServerRecord.Form ∷ [] else []) ++ Entry c h.number h.base h.ms h.body ∷ []) ≡ true
+      on true true a_is b_is read number = and_both _ true (entry_opens s c h read number given (ap is_fine r_is) (ap₂ (λ x y. not (x && not y)) a_is b_is)) refl
+      on false true a_is b_is read number = and_both _ true (entry_opens s c h read number given (ap is_fine r_is) (ap₂ (λ x y. not (x && not y)) a_is b_is)) refl
+      on false false a_is b_is read number = and_both _ true (entry_opens s c h read number given (ap is_fine r_is) (ap₂ (λ x y. not (x && not y)) a_is b_is)) refl
+      on true false a_is b_is read number =
+          and_both (not s.second) _ (not_false s.second b_is)
+          (and_both _ true (entry_opens (record s { second = true }) c h read number given (merge_same s c h ∙ ap is_fine r_is) (ap (λ x. not (x && not true)) a_is)) refl)
+
   pub changes_open : (hs : List Change) (s : Server I) (c : ℕ) → is_given s c ≡ true → ((x : Server I) (new : List ServerRecord) (h : Change) → merge p x c h ≡ Ok new → (after_all p x new).ids ≡ x.ids) → server_opens p s (serve_changes p s c hs).records ≡ true
   changes_open [] s c given ids = refl
   changes_open (h ∷ hs) s c given ids = go (nat_le h.number (count s c)) refl (merge p s c h) refl (changes_open hs s c given ids) (λ new is. changes_open hs (after_all p s new) c (ap (λ l. nat_le 1 c && nat_le c (length l)) (ids s new h is) ∙ given) ids)
@@ -209,23 +225,7 @@ module _ {I S : Type 0} (p : Profile I S) where
       go : (b : Bool) → nat_le h.number (count s c) ≡ b → (r : Result (List ServerRecord) ServerRefusal) → merge p s c h ≡ r → server_opens p s (serve_changes p s c hs).records ≡ true → ((new : List ServerRecord) → merge p s c h ≡ Ok new → server_opens p (after_all p s new) (serve_changes p (after_all p s new) c hs).records ≡ true) → server_opens p s (if b then serve_changes p s c hs else merged c h.number r (λ new. serve_changes p (after_all p s new) c hs)).records ≡ true
       go true b_is r r_is skip next = skip
       go false b_is (Err why) r_is skip next = refl
-      go false b_is (Ok new) r_is skip next = server_opens_on s new (serve_changes p (after_all p s new) c hs).records new_opens (next new r_is)
-        where
-          new_opens : server_opens p s new ≡ true
-          new_opens =
-              let g = merging p s c h new r_is in
-              let gt : count s c < h.number = grind (arith, nat_tests) in
-              let gap = g.gap in
-              let number : h.number ≡ suc (count s c) = omega arith in
-              subst (λ l. server_opens p s l ≡ true) (sym g.new_is) (on (needs p g.instrs) s.second refl refl g.read number)
-            where
-              on : {is : List I} (a b : Bool) → needs p is ≡ a → s.second ≡ b → p.unspell h.body ≡ Ok is → h.number ≡ suc (count s c) → server_opens p s ((if a && not b then ServerRecord.Form ∷ [] else []) ++ Entry c h.number h.base h.ms h.body ∷ []) ≡ true
-              on true true a_is b_is read number = and_both _ true (entry_opens s c h read number given (ap is_fine r_is) (ap₂ (λ x y. not (x && not y)) a_is b_is)) refl
-              on false true a_is b_is read number = and_both _ true (entry_opens s c h read number given (ap is_fine r_is) (ap₂ (λ x y. not (x && not y)) a_is b_is)) refl
-              on false false a_is b_is read number = and_both _ true (entry_opens s c h read number given (ap is_fine r_is) (ap₂ (λ x y. not (x && not y)) a_is b_is)) refl
-              on true false a_is b_is read number =
-                  and_both (not s.second) _ (not_false s.second b_is)
-                  (and_both _ true (entry_opens (record s { second = true }) c h read number given (merge_same s c h ∙ ap is_fine r_is) (ap (λ x. not (x && not true)) a_is)) refl)
+      go false b_is (Ok new) r_is skip next = let gt : count s c < h.number = grind (arith, nat_tests) in server_opens_on s new (serve_changes p (after_all p s new) c hs).records (new_opens s c h new given gt r_is) (next new r_is)
 
   asks_open : (s : Server I) (c cursor : ℕ) (go : List (Changeset I) → ServerStep) → ((xs : List (Changeset I)) → (go xs).records ≡ []) → server_opens p s (if_there p s c cursor go).records ≡ true
   asks_open s c cursor go none = on (is_given s c) (nat_lt (length s.log) cursor)
@@ -237,7 +237,7 @@ module _ {I S : Type 0} (p : Profile I S) where
 
   -- what a server appends for any message it would have written
 
-  ids_after : (s : Server I) (new : List ServerRecord) (c : ℕ) (h : Change) → merge p s c h ≡ Ok new → (after_all p s new).ids ≡ s.ids
+  pub ids_after : (s : Server I) (new : List ServerRecord) (c : ℕ) (h : Change) → merge p s c h ≡ Ok new → (after_all p s new).ids ≡ s.ids
   ids_after s new c h e = let g = merging p s c h new e in ap (λ l. (after_all p s l).ids) g.new_is ∙ on (needs p g.instrs && not s.second)
     where
       on : (b : Bool) → (after_all p s ((if b then ServerRecord.Form ∷ [] else []) ++ Entry c h.number h.base h.ms h.body ∷ [])).ids ≡ s.ids

@@ -7,7 +7,7 @@ use Rattle.sync_theory.specs.Changesets.{Changeset}
 use Rattle.sync_model.specs.Bytes.{Uuid}
 use Rattle.sync_model.specs.Profile.{Profile, Stuck, apply_all, cross_changesets, needs}
 use Rattle.sync_model.specs.Messages.{Change, Message, Bind, Ident, Upload, Ask, Download, Refused, Stored, Ask2}
-use Rattle.sync_model.specs.Servers.{Server, ServerRecord, Client, Entry, Form, ServerRefusal, NumberGap, BaseBack, AheadOfHistory, HistoryFull, BadBytes, Mismatch, Break, NoSuchIdent, IdentsFull, NotForServer, code_of, at_place, place_of, last_base, entry_of, count, made_in, entries_from, server_objects, ServerStep, download, download_first, refuses, replies}
+use Rattle.sync_model.specs.Servers.{Server, ServerRecord, Client, Entry, Form, ServerRefusal, NumberGap, BaseBack, AheadOfHistory, HistoryFull, BadBytes, Mismatch, Break, NoSuchIdent, IdentsFull, NotForServer, code_of, at_place, after_all, place_of, last_base, entry_of, count, made_in, entries_from, server_objects, ServerStep, download, download_first, refuses, replies}
 use Rattle.sync_model.specs.Worlds.{at}
 
 -- what is kept of an ident
@@ -89,6 +89,11 @@ merged_by kept c number (Err why) go = as_before kept (refuses c number why)
 abbrev pub bound : {I S : Type 0} → Parts I S → Uuid → Parts I S
 bound kept u = record kept { idents = kept.idents ++ record { uuid = u; count = 0; last = 0; reciprocal = with_versions kept.floor kept.entries } ∷ [] }
 
+-- the entries from a cursor on, for an ident that is given
+abbrev pub ask_by : {I S : Type 0} → Parts I S → ℕ → ℕ → Option (Given I) → (List (Changeset I) → ServerStep) → ServerStep
+ask_by kept c cursor None go = refuses c 0 (NoSuchIdent (length kept.idents))
+ask_by kept c cursor (Some g) go = if nat_lt kept.len cursor then refuses c 0 (AheadOfHistory kept.len) else go (drop (cursor - kept.floor) kept.entries)
+
 module _ {I S : Type 0} (p : Profile I S) where
   -- ---- the parts of a server that reads its records
 
@@ -113,6 +118,10 @@ module _ {I S : Type 0} (p : Profile I S) where
     second = s.second;
     idents = idents_of s 1 s.ids;
   }
+
+  -- what a server that reads its records does, and the parts of its records afterwards
+  abbrev pub served_of : Server I → ServerStep → Served I S
+  served_of s did = record { records = did.records; answer = did.answer; parts = parts_of (after_all p s did.records) }
 
   -- ---- an upload, by the parts
 
@@ -153,10 +162,6 @@ module _ {I S : Type 0} (p : Profile I S) where
       if not (place == 0) then as_before kept (replies (Ident u place))
       else if length kept.idents == p.full then as_before kept (refuses 0 0 (IdentsFull (length kept.idents)))
       else record { records = Client u ∷ []; answer = Ident u (suc (length kept.idents)); parts = bound kept u }
-
-  abbrev pub ask_by : Parts I S → ℕ → ℕ → Option (Given I) → (List (Changeset I) → ServerStep) → ServerStep
-  ask_by kept c cursor None go = refuses c 0 (NoSuchIdent (length kept.idents))
-  ask_by kept c cursor (Some g) go = if nat_lt kept.len cursor then refuses c 0 (AheadOfHistory kept.len) else go (drop (cursor - kept.floor) kept.entries)
 
   abbrev pub serve_by : Parts I S → Message → Served I S
   serve_by kept (Bind u) = bind_by kept u (place_of u (map (λ g. g.uuid) kept.idents))
