@@ -10,27 +10,18 @@ use Rattle.sync_model.specs.Profile.{Profile, Stuck, apply_all, cross_changesets
 use Rattle.sync_model.specs.Messages.{Message, Bind, Ident, Upload, Ask, Download, Refused, Stored, Ask2}
 use Rattle.sync_model.specs.Clients.{Client, ClientRecord, Born, Named, Made, Took, Form, Original, changeset_of, ClientStep, ClientRefusal, TooLarge, NumbersFull, OldForm, refuse, if_born, ok_list, client_of, after_record, after_records, makes, crossed, commit, commit_born, commit_applied, upgrade, bind, upload, ask, take as take_message}
 use Rattle.sync_model.specs.Servers.{ServerRecord, server_of, serve}
-use Rattle.sync_model.specs.Worlds.{arm, Stop, Node, World, Event, Joins, Edits, Binds, Uploads, Asks, Upgrades, Delivers, Restarts, Stops, Injects, Outcome, Words, says, at, put, seek, is_there, stopped, has_name, has_id, server_name, messaged, message_words, made_words, took_words, upgrade_words, client_moved, client_ends, client_called, client_calls, server_ends, server_called, is_node, joins, delivers, named_by, names_own, injects, message_at, happens, world_after}
+use Rattle.sync_model.specs.Worlds.{Grown, ClientsGrow, arm, Stop, Node, World, Event, Joins, Edits, Binds, Uploads, Asks, Upgrades, Delivers, Restarts, Stops, Injects, Outcome, Words, says, at, put, seek, is_there, stopped, has_name, has_id, server_name, messaged, message_words, made_words, took_words, upgrade_words, client_moved, client_ends, client_called, client_calls, server_ends, server_called, is_node, joins, delivers, named_by, names_own, injects, message_at, happens, world_after}
 use Rattle.sync_model.specs.Log.{Stands}
 use Rattle.sync_model.proofs.Lists.{at_put, at_put_other, at_snoc_old, at_new, seek_found}
 use Rattle.sync_model.proofs.Own.{after_append, client_step}
 use Rattle.sync_model.proofs.Calling.{with_records}
 
 -- a node keeps its name and its records
-pub record Grown (a b : Node) : Type 0 where
-  pub name : b.name ≡ a.name
-  pub more : List ClientRecord
-  pub records : b.records ≡ a.records ++ more
-
 grown_refl : (a : Node) → Grown a a
 grown_refl a = record { name = refl; more = []; records = sym (append-nil a.records) }
 
 grown_then : {a b c : Node} → Grown a b → Grown b c → Grown a c
 grown_then {a} g h = record { name = h.name ∙ g.name; more = g.more ++ h.more; records = h.records ∙ ap (λ l. l ++ h.more) g.records ∙ append_assoc a.records g.more h.more }
-
--- every client of v is one of w, grown, at its place
-abbrev pub ClientsGrow : World → World → Type 0
-ClientsGrow v w = (i : ℕ) (nd : Node) → at v.clients i ≡ Some nd → (nd2 : Node) × (at w.clients i ≡ Some nd2) × Grown nd nd2
 
 grow_refl : (w : World) → ClientsGrow w w
 grow_refl w i nd e = (nd, e, grown_refl nd)

@@ -1,17 +1,16 @@
 -- A server's records, read on their own: to such a server every ident is a stranger's.
-use Rattle.std.proofs.Common.{◌≡◌, ◌≢◌, ◌⊎◌, inl, inr, ⊎_elim, ℕ, zero, suc, ◌<◌, ◌≤◌, Bool, true, false, ◌&&◌, ◌||◌, not, List, [], ◌∷◌, ◌++◌, Option, Some, None, Result, Ok, Err, refl, sym, ap, ◌∙◌, subst, arith, if◌then◌else◌, ◌==◌, length, nat_le, nat_lt, eqb-true}
-use Rattle.std.proofs.lemmas.Bool.Decides.{nat_tests}
+use Rattle.std.proofs.Common.{◌≡◌, ◌≢◌, ⊎_elim, ℕ, suc, ◌<◌, ◌≤◌, Bool, true, false, ◌&&◌, not, List, [], ◌∷◌, ◌++◌, Some, Result, Ok, Err, refl, sym, ap, ◌∙◌, subst, arith, ◌==◌, length, nat_le, eqb-true}
 use Rattle.std.proofs.lemmas.Bool.{leb-true}
 use Rattle.sync_theory.specs.Changesets.{Changeset}
-use Rattle.sync_theory.specs.Logs.{Made as LogMade, Entry as LogEntry, of_origin, Nodes}
+use Rattle.sync_theory.specs.Logs.{of_origin, Nodes}
 use Rattle.sync_theory.specs.World.{at_first}
 use Rattle.sync_theory.proofs.Logs.{none_rises}
 use Rattle.sync_theory.proofs.World.{same_or_not}
 use Rattle.sync_model.specs.Bytes.{Uuid}
-use Rattle.sync_model.specs.Profile.{Profile, Lawful, needs}
+use Rattle.sync_model.specs.Profile.{Profile, Lawful}
 use Rattle.sync_model.specs.Messages.{Change}
 use Rattle.sync_model.specs.Clients.{ok_list}
-use Rattle.sync_model.specs.Servers.{Server, ServerRecord, Client, Entry, Form, ServerRefusal, no_server, place_of, last_base, after_server, after_all, entry_of, count, is_given, merge, new_records}
+use Rattle.sync_model.specs.Servers.{Server, ServerRecord, Client, Entry, Form, ServerRefusal, no_server, place_of, last_base, after_server, after_all, entry_of, count, is_given, merge}
 use Rattle.sync_model.specs.Worlds.{at}
 use Rattle.sync_model.specs.Files.{is_fine, is_second, server_admits, server_opens}
 use Rattle.sync_model.proofs.Lists.{place_old, place_new}

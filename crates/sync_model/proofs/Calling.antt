@@ -17,7 +17,7 @@ use Rattle.sync_model.specs.Clients.{Client, ClientRecord, Born, Named, Made, To
 use Rattle.sync_model.specs.Servers.{Server, place_of, sent_of}
 use Rattle.sync_model.specs.Worlds.{Node, at, put}
 use Rattle.sync_model.specs.Log.{MayDecline}
-use Rattle.sync_model.proofs.Laws.{apply_is}
+use Rattle.sync_model.proofs.Stamps.{apply_is}
 use Rattle.sync_theory.proofs.Server.{test_true}
 use Rattle.sync_model.proofs.Lists.{class, class_own, place_within, place_one, at_map, at_put, at_new, at_snoc_old, map_both, length_map}
 use Rattle.sync_model.proofs.Sim.{as_log, uuid_of, uuids, Bears, no_entries, an_entry, Uploaded, no_changes, a_change, Given, ClientIs, Sim, Mine, TellsUpload, Tells, Later, HasForm, AllOld, no_more_old, an_old, bears_last}

@@ -10,7 +10,7 @@ use Rattle.sync_theory.specs.Changesets.{Changeset}
 use Rattle.sync_model.specs.Profile.{Profile, act_changeset, cross_changesets}
 use Rattle.sync_model.specs.Servers.{Server, place_of, last_base}
 use Rattle.sync_model.specs.Worlds.{Node, at}
-use Rattle.sync_model.proofs.Laws.{SameStamp}
+use Rattle.sync_model.proofs.Stamps.{SameStamp}
 use Rattle.sync_model.proofs.Lists.{class, at_snoc, at_below, at_map, class_own, rising_snoc, rising_drop, most_last, most_more, none_above, drop_length}
 use Rattle.sync_model.proofs.Moves.{nodes_foreign, reach_integrate, reach_foreign, origin_here as origin_here_, origin_other as origin_other_}
 use Rattle.sync_model.proofs.Sim.{no_change, Numbered, NotGiven, Alike, Grows, uuid_of, uuids, Sim, Later, client_lasts}

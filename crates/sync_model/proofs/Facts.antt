@@ -17,7 +17,7 @@ use Rattle.sync_model.specs.Servers.{Server, server_of, place_of, history_of, se
 use Rattle.sync_model.specs.Clients.{state_or}
 use Rattle.sync_model.specs.Worlds.{Node, World, Event, at, is_there, owner, ident_is, empty_world, world_after}
 use Rattle.sync_model.specs.Log.{as_log, Numbered, no_numbers, a_number, ident_by, ident_of, log, made_by, made_of, made, order, history_in, pending_in, state_in, entries_in, EntryFacts, NamedFacts, UnnamedFacts, WorldFacts}
-use Rattle.sync_model.proofs.Laws.{sets_law}
+use Rattle.sync_model.proofs.Stamps.{sets_law}
 use Rattle.sync_model.proofs.Lists.{class, seek_found, seek_map, drop_length, at_there, at_map, class_own}
 use Rattle.sync_model.proofs.Sim.{uuid_of, uuids, Bears, no_entries, an_entry, Given, Sim}
 use Rattle.sync_model.proofs.Own.{good_of}

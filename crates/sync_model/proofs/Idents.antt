@@ -12,7 +12,7 @@ use Rattle.sync_model.specs.Profile.{Profile, act_changeset, cross_changesets}
 use Rattle.sync_model.specs.Clients.{Client, ClientRecord, Born, Original, as_made, changeset_of, client_of}
 use Rattle.sync_model.specs.Servers.{Server, place_of}
 use Rattle.sync_model.specs.Worlds.{Node, at}
-use Rattle.sync_model.proofs.Laws.{SameStamp}
+use Rattle.sync_model.proofs.Stamps.{SameStamp}
 use Rattle.sync_model.proofs.Lists.{class, place_old, place_new, place_not, place_within, at_map, at_snoc, at_snoc_old, map_snoc, class_stays, class_joined, class_own}
 use Rattle.sync_model.proofs.Sim.{as_log, Numbered, no_numbers, no_change, NotGiven, Agrees, Grows, uuid_of, uuids, no_entries, Fresh, Given, ClientIs, Sim, Later, given_lasts, bears_last}
 use Rattle.sync_model.proofs.Steps.{alike_refl, grows_refl, EditedTo, edits_to}

@@ -1,26 +1,26 @@
 -- What a server keeps after it integrated a change: one entry more, the state after it, and the reciprocal lists.
-use Rattle.std.proofs.Common.{◌≡◌, ◌≢◌, ◌⊎◌, inl, inr, ⊎_elim, ℕ, zero, suc, ◌+◌, ◌-◌, ◌<◌, ◌≤◌, Bool, true, false, ◌||◌, List, [], ◌∷◌, ◌++◌, Option, Some, None, Result, Ok, refl, sym, ap, ap₂, ◌∙◌, subst, arith, append-nil, if◌then◌else◌, ◌==◌, length, drop, eqb-true}
+use Rattle.std.proofs.Common.{◌≡◌, ◌≢◌, ℕ, zero, suc, ◌+◌, ◌-◌, ◌<◌, ◌≤◌, Bool, true, false, ◌||◌, List, [], ◌∷◌, ◌++◌, Some, refl, sym, ap, ap₂, ◌∙◌, subst, arith, if◌then◌else◌, ◌==◌, length, drop, eqb-true}
 use Rattle.sync_theory.specs.Lists.{kept}
-use Rattle.sync_theory.specs.Grid.{Meet, Carried, with_change, history, state_at, reciprocal, carry}
+use Rattle.sync_theory.specs.Grid.{Carried, with_change, history, state_at}
 use Rattle.sync_theory.specs.Changesets.{Changeset}
 use Rattle.sync_theory.specs.World.{World, put_at, inserted, integrate, LogGood, Good}
-use Rattle.sync_theory.specs.Logs.{Made as LogMade, Entry as LogEntry, made_at, of_origin, origin_at, Nodes, world_of}
+use Rattle.sync_theory.specs.Logs.{Made as LogMade, Entry as LogEntry, of_origin, origin_at, Nodes, world_of}
 use Rattle.sync_theory.specs.Reciprocals.{reciprocal_pairs, settle}
 use Rattle.sync_theory.proofs.Integrate.{integrated_log}
 use Rattle.sync_theory.proofs.Logs.{Rising, AtMost, length_snoc}
 use Rattle.sync_theory.proofs.Server.{with_here, with_at}
 use Rattle.sync_theory.proofs.Settling.{kept_mine, kept_others}
-use Rattle.sync_theory.proofs.World.{same_or_not, put_same, put_other, inserted_log}
+use Rattle.sync_theory.proofs.World.{put_same, put_other, inserted_log}
 use Rattle.sync_model.specs.Bytes.{Uuid}
 use Rattle.sync_model.specs.Profile.{Profile, Lawful, act_changeset, cross_changesets, needs}
 use Rattle.sync_model.specs.Messages.{Change}
 use Rattle.sync_model.specs.Clients.{state_or}
-use Rattle.sync_model.specs.Servers.{Server, ServerRecord, last_base, count, made_in, history_of, state_of, entries_from, server_objects}
-use Rattle.sync_model.specs.Parts.{Given, settled, extended, idents_after, given_of, idents_of, parts_of, integrated}
+use Rattle.sync_model.specs.Servers.{Server, ServerRecord, last_base, made_in, history_of, state_of, entries_from}
+use Rattle.sync_model.specs.Parts.{settled, extended, idents_after, given_of, idents_of, parts_of, integrated}
 use Rattle.sync_model.proofs.Lists.{most_more, most_last, none_above}
 use Rattle.sync_model.proofs.Moves.{origin_here, origin_other, f_integrated, f_origin}
 use Rattle.sync_model.proofs.Own.{good_of}
-use Rattle.sync_model.proofs.Serving.{Merging, made_of, carried_here, acts_here, objects_of}
+use Rattle.sync_model.proofs.Serving.{Merging, made_of, carried_here, acts_here}
 use Rattle.sync_model.proofs.Sim.{Sim}
 
 -- ---- a list of so many values of a function, from one on

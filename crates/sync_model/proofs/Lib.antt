@@ -1,6 +1,6 @@
 pub mod Bytes
 mod Examples
-pub mod Laws
+pub mod Stamps
 pub mod Lists
 pub mod Moves
 pub mod Sim
@@ -22,3 +22,4 @@ pub mod Loops
 pub mod Alone
 pub mod Keeping
 pub mod Parts
+pub mod Reached

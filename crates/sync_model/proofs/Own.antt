@@ -16,7 +16,7 @@ use Rattle.sync_model.specs.Messages.{Sent}
 use Rattle.sync_model.specs.Clients.{Client, ClientRecord, Born, Named, Made, Took, Form, Original, as_made, changeset_of, state_or, ok_list, client_of, after_record, after_records, makes, crossed, took_part, tooks_of}
 use Rattle.sync_model.specs.Servers.{Server, place_of, sent_of}
 use Rattle.sync_model.specs.Worlds.{Node, at, put}
-use Rattle.sync_model.proofs.Laws.{sets_law}
+use Rattle.sync_model.proofs.Stamps.{sets_law}
 use Rattle.sync_model.proofs.Lists.{class, place_within, at_map, class_own, map_snoc, length_map, rising_snoc, most_snoc, most_more}
 use Rattle.sync_model.proofs.Moves.{reach_edit}
 use Rattle.sync_model.proofs.Sim.{as_log, Numbered, no_change, Alike, uuid_of, uuids, Bears, no_entries, an_entry, Fresh, Given, ClientIs, Sim, Later, bears_last}

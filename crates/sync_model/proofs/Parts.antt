@@ -5,24 +5,23 @@ use Rattle.std.proofs.lemmas.Bool.{ltb-false, le-leb}
 use Rattle.sync_theory.specs.Lists.{kept, and_then, ok_state}
 use Rattle.sync_theory.specs.Grid.{Meet, rebase, pending, pending_after, history, past, ok_entry, reciprocal_entry, reciprocal, carry, tail}
 use Rattle.sync_theory.specs.Changesets.{Changeset}
-use Rattle.sync_theory.specs.Logs.{Made as LogMade, Entry as LogEntry, made_at, of_origin, origin_at, Nodes}
-use Rattle.sync_theory.specs.Reciprocals.{reciprocal_pairs, from_base, settle}
+use Rattle.sync_theory.specs.Logs.{Entry as LogEntry, made_at, of_origin, origin_at, Nodes}
+use Rattle.sync_theory.specs.Reciprocals.{reciprocal_pairs, from_base}
 use Rattle.sync_theory.proofs.Server.{test_true, test_false, if_so, if_not}
 use Rattle.sync_theory.proofs.Settling.{before_base}
-use Rattle.sync_theory.proofs.World.{same_or_not}
 use Rattle.sync_model.specs.Bytes.{Uuid}
 use Rattle.sync_model.specs.Profile.{Profile, Stuck, Lawful, apply_all, cross_changesets, needs}
 use Rattle.sync_model.specs.Messages.{Change, Message, Bind, Ident, Upload, Ask, Download, Refused, Stored, Ask2}
 use Rattle.sync_model.specs.Servers.{Server, ServerRecord, Client, Entry, Form, ServerRefusal, NumberGap, BaseBack, AheadOfHistory, HistoryFull, BadBytes, Mismatch, Break, NoSuchIdent, IdentsFull, NotForServer, ServerStep, refuses, replies, no_server, server_of, place_of, last_base, after_server, after_all, entry_of, count, is_given, made_in, history_of, entries_from, server_objects, new_records, carried_change, merge_applied, merge_carried, merge_read, merge, merged, serve_changes, serve_bind, download, download_first, first_form, if_there, serve}
 use Rattle.sync_model.specs.Worlds.{at}
 use Rattle.sync_model.specs.Files.{server_opens}
-use Rattle.sync_model.specs.Parts.{Given, Parts, Served, Merged, at_ident, as_before, with_versions, integrated, after_merged, merged_by, bound, given_of, idents_of, parts_of, served_of, merge_applied_by, merge_carried_by, merge_read_by, merge_by, upload_by, bind_by, ask_by, serve_by}
+use Rattle.sync_model.specs.Parts.{Merged, at_ident, as_before, with_versions, after_merged, merged_by, bound, given_of, idents_of, parts_of, served_of, merge_applied_by, merge_carried_by, merge_read_by, merge_by, upload_by, bind_by, ask_by, serve_by}
 use Rattle.sync_model.proofs.Alone.{Opened, opened_first, opened_more, is_there}
 use Rattle.sync_model.proofs.Holding.{server_append}
 use Rattle.sync_model.proofs.Keeping.{listed, listed_drop, whole, entries_are, parts2}
-use Rattle.sync_model.proofs.Laws.{apply_is}
+use Rattle.sync_model.proofs.Stamps.{apply_is}
 use Rattle.sync_model.proofs.Opening.{new_opens, ids_after}
-use Rattle.sync_model.proofs.Serving.{Merging, made_of}
+use Rattle.sync_model.proofs.Serving.{Merging}
 use Rattle.sync_model.proofs.Sim.{Sim}
 
 -- ---- what nobody made

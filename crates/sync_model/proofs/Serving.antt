@@ -19,7 +19,7 @@ use Rattle.sync_model.specs.Worlds.{Node, at}
 use Rattle.sync_model.specs.Log.{MayRefuse, IsFair}
 use Rattle.sync_theory.proofs.Integrate.{server_acts}
 use Rattle.sync_theory.proofs.Logs.{Rising}
-use Rattle.sync_model.proofs.Laws.{SameStamp, apply_is, carry_stamp, sets_law, sets_kinds}
+use Rattle.sync_model.proofs.Stamps.{SameStamp, apply_is, carry_stamp, sets_law, sets_kinds}
 use Rattle.sync_model.proofs.Moves.{waiting_here, waiting_none}
 use Rattle.sync_model.proofs.Lists.{class, place_new, take_all, find_uuid, at_of_map, own_class, own_not_zero, most_at, last_below, rising_drop, drop_length}
 use Rattle.sync_model.proofs.Sim.{Numbered, no_numbers, a_number, uuid_of, uuids, Bears, no_entries, an_entry, Uploaded, a_change, Sim, TellsUpload, Mine, Tells, Later, HasForm, AllOld, no_more_old, an_old, Reads, longer}

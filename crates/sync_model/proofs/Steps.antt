@@ -12,7 +12,7 @@ use Rattle.sync_model.specs.Profile.{Profile, act_changeset, cross_changesets}
 use Rattle.sync_model.specs.Clients.{client_of}
 use Rattle.sync_model.specs.Servers.{Server, place_of}
 use Rattle.sync_model.specs.Worlds.{Node, at, put}
-use Rattle.sync_model.proofs.Laws.{SameStamp}
+use Rattle.sync_model.proofs.Stamps.{SameStamp}
 use Rattle.sync_model.proofs.Lists.{class, place_one, place_within, at_put, at_put_other, at_map, map_put, class_own}
 use Rattle.sync_model.proofs.Moves.{reach_edit}
 use Rattle.sync_model.proofs.Sim.{Numbered, no_numbers, a_number, no_change, NotGiven, Agrees, Alike, Grows, uuid_of, uuids, ClientIs, Sim, HasForm, Later, client_lasts}

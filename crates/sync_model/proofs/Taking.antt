@@ -19,7 +19,7 @@ use Rattle.sync_model.specs.Log.{MayDecline}
 use Rattle.sync_model.specs.Profile.{IsNamedKind}
 use Rattle.sync_model.proofs.Mismatches.{take_kind}
 use Rattle.sync_model.specs.Worlds.{Node, at}
-use Rattle.sync_model.proofs.Laws.{apply_is, sets_law, sets_kinds, carried_marks, carried_originals}
+use Rattle.sync_model.proofs.Stamps.{apply_is, sets_law, sets_kinds, carried_marks, carried_originals}
 use Rattle.sync_model.proofs.Lists.{class, place_within, at_there, at_map, class_own, most_more}
 use Rattle.sync_model.proofs.Moves.{nodes_taken, reach_own, reach_take}
 use Rattle.sync_model.proofs.Sim.{no_change, Agrees, Alike, uuid_of, uuids, Bears, Given, ClientIs, Sim, bears_last}

@@ -9,3 +9,4 @@ pub mod Files
 pub mod Parts
 pub mod Reports
 pub mod Toy
+pub mod ToyLaw

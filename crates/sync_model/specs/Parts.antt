@@ -7,7 +7,7 @@ use Rattle.sync_theory.specs.Changesets.{Changeset}
 use Rattle.sync_model.specs.Bytes.{Uuid}
 use Rattle.sync_model.specs.Profile.{Profile, Stuck, apply_all, cross_changesets, needs}
 use Rattle.sync_model.specs.Messages.{Change, Message, Bind, Ident, Upload, Ask, Download, Refused, Stored, Ask2}
-use Rattle.sync_model.specs.Servers.{Server, ServerRecord, Client, Entry, Form, ServerRefusal, NumberGap, BaseBack, AheadOfHistory, HistoryFull, BadBytes, Mismatch, Break, NoSuchIdent, IdentsFull, NotForServer, code_of, at_place, after_all, place_of, last_base, entry_of, count, made_in, entries_from, server_objects, ServerStep, download, download_first, refuses, replies}
+use Rattle.sync_model.specs.Servers.{Server, ServerRecord, Client, Entry, Form, ServerRefusal, NumberGap, BaseBack, AheadOfHistory, HistoryFull, BadBytes, Mismatch, Break, NoSuchIdent, IdentsFull, NotForServer, after_all, place_of, last_base, entry_of, count, made_in, entries_from, server_objects, ServerStep, download, download_first, refuses, replies}
 use Rattle.sync_model.specs.Worlds.{at}
 
 -- what is kept of an ident

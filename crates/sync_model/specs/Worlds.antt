@@ -1,5 +1,5 @@
 -- The world: a server, clients and all messages that were made. What each event makes of it.
-use Rattle.std.specs.Prelude.{bytes_eq, ℕ, zero, suc, ◌+◌, ◌-◌, ◌*◌, ◌/◌, ◌%◌, Bool, true, false, ◌&&◌, ◌||◌, not, List, [], ◌∷◌, ◌++◌, Option, Some, None, Result, Ok, Err, nat_le, ◌==◌, if◌then◌else◌, length, take}
+use Rattle.std.specs.Prelude.{◌≡◌, bytes_eq, ℕ, zero, suc, ◌+◌, ◌-◌, ◌*◌, ◌/◌, ◌%◌, Bool, true, false, ◌&&◌, ◌||◌, not, List, [], ◌∷◌, ◌++◌, Option, Some, None, Result, Ok, Err, nat_le, ◌==◌, if◌then◌else◌, length, take}
 use Rattle.sync_model.specs.Bytes.{Name, Uuid}
 use Rattle.sync_model.specs.Profile.{Profile}
 use Rattle.sync_model.specs.Messages.{Message, Bind, Upload, Ask, Ask2}
@@ -250,3 +250,17 @@ module _ {I S : Type 0} (p : Profile I S) where
   abbrev pub outcomes : World → List (Event I) → List Words
   outcomes w [] = []
   outcomes w (e ∷ es) = (happens w e).words ∷ outcomes (happens w e).world es
+
+  -- some events make it of the empty world
+  abbrev pub IsReached : World → Type 0
+  IsReached w = (es : List (Event I)) × (world_after empty_world es ≡ w)
+
+-- a node, with more records behind those that it had
+pub record Grown (old new : Node) : Type 0 where
+  pub name : new.name ≡ old.name
+  pub more : List ClientRecord
+  pub records : new.records ≡ old.records ++ more
+
+-- every client of one world stands in another at its place, with all records that it had
+abbrev pub ClientsGrow : World → World → Type 0
+ClientsGrow v w = (i : ℕ) (nd : Node) → at v.clients i ≡ Some nd → (nd2 : Node) × (at w.clients i ≡ Some nd2) × Grown nd nd2
