@@ -23,3 +23,4 @@ pub mod Alone
 pub mod Keeping
 pub mod Parts
 pub mod Reached
+pub mod Limits
