@@ -91,7 +91,7 @@ module _ {I S : Type 0} (p : Profile I S) where
         let l : 1 ≤ c = leb-true 1 c b.0 in
         (λ z. omega arith, leb-true c (length s.ids) b.1)
 
-    merged_fine : (s : Server I) (c : ℕ) (h : Change) → is_fine (merge p s c h) ≡ true → (new : List ServerRecord) × (merge p s c h ≡ Ok new)
+    pub merged_fine : (s : Server I) (c : ℕ) (h : Change) → is_fine (merge p s c h) ≡ true → (new : List ServerRecord) × (merge p s c h ≡ Ok new)
     merged_fine s c h e = on (merge p s c h) e
       where
         on : (r : Result (List ServerRecord) ServerRefusal) → is_fine r ≡ true → (new : List ServerRecord) × (r ≡ Ok new)

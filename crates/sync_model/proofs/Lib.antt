@@ -24,3 +24,5 @@ pub mod Keeping
 pub mod Parts
 pub mod Reached
 pub mod Limits
+pub mod Replies
+pub mod Spellings

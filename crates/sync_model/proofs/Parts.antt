@@ -188,10 +188,10 @@ module _ {I S : Type 0} (p : Profile I S) where
 
   -- ---- any server that opened its records
 
-  with_log : Server I → List (LogEntry (Changeset I)) → Server I
+  abbrev pub with_log : Server I → List (LogEntry (Changeset I)) → Server I
   with_log s log = record { ids = s.ids; second = s.second; log = log }
 
-  sim_of : (s : Server I) (o : Opened p s) → Sim p (record { ids = s.ids; second = s.second; log = o.n.log }) [] o.named o.n
+  pub sim_of : (s : Server I) (o : Opened p s) → Sim p (record { ids = s.ids; second = s.second; log = o.n.log }) [] o.named o.n
   sim_of s o = record {
     log_is = refl;
     reached = o.sim.reached;
@@ -210,8 +210,7 @@ module _ {I S : Type 0} (p : Profile I S) where
   }
 
   -- what holds of the log that the theory has of it holds of its own
-  at_log : (s : Server I) (o : Opened p s) (P : Server I → Type 0) → P (with_log s o.n.log) → P s
-  unfolding with_log
+  pub at_log : (s : Server I) (o : Opened p s) (P : Server I → Type 0) → P (with_log s o.n.log) → P s
   at_log s o P h = subst P (λ i. with_log s (o.sim.log_is i)) h
 
   -- a reply that appends nothing
@@ -220,15 +219,12 @@ module _ {I S : Type 0} (p : Profile I S) where
 
   module _ {Fits : S → Type 0} (law : Lawful p Fits) where
     merge_here : (s : Server I) → Opened p s → (c : ℕ) (h : Change) (u : Uuid) → count s c < h.number → c ≢ 0 → c ≤ length s.ids → merge_by p (parts_of p s) c (given_of p s c u) h ≡ lift s (merge p s c h)
-    unfolding with_log
     merge_here s o = at_log s o (λ z. (c : ℕ) (h : Change) (u : Uuid) → count z c < h.number → c ≢ 0 → c ≤ length z.ids → merge_by p (parts_of p z) c (given_of p z c u) h ≡ lift z (merge p z c h)) (merge_is law s.ids s.second o.named o.n (sim_of s o))
 
     drop_here : (s : Server I) → Opened p s → (cursor : ℕ) → cursor ≤ length s.log → drop (cursor - 0) (entries_from p s.log (length s.log) 0) ≡ entries_from p s.log (length s.log - cursor) cursor
-    unfolding with_log
     drop_here s o = at_log s o (λ z. (cursor : ℕ) → cursor ≤ length z.log → drop (cursor - 0) (entries_from p z.log (length z.log) 0) ≡ entries_from p z.log (length z.log - cursor) cursor) (entries_drop law s.ids s.second o.named o.n (sim_of s o))
 
     new_here : (s : Server I) → Opened p s → (u : Uuid) → given_of p s (suc (length s.ids)) u ≡ record { uuid = u; count = 0; last = 0; reciprocal = with_versions 0 (entries_from p s.log (length s.log) 0) }
-    unfolding with_log
     new_here s o = at_log s o (λ z. (u : Uuid) → given_of p z (suc (length z.ids)) u ≡ record { uuid = u; count = 0; last = 0; reciprocal = with_versions 0 (entries_from p z.log (length z.log) 0) }) (new_given law s.ids s.second o.named o.n (sim_of s o))
 
     -- ---- an upload

@@ -20,7 +20,7 @@ use Rattle.sync_model.proofs.Holding.{Holds, cut_by, happens_holds, empty_holds}
 use Rattle.sync_model.proofs.Opening.{client_opens_on, client_opens_cut, commit_opens, upgrade_opens, Sendable, none_sent, one_sent, IsMessage, take_opens, server_opens_on, server_opens_cut, serve_opens}
 
 -- an entry stands among those of its origin
-entry_place : {X : Type 0} (log : List (LogEntry X)) (k : ℕ) (e : LogEntry X) → at log k ≡ Some e → (j : ℕ) × (at (of_origin e.origin log) j ≡ Some (record { base = e.base; change = e.change }))
+pub entry_place : {X : Type 0} (log : List (LogEntry X)) (k : ℕ) (e : LogEntry X) → at log k ≡ Some e → (j : ℕ) × (at (of_origin e.origin log) j ≡ Some (record { base = e.base; change = e.change }))
 entry_place [] k e h = cc
 entry_place (x ∷ log) zero e h =
     let same : x ≡ e = cc in
@@ -33,7 +33,7 @@ entry_place {X} (x ∷ log) (suc k) e h =
     behind [] j f = (j, f)
     behind (y ∷ l) j f = let b = behind l j f in (suc b.0, b.1)
 
-none_at : {A : Type 0} (xs : List A) (j : ℕ) (x : A) → xs ≡ [] → at xs j ≡ Some x → ⊥
+pub none_at : {A : Type 0} (xs : List A) (j : ℕ) (x : A) → xs ≡ [] → at xs j ≡ Some x → ⊥
 none_at [] j x e h = cc
 none_at (y ∷ xs) j x e h = cc
 
@@ -51,7 +51,7 @@ module _ {I S : Type 0} (p : Profile I S) where
       on (Ok new) is f = (merging p s c h new is).unfilled
       on (Err why) is f = cc
 
-  short : (rs : List ServerRecord) (s : Server I) → server_opens p s rs ≡ true → length s.log ≤ p.full → length (after_all p s rs).log ≤ p.full
+  pub short : (rs : List ServerRecord) (s : Server I) → server_opens p s rs ≡ true → length s.log ≤ p.full → length (after_all p s rs).log ≤ p.full
   short [] s e le = le
   short (ServerRecord.Client id ∷ rs) s e le = short rs (after_server p s (ServerRecord.Client id)) (both_true _ _ e).1 le
   short (ServerRecord.Form ∷ rs) s e le = short rs (after_server p s ServerRecord.Form) (both_true _ _ e).1 le
@@ -178,7 +178,7 @@ module _ {I S : Type 0} (p : Profile I S) where
       on (Some id) true = refl
       on (Some id) false = refl
 
-  event_opens : {Fits : S → Type 0} → Lawful p Fits → (w : World) → Holds p w → FilesOpen p w → (e : Event I) → FilesOpen p (happens p w e).world
+  pub event_opens : {Fits : S → Type 0} → Lawful p Fits → (w : World) → Holds p w → FilesOpen p w → (e : Event I) → FilesOpen p (happens p w e).world
   event_opens law w h f (Joins name id) = go (is_node w name) (is_there (seek (has_id p id) w.clients) || is_there (seek (λ u. bytes_eq id u) w.injected))
     where
       go : (a b : Bool) → FilesOpen p (if a then says w Rattle.sync_model.specs.Worlds.NameTaken else (if b then says w Rattle.sync_model.specs.Worlds.UuidTaken else says (record w { clients = w.clients ++ record { name = name; records = Born id ∷ [] } ∷ [] }) (Rattle.sync_model.specs.Worlds.Joined name))).world
