@@ -1,6 +1,5 @@
 -- The numbers of clients stay within their limits, and so do what they append and what they send.
-use Rattle.std.proofs.Common.{◌≡◌, ◌≢◌, ◌⊎◌, ⊎_elim, ℕ, zero, suc, ◌+◌, ◌-◌, ◌<◌, ◌≤◌, Bool, true, false, ◌&&◌, ◌||◌, not, List, [], ◌∷◌, ◌++◌, Option, Some, None, Result, Ok, Err, refl, sym, ap, ◌∙◌, subst, arith, if◌then◌else◌, ◌==◌, length, drop, take, map, nat_le, nat_lt, eqb-true, le_refl, sum_by}
-use Rattle.std.proofs.lemmas.Bool.Decides.{nat_tests}
+use Rattle.std.proofs.Common.{◌≡◌, ◌≢◌, ℕ, zero, suc, ◌-◌, ◌<◌, ◌≤◌, Bool, true, false, ◌&&◌, not, List, [], ◌∷◌, ◌++◌, Option, Some, None, Result, Ok, Err, refl, arith, if◌then◌else◌, ◌==◌, length, drop, take, map, nat_le, nat_lt, eqb-true, le_refl, sum_by, IfOk}
 use Rattle.std.proofs.lemmas.Bool.{ltb-true, leb-true}
 use Rattle.std.proofs.lemmas.List.Sums.{sum_by-cons}
 use Rattle.std.specs.Prelude.{bytes_eq}
@@ -10,11 +9,11 @@ use Rattle.sync_theory.proofs.Logs.{length_snoc}
 use Rattle.sync_theory.proofs.Server.{test_true}
 use Rattle.sync_model.specs.Bytes.{Uuid}
 use Rattle.sync_model.specs.Profile.{Profile, Stuck, apply_all, cross_changesets, needs, first_need, fitting}
-use Rattle.sync_model.specs.Messages.{Change, Sent, Message, Bind, Ident, Upload, Ask, Download, Refused, Stored, Ask2}
+use Rattle.sync_model.specs.Messages.{Sent, Message, Bind, Ident, Upload, Ask, Download, Refused, Stored, Ask2}
 use Rattle.sync_model.specs.Clients.{Client, ClientRecord, Born, Named, Made, Took, Form, Original, Unsent, ClientRefusal, TooLarge, NumbersFull, OldForm, NotNamed, NotMine, IdentDiffers, Gap, WasRefused, Step, ClientStep, refuse, answers, appends, as_made, changeset_of, with_current, carried_to, if_born, if_named, no_client, after_record, after_records, makes, crossed, takes_entry, commit, commit_born, commit_applied, upgrade, bind, upload, to_upload, change_of, ask, settled_from, took, take_one, take_ident, take_entries, take_born, take as take_message, entry_refusal}
 use Rattle.sync_model.specs.Worlds.{is_there}
 use Rattle.sync_model.specs.Files.{client_admits, client_opens}
-use Rattle.sync_model.specs.Limits.{Each, no_more, and_each, IsGiven, IsChange, IsSent, IsUpload, IsAsk, IsDownload, IsMessage, IsClientRecord, IsUnsent, ClientNumbers}
+use Rattle.sync_model.specs.Limits.{Each, no_more, and_each, IsGiven, IsSent, IsAsk, IsMessage, IsClientRecord, IsUnsent, ClientNumbers}
 
 -- ---- each of a list
 
@@ -148,8 +147,7 @@ module _ {I S : Type 0} (p : Profile I S) where
   -- ---- what it sends
 
   abbrev pub Sends : Result Message ClientRefusal → Type 0
-  Sends (Ok m) = IsMessage p m
-  Sends (Err why) = Unit {0}
+  Sends r = IfOk r (IsMessage p)
 
   pub bind_sends : (c : Client I S) → Sends (bind c).answer
   bind_sends c = on c.id
@@ -167,11 +165,14 @@ module _ {I S : Type 0} (p : Profile I S) where
       on (Some id) false is = go (differs c.ident 0 is)
 
   pub upload_sends : (c : Client I S) → ClientNumbers p c → Sends (upload p c).answer
-  upload_sends c n = named_sends c (Upload c.ident (to_upload p c)) (λ ne. (given_less c.ident ne n.ident, record {
-    count = fit_count (λ h. length h.body) p.most p.room (map (λ u. change_of p u.original) c.unsent);
-    bytes = fit_bytes (λ h. length h.body) p.most p.room (map (λ u. change_of p u.original) c.unsent);
-    changes = fit_each (λ h. length h.body) p.most p.room (map (λ u. change_of p u.original) c.unsent) (each_map (λ u. change_of p u.original) (λ u h. let a = h.base in let b = n.cursor in record { number = h.number; base = omega arith }) n.unsent);
-  }))
+  upload_sends c n = named_sends c (Upload c.ident (to_upload p c)) (λ ne. (
+    given_less c.ident ne n.ident,
+    record {
+      count = fit_count (λ h. length h.body) p.most p.room (map (λ u. change_of p u.original) c.unsent);
+      bytes = fit_bytes (λ h. length h.body) p.most p.room (map (λ u. change_of p u.original) c.unsent);
+      changes = fit_each (λ h. length h.body) p.most p.room (map (λ u. change_of p u.original) c.unsent) (each_map (λ u. change_of p u.original) (λ u h. let a = h.base in let b = n.cursor in record { number = h.number; base = omega arith }) n.unsent);
+    },
+  ))
 
   pub ask_sends : (c : Client I S) → ClientNumbers p c → Sends (ask c).answer
   ask_sends c n = named_sends c _ (λ ne. on c.second ne)

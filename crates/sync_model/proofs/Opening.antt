@@ -1,16 +1,17 @@
 -- The nodes of an exchange write what opening accepts, wherever they are stopped.
-use Rattle.std.proofs.Common.{◌≡◌, ◌≢◌, ℕ, zero, suc, ◌+◌, ◌-◌, ◌<◌, Bool, true, false, ◌&&◌, not, List, [], ◌∷◌, ◌++◌, Option, Some, None, Result, Ok, Err, refl, sym, ap, ap₂, ◌∙◌, subst, arith, if◌then◌else◌, ◌==◌, length, drop, take, nat_le, nat_lt, eqb-true}
+use Rattle.std.proofs.Common.{◌≡◌, ◌≢◌, ℕ, zero, suc, ◌+◌, ◌-◌, ◌<◌, ◌≤◌, Bool, true, false, ◌&&◌, not, List, [], ◌∷◌, ◌++◌, Option, Some, None, Result, Ok, Err, refl, sym, ap, ap₂, ◌∙◌, subst, arith, if◌then◌else◌, ◌==◌, length, drop, take, nat_le, nat_lt, eqb-true}
 use Rattle.std.proofs.lemmas.Bool.Decides.{nat_tests}
 use Rattle.std.proofs.lemmas.Bool.{ltb-false}
 use Rattle.sync_model.specs.Bytes.{Uuid}
-use Rattle.std.specs.Prelude.{bytes_eq}
+use Rattle.std.specs.Prelude.{⊤, bytes_eq}
 use Rattle.sync_theory.proofs.Server.{test_true, test_false}
 use Rattle.sync_theory.specs.Changesets.{Changeset}
 use Rattle.sync_model.specs.Profile.{Profile, Stuck, apply_all, needs, first_need, Lawful}
 use Rattle.sync_model.specs.Messages.{Change, Sent, Message, Bind, Ident, Upload, Ask, Download, Refused, Stored, Ask2}
-use Rattle.sync_model.specs.Clients.{Client, ClientRecord, Born, Named, Made, Took, Form, Step, ClientStep, ClientRefusal, refuse, answers, appends, if_born, after_record, after_records, entry_refusal, took, take_one, take_entries, take_ident, take_born, take as take_message, commit, commit_born, commit_applied, upgrade, NotMine, TooLarge, NumbersFull, OldForm, IdentDiffers, Gap, WasRefused}
+use Rattle.sync_model.specs.Clients.{born, born_once, Client, ClientRecord, Born, Named, Made, Took, Form, Step, ClientStep, ClientRefusal, refuse, answers, appends, if_born, after_record, after_records, entry_refusal, took, take_one, take_entries, take_ident, take_born, take as take_message, commit, commit_born, commit_applied, upgrade, NotMine, TooLarge, NumbersFull, OldForm, IdentDiffers, Gap, WasRefused}
 use Rattle.sync_model.specs.Servers.{Server, ServerRecord, Entry, ServerStep, ServerRefusal, place_of, count, after_server, after_all, is_given, new_records, merge_applied, merge_carried, merge_read, merge, merged, carried_change, serve_changes, serve_bind, serve, refuses, replies, if_there, download, download_first, first_form, IdentsFull, NoSuchIdent, NeedsForm2, AheadOfHistory}
 use Rattle.sync_model.specs.Worlds.{is_there}
+use Rattle.sync_model.specs.Limits.{Each, and_each, IsSent, IsMessage}
 use Rattle.sync_model.specs.Files.{is_fine, made_acts, client_admits, client_opens, is_second, server_admits, server_opens}
 use Rattle.sync_model.proofs.Serving.{merging}
 use Rattle.sync_model.proofs.Calling.{took_cursor}
@@ -71,6 +72,13 @@ module _ {I S : Type 0} (p : Profile I S) where
             (ap (made_acts p c) (law.spelled edits) ∙ and_both (not (needs p edits && not c.second)) (is_fine (apply_all p edits c.objects)) (not_false (needs p edits && not c.second) old) (ap is_fine r_is))))
         on is old (Err b) r_is = refl
 
+    pub born_opens : (id : Uuid) → client_opens p c (born c id).records ≡ true
+    born_opens id = on c.id refl
+      where
+        on : (o : Option Uuid) → c.id ≡ o → client_opens p c (born_once {A = ⊤} o (appends {A = ⊤} (Born id) tt)).records ≡ true
+        on None is = one (Born id) (not_false (is_there c.id) (ap is_there is))
+        on (Some other) is = refl
+
     pub upgrade_opens : client_opens p c (upgrade c).records ≡ true
     upgrade_opens = born_good c.id _ (λ id is. go is c.second refl)
       where
@@ -100,17 +108,31 @@ module _ {I S : Type 0} (p : Profile I S) where
           (and_both (not (e.origin == 0)) _ (not_false (e.origin == 0) (test_false e.origin 0 o))
           (and_both (not (e.number == 0)) _ (not_false (e.number == 0) (test_false e.number 0 k)) (not_false (is_there (entry_refusal p c e)) (ap is_there is)))))) f
 
-  -- ---- messages within their limits
+  -- ---- messages of which a client takes only what opening accepts
 
-  abbrev pub IsMessage : Message → Type 0
-  IsMessage (Ident u c) = c ≢ 0
-  IsMessage (Download c from es) = (c ≢ 0) × Sendable from es
-  IsMessage (Bind u) = Unit {0}
-  IsMessage (Upload c hs) = Unit {0}
-  IsMessage (Ask c cursor settled) = Unit {0}
-  IsMessage (Ask2 c cursor settled) = Unit {0}
-  IsMessage (Refused c number code place) = Unit {0}
-  IsMessage (Stored c number) = Unit {0}
+  abbrev pub IsTakeable : Message → Type 0
+  IsTakeable (Ident u c) = c ≢ 0
+  IsTakeable (Download c from es) = (c ≢ 0) × Sendable from es
+  IsTakeable (Bind u) = Unit {0}
+  IsTakeable (Upload c hs) = Unit {0}
+  IsTakeable (Ask c cursor settled) = Unit {0}
+  IsTakeable (Ask2 c cursor settled) = Unit {0}
+  IsTakeable (Refused c number code place) = Unit {0}
+  IsTakeable (Stored c number) = Unit {0}
+
+  sendable : (k : ℕ) (es : List Sent) → Each (IsSent p) es → k + length es ≤ p.full → Sendable k es
+  sendable k [] f h = none_sent
+  sendable k (e ∷ es) (and_each x f) h = one_sent x.origin.positive x.number.positive (omega arith) (sendable (suc k) es f (omega arith))
+
+  pub takeable : (m : Message) → IsMessage p m → IsTakeable m
+  takeable (Ident u c) ok = ok.positive
+  takeable (Download c from es) ok = (ok.0.positive, sendable from es ok.1.entries ok.1.reach)
+  takeable (Bind u) ok = tt
+  takeable (Upload c hs) ok = tt
+  takeable (Ask c cursor settled) ok = tt
+  takeable (Ask2 c cursor settled) ok = tt
+  takeable (Refused c number code place) ok = tt
+  takeable (Stored c number) ok = tt
 
   sendable_drop : (d k j : ℕ) (es : List Sent) → Sendable k es → k + d ≡ j → Sendable j (drop d es)
   sendable_drop zero k j es b e = let h : k ≡ j = omega arith in subst (λ i. Sendable i es) h b
@@ -118,7 +140,7 @@ module _ {I S : Type 0} (p : Profile I S) where
   sendable_drop (suc d) k j (x ∷ es) (one_sent o m lt b) e = sendable_drop d (suc k) j es b (omega arith)
 
   -- what a client appends for any message it would have written
-  pub take_opens : (c : Client I S) (m : Message) → IsMessage m → client_opens p c (take_message p c m).records ≡ true
+  pub take_opens : (c : Client I S) (m : Message) → IsTakeable m → client_opens p c (take_message p c m).records ≡ true
   take_opens c m ok = at_id c.id refl
     where
       ident_opens : {id : Uuid} (ident : ℕ) → c.id ≡ Some id → ident ≢ 0 → client_opens p c (take_ident c ident).records ≡ true
@@ -142,7 +164,7 @@ module _ {I S : Type 0} (p : Profile I S) where
       if_opens true x why f = f refl
       if_opens false x why f = refl
 
-      on : {id : Uuid} → c.id ≡ Some id → (m : Message) → IsMessage m → client_opens p c (take_born p c m id).records ≡ true
+      on : {id : Uuid} → c.id ≡ Some id → (m : Message) → IsTakeable m → client_opens p c (take_born p c m id).records ≡ true
       on is (Bind u) ok = refl
       on is (Upload k hs) ok = refl
       on is (Ask k cursor settled) ok = refl

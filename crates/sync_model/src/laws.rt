@@ -1,6 +1,8 @@
-ghost use Rattle.std.specs.Prelude.{List, true, ℕ, ◌≡◌};
-ghost use Rattle.sync_model.specs.Bytes.{Name};
-ghost use Rattle.sync_model.specs.Files.{FilesOpen, server_opens};
+ghost use Rattle.std.specs.Prelude.{IfOk, List, take, true, ◌++◌, ℕ, ◌≡◌};
+ghost use Rattle.sync_model.specs.Bytes.{Name, Uuid};
+ghost use Rattle.sync_model.specs.Clients.{ClientRecord, ask, bind, born, client_of, commit, no_client, take as take_message, upgrade, upload};
+ghost use Rattle.sync_model.specs.Files.{FilesOpen, client_opens, server_opens};
+ghost use Rattle.sync_model.specs.Limits.{ClientNumbers, Each, IsClientRecord, IsMessage, IsServerRecord, ServerNumbers, WorldNumbers};
 ghost use Rattle.sync_model.specs.Log.{Stands, WorldFacts};
 ghost use Rattle.sync_model.specs.Messages.{Message};
 ghost use Rattle.sync_model.specs.Parts.{parts_of, serve_by, served_of};
@@ -30,4 +32,39 @@ pub fn worlds_hold<E: Exchange>()
 pub fn servers_answer_by_parts<E: Exchange>()
     ensures { (records : List ServerRecord) (m : Message) → server_opens E.profile no_server records ≡ true
         → serve_by E.profile (parts_of E.profile (server_of E.profile records)) m ≡ served_of E.profile (server_of E.profile records) (serve E.profile (server_of E.profile records) m) }
+{}
+
+/// Opening accepts what a node appends, after what it accepted before, and any beginning of it.
+pub fn nodes_write_what_opens<E: Exchange>()
+    ensures born { (records : List ClientRecord) (id : Uuid) → client_opens E.profile (no_client E.profile) records ≡ true
+        → client_opens E.profile (no_client E.profile) (records ++ (born (client_of E.profile records) id).records) ≡ true }
+    ensures commit { (records : List ClientRecord) (ms : ℕ) (edits : List E.Instr) → client_opens E.profile (no_client E.profile) records ≡ true
+        → client_opens E.profile (no_client E.profile) (records ++ (commit E.profile (client_of E.profile records) ms edits).records) ≡ true }
+    ensures upgrade { (records : List ClientRecord) → client_opens E.profile (no_client E.profile) records ≡ true
+        → client_opens E.profile (no_client E.profile) (records ++ (upgrade (client_of E.profile records)).records) ≡ true }
+    ensures taken { (records : List ClientRecord) (m : Message) → IsMessage E.profile m → client_opens E.profile (no_client E.profile) records ≡ true
+        → client_opens E.profile (no_client E.profile) (records ++ (take_message E.profile (client_of E.profile records) m).records) ≡ true }
+    ensures served { (records : List ServerRecord) (m : Message) → server_opens E.profile no_server records ≡ true
+        → server_opens E.profile no_server (records ++ (serve E.profile (server_of E.profile records) m).records) ≡ true }
+    ensures client_beginning { (records : List ClientRecord) (n : ℕ) → client_opens E.profile (no_client E.profile) records ≡ true
+        → client_opens E.profile (no_client E.profile) (take n records) ≡ true }
+    ensures server_beginning { (records : List ServerRecord) (n : ℕ) → server_opens E.profile no_server records ≡ true
+        → server_opens E.profile no_server (take n records) ≡ true }
+{}
+
+/// The numbers of nodes, of what they append and of what they send are within their limits, so that each message and
+/// each record has a spelling.
+pub fn nodes_stay_within_limits<E: Exchange>()
+    ensures worlds { (w : World) → IsReached E.profile w → WorldNumbers E.profile w }
+    ensures clients { (records : List ClientRecord) → client_opens E.profile (no_client E.profile) records ≡ true → Each (IsClientRecord E.profile) records
+        → ClientNumbers E.profile (client_of E.profile records) }
+    ensures binds { (records : List ClientRecord) → IfOk (bind (client_of E.profile records)).answer (IsMessage E.profile) }
+    ensures uploads { (records : List ClientRecord) → ClientNumbers E.profile (client_of E.profile records) → IfOk (upload E.profile (client_of E.profile records)).answer (IsMessage E.profile) }
+    ensures asks { (records : List ClientRecord) → ClientNumbers E.profile (client_of E.profile records) → IfOk (ask (client_of E.profile records)).answer (IsMessage E.profile) }
+    ensures commits { (records : List ClientRecord) (ms : ℕ) (edits : List E.Instr) → ClientNumbers E.profile (client_of E.profile records)
+        → Each (IsClientRecord E.profile) (commit E.profile (client_of E.profile records) ms edits).records }
+    ensures takes { (records : List ClientRecord) (m : Message) → IsMessage E.profile m → Each (IsClientRecord E.profile) (take_message E.profile (client_of E.profile records) m).records }
+    ensures servers { (records : List ServerRecord) → server_opens E.profile no_server records ≡ true → ServerNumbers E.profile (server_of E.profile records) }
+    ensures entries { (records : List ServerRecord) → server_opens E.profile no_server records ≡ true → Each (IsServerRecord E.profile) records }
+    ensures replies { (records : List ServerRecord) (m : Message) → server_opens E.profile no_server records ≡ true → IsMessage E.profile (serve E.profile (server_of E.profile records) m).answer }
 {}

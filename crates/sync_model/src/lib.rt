@@ -8,4 +8,6 @@ pub mod laws;
 mod tests;
 
 pub use exchange::Exchange;
-pub use laws::{servers_answer_by_parts, worlds_hold};
+pub use laws::{
+    nodes_stay_within_limits, nodes_write_what_opens, servers_answer_by_parts, worlds_hold,
+};

@@ -1,7 +1,9 @@
 //! The toy is exchanged through the bound.
 
 use super::exchange::Exchange;
-use super::laws::{servers_answer_by_parts, worlds_hold};
+use super::laws::{
+    nodes_stay_within_limits, nodes_write_what_opens, servers_answer_by_parts, worlds_hold,
+};
 
 struct Toys;
 
@@ -25,4 +27,6 @@ impl Exchange for Toys {
 fn a_toy_can_be_exchanged() {
     worlds_hold::<Toys>();
     servers_answer_by_parts::<Toys>();
+    nodes_write_what_opens::<Toys>();
+    nodes_stay_within_limits::<Toys>();
 }
