@@ -1,9 +1,11 @@
 -- Small exchanges of toy instructions, computed.
-use Rattle.std.proofs.Common.{◌≡◌, ℕ, suc, Some, None, List, [], ◌∷◌, ◌++◌, refl, map, drop}
+use Rattle.std.proofs.Common.{◌≡◌, ℕ, suc, false, Some, None, Ok, Err, List, [], ◌∷◌, ◌++◌, refl, map, drop}
 use Rattle.sync_theory.specs.Toy.{Toy, Set, Add, Column, Sheet}
 use Rattle.sync_model.specs.Bytes.{Name, Uuid}
-use Rattle.sync_model.specs.Messages.{Bind, Ident, Upload, Ask, Download, Refused, Stored}
-use Rattle.sync_model.specs.Clients.{Mismatch, WasRefused, OldForm, client_of}
+use Rattle.sync_theory.specs.Changesets.{Changeset}
+use Rattle.sync_model.specs.Messages.{Sent, Bind, Ident, Upload, Ask, Download, Refused, Stored}
+use Rattle.sync_model.specs.Parts.{parts_of, serve_by}
+use Rattle.sync_model.specs.Clients.{ClientRecord, Born, Named, Took, NotBorn, AlreadyBorn, Mismatch, WasRefused, OldForm, Gap, IdentDiffers, Forked, BadBody, NotApplicable, client_of, born, commit, take}
 use Rattle.sync_model.specs.Servers.{server_of, server_objects}
 use Rattle.sync_model.specs.Worlds.{World, Event, Joins, Edits, Binds, Uploads, Asks, Upgrades, Delivers, Restarts, Stops, Words, Joined, Made, Messaged, Took, Replied, Opened, Armed, Stopped, Upgraded, Current, Declined, Leaves, Keep, Drop, Torn, empty_world, world_after, outcomes, Injects, BadMessage, OwnIdent, UuidTaken, NameTaken, NoNode, NoMessage, server_name}
 use Rattle.sync_model.specs.Toy.{toy}
@@ -142,3 +144,62 @@ foreign_upload = refl
 injected_messages : says (Injects None ∷ Injects (Some (Ask 1 1 1)) ∷ Injects (Some (Ask 9 1 1)) ∷ Joins C (uuid 9) ∷ Injects (Some (Bind (uuid 8))) ∷ Joins (68 ∷ []) (uuid 8) ∷ Joins server (uuid 7) ∷ Joins A (uuid 7) ∷ Binds (69 ∷ []) ∷ Binds server ∷ Delivers 99 A ∷ []) ≡
     BadMessage ∷ OwnIdent ∷ Replied 11 (Refused 9 0 60 2) ∷ Joined C ∷ Replied 12 (Ident (uuid 8) 3) ∷ UuidTaken ∷ NameTaken ∷ NameTaken ∷ NoNode ∷ NoNode ∷ NoMessage ∷ []
 injected_messages = refl
+
+-- ---- calls that a client refuses
+
+abbrev named : List ClientRecord
+named = Born (uuid 1) ∷ Named 1 ∷ []
+
+abbrev sent : ℕ → ℕ → List ℕ → Sent
+sent origin number body = record { origin = origin; number = number; ms = 3; body = body }
+
+born_first : born (client_of toy []) (uuid 1) ≡ record { records = Born (uuid 1) ∷ []; answer = Ok tt }
+born_first = refl
+
+born_twice : (born (client_of toy named) (uuid 2)).answer ≡ Err AlreadyBorn
+born_twice = refl
+
+not_born : (commit toy (client_of toy []) 1 []).answer ≡ Err NotBorn
+not_born = refl
+
+a_gap : (take toy (client_of toy named) (Download 1 5 [])).answer ≡ Err (Gap 0 5)
+a_gap = refl
+
+another_ident : (take toy (client_of toy named) (Ident (uuid 1) 2)).answer ≡ Err (IdentDiffers 1 2)
+another_ident = refl
+
+a_fork : (take toy (client_of toy named) (Download 1 0 (sent 1 1 [] ∷ []))).answer ≡ Err (Forked 1)
+a_fork = refl
+
+a_bad_body : (take toy (client_of toy named) (Download 1 0 (sent 2 1 (9 ∷ []) ∷ []))).answer ≡ Err (BadBody 0 1 40)
+a_bad_body = refl
+
+-- the entry before it is taken
+does_not_apply : take toy (client_of toy named) (Download 1 0 (sent 2 1 (1 ∷ 5 ∷ []) ∷ sent 2 2 (2 ∷ 1 ∷ 2 ∷ 2 ∷ []) ∷ [])) ≡ record { records = Took 2 1 3 (1 ∷ 5 ∷ []) ∷ []; answer = Err (NotApplicable 1 1 12) }
+does_not_apply = refl
+
+-- ---- a server's parts
+
+abbrev first_entry : Changeset Toy
+first_entry = record { origin = 1; number = 1; ms = 1; instrs = Set 0 ∷ [] }
+
+parts_after_prelude : parts_of toy (server_of toy (after_prelude []).server) ≡ record {
+  floor = 0;
+  len = 1;
+  entries = first_entry ∷ [];
+  objects = n_and 0 0;
+  second = false;
+  idents = record { uuid = uuid 1; count = 1; last = 0; reciprocal = [] } ∷ record { uuid = uuid 2; count = 0; last = 0; reciprocal = (0, first_entry) ∷ [] } ∷ [];
+}
+parts_after_prelude = refl
+
+-- B sets the number at base 1, before it takes a later addition of A: the kept entry crosses the setting and is settled
+a_settled_list : (serve_by toy (parts_of toy (server_of toy (after_prelude (Edits A 100 (Add 3 ∷ []) ∷ push A 11)).server)) (Upload 2 (record { number = 1; base = 1; ms = 50; body = 0 ∷ 7 ∷ [] } ∷ []))).parts ≡ record {
+  floor = 0;
+  len = 3;
+  entries = first_entry ∷ record { origin = 1; number = 2; ms = 100; instrs = Add 3 ∷ [] } ∷ record { origin = 2; number = 1; ms = 50; instrs = Set 10 ∷ [] } ∷ [];
+  objects = n_and 10 0;
+  second = false;
+  idents = record { uuid = uuid 1; count = 2; last = 1; reciprocal = (2, record { origin = 2; number = 1; ms = 50; instrs = Set 10 ∷ [] }) ∷ [] } ∷ record { uuid = uuid 2; count = 1; last = 1; reciprocal = (0, first_entry) ∷ (1, record { origin = 1; number = 2; ms = 100; instrs = Add 3 ∷ [] }) ∷ [] } ∷ [];
+}
+a_settled_list = refl

@@ -18,23 +18,28 @@ module _ {I S : Type 0} (p : Profile I S) where
     pub positive : n ≢ 0
     pub small : n ≤ p.full
 
+  -- a change of an Upload has a number, and a base
   pub record IsChange (h : Change) : Type 0 where
     pub number : IsGiven h.number
     pub base : h.base ≤ p.full
 
+  -- an entry of a Download has an origin and a number
   pub record IsSent (e : Sent) : Type 0 where
     pub origin : IsGiven e.origin
     pub number : IsGiven e.number
 
+  -- the changes of an Upload
   pub record IsUpload (hs : List Change) : Type 0 where
     pub count : length hs ≤ p.most
     pub bytes : sum_by (λ h. length h.body) hs ≤ p.room
     pub changes : Each IsChange hs
 
+  -- a client has no unsent changeset of a base beyond its cursor
   pub record IsAsk (cursor settled : ℕ) : Type 0 where
     pub small : cursor ≤ p.full
     pub behind : settled ≤ cursor
 
+  -- the entries of a Download, from a version on
   pub record IsDownload (from : ℕ) (es : List Sent) : Type 0 where
     pub count : length es ≤ p.most
     pub bytes : sum_by (λ e. length e.body) es ≤ p.room
@@ -60,6 +65,7 @@ module _ {I S : Type 0} (p : Profile I S) where
   IsClientRecord (Took origin number ms body) = (origin ≤ p.full) × (number ≤ p.full)
   IsClientRecord Form = Unit {0}
 
+  -- the same for a server's record
   abbrev pub IsServerRecord : ServerRecord → Type 0
   IsServerRecord (ServerRecord.Client id) = Unit {0}
   IsServerRecord (Entry origin number base ms body) = IsGiven origin × IsGiven number × (base ≤ p.full)
@@ -72,12 +78,14 @@ module _ {I S : Type 0} (p : Profile I S) where
     pub number : IsGiven u.original.number
     pub base : u.original.base ≤ cursor
 
+  -- a client's ident, cursor and numbers
   pub record ClientNumbers (c : Client I S) : Type 0 where
     pub ident : c.ident ≤ p.full
     pub cursor : c.cursor ≤ p.full
     pub made : length c.made ≤ p.full
     pub unsent : Each (IsUnsent c.cursor) c.unsent
 
+  -- how many idents and entries a server has
   pub record ServerNumbers (s : Server I) : Type 0 where
     pub idents : length s.ids ≤ p.full
     pub len : length s.log ≤ p.full

@@ -19,6 +19,7 @@ pub record Given (I : Type 0) : Type 0 where
   -- the entries of others with their versions, as its changes crossed them
   pub reciprocal : List (ℕ × Changeset I)
 
+-- what a server keeps
 pub record Parts (I S : Type 0) : Type 0 where
   -- the first version of the kept history, 0 where nothing was trimmed; the length of the history; the entries from the floor on
   pub floor : ℕ
@@ -68,6 +69,7 @@ abbrev pub idents_after : {I : Type 0} → ℕ → ℕ → List (Changeset I) �
 idents_after c base es version x k [] = []
 idents_after c base es version x k (g ∷ gs) = (if k == c then settled base es g else extended version x g) ∷ idents_after c base es version x (suc k) gs
 
+-- the parts after a change of ident c at a base, carried to x over es; the objects are t
 abbrev pub integrated : {I S : Type 0} → Parts I S → ℕ → ℕ → Bool → Changeset I → List (Changeset I) → S → Parts I S
 integrated kept c base form x es t = record kept {
   len = suc kept.len;
@@ -81,6 +83,7 @@ integrated kept c base form x es t = record kept {
 abbrev pub after_merged : {I S : Type 0} → Merged I S → Served I S → Served I S
 after_merged m rest = record { records = m.records ++ rest.records; answer = rest.answer; parts = rest.parts }
 
+-- a change that is refused ends its message; after any other the rest goes on
 abbrev pub merged_by : {I S : Type 0} → Parts I S → ℕ → ℕ → Result (Merged I S) ServerRefusal → (Parts I S → Served I S) → Served I S
 merged_by kept c number (Ok m) go = after_merged m (go m.parts)
 merged_by kept c number (Err why) go = as_before kept (refuses c number why)
@@ -97,6 +100,7 @@ ask_by kept c cursor (Some g) go = if nat_lt kept.len cursor then refuses c 0 (A
 module _ {I S : Type 0} (p : Profile I S) where
   -- ---- the parts of a server that reads its records
 
+  -- what a server's records say of an ident
   abbrev pub given_of : Server I → ℕ → Uuid → Given I
   given_of s c u = record {
     uuid = u;
@@ -105,10 +109,12 @@ module _ {I S : Type 0} (p : Profile I S) where
     reciprocal = reciprocal_pairs (cross_changesets p) (made_in p s.log) (λ k. origin_at s.log k) c (length s.log) 0;
   }
 
+  -- of these uuids, the first of which has ident c
   abbrev pub idents_of : Server I → ℕ → List Uuid → List (Given I)
   idents_of s c [] = []
   idents_of s c (u ∷ us) = given_of s c u ∷ idents_of s (suc c) us
 
+  -- the parts of a server's records
   abbrev pub parts_of : Server I → Parts I S
   parts_of s = record {
     floor = 0;
@@ -125,6 +131,7 @@ module _ {I S : Type 0} (p : Profile I S) where
 
   -- ---- an upload, by the parts
 
+  -- the change is integrated where it acts, or the first break
   abbrev pub merge_applied_by : Parts I S → ℕ → Change → List I → Changeset I → List (Changeset I) → Result S (ℕ × ℕ) → Result (Merged I S) ServerRefusal
   merge_applied_by kept c h is x es (Ok t) = Ok (record {
     records = (if needs p is && not kept.second then Form ∷ [] else []) ++ Entry c h.number h.base h.ms h.body ∷ [];
@@ -132,10 +139,12 @@ module _ {I S : Type 0} (p : Profile I S) where
   })
   merge_applied_by kept c h is x es (Err b) = Err (Break b.0 b.1)
 
+  -- the change as carried, or where its crossing is stuck
   abbrev pub merge_carried_by : Parts I S → ℕ → Change → List I → Result (Changeset I × List (Changeset I)) Stuck → Result (Merged I S) ServerRefusal
   merge_carried_by kept c h is (Ok q) = merge_applied_by kept c h is q.0 q.1 (apply_all p q.0.instrs kept.objects)
   merge_carried_by kept c h is (Err m) = Err (Mismatch m.0 m.2)
 
+  -- the change, its body once read, is carried over the ident's reciprocal list from its base on
   abbrev pub merge_read_by : Parts I S → ℕ → Given I → Change → Result (List I) (ℕ × ℕ) → Result (Merged I S) ServerRefusal
   merge_read_by kept c g h (Ok is) = merge_carried_by kept c h is (carry (cross_changesets p) (entry_of c h is).change (from_base h.base g.reciprocal))
   merge_read_by kept c g h (Err f) = Err (BadBytes f.0 f.1)
@@ -157,12 +166,14 @@ module _ {I S : Type 0} (p : Profile I S) where
 
   -- ---- the other messages, by the parts
 
+  -- a known uuid gets its ident, a new one the next
   abbrev pub bind_by : Parts I S → Uuid → ℕ → Served I S
   bind_by kept u place =
       if not (place == 0) then as_before kept (replies (Ident u place))
       else if length kept.idents == p.full then as_before kept (refuses 0 0 (IdentsFull (length kept.idents)))
       else record { records = Client u ∷ []; answer = Ident u (suc (length kept.idents)); parts = bound kept u }
 
+  -- what a server does with a message, by its parts
   abbrev pub serve_by : Parts I S → Message → Served I S
   serve_by kept (Bind u) = bind_by kept u (place_of u (map (λ g. g.uuid) kept.idents))
   serve_by kept (Upload c hs) = upload_by kept c (at_ident c kept.idents) hs

@@ -5,6 +5,7 @@ use Rattle.sync_theory.specs.Lists.{ok_state, Keeps, TwoSided}
 use Rattle.sync_model.specs.Bytes.{Bytes}
 use Rattle.sync_theory.specs.Grid.{Meet}
 
+-- instructions, states, the rule table, the spelling and the limits
 pub record Profile (I S : Type 0) : Type 0 where
   -- the state with no tables
   pub empty : S
@@ -33,10 +34,12 @@ Stuck = ℕ × ℕ × ℕ
 abbrev pub IsNamedKind : ℕ → Type 0
 IsNamedKind kind = ((kind ≡ 1) ⊎ (kind ≡ 2)) ⊎ (kind ≡ 4)
 
+-- a break one place further
 abbrev pub one_more : {S : Type 0} → Result S (ℕ × ℕ) → Result S (ℕ × ℕ)
 one_more (Ok s) = Ok s
 one_more (Err b) = Err (suc b.0, b.1)
 
+-- a break at the first instruction, or what the rest gives
 abbrev pub apply_then : {S : Type 0} → Result S ℕ → (S → Result S (ℕ × ℕ)) → Result S (ℕ × ℕ)
 apply_then (Ok s) go = one_more (go s)
 apply_then (Err code) go = Err (0, code)
@@ -48,6 +51,7 @@ fitting size zero room (x ∷ xs) = []
 fitting size (suc n) room (x ∷ xs) = if nat_le (size x) room then x ∷ fitting size n (room - size x) xs else []
 
 module _ {I S : Type 0} (p : Profile I S) where
+  -- the state after an instruction, or none where it breaks
   abbrev pub act : I → S → Option S
   act i s = ok_state (p.apply i s)
 
@@ -56,9 +60,11 @@ module _ {I S : Type 0} (p : Profile I S) where
   apply_all [] s = Ok s
   apply_all (i ∷ is) s = apply_then (p.apply i s) (apply_all is)
 
+  -- the state after a changeset, or none where it breaks
   abbrev pub act_changeset : Changeset I → S → Option S
   act_changeset = act_set act
 
+  -- how two changesets cross
   abbrev pub cross_changesets : Meet (Changeset I) Stuck
   cross_changesets = cross_sets p.meet
 
