@@ -5,7 +5,8 @@ use Rattle.sync_model.specs.Bytes.{Name, Uuid}
 use Rattle.sync_theory.specs.Changesets.{Changeset}
 use Rattle.sync_model.specs.Messages.{Sent, Bind, Ident, Upload, Ask, Download, Refused, Stored}
 use Rattle.sync_model.specs.Parts.{parts_of, serve_by}
-use Rattle.sync_model.specs.Clients.{ClientRecord, Born, Named, Took, NotBorn, AlreadyBorn, Mismatch, WasRefused, OldForm, Gap, IdentDiffers, Forked, BadBody, NotApplicable, client_of, born, commit, take}
+use Rattle.sync_model.specs.Clients.{ClientRecord, Born, Named, Took, NotBorn, AlreadyBorn, Mismatch, WasRefused, OldForm, Gap, IdentDiffers, Forked, BadBody, NotApplicable, no_client, client_of, born, commit, take}
+use Rattle.sync_model.specs.Files.{client_reads}
 use Rattle.sync_model.specs.Servers.{server_of, server_objects}
 use Rattle.sync_model.specs.Worlds.{World, Event, Joins, Edits, Binds, Uploads, Asks, Upgrades, Delivers, Restarts, Stops, Words, Joined, Made, Messaged, Took, Replied, Opened, Armed, Stopped, Upgraded, Current, Declined, Leaves, Keep, Drop, Torn, empty_world, world_after, outcomes, Injects, BadMessage, OwnIdent, UuidTaken, NameTaken, NoNode, NoMessage, server_name}
 use Rattle.sync_model.specs.Toy.{toy}
@@ -203,3 +204,8 @@ a_settled_list : (serve_by toy (parts_of toy (server_of toy (after_prelude (Edit
   idents = record { uuid = uuid 1; count = 2; last = 1; reciprocal = (2, record { origin = 2; number = 1; ms = 50; instrs = Set 10 ∷ [] }) ∷ [] } ∷ record { uuid = uuid 2; count = 1; last = 1; reciprocal = (0, first_entry) ∷ (1, record { origin = 1; number = 2; ms = 100; instrs = Add 3 ∷ [] }) ∷ [] } ∷ [];
 }
 a_settled_list = refl
+
+-- ---- a file whose second record a client wouldn't have written there
+
+born_again : client_reads toy (λ b. Some (Born b)) (no_client toy) (uuid 1 ∷ uuid 2 ∷ []) ≡ Err 1
+born_again = refl

@@ -26,3 +26,4 @@ pub mod Reached
 pub mod Limits
 pub mod Replies
 pub mod Spellings
+pub mod Reading

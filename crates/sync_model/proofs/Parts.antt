@@ -15,7 +15,7 @@ use Rattle.sync_model.specs.Messages.{Change, Message, Bind, Ident, Upload, Ask,
 use Rattle.sync_model.specs.Servers.{Server, ServerRecord, Client, Entry, Form, ServerRefusal, NumberGap, BaseBack, AheadOfHistory, HistoryFull, BadBytes, Mismatch, Break, NoSuchIdent, IdentsFull, NotForServer, ServerStep, refuses, replies, no_server, server_of, place_of, last_base, after_server, after_all, entry_of, count, is_given, made_in, history_of, entries_from, server_objects, new_records, carried_change, merge_applied, merge_carried, merge_read, merge, merged, serve_changes, serve_bind, download, download_first, first_form, if_there, serve}
 use Rattle.sync_model.specs.Worlds.{at}
 use Rattle.sync_model.specs.Files.{server_opens}
-use Rattle.sync_model.specs.Parts.{Merged, at_ident, as_before, with_versions, after_merged, merged_by, bound, given_of, idents_of, parts_of, served_of, merge_applied_by, merge_carried_by, merge_read_by, merge_by, upload_by, bind_by, ask_by, serve_by}
+use Rattle.sync_model.specs.Parts.{Merged, at_ident, as_before, with_versions, after_merged, merged_by, bound, given_of, idents_of, parts_of, served_of, merged_of, merge_applied_by, merge_carried_by, merge_read_by, merge_by, upload_by, bind_by, ask_by, serve_by}
 use Rattle.sync_model.proofs.Alone.{Opened, opened_first, opened_more, is_there}
 use Rattle.sync_model.proofs.Holding.{server_append}
 use Rattle.sync_model.proofs.Keeping.{listed, listed_drop, whole, entries_are, parts2}
@@ -104,11 +104,7 @@ module _ {I S : Type 0} (p : Profile I S) where
 
   -- ---- one change
 
-  abbrev pub lift : Server I → Result (List ServerRecord) ServerRefusal → Result (Merged I S) ServerRefusal
-  lift s (Ok new) = Ok (record { records = new; parts = parts_of p (after_all p s new) })
-  lift s (Err why) = Err why
-
-  if_lift : (s : Server I) (b : Bool) (w : ServerRefusal) (x : Result (Merged I S) ServerRefusal) (y : Result (List ServerRecord) ServerRefusal) → (b ≡ false → x ≡ lift s y) → (if b then Err w else x) ≡ lift s (if b then Err w else y)
+  if_lift : (s : Server I) (b : Bool) (w : ServerRefusal) (x : Result (Merged I S) ServerRefusal) (y : Result (List ServerRecord) ServerRefusal) → (b ≡ false → x ≡ merged_of p s y) → (if b then Err w else x) ≡ merged_of p s (if b then Err w else y)
   if_lift s true w x y h = refl
   if_lift s false w x y h = h refl
 
@@ -135,21 +131,21 @@ module _ {I S : Type 0} (p : Profile I S) where
           before_base (cross_changesets p) (made_in p n.log) (λ k. origin_at n.log k) c h.base (length n.log) 0 (omega arith) (omega arith)
           ∙ ap (λ d. reciprocal (cross_changesets p) (made_in p n.log) (λ k. origin_at n.log k) c d h.base) z
 
-      applied : (is : List I) (x : Changeset I) (es : List (Changeset I)) → p.unspell h.body ≡ Ok is → carried_change p s c h is ≡ Ok (x, es) → (r : Result S (ℕ × ℕ)) → apply_all p x.instrs (server_objects p s) ≡ r → merge_applied_by p (parts_of p s) c h is x es r ≡ lift s (merge_applied (new_records p s c h is) r)
+      applied : (is : List I) (x : Changeset I) (es : List (Changeset I)) → p.unspell h.body ≡ Ok is → carried_change p s c h is ≡ Ok (x, es) → (r : Result S (ℕ × ℕ)) → apply_all p x.instrs (server_objects p s) ≡ r → merge_applied_by p (parts_of p s) c h is x es r ≡ merged_of p s (merge_applied (new_records p s c h is) r)
       applied is x es read_is carried (Err b) acts = refl
       applied is x es read_is carried (Ok t) acts =
           let g : Merging p s c h (new_records p s c h is) = record { gap = gap; back = back; ahead = ahead; unfilled = unfilled; instrs = is; read = read_is; entry = x; others = es; carried = carried; state = t; acts = apply_is p x.instrs (server_objects p s) ∙ ap ok_state acts; new_is = refl } in
           ap (λ k. Ok (record { records = new_records p s c h is; parts = k })) (sym (ap (parts_of p) (after_new c h is read_is) ∙ parts2 p law ids second named n sim c h (new_records p s c h is) g given there))
 
-      crossed : (is : List I) → p.unspell h.body ≡ Ok is → (r : Result (Changeset I × List (Changeset I)) Stuck) → carried_change p s c h is ≡ r → merge_carried_by p (parts_of p s) c h is r ≡ lift s (merge_carried p s (new_records p s c h is) r)
+      crossed : (is : List I) → p.unspell h.body ≡ Ok is → (r : Result (Changeset I × List (Changeset I)) Stuck) → carried_change p s c h is ≡ r → merge_carried_by p (parts_of p s) c h is r ≡ merged_of p s (merge_carried p s (new_records p s c h is) r)
       crossed is read_is (Err m) carried = refl
       crossed is read_is (Ok q) carried = applied is q.0 q.1 read_is carried (apply_all p q.0.instrs (server_objects p s)) refl
 
-      read : (r : Result (List I) (ℕ × ℕ)) → p.unspell h.body ≡ r → merge_read_by p (parts_of p s) c (given_of p s c u) h r ≡ lift s (merge_read p s c h r)
+      read : (r : Result (List I) (ℕ × ℕ)) → p.unspell h.body ≡ r → merge_read_by p (parts_of p s) c (given_of p s c u) h r ≡ merged_of p s (merge_read p s c h r)
       read (Err f) read_is = refl
       read (Ok is) read_is = ap (λ l. merge_carried_by p (parts_of p s) c h is (carry (cross_changesets p) (entry_of c h is).change l)) recip ∙ crossed is read_is (carried_change p s c h is) refl
 
-    merge_is : (c : ℕ) (h : Change) (u : Uuid) → count s c < h.number → c ≢ 0 → c ≤ length ids → merge_by p (parts_of p s) c (given_of p s c u) h ≡ lift s (merge p s c h)
+    merge_is : (c : ℕ) (h : Change) (u : Uuid) → count s c < h.number → c ≢ 0 → c ≤ length ids → merge_by p (parts_of p s) c (given_of p s c u) h ≡ merged_of p s (merge p s c h)
     merge_is c h u above given there =
         if_lift s (nat_lt (suc (count s c)) h.number) _ _ _ (λ a. if_lift s (nat_lt h.base (last_base (of_origin c n.log))) _ _ _ (λ b. if_lift s (nat_lt (length n.log) h.base) _ _ _ (λ d. if_lift s (length n.log == p.full) _ _ _ (λ e.
         read c h u given there (ltb-false (suc (count s c)) h.number a) (ltb-false h.base (last_base (of_origin c n.log)) b) (ltb-false (length n.log) h.base d) (not_same (length n.log) p.full e) (p.unspell h.body) refl))))
@@ -218,8 +214,8 @@ module _ {I S : Type 0} (p : Profile I S) where
   quiet s did e = ap (λ l. record { records = did.records; answer = did.answer; parts = parts_of p (after_all p s l) }) (sym e)
 
   module _ {Fits : S → Type 0} (law : Lawful p Fits) where
-    merge_here : (s : Server I) → Opened p s → (c : ℕ) (h : Change) (u : Uuid) → count s c < h.number → c ≢ 0 → c ≤ length s.ids → merge_by p (parts_of p s) c (given_of p s c u) h ≡ lift s (merge p s c h)
-    merge_here s o = at_log s o (λ z. (c : ℕ) (h : Change) (u : Uuid) → count z c < h.number → c ≢ 0 → c ≤ length z.ids → merge_by p (parts_of p z) c (given_of p z c u) h ≡ lift z (merge p z c h)) (merge_is law s.ids s.second o.named o.n (sim_of s o))
+    pub merge_here : (s : Server I) → Opened p s → (c : ℕ) (h : Change) (u : Uuid) → count s c < h.number → c ≢ 0 → c ≤ length s.ids → merge_by p (parts_of p s) c (given_of p s c u) h ≡ merged_of p s (merge p s c h)
+    merge_here s o = at_log s o (λ z. (c : ℕ) (h : Change) (u : Uuid) → count z c < h.number → c ≢ 0 → c ≤ length z.ids → merge_by p (parts_of p z) c (given_of p z c u) h ≡ merged_of p z (merge p z c h)) (merge_is law s.ids s.second o.named o.n (sim_of s o))
 
     drop_here : (s : Server I) → Opened p s → (cursor : ℕ) → cursor ≤ length s.log → drop (cursor - 0) (entries_from p s.log (length s.log) 0) ≡ entries_from p s.log (length s.log - cursor) cursor
     drop_here s o = at_log s o (λ z. (cursor : ℕ) → cursor ≤ length z.log → drop (cursor - 0) (entries_from p z.log (length z.log) 0) ≡ entries_from p z.log (length z.log - cursor) cursor) (entries_drop law s.ids s.second o.named o.n (sim_of s o))
@@ -237,7 +233,7 @@ module _ {I S : Type 0} (p : Profile I S) where
         here = is_there p law s c given
 
         on : (r : Result (List ServerRecord) ServerRefusal) → merge p s c h ≡ r → count s c < h.number → ((s2 : Server I) → Opened p s2 → (c2 : ℕ) (u2 : Uuid) → is_given s2 c2 ≡ true → upload_by p (parts_of p s2) c2 (Some (given_of p s2 c2 u2)) hs ≡ served_of p s2 (serve_changes p s2 c2 hs))
-            → merged_by (parts_of p s) c h.number (lift s r) (λ after. upload_by p after c (at_ident c after.idents) hs) ≡ served_of p s (merged c h.number r (λ new. serve_changes p (after_all p s new) c hs))
+            → merged_by (parts_of p s) c h.number (merged_of p s r) (λ after. upload_by p after c (at_ident c after.idents) hs) ≡ served_of p s (merged c h.number r (λ new. serve_changes p (after_all p s new) c hs))
         on (Err why) is gt rec = refl
         on (Ok new) is gt rec =
             let s2 = after_all p s new in
@@ -327,3 +323,15 @@ module _ {I S : Type 0} (p : Profile I S) where
     -- for the records of any server that opening accepts
     pub parts_serve : (rs : List ServerRecord) → server_opens p no_server rs ≡ true → (m : Message) → serve_by p (parts_of p (server_of p rs)) m ≡ served_of p (server_of p rs) (serve p (server_of p rs) m)
     parts_serve rs e m = serve_is (server_of p rs) (opened_more p law rs no_server e (opened_first p)) m
+
+    -- one change
+    pub parts_merge : (rs : List ServerRecord) → server_opens p no_server rs ≡ true → (c : ℕ) (h : Change) (u : Uuid) → is_given (server_of p rs) c ≡ true → count (server_of p rs) c < h.number → merge_by p (parts_of p (server_of p rs)) c (given_of p (server_of p rs) c u) h ≡ merged_of p (server_of p rs) (merge p (server_of p rs) c h)
+    parts_merge rs e c h u given above = let t = is_there p law (server_of p rs) c given in merge_here (server_of p rs) (opened_more p law rs no_server e (opened_first p)) c h u above t.0 t.1
+
+    -- an ident that is given is kept
+    pub parts_given : (rs : List ServerRecord) (c : ℕ) → is_given (server_of p rs) c ≡ true → (u : Uuid) × (at_ident c (parts_of p (server_of p rs)).idents ≡ Some (given_of p (server_of p rs) c u))
+    parts_given rs c given = let t = is_there p law (server_of p rs) c given in at_given (server_of p rs) c t.0 t.1
+
+    -- and no other
+    pub parts_not_given : (rs : List ServerRecord) (c : ℕ) → is_given (server_of p rs) c ≡ false → at_ident c (parts_of p (server_of p rs)).idents ≡ None
+    parts_not_given rs c e = at_none (server_of p rs) c e

@@ -1,13 +1,13 @@
-ghost use Rattle.std.specs.Prelude.{IfOk, List, take, true, ◌++◌, ℕ, ◌≡◌};
-ghost use Rattle.sync_model.specs.Bytes.{Name, Uuid};
+ghost use Rattle.std.specs.Prelude.{IfOk, List, None, Ok, Option, Some, false, map, take, true, ◌++◌, ◌<◌, ℕ, ◌≡◌};
+ghost use Rattle.sync_model.specs.Bytes.{Bytes, Name, Uuid};
 ghost use Rattle.sync_model.specs.Clients.{ClientRecord, ask, bind, born, client_of, commit, no_client, take as take_message, upgrade, upload};
-ghost use Rattle.sync_model.specs.Files.{FilesOpen, client_opens, server_opens};
+ghost use Rattle.sync_model.specs.Files.{FilesOpen, client_opens, client_reads, server_opens, server_reads};
 ghost use Rattle.sync_model.specs.Limits.{ClientNumbers, Each, IsClientRecord, IsMessage, IsServerRecord, ServerNumbers, WorldNumbers};
 ghost use Rattle.sync_model.specs.Log.{Stands, WorldFacts};
-ghost use Rattle.sync_model.specs.Messages.{Message};
-ghost use Rattle.sync_model.specs.Parts.{parts_of, serve_by, served_of};
+ghost use Rattle.sync_model.specs.Messages.{Change, Message};
+ghost use Rattle.sync_model.specs.Parts.{at_ident, given_of, merge_by, merged_of, parts_of, serve_by, served_of};
 ghost use Rattle.sync_model.specs.Reports.{report_by_log, report_of};
-ghost use Rattle.sync_model.specs.Servers.{ServerRecord, no_server, serve, server_of};
+ghost use Rattle.sync_model.specs.Servers.{ServerRecord, count, is_given, merge, no_server, serve, server_of};
 ghost use Rattle.sync_model.specs.Worlds.{ClientsGrow, Edits, Event, IsReached, Made, World, empty_world, happens, world_after};
 
 use super::exchange::Exchange;
@@ -30,7 +30,14 @@ pub fn worlds_hold<E: Exchange>()
 /// A server that keeps its history, objects and what it knows of each ident, and answers by these, answers each
 /// message as one that reads its records, and keeps what the records after the answer stand for.
 pub fn servers_answer_by_parts<E: Exchange>()
-    ensures { (records : List ServerRecord) (m : Message) → server_opens E.profile no_server records ≡ true
+    ensures change { (records : List ServerRecord) (c : ℕ) (h : Change) (uuid : Uuid) → server_opens E.profile no_server records ≡ true
+        → is_given (server_of E.profile records) c ≡ true → count (server_of E.profile records) c < h.number
+        → merge_by E.profile (parts_of E.profile (server_of E.profile records)) c (given_of E.profile (server_of E.profile records) c uuid) h ≡ merged_of E.profile (server_of E.profile records) (merge E.profile (server_of E.profile records) c h) }
+    ensures given { (records : List ServerRecord) (c : ℕ) → is_given (server_of E.profile records) c ≡ true
+        → (uuid : Uuid) × (at_ident c (parts_of E.profile (server_of E.profile records)).idents ≡ Some (given_of E.profile (server_of E.profile records) c uuid)) }
+    ensures not_given { (records : List ServerRecord) (c : ℕ) → is_given (server_of E.profile records) c ≡ false
+        → at_ident c (parts_of E.profile (server_of E.profile records)).idents ≡ None }
+    ensures message { (records : List ServerRecord) (m : Message) → server_opens E.profile no_server records ≡ true
         → serve_by E.profile (parts_of E.profile (server_of E.profile records)) m ≡ served_of E.profile (server_of E.profile records) (serve E.profile (server_of E.profile records) m) }
 {}
 
@@ -67,4 +74,19 @@ pub fn nodes_stay_within_limits<E: Exchange>()
     ensures servers { (records : List ServerRecord) → server_opens E.profile no_server records ≡ true → ServerNumbers E.profile (server_of E.profile records) }
     ensures entries { (records : List ServerRecord) → server_opens E.profile no_server records ≡ true → Each (IsServerRecord E.profile) records }
     ensures replies { (records : List ServerRecord) (m : Message) → server_opens E.profile no_server records ≡ true → IsMessage E.profile (serve E.profile (server_of E.profile records) m).answer }
+{}
+
+/// A file that is read gives records that opening accepts, and records that opening accepts are read back from their
+/// bytes.
+pub fn files_read_back<E: Exchange>()
+    ensures client_opens { (read : Bytes → Option ClientRecord) (file : List Bytes) (records : List ClientRecord)
+        → client_reads E.profile read (no_client E.profile) file ≡ Ok records → client_opens E.profile (no_client E.profile) records ≡ true }
+    ensures client_back { (read : Bytes → Option ClientRecord) (bytes : ClientRecord → Bytes) (records : List ClientRecord)
+        → client_opens E.profile (no_client E.profile) records ≡ true → Each (λ r. read (bytes r) ≡ Some r) records
+        → client_reads E.profile read (no_client E.profile) (map bytes records) ≡ Ok records }
+    ensures server_opens { (read : Bytes → Option ServerRecord) (file : List Bytes) (records : List ServerRecord)
+        → server_reads E.profile read no_server file ≡ Ok records → server_opens E.profile no_server records ≡ true }
+    ensures server_back { (read : Bytes → Option ServerRecord) (bytes : ServerRecord → Bytes) (records : List ServerRecord)
+        → server_opens E.profile no_server records ≡ true → Each (λ r. read (bytes r) ≡ Some r) records
+        → server_reads E.profile read no_server (map bytes records) ≡ Ok records }
 {}

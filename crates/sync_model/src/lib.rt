@@ -9,5 +9,6 @@ mod tests;
 
 pub use exchange::Exchange;
 pub use laws::{
-    nodes_stay_within_limits, nodes_write_what_opens, servers_answer_by_parts, worlds_hold,
+    files_read_back, nodes_stay_within_limits, nodes_write_what_opens, servers_answer_by_parts,
+    worlds_hold,
 };

@@ -2,7 +2,8 @@
 
 use super::exchange::Exchange;
 use super::laws::{
-    nodes_stay_within_limits, nodes_write_what_opens, servers_answer_by_parts, worlds_hold,
+    files_read_back, nodes_stay_within_limits, nodes_write_what_opens, servers_answer_by_parts,
+    worlds_hold,
 };
 
 struct Toys;
@@ -29,4 +30,5 @@ fn a_toy_can_be_exchanged() {
     servers_answer_by_parts::<Toys>();
     nodes_write_what_opens::<Toys>();
     nodes_stay_within_limits::<Toys>();
+    files_read_back::<Toys>();
 }
