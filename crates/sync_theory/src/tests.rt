@@ -1,5 +1,9 @@
 //! The toy is merged through the bound.
 
+ghost use Rattle.std.specs.Prelude.{Bool};
+ghost use Rattle.sync_theory.specs.Lists.{ListsTwoSided};
+ghost use Rattle.sync_theory.specs.Toy.{AnySheet, toy_act, toy_meet};
+
 use super::laws::{
     changesets_agree, lists_agree, one_crossing, prefixes_rebase_alike, reciprocal_lists_settle,
     worlds_converge,
@@ -32,9 +36,16 @@ impl Merge for Toys {
     ghost law = { toy_law };
 }
 
+/// The law of lists, at the toy itself.
+fn toy_lists_agree()
+    ensures { (left_later : Bool) → ListsTwoSided AnySheet toy_act (λ a b. toy_meet a b left_later) }
+{
+    lists_agree::<Toys>()
+}
+
 #[test]
 fn a_toy_can_be_merged() {
-    lists_agree::<Toys>();
+    toy_lists_agree();
     one_crossing::<Toys>();
     prefixes_rebase_alike::<Toys>();
     changesets_agree::<Toys>();

@@ -1,0 +1,88 @@
+-- What the nodes stand on: instructions, states, the rule table, the spelling of changesets, and the limits.
+use Rattle.std.specs.Prelude.{◌≡◌, ◌⊎◌, ℕ, zero, suc, ◌-◌, Bool, false, ◌||◌, List, [], ◌∷◌, Option, Some, Result, Ok, Err, IfOk, IfErr, nat_le, if◌then◌else◌}
+use Rattle.sync_theory.specs.Changesets.{Changeset, cross_sets, act_set}
+use Rattle.sync_theory.specs.Lists.{ok_state, Keeps, TwoSided}
+use Rattle.sync_model.specs.Bytes.{Bytes}
+use Rattle.sync_theory.specs.Grid.{Meet}
+
+-- instructions, states, the rule table, the spelling and the limits
+pub record Profile (I S : Type 0) : Type 0 where
+  -- the state with no tables
+  pub empty : S
+  -- the state after an instruction, or the code of its break
+  pub apply : I → S → Result S ℕ
+  -- what is left of two instructions, or the kind of their mismatch; true where the left one is later
+  pub meet : I → I → Bool → Result (Option I × Option I) ℕ
+  -- the bytes of a list of instructions
+  pub spell : List I → Bytes
+  -- and back, or the offset and the rule of the first fault
+  pub unspell : Bytes → Result (List I) (ℕ × ℕ)
+  -- the limits of a changeset hold
+  pub is_small : List I → Bool
+  -- version 1 of the bytes has no form for it
+  pub needs_second : I → Bool
+  -- the most changes of a message, the most bytes of its bodies, and the greatest number, length and ident
+  pub most : ℕ
+  pub room : ℕ
+  pub full : ℕ
+
+-- where they mismatch: the left place, the right place and the kind
+abbrev pub Stuck : Type 0
+Stuck = ℕ × ℕ × ℕ
+
+-- the kinds of mismatch that two instructions may have where both act: TablesDiffer, ColumnsDiffer and Range
+abbrev pub IsNamedKind : ℕ → Type 0
+IsNamedKind kind = ((kind ≡ 1) ⊎ (kind ≡ 2)) ⊎ (kind ≡ 4)
+
+-- a break one place further
+abbrev pub one_more : {S : Type 0} → Result S (ℕ × ℕ) → Result S (ℕ × ℕ)
+one_more (Ok s) = Ok s
+one_more (Err b) = Err (suc b.0, b.1)
+
+-- a break at the first instruction, or what the rest gives
+abbrev pub apply_then : {S : Type 0} → Result S ℕ → (S → Result S (ℕ × ℕ)) → Result S (ℕ × ℕ)
+apply_then (Ok s) go = one_more (go s)
+apply_then (Err code) go = Err (0, code)
+
+-- the longest beginning with at most so many items and so many bytes
+abbrev pub fitting : {A : Type 0} → (A → ℕ) → ℕ → ℕ → List A → List A
+fitting size n room [] = []
+fitting size zero room (x ∷ xs) = []
+fitting size (suc n) room (x ∷ xs) = if nat_le (size x) room then x ∷ fitting size n (room - size x) xs else []
+
+module _ {I S : Type 0} (p : Profile I S) where
+  -- the state after an instruction, or none where it breaks
+  abbrev pub act : I → S → Option S
+  act i s = ok_state (p.apply i s)
+
+  -- the state after all instructions, or the place and the code of the first break
+  abbrev pub apply_all : List I → S → Result S (ℕ × ℕ)
+  apply_all [] s = Ok s
+  apply_all (i ∷ is) s = apply_then (p.apply i s) (apply_all is)
+
+  -- the state after a changeset, or none where it breaks
+  abbrev pub act_changeset : Changeset I → S → Option S
+  act_changeset = act_set act
+
+  -- how two changesets cross
+  abbrev pub cross_changesets : Meet (Changeset I) Stuck
+  cross_changesets = cross_sets p.meet
+
+  -- some instruction of the list needs version 2
+  abbrev pub needs : List I → Bool
+  needs [] = false
+  needs (i ∷ is) = p.needs_second i || needs is
+
+  -- the place of the first
+  abbrev pub first_need : List I → ℕ
+  first_need [] = 0
+  first_need (i ∷ is) = if p.needs_second i then 0 else suc (first_need is)
+
+  -- the laws that the theorems ask for, on the states that fit
+  pub record Lawful (Fits : S → Type 0) : Type 0 where
+    pub first : Fits p.empty
+    pub keeps : Keeps Fits act
+    pub two_sided : (later : Bool) → TwoSided Fits act (λ a b. p.meet a b later)
+    pub kinds : (later : Bool) (a b : I) (s sa sb : S) → Fits s → act a s ≡ Some sa → act b s ≡ Some sb → IfErr (p.meet a b later) IsNamedKind
+    pub spelled : (is : List I) → p.unspell (p.spell is) ≡ Ok is
+    pub spelling : (bytes : Bytes) → IfOk (p.unspell bytes) (λ is. p.spell is ≡ bytes)
