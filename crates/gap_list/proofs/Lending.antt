@@ -6,6 +6,7 @@ use seplogic.Ra.Ura.{Ura}
 use base.Fraction.{full_share}
 use base.Fml.{Lft, Incl, ftrue, ffalse, fsep, froom}
 use mir.Syntax.{ty_array}
+use mir.Raw.{raw}
 use types.Logic.{Logic}
 use denote.RattleType.{RattleType, RowLaws}
 use denote.Memory.{lone, part_at, shared_of}
@@ -37,7 +38,7 @@ module _ {M : Type 1} {𝓤 : Ura M} (𝓛 : Logic 𝓤) (l : Lft) (R : RattleTy
 
   pub lends_halves : (p : Ptr) (xs : List R.Denot) (n : ℕ) (ys : List R.Denot) → Lends 𝓛 (halves_own R p xs n ys) (halves_lent R p xs n ys) l
   lends_halves (block_ptr b o) xs n ys =
-      let s = type_size R in let room = froom (ty_array (lone R.mir) n) b (length xs * s + o) in let at = (length xs + n) * s + o in
+      let s = type_size R in let room = froom (raw (ty_array (lone R.mir) n)) b (length xs * s + o) in let at = (length xs + n) * s + o in
       Lends-both 𝓛 (fit R xs n ys) (fsep (row R full_share xs b o) (fsep room (row R full_share ys b at))) (said (fit R xs n ys)) (beside (row_lent R xs b o) (beside nothing (row_lent R ys b at))) l (Lends-said 𝓛 (fit R xs n ys) tt l)
       (Lends-both 𝓛 (row R full_share xs b o) (fsep room (row R full_share ys b at)) (row_lent R xs b o) (beside nothing (row_lent R ys b at)) l (lends_row xs b o)
       (Lends-both 𝓛 room (row R full_share ys b at) nothing (row_lent R ys b at) l (Lends-nothing 𝓛 room l) (lends_row ys b at)))

@@ -10,6 +10,7 @@ use types.Kit.{Item, Goal, Seq, fpick}
 use denote.Laws.{Typed}
 use lib.Dec.{T}
 use mir.Syntax.{Ty}
+use mir.Raw.{raw as bare}
 use mir.Val.{has_ty, WT}
 use denote.Index.{place_is, row}
 use denote.RawPtr.{RawPtr}
@@ -71,6 +72,18 @@ module _ (E : El) {M : Type 1} {𝓤 : Ura M} (𝓛 : Logic 𝓤) (b : ℕ) wher
     -- the elements xs, n empty places, the elements ys
     abbrev pub Held : List (el_x E) → ℕ → List (el_x E) → Fml
     Held xs n ys = fsep (Row o xs) (fsep (Room (length xs * s + o) n) (Row ((length xs + n) * s + o) ys))
+
+    -- the same as `halves_own` has it
+    abbrev pub Laid : List (el_x E) → ℕ → List (el_x E) → Fml
+    Laid xs n ys = fsep (Row o xs) (fsep (froom (bare (ty_array (elτ E) n)) b (length xs * s + o)) (Row ((length xs + n) * s + o) ys))
+
+    pub laid_out : (xs ys : List (el_x E)) (n : ℕ) → ⟦ Laid xs n ys ⟧ ⊢ ⟦ Held xs n ys ⟧
+    laid_out xs ys n = qed 𝓛 (‵ (Laid xs n ys) ∷ []) ∵ fsplit ! $ move ! (1 ∷ []) $ fsplit ! $
+        use1 𝓛 (‵ (Room (length xs * s + o) n)) (𝓛.laws.raw-room (ty_array (elτ E) n) b (length xs * s + o)) $ fjoin ! $ move ! (1 ∷ 0 ∷ []) $ fjoin ! $ done !
+
+    pub laid_in : (xs ys : List (el_x E)) (n : ℕ) → ⟦ Held xs n ys ⟧ ⊢ ⟦ Laid xs n ys ⟧
+    laid_in xs ys n = qed 𝓛 (‵ (Held xs n ys) ∷ []) ∵ fsplit ! $ move ! (1 ∷ []) $ fsplit ! $
+        use1 𝓛 (‵ (froom (bare (ty_array (elτ E) n)) b (length xs * s + o))) (𝓛.laws.room-raw (ty_array (elτ E) n) b (length xs * s + o)) $ fjoin ! $ move ! (1 ∷ 0 ∷ []) $ fjoin ! $ done !
 
     module _ (xs ys : List (el_x E)) (m : ℕ) where
       -- all but the first empty place

@@ -19,7 +19,7 @@ module _ (R : RattleType) where
   -- from p on the elements xs, then n empty places, then the elements ys
   abbrev pub halves_own : Ptr → List R.Denot → ℕ → List R.Denot → Fml
   halves_own (block_ptr b o) xs n ys =
-      fsep (fit xs n ys) (fsep (row R full_share xs b o) (fsep (froom (ty_array (lone R.mir) n) b (length xs * type_size R + o)) (row R full_share ys b ((length xs + n) * type_size R + o))))
+      fsep (fit xs n ys) (fsep (row R full_share xs b o) (fsep (froom (raw (ty_array (lone R.mir) n)) b (length xs * type_size R + o)) (row R full_share ys b ((length xs + n) * type_size R + o))))
   halves_own null_ptr xs n ys = ffalse
 
   -- elements that are lent, side by side

@@ -26,7 +26,6 @@ use Rattle.core.proofs.alloc.Calls.{Al, Answer-typed, takes_key, Takes, at_takes
 use Rattle.core.proofs.slots.Leases.{uncapped, block_ty, block_size, block_align}
 use Rattle.core.proofs.mem.Param as param_el
 use Rattle.std_alloc.proofs.ResultValues.{ok_of, err_of}
-use Rattle.std_alloc.proofs.RawLayout.{as_written}
 use Rattle.gap_list.specs.Memory.{halves_own}
 use Rattle.gap_list.proofs.Rows.{Hr, Sr, Held}
 use Rattle.gap_list.proofs.Made.{mark, mark_made, start_made, three, three_of}
@@ -76,8 +75,8 @@ allocate_spec 𝓤 𝓛 𝓜 𝓡 wired T A L LA g d dd met md =
     sets ! (agg ! (and_then ! (get ! refl) (and_then ! (get ! refl) (and_then ! (get ! refl) (no_more !))))) refl typed $
     sets_last ! (agg ! (and_then ! (lit ! tt) (and_then ! (get ! refl) (no_more !)))) refl ok $ exec ! C Λ Ev (after 3 fn.body) (at_ret Ev Post) $ sets ! (of_opd ! (get ! refl)) refl ok $
     -- [the room; the right to free it; the token of the handle's lifetime; the other tokens]
-    move ! (1 ∷ []) $ mark_made E ! $ fjoin ! $ move ! (1 ∷ []) $ as_written ! (ty_array (elτ E) n) b o $
-    rewrite ! 0 (λ (k : ℕ). ‵ (froom (ty_array (elτ E) n) b k)) {x = 0 * s + o} (omega (arith, zero-mul s)) refl $
+    move ! (1 ∷ []) $ mark_made E ! $ fjoin ! $ move ! (1 ∷ []) $
+    rewrite ! 0 (λ (k : ℕ). ‵ (froom τ b k)) {x = 0 * s + o} (omega (arith, zero-mul s)) refl $
     nothing ! $ move ! (1 ∷ 0 ∷ []) $ fjoin ! $ nothing ! $ fjoin ! $
     flt_i ! ((0 + n + 0) * s) (2 ^ 63) (subst (λ (k : ℕ). k * s < 2 ^ 63) {x = n} (omega arith) small) $ fjoin ! $
     mark_made E ! $ fjoin ! $ start_made E ! p $ use3 𝓛 (‵ (Three.own_val (first_part, empty, right) (made ∷ []))) (three_of 𝓛 (Sr E) (Hr E) Lr first_part empty right (word p) mark mark) $

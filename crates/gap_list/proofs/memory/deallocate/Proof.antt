@@ -11,7 +11,6 @@ use Rattle.core.proofs.atomic.Steps.{fm}
 use Rattle.core.proofs.alloc.Calls.{Al, token, Gives, at_gives, Gives-goes, Gives-Gives, Goes-blank}
 use Rattle.core.proofs.slots.Leases.{uncapped, block_ty, block_size, block_align}
 use Rattle.core.proofs.mem.Param as param_el
-use Rattle.std_alloc.proofs.RawLayout.{as_raw, as_written}
 use Rattle.gap_list.specs.Memory.{halves_own, lease_owns}
 use Rattle.gap_list.proofs.Rows.{Hr, Sr, start_had}
 use Rattle.gap_list.proofs.Made.{mark, mark_had}
@@ -58,9 +57,9 @@ deallocate_spec 𝓤 𝓛 𝓜 𝓡 wired T A L LA g d dd met md =
     in_a_block ! p (λ q. halves_own (R E) q [] n []) (id⊢ 𝓤 (never 𝓤)) (λ b o e. fsplit ! $ flt_l ! (λ fit.
     let small : n * s < 2 ^ 63 = subst (λ (k : ℕ). k * s < 2 ^ 63) {x = 0 + n + 0} (omega arith) fit in let bytes : n * s < 2 ^ 64 = omega arith in
     let al : ℕ = capped (align (elτ E)) in let τ = block_ty F n in let Asks = Gives Z 𝓛 𝓜.mem 𝓡.returns in let z = at_gives Z 𝓛 𝓜.mem 𝓡.returns κ qs.0 (rb, ro) alloc b o (n * s) al τ in
-    fsplit ! $ skip ! $ fsplit ! $ move ! (1 ∷ []) $ skip ! $ rewrite ! 0 (λ (k : ℕ). ‵ (froom (ty_array (elτ E) n) b k)) {x = o} (omega (arith, zero-mul s)) refl $
+    fsplit ! $ skip ! $ fsplit ! $ move ! (1 ∷ []) $ skip ! $ rewrite ! 0 (λ (k : ℕ). ‵ (froom τ b k)) {x = o} (omega (arith, zero-mul s)) refl $
     rewrite ! 1 (λ (u : A.Denot × Ptr × ℕ). ‵ (lease_owns (R E) (token Z u.0) u.1 u.2)) (λ i. (asked.6 i, (asked.4 ∙ e) i, asked.5 i)) refl $
-    as_raw ! (ty_array (elτ E) n) b o $ first ! $ blocks ! $
+    first ! $ blocks ! $
     sets ! (is ! (of_opd ! (get_in ! (fld ! refl (stop !)) (sub ! 0 refl (whole !)))) (ap ptr_val e)) refl (tt, tt) $
     sets ! (is ! (bin ! (get ! refl) (size_word !) (record { fits = subst (λ (k : ℕ). k < 2 ^ 64) (sym (uncapped n s bytes)) bytes })) (ap (vint w64) (uncapped n s bytes))) refl (tt, record { fits = bytes }) $
     group ! 4 $ use1 𝓛 (raw (Asks.pre z)) (Gives-goes Z 𝓛 𝓜.mem 𝓡.returns κ qs.0 (rb, ro) alloc (Incl-trans y.0.2.0 lives) b o (n * s) al τ (block_size F n bytes) (block_align F n) bytes (capped_fits (align (elτ E)))) $

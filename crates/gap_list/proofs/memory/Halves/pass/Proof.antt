@@ -3,7 +3,7 @@ use Rattle.gap_list.proofs.Steps.{ !, Args, El, Env, Fn, Goes-dropped, Goes-ref,
 use types.Kit.{some as some_item}
 use Rattle.gap_list.specs.Memory.{halves_own}
 use Rattle.std.proofs.Common.{append_assoc}
-use Rattle.gap_list.proofs.Rows.{Hr, Sr, start_had, first_of, Held, Beside, Past, first_out, first_in, next_out, next_in}
+use Rattle.gap_list.proofs.Rows.{Hr, Sr, start_had, first_of, Held, Laid, laid_out, laid_in, Beside, Past, first_out, first_in, next_out, next_in}
 use Rattle.gap_list.specs.contracts.memory.Halves.pass.{ended, clauses}
 use Rattle.gap_list.specs.contracts.memory.Halves.pass.Key.{name as #self}
 use Rattle.gap_list.proofs.memory.Halves.pass.Statement.{statement}
@@ -35,7 +35,7 @@ pass_spec 𝓤 𝓛 𝓜 𝓡 wired T L =
     let more : n + 1 ≡ suc n = omega arith in let new : (Hr E).Denot = record { mark = h.mark; at = h.at; before = xs ++ x ∷ []; gap = n; after = ys } in
     let tiny : s < 2 ^ 64 = omega (arith, one_below count s (2 ^ 63) (omega arith) small) in
     let far : from * s < 2 ^ 64 = omega (arith, times_below from count s (2 ^ 63) (omega arith) small) in let near : to * s < 2 ^ 64 = omega (arith, times_below to count s (2 ^ 63) (omega arith) small) in
-    take_at ! 2 $ rewrite ! 0 (λ (q : Ptr). ‵ (fat full_share (layout (Sr E)) (l 2) 0 (word q))) (asked.0 ∙ e) refl $ give_at ! 2 $ first ! $ blocks ! $
+    use1 𝓛 (‵ (Held E 𝓛 b o xs n h.after)) (laid_out E 𝓛 b o xs h.after n) $ take_at ! 2 $ rewrite ! 0 (λ (q : Ptr). ‵ (fat full_share (layout (Sr E)) (l 2) 0 (word q))) (asked.0 ∙ e) refl $ give_at ! 2 $ first ! $ blocks ! $
     sets ! (bin ! (get ! refl) (size_lit ! (record { fits = tiny })) (record { fits = far })) refl (tt, record { fits = far }) $
     sets ! (bin ! (get_in ! (fld ! refl (stop !)) (sub ! 0 refl (whole !))) (get ! refl) tt) refl (tt, tt) $
     rewrite ! 0 (λ (l : List T.Denot). ‵ (Held E 𝓛 b o xs n l)) front.2 refl $
@@ -56,7 +56,7 @@ pass_spec 𝓤 𝓛 𝓜 𝓡 wired T L =
     let one_longer = length-append xs (x ∷ []) in let same : length new.before + n + length ys ≡ count = omega arith in
     let Gives : Type 0 = (h.at ≡ h.at) × (n ≡ n) × (new.before ++ ys ≡ xs ++ h.after) × (length new.before ≡ to + 1) in
     let items : new.before ++ ys ≡ xs ++ h.after = append_assoc xs (x ∷ []) ys ∙ ap (λ (l : List T.Denot). xs ++ l) (sym front.2) in let longer : length new.before ≡ to + 1 = omega arith in
-    flt_i ! ((length new.before + n + length new.after) * s) (2 ^ 63) (subst (λ (k : ℕ). k * s < 2 ^ 63) (sym same) small) $ fjoin ! $
+    use1 𝓛 (‵ (Laid E 𝓛 b o new.before n ys)) (laid_in E 𝓛 b o new.before ys n) $ flt_i ! ((length new.before + n + length new.after) * s) (2 ^ 63) (subst (λ (k : ℕ). k * s < 2 ^ 63) (sym same) small) $ fjoin ! $
     rewrite ! 0 (λ (q : Ptr). ‵ (halves_own (R E) q new.before n new.after)) (sym e) refl $ move ! (1 ∷ 0 ∷ []) $ fjoin ! $ move ! (1 ∷ 0 ∷ []) $ closes ! tt (Hr E) new us rb ro $
     -- [obs; the borrow; its lifetime's token; the other token]
     feq_i ! (List Val) vss.0 (vptr rb ro ∷ []) are.0.0 $ fjoin3 ! $ nothing ! $ nothing ! $ fjoin ! $ nothing ! $ fjoin ! $ nothing ! $ fjoin ! $ move ! (1 ∷ 0 ∷ []) $ fjoin ! $ move ! (1 ∷ 2 ∷ []) $ join ! $

@@ -1,7 +1,7 @@
 -- `put` fills the first place of the gap. Assumes `Logic`.
 use Rattle.gap_list.proofs.Steps.{◌≡◌, ℕ, suc, ◌+◌, ◌-◌, ◌*◌, ◌^◌, ◌<◌, List, [], ◌∷◌, ◌++◌, length, refl, sym, ap, ◌∙◌, subst, arith, w64, length-append, proved_at, leaves, after, word, word-Good, El, R, elτ, sz, times_below, one_below, el_in, full_share, id⊢, never, SProp, fat, flft, froom, ftrue, fsep, skip, Fn, Args, a_type, Val, vunit, vint, vptr, inst_fn, Env, WpFn, ◌⊑◌, fact, fact_i, emp, tables, ‵, raw, ◌⊛◌, prop, at_ret, ◌$◌, ◌∵◌, !, qed, by, move, keep, use0, use1, use2, split, join, fsplit, fsplit3, fjoin, fjoin3, feq_i, flt_i, flt_l, rewrite, regoal, whole, sub, enter, of_opd, unit_lit, bin, init, stop, fld, size_lit, assigns_last, first, blocks, exec, returns, alloc_all, pass_all, free_all, look_at, get, get_in, through, sets, take_at, give_at, env, usize, yes, no, part_at, layout, layouts, param_laws, RattleType, owns, Ptr, in_a_block, plain, types_at, nothing, opens, closes, heard, Stays, walk_of, stay_dropped, stay_ref, Goes-dropped, Goes-ref}
 use Rattle.gap_list.specs.Memory.{halves_own}
-use Rattle.gap_list.proofs.Rows.{Hr, Sr, Row, alone, start_had, Held, Beside, first_out, first_in}
+use Rattle.gap_list.proofs.Rows.{Hr, Sr, Row, alone, start_had, Held, Laid, laid_out, laid_in, Beside, first_out, first_in}
 use Rattle.gap_list.specs.contracts.memory.Halves.put.{ended, clauses}
 use Rattle.gap_list.specs.contracts.memory.Halves.put.Key.{name as #self}
 use Rattle.gap_list.proofs.memory.Halves.put.Statement.{statement}
@@ -32,7 +32,7 @@ put_spec 𝓤 𝓛 𝓜 𝓡 wired T L =
     let long : at ≡ length xs = asked.1 in let some : 0 < h.gap = asked.2 in let count = length xs + h.gap + length ys in let gap : h.gap ≡ suc m = omega arith in
     let tiny : s < 2 ^ 64 = omega (arith, one_below count s (2 ^ 63) (omega arith) small) in let far : at * s < 2 ^ 64 = omega (arith, times_below at count s (2 ^ 63) (omega arith) small) in
     let to = length xs * s + o in let new : (Hr E).Denot = record { mark = h.mark; at = h.at; before = xs ++ item ∷ []; gap = m; after = ys } in
-    take_at ! 2 $ rewrite ! 0 (λ (q : Ptr). ‵ (fat full_share (layout (Sr E)) (l 2) 0 (word q))) (asked.0 ∙ e) refl $ give_at ! 2 $ first ! $ blocks ! $
+    use1 𝓛 (‵ (Held E 𝓛 b o xs h.gap ys)) (laid_out E 𝓛 b o xs ys h.gap) $ take_at ! 2 $ rewrite ! 0 (λ (q : Ptr). ‵ (fat full_share (layout (Sr E)) (l 2) 0 (word q))) (asked.0 ∙ e) refl $ give_at ! 2 $ first ! $ blocks ! $
     sets ! (bin ! (get ! refl) (size_lit ! (record { fits = tiny })) (record { fits = far })) refl (tt, record { fits = far }) $
     sets ! (bin ! (get_in ! (fld ! refl (stop !)) (sub ! 0 refl (whole !))) (get ! refl) tt) refl (tt, tt) $
     rewrite ! 0 (λ (n : ℕ). ‵ (Held E 𝓛 b o xs n ys)) gap refl $ use1 𝓛 (‵ (froom (elτ E) b to) ⊛ ‵ (Beside E 𝓛 b o xs ys m)) (first_out E 𝓛 b o xs ys m) $ split ! $
@@ -43,7 +43,7 @@ put_spec 𝓤 𝓛 𝓜 𝓡 wired T L =
     -- [the item's bits; the rest of the block; the mark; its cell; the open borrow; obs; auth; what the item owns; the other token]
     move ! (0 ∷ 7 ∷ []) $ use2 𝓛 (‵ (part_at (R E) full_share item b to)) (el_in E 𝓛 full_share item b to v) $ use2 𝓛 (‵ (Held E 𝓛 b o new.before m ys)) (first_in E 𝓛 b o xs ys m item) $
     let same : length new.before + m + length ys ≡ count = omega (arith, length-append xs (item ∷ [])) in
-    flt_i ! ((length new.before + m + length ys) * s) (2 ^ 63) (subst (λ (k : ℕ). k * s < 2 ^ 63) (sym same) small) $ fjoin ! $
+    use1 𝓛 (‵ (Laid E 𝓛 b o new.before m ys)) (laid_in E 𝓛 b o new.before ys m) $ flt_i ! ((length new.before + m + length ys) * s) (2 ^ 63) (subst (λ (k : ℕ). k * s < 2 ^ 63) (sym same) small) $ fjoin ! $
     rewrite ! 0 (λ (q : Ptr). ‵ (halves_own (R E) q new.before m ys)) (sym e) refl $ move ! (1 ∷ 0 ∷ []) $ fjoin ! $ move ! (1 ∷ 0 ∷ []) $ closes ! tt (Hr E) new us rb ro $
     -- [obs; the borrow; its lifetime's token; the other token]
     feq_i ! (List Val) vss.0 (vptr rb ro ∷ []) are.0.0 $ fjoin3 ! $ nothing ! $ nothing ! $ fjoin ! $ nothing ! $ fjoin ! $ nothing ! $ fjoin ! $ move ! (1 ∷ 0 ∷ []) $ fjoin ! $ move ! (1 ∷ 2 ∷ []) $ join ! $

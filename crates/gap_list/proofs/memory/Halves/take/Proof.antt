@@ -2,7 +2,7 @@
 use Rattle.gap_list.proofs.Steps.{◌≡◌, ℕ, suc, ◌+◌, ◌-◌, ◌*◌, ◌^◌, ◌<◌, List, [], ◌∷◌, ◌++◌, length, refl, sym, ap, ◌∙◌, subst, arith, w64, length-append, proved_at, leaves, after, word, word-Good, El, R, elτ, sz, times_below, one_below, el_out, Good, load, look, sets_last, pick, learn, given, full_share, id⊢, never, SProp, fat, flft, froom, ftrue, fsep, skip, Fn, Args, a_type, Val, vunit, vint, vptr, inst_fn, Env, WpFn, ◌⊑◌, fact, fact_i, emp, tables, ‵, raw, ◌⊛◌, prop, at_ret, ◌$◌, ◌∵◌, !, qed, by, move, keep, use0, use1, use2, split, join, fsplit, fsplit3, fjoin, fjoin3, feq_i, flt_i, flt_l, rewrite, regoal, whole, sub, enter, of_opd, unit_lit, bin, init, stop, fld, size_lit, assigns_last, first, blocks, exec, returns, alloc_all, pass_all, free_all, look_at, get, get_in, through, sets, take_at, give_at, env, usize, yes, no, part_at, layout, layouts, param_laws, RattleType, owns, Ptr, in_a_block, plain, types_at, nothing, opens, closes, heard, Stays, walk_of, stay_dropped, stay_ref, Goes-dropped, Goes-ref}
 use types.Kit.{some as some_item}
 use Rattle.gap_list.specs.Memory.{halves_own}
-use Rattle.gap_list.proofs.Rows.{Hr, Sr, Row, start_had, first_of, Held, Past, next_out, next_in}
+use Rattle.gap_list.proofs.Rows.{Hr, Sr, Row, start_had, first_of, Held, Laid, laid_out, laid_in, Past, next_out, next_in}
 use Rattle.gap_list.specs.contracts.memory.Halves.take.{ended, clauses}
 use Rattle.gap_list.specs.contracts.memory.Halves.take.Key.{name as #self}
 use Rattle.gap_list.proofs.memory.Halves.take.Statement.{statement}
@@ -32,7 +32,7 @@ take_spec 𝓤 𝓛 𝓜 𝓡 wired T L =
     let long : at ≡ length xs + n = asked.1 in let count = length xs + n + length h.after in
     let tiny : s < 2 ^ 64 = omega (arith, one_below count s (2 ^ 63) (omega arith) small) in let far : at * s < 2 ^ 64 = omega (arith, times_below at count s (2 ^ 63) (omega arith) small) in
     let from = (length xs + n) * s + o in let new : (Hr E).Denot = record { mark = h.mark; at = h.at; before = xs; gap = n + 1; after = ys } in
-    take_at ! 2 $ rewrite ! 0 (λ (q : Ptr). ‵ (fat full_share (layout (Sr E)) (l 2) 0 (word q))) (asked.0 ∙ e) refl $ give_at ! 2 $ first ! $ blocks ! $
+    use1 𝓛 (‵ (Held E 𝓛 b o xs n h.after)) (laid_out E 𝓛 b o xs h.after n) $ take_at ! 2 $ rewrite ! 0 (λ (q : Ptr). ‵ (fat full_share (layout (Sr E)) (l 2) 0 (word q))) (asked.0 ∙ e) refl $ give_at ! 2 $ first ! $ blocks ! $
     sets ! (bin ! (get ! refl) (size_lit ! (record { fits = tiny })) (record { fits = far })) refl (tt, record { fits = far }) $
     sets ! (bin ! (get_in ! (fld ! refl (stop !)) (sub ! 0 refl (whole !))) (get ! refl) tt) refl (tt, tt) $
     rewrite ! 0 (λ (l : List T.Denot). ‵ (Held E 𝓛 b o xs n l)) front.2 refl $ use1 𝓛 (‵ (part_at (R E) full_share x b from) ⊛ ‵ (Past E 𝓛 b o xs ys n)) (next_out E 𝓛 b o xs ys n x) $ split ! $
@@ -43,7 +43,7 @@ take_spec 𝓤 𝓛 𝓜 𝓡 wired T L =
     use1 𝓛 (‵ (froom (elτ E) b (at * s + o))) (𝓛.laws.at_room (elτ E) b (at * s + o) v) $ rewrite ! 0 (λ (k : ℕ). ‵ (froom (elτ E) b (k * s + o))) long refl $
     move ! (0 ∷ 2 ∷ []) $ use2 𝓛 (‵ (Held E 𝓛 b o xs (n + 1) ys)) (next_in E 𝓛 b o xs ys n) $
     let same : length xs + (n + 1) + length ys ≡ count = omega (arith, shorter) in
-    flt_i ! ((length xs + (n + 1) + length ys) * s) (2 ^ 63) (subst (λ (k : ℕ). k * s < 2 ^ 63) (sym same) small) $ fjoin ! $
+    use1 𝓛 (‵ (Laid E 𝓛 b o xs (n + 1) ys)) (laid_in E 𝓛 b o xs ys (n + 1)) $ flt_i ! ((length xs + (n + 1) + length ys) * s) (2 ^ 63) (subst (λ (k : ℕ). k * s < 2 ^ 63) (sym same) small) $ fjoin ! $
     rewrite ! 0 (λ (q : Ptr). ‵ (halves_own (R E) q xs (n + 1) ys)) (sym e) refl $ move ! (2 ∷ 0 ∷ []) $ fjoin ! $ move ! (2 ∷ 0 ∷ 3 ∷ 4 ∷ 5 ∷ []) $ closes ! tt (Hr E) new us rb ro $
     -- [obs; the borrow; its lifetime's token; what the item owns; the other token]
     feq_i ! (List Val) vss.0 (vptr rb ro ∷ []) are.0.0 $ fjoin3 ! $ nothing ! $ nothing ! $ fjoin ! $ nothing ! $ fjoin ! $ move ! (1 ∷ 0 ∷ []) $ fjoin ! $ move ! (1 ∷ 3 ∷ []) $ join ! $
