@@ -1,9 +1,7 @@
 -- Where an element lies among the places.
-use Rattle.std.proofs.Common.{◌≡◌, ℕ, zero, suc, ◌+◌, ◌<◌, ◌≤◌, List, [], ◌∷◌, ◌++◌, map, length, slice_get, get_or, Some, None, refl, sym, ap, ◌∙◌, arith, length-append}
-use Rattle.std.specs.Prelude.{replicate}
+use Rattle.std.proofs.Common.{◌≡◌, ℕ, zero, suc, ◌+◌, ◌<◌, ◌≤◌, List, [], ◌∷◌, ◌++◌, map, length, slice_get, get_or, Some, None, refl, sym, ap, ◌∙◌, arith}
 use mathlib.Core.Logic.{◌⊎◌, inl, inr}
-use Rattle.std.proofs.lemmas.List.{length-map, length-replicate, append_assoc, get_or_append_left, get_or-append_right}
-use Rattle.gap_list.specs.Places.{places, place_at}
+use Rattle.gap_list.specs.Places.{place_at}
 
 module _ {X : Type 0} where
   get_or-map : (xs : List X) (i : ℕ) → get_or (map Some xs) i None ≡ slice_get xs i

@@ -1,19 +1,17 @@
 -- The machine values of the parts of a block, and how a walk makes and takes apart what owns them. Assumes `Logic`.
-use Rattle.gap_list.proofs.Steps.{◌≡◌, List, [], ◌∷◌, ◌++◌, refl, ap, ◌∙◌, word, El, R, ftrue, Val, vstruct, vcons, vnil, ‵, ◌$◌, ◌∵◌, !, qed, move, fsplit, fjoin, feq_i, feq_l, skip, done, RattleType, Ptr, ptr_val, nothing, sem}
+use Rattle.gap_list.proofs.Steps.{◌≡◌, List, [], ◌∷◌, ◌++◌, refl, ap, ◌∙◌, word, El, R, Val, vstruct, vcons, vnil, ‵, ◌$◌, ◌∵◌, !, qed, move, fsplit, fjoin, feq_i, feq_l, skip, done, RattleType, Ptr, ptr_val, nothing, sem}
 use seplogic.Ra.Ura.{Ura}
 use mir.Val.{of_list}
 use base.Logic.{ent, sep}
 use types.Logic.{Logic}
 use types.Kit.{Item, Goal, Seq, Step, step, fpick, fpack}
 use denote.RattleType.{Valss}
-use denote.RawPtr.{RawPtr}
 use denote.Shadow.{pure_i}
 use denote.Struct.Struct.{Struct, within}
 use denote.Struct.Declared as Declared
 use denote.Struct.Owning.{shape}
 use denote.Struct.Tuple.{Tuple, tuple_type}
 use Rattle.gap_list.specs.contracts.memory.Halves as halves
-use Rattle.gap_list.specs.contracts.memory.Start as start
 use Rattle.gap_list.proofs.Rows.{Sr}
 
 -- a struct whose one field is a `PhantomData`

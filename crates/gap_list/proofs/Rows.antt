@@ -1,10 +1,9 @@
 -- What the owner of the halves has, cut at one place or at a run of places and joined again. Assumes `Logic`.
-use Rattle.gap_list.proofs.Steps.{◌≡◌, ℕ, zero, suc, ◌+◌, ◌-◌, ◌*◌, ◌^◌, ◌<◌, ◌≤◌, List, [], ◌∷◌, ◌++◌, length, refl, sym, ap, ◌∙◌, subst, arith, length-append, El, R, elτ, sz, word, full_share, Fml, fsep, froom, ftrue, ty_array, Val, vstruct, vcons, vnil, ‵, ◌⊛◌, ◌$◌, ◌∵◌, !, qed, by, move, use1, use2, split, fsplit, fjoin, rewrite, skip, feq_l, done, part_at, RattleType, Ptr, nothing, sem}
+use Rattle.gap_list.proofs.Steps.{◌≡◌, ℕ, suc, ◌+◌, ◌-◌, ◌*◌, ◌<◌, List, [], ◌∷◌, ◌++◌, length, refl, sym, ap, ◌∙◌, subst, arith, length-append, El, R, elτ, sz, word, full_share, Fml, fsep, froom, ty_array, Val, vstruct, ‵, ◌⊛◌, ◌$◌, ◌∵◌, !, qed, move, use1, use2, split, fsplit, fjoin, rewrite, skip, feq_l, done, part_at, RattleType, nothing, sem}
 use native.Mathlib.Nat.{zero-mul, suc-mul}
-use lib.ListN.{take-append-drop}
 use seplogic.Ra.Ura.{Ura}
 use mir.Val.{of_list}
-use base.Logic.{SProp, ent, sep, emp}
+use base.Logic.{SProp, ent, sep}
 use types.Logic.{Logic}
 use types.Kit.{Item, Goal, Seq, fpick}
 use denote.Laws.{Typed}
@@ -13,9 +12,6 @@ use mir.Syntax.{Ty}
 use mir.Raw.{raw as bare}
 use mir.Val.{has_ty, WT}
 use denote.Index.{place_is, row}
-use denote.RawPtr.{RawPtr}
-use denote.Struct.Struct.{Struct}
-use denote.Struct.Owning.{shape}
 use Rattle.core.proofs.ptr.Rows.{el_x, add_times, row_cut, row_glue, room_snoc, room_split}
 use Rattle.gap_list.specs.contracts.memory.Halves as halves
 use Rattle.gap_list.specs.contracts.memory.Start as start

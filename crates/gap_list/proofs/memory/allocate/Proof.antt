@@ -1,10 +1,9 @@
 -- `allocate` has a new block as a gap, and keeps the right to free it. Assumes `Logic`.
-use Rattle.gap_list.proofs.Steps.{◌≡◌, ℕ, suc, ◌+◌, ◌*◌, ◌^◌, ◌<◌, List, [], ◌∷◌, ◌++◌, length, refl, sym, ap, ◌∙◌, subst, arith, lit<, w64, proved_at, leaves, after, head, arm_body, word, word-Good, first_Good, El, R, elτ, sz, Good, full_share, SProp, emp, ftrue, fsep, flft, froom, Incl-trans, Lft, Fn, Args, Body, a_type, dcons, dnil, ty_array, Val, vptr, vint, vstruct, vcons, vnil, inst_fn, Env, WpFn, ◌⊑◌, fact, fact_i, tables, ‵, raw, ◌⊛◌, later, prop, at_ret, ◌$◌, ◌∵◌, !, qed, by, move, keep, use0, use1, use2, use3, split, join, fsplit, fsplit3, fjoin, feq_i, flt_i, await, rewrite, regoal, skip, whole, agg, enter, of_opd, lit, bin, stop, fld, size_word, align_word, no_more, and_then, first, exec, returns, alloc_all, pass_all, free_all, look_at, get, get_in, sets, sets_last, is, env, RefOf, usize, yes, RattleType, owns, layout, param, Ptr, block_ptr, plain, types_at, nothing, owned, heard, calls_at, Stays, walk_of, stay_dropped, Goes-dropped}
-use native.Mathlib.Nat.{zero-mul, zero-add}
+use Rattle.gap_list.proofs.Steps.{◌≡◌, ℕ, ◌+◌, ◌*◌, ◌^◌, ◌<◌, List, [], ◌∷◌, ◌++◌, refl, sym, ap, subst, arith, lit<, w64, proved_at, leaves, after, head, arm_body, word, word-Good, first_Good, El, R, elτ, sz, SProp, emp, ftrue, fsep, flft, froom, Incl-trans, Lft, Fn, Args, Body, a_type, dcons, dnil, Val, vptr, vint, vstruct, vcons, vnil, inst_fn, Env, WpFn, ◌⊑◌, fact, fact_i, tables, ‵, raw, ◌⊛◌, later, prop, at_ret, ◌$◌, ◌∵◌, !, qed, by, move, keep, use0, use1, use2, use3, split, join, fsplit, fjoin, flt_i, await, rewrite, regoal, skip, whole, agg, enter, of_opd, lit, bin, stop, fld, size_word, align_word, no_more, and_then, first, exec, returns, alloc_all, pass_all, free_all, look_at, get, get_in, sets, sets_last, is, env, RefOf, usize, yes, RattleType, owns, layout, param, Ptr, block_ptr, plain, types_at, nothing, owned, heard, calls_at, Stays, walk_of, stay_dropped, Goes-dropped}
+use native.Mathlib.Nat.{zero-mul}
 use prog.Memory.{align, capped}
 use prog.Capped.{capped_fits}
 use prog.Wp.{Wp, after_seq, at_return}
-use sound.WpLaws.{fm_of}
 use types.Kit.{Post as After, any_q}
 use Rattle.std_alloc.proofs.RcSteps.{Good as Good'}
 use types.Match.{live, vrt, in_variant}
@@ -13,7 +12,6 @@ use types.ByLocal.{get_tag, lands_as}
 use contract.Running.{tables_of}
 use Rattle.core.proofs.atomic.Steps.{fm}
 use denote.Laws.{Is}
-use denote.Memory.{hidden_shr}
 use denote.Param.{bounded}
 use denote.Struct.Struct.{Struct, Struct-Makes}
 use denote.Struct.Declared as Declared
@@ -22,12 +20,11 @@ use Rattle.std.specs.Prelude.{Ok, Err, true, false}
 use Rattle.std.specs.Vec.Ownership.{FitsInBlock}
 use Rattle.core.specs.contracts.result.Result as result
 use Rattle.core.specs.contracts.alloc.AllocError as error
-use Rattle.core.proofs.alloc.Calls.{Al, Answer-typed, takes_key, Takes, at_takes, Answered, Takes-goes, Takes-gives, answers}
+use Rattle.core.proofs.alloc.Calls.{Al, Answer-typed, Takes, at_takes, Answered, Takes-goes, Takes-gives, answers}
 use Rattle.core.proofs.slots.Leases.{uncapped, block_ty, block_size, block_align}
 use Rattle.core.proofs.mem.Param as param_el
 use Rattle.std_alloc.proofs.ResultValues.{ok_of, err_of}
-use Rattle.gap_list.specs.Memory.{halves_own}
-use Rattle.gap_list.proofs.Rows.{Hr, Sr, Held}
+use Rattle.gap_list.proofs.Rows.{Hr, Sr}
 use Rattle.gap_list.proofs.Made.{mark, mark_made, start_made, three, three_of}
 use Rattle.gap_list.specs.contracts.memory.Lease as lease
 use Rattle.gap_list.specs.contracts.memory.allocate.{ended, clauses}

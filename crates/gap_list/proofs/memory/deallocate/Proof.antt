@@ -1,5 +1,5 @@
 -- `deallocate` hands the gap of an empty block back with the right to free it. Assumes `Logic`.
-use Rattle.gap_list.proofs.Steps.{◌≡◌, ℕ, ◌+◌, ◌*◌, ◌^◌, ◌<◌, List, [], ◌∷◌, ◌++◌, refl, sym, ap, ◌∙◌, subst, arith, w64, proved_at, leaves, after, word, word-Good, El, R, elτ, sz, SProp, emp, id⊢, never, ftrue, fsep, flft, froom, Incl-trans, Lft, Fn, Args, a_type, dcons, dnil, ty_array, Val, vunit, vptr, vint, has_ty, WT, inst_fn, Env, WpFn, ◌⊑◌, fact, fact_i, tables, ‵, raw, ◌⊛◌, given, later, learn, prop, at_ret, ◌$◌, ◌∵◌, !, qed, by, move, keep, use0, use1, split, join, group, fsplit, fsplit3, fjoin, feq_i, flt_l, await, rewrite, regoal, skip, whole, sub, enter, of_opd, unit_lit, bin, stop, fld, size_word, align_word, no_more, and_then, first, blocks, exec, returns, alloc_all, pass_all, free_all, look_at, get, get_in, sets, lands_last, is, env, RefOf, usize, yes, no, RattleType, owns, param, Ptr, ptr_val, in_a_block, plain, types_at, nothing, heard, calls_at_last, Stays, walk_of, stay_dropped, Goes-dropped}
+use Rattle.gap_list.proofs.Steps.{◌≡◌, ℕ, ◌+◌, ◌*◌, ◌^◌, ◌<◌, List, [], ◌∷◌, ◌++◌, refl, sym, ap, ◌∙◌, subst, arith, w64, proved_at, leaves, after, word, word-Good, El, R, elτ, sz, SProp, id⊢, never, ftrue, fsep, flft, froom, Incl-trans, Lft, Fn, Args, a_type, dcons, dnil, Val, vunit, vptr, vint, has_ty, WT, inst_fn, Env, WpFn, ◌⊑◌, fact, tables, ‵, raw, ◌⊛◌, given, later, learn, prop, at_ret, ◌$◌, ◌∵◌, !, qed, by, move, keep, use1, split, join, group, fsplit, fsplit3, fjoin, feq_i, flt_l, await, rewrite, regoal, skip, whole, sub, enter, of_opd, unit_lit, bin, stop, fld, size_word, align_word, no_more, and_then, first, blocks, exec, returns, alloc_all, pass_all, free_all, look_at, get, get_in, sets, lands_last, is, env, RefOf, usize, yes, no, RattleType, owns, param, Ptr, ptr_val, in_a_block, plain, types_at, nothing, heard, calls_at_last, Stays, walk_of, stay_dropped, Goes-dropped}
 use native.Mathlib.Nat.{zero-mul}
 use lib.Dec.{T as T'}
 use mir.Syntax.{ty_unit}

@@ -1,5 +1,5 @@
 -- `lend` shows one of the elements that the halves lend. Assumes `Logic`.
-use Rattle.gap_list.proofs.Steps.{RefOf, Lft, hide, unhide, addr, ◌≡◌, ℕ, suc, ◌+◌, ◌-◌, ◌*◌, ◌^◌, ◌<◌, List, [], ◌∷◌, ◌++◌, length, refl, sym, ap, ◌∙◌, subst, arith, w64, length-append, proved_at, leaves, after, word, word-Good, El, R, elτ, sz, times_below, one_below, el_out, Good, load, look, sets_last, pick, learn, given, full_share, id⊢, never, SProp, fat, flft, froom, ftrue, fsep, skip, Fn, Args, a_type, Val, vunit, vint, vptr, inst_fn, Env, WpFn, ◌⊑◌, fact, fact_i, emp, tables, ‵, raw, ◌⊛◌, prop, at_ret, ◌$◌, ◌∵◌, !, qed, by, move, keep, use0, use1, use2, split, join, fsplit, fsplit3, fjoin, fjoin3, feq_i, flt_i, flt_l, rewrite, regoal, whole, sub, enter, of_opd, unit_lit, bin, init, stop, fld, size_lit, assigns_last, first, blocks, exec, returns, alloc_all, pass_all, free_all, look_at, get, get_in, through, sets, take_at, give_at, env, usize, yes, no, part_at, layout, layouts, param_laws, RattleType, owns, Ptr, in_a_block, plain, types_at, nothing, opens, closes, heard, Stays, walk_of, stay_dropped, stay_ref, Goes-dropped, Goes-ref}
+use Rattle.gap_list.proofs.Steps.{RefOf, Lft, hide, unhide, addr, ◌≡◌, ℕ, ◌+◌, ◌*◌, ◌^◌, ◌<◌, List, [], ◌∷◌, ◌++◌, length, refl, ◌∙◌, arith, w64, proved_at, leaves, after, word, word-Good, El, R, sz, times_below, one_below, sets_last, full_share, id⊢, never, SProp, fat, flft, ftrue, fsep, skip, Fn, Args, a_type, Val, vint, vptr, inst_fn, WpFn, ◌⊑◌, fact, fact_i, emp, tables, ‵, raw, ◌⊛◌, prop, at_ret, ◌$◌, ◌∵◌, !, qed, by, move, keep, use0, use1, split, join, fsplit, fsplit3, fjoin, feq_i, flt_l, rewrite, regoal, whole, sub, enter, of_opd, bin, stop, fld, size_lit, first, blocks, exec, returns, alloc_all, pass_all, free_all, look_at, get, get_in, through, sets, take_at, give_at, env, usize, yes, no, layout, layouts, owns, Ptr, in_a_block, plain, types_at, nothing, heard, Stays, walk_of, stay_dropped, Goes-dropped}
 use Rattle.std.specs.Prelude.{Some}
 use denote.Memory.{shared_of}
 use Rattle.gap_list.specs.Places.{IsFilled, place_at}

@@ -1,5 +1,5 @@
 -- `pass` moves the element behind the gap to its first place. Assumes `Logic`.
-use Rattle.gap_list.proofs.Steps.{ !, Args, El, Env, Fn, Goes-dropped, Goes-ref, Good, List, Ptr, R, RattleType, SProp, Stays, Val, WpFn, [], a_type, after, alloc_all, ap, arith, assigns_last, at_ret, bin, blocks, by, closes, el_in, el_out, elτ, emp, enter, env, exec, fact, fact_i, fat, feq_i, first, fjoin, fjoin3, fld, flft, flt_i, flt_l, free_all, froom, fsep, fsplit, fsplit3, ftrue, full_share, get, get_in, give_at, given, heard, id⊢, in_a_block, init, inst_fn, join, keep, layout, layouts, learn, leaves, length, length-append, load, look, look_at, move, never, no, nothing, of_opd, one_below, opens, owns, param_laws, part_at, pass_all, pick, plain, prop, proved_at, qed, raw, refl, regoal, returns, rewrite, sets, sets_last, size_lit, skip, split, stay_dropped, stay_ref, stop, sub, subst, suc, sym, sz, tables, take_at, through, times_below, types_at, unit_lit, use0, use1, use2, usize, vint, vptr, vunit, w64, walk_of, whole, word, word-Good, yes, ‵, ℕ, ◌$◌, ◌*◌, ◌++◌, ◌+◌, ◌-◌, ◌<◌, ◌^◌, ◌∙◌, ◌∵◌, ◌∷◌, ◌≡◌, ◌⊑◌, ◌⊛◌}
+use Rattle.gap_list.proofs.Steps.{ !, Args, El, Fn, Goes-dropped, Goes-ref, Good, List, Ptr, R, SProp, Stays, Val, WpFn, [], a_type, after, alloc_all, ap, arith, assigns_last, at_ret, bin, blocks, by, closes, el_in, el_out, elτ, emp, enter, env, exec, fact, fact_i, fat, feq_i, first, fjoin, fjoin3, fld, flft, flt_i, flt_l, free_all, froom, fsep, fsplit, fsplit3, ftrue, full_share, get, get_in, give_at, given, heard, id⊢, in_a_block, init, inst_fn, join, keep, layout, layouts, learn, leaves, length, length-append, load, look, look_at, move, never, no, nothing, of_opd, one_below, opens, owns, part_at, pass_all, pick, plain, prop, proved_at, qed, raw, refl, regoal, returns, rewrite, sets, size_lit, skip, split, stay_dropped, stay_ref, stop, sub, subst, suc, sym, sz, tables, take_at, through, times_below, types_at, unit_lit, use0, use1, use2, usize, vint, vptr, vunit, w64, walk_of, whole, word, word-Good, yes, ‵, ℕ, ◌$◌, ◌*◌, ◌++◌, ◌+◌, ◌<◌, ◌^◌, ◌∙◌, ◌∵◌, ◌∷◌, ◌≡◌, ◌⊑◌, ◌⊛◌}
 use types.Kit.{some as some_item}
 use Rattle.gap_list.specs.Memory.{halves_own}
 use Rattle.std.proofs.Common.{append_assoc}

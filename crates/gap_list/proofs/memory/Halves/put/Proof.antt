@@ -1,7 +1,7 @@
 -- `put` fills the first place of the gap. Assumes `Logic`.
-use Rattle.gap_list.proofs.Steps.{◌≡◌, ℕ, suc, ◌+◌, ◌-◌, ◌*◌, ◌^◌, ◌<◌, List, [], ◌∷◌, ◌++◌, length, refl, sym, ap, ◌∙◌, subst, arith, w64, length-append, proved_at, leaves, after, word, word-Good, El, R, elτ, sz, times_below, one_below, el_in, full_share, id⊢, never, SProp, fat, flft, froom, ftrue, fsep, skip, Fn, Args, a_type, Val, vunit, vint, vptr, inst_fn, Env, WpFn, ◌⊑◌, fact, fact_i, emp, tables, ‵, raw, ◌⊛◌, prop, at_ret, ◌$◌, ◌∵◌, !, qed, by, move, keep, use0, use1, use2, split, join, fsplit, fsplit3, fjoin, fjoin3, feq_i, flt_i, flt_l, rewrite, regoal, whole, sub, enter, of_opd, unit_lit, bin, init, stop, fld, size_lit, assigns_last, first, blocks, exec, returns, alloc_all, pass_all, free_all, look_at, get, get_in, through, sets, take_at, give_at, env, usize, yes, no, part_at, layout, layouts, param_laws, RattleType, owns, Ptr, in_a_block, plain, types_at, nothing, opens, closes, heard, Stays, walk_of, stay_dropped, stay_ref, Goes-dropped, Goes-ref}
+use Rattle.gap_list.proofs.Steps.{◌≡◌, ℕ, suc, ◌+◌, ◌-◌, ◌*◌, ◌^◌, ◌<◌, List, [], ◌∷◌, ◌++◌, length, refl, sym, ◌∙◌, subst, arith, w64, length-append, proved_at, leaves, after, word, word-Good, El, R, elτ, sz, times_below, one_below, el_in, full_share, id⊢, never, SProp, fat, flft, froom, ftrue, fsep, skip, Fn, Args, a_type, Val, vunit, vint, vptr, inst_fn, WpFn, ◌⊑◌, fact, fact_i, emp, tables, ‵, raw, ◌⊛◌, prop, at_ret, ◌$◌, ◌∵◌, !, qed, by, move, keep, use0, use1, use2, split, join, fsplit, fsplit3, fjoin, fjoin3, feq_i, flt_i, flt_l, rewrite, regoal, whole, sub, enter, of_opd, unit_lit, bin, init, stop, fld, size_lit, assigns_last, first, blocks, exec, returns, alloc_all, pass_all, free_all, look_at, get, get_in, through, sets, take_at, give_at, env, usize, yes, no, part_at, layout, layouts, param_laws, owns, Ptr, in_a_block, plain, types_at, nothing, opens, closes, heard, Stays, walk_of, stay_dropped, stay_ref, Goes-dropped, Goes-ref}
 use Rattle.gap_list.specs.Memory.{halves_own}
-use Rattle.gap_list.proofs.Rows.{Hr, Sr, Row, alone, start_had, Held, Laid, laid_out, laid_in, Beside, first_out, first_in}
+use Rattle.gap_list.proofs.Rows.{Hr, Sr, alone, start_had, Held, Laid, laid_out, laid_in, Beside, first_out, first_in}
 use Rattle.gap_list.specs.contracts.memory.Halves.put.{ended, clauses}
 use Rattle.gap_list.specs.contracts.memory.Halves.put.Key.{name as #self}
 use Rattle.gap_list.proofs.memory.Halves.put.Statement.{statement}

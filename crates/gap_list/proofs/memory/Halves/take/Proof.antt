@@ -1,8 +1,8 @@
 -- `take` empties the place behind the gap. Assumes `Logic`.
-use Rattle.gap_list.proofs.Steps.{◌≡◌, ℕ, suc, ◌+◌, ◌-◌, ◌*◌, ◌^◌, ◌<◌, List, [], ◌∷◌, ◌++◌, length, refl, sym, ap, ◌∙◌, subst, arith, w64, length-append, proved_at, leaves, after, word, word-Good, El, R, elτ, sz, times_below, one_below, el_out, Good, load, look, sets_last, pick, learn, given, full_share, id⊢, never, SProp, fat, flft, froom, ftrue, fsep, skip, Fn, Args, a_type, Val, vunit, vint, vptr, inst_fn, Env, WpFn, ◌⊑◌, fact, fact_i, emp, tables, ‵, raw, ◌⊛◌, prop, at_ret, ◌$◌, ◌∵◌, !, qed, by, move, keep, use0, use1, use2, split, join, fsplit, fsplit3, fjoin, fjoin3, feq_i, flt_i, flt_l, rewrite, regoal, whole, sub, enter, of_opd, unit_lit, bin, init, stop, fld, size_lit, assigns_last, first, blocks, exec, returns, alloc_all, pass_all, free_all, look_at, get, get_in, through, sets, take_at, give_at, env, usize, yes, no, part_at, layout, layouts, param_laws, RattleType, owns, Ptr, in_a_block, plain, types_at, nothing, opens, closes, heard, Stays, walk_of, stay_dropped, stay_ref, Goes-dropped, Goes-ref}
+use Rattle.gap_list.proofs.Steps.{◌≡◌, ℕ, ◌+◌, ◌*◌, ◌^◌, ◌<◌, List, [], ◌∷◌, ◌++◌, length, refl, sym, ap, ◌∙◌, subst, arith, w64, proved_at, leaves, after, word, word-Good, El, R, elτ, sz, times_below, one_below, el_out, Good, load, look, sets_last, pick, learn, given, full_share, id⊢, never, SProp, fat, flft, froom, ftrue, fsep, skip, Fn, Args, a_type, Val, vint, vptr, inst_fn, WpFn, ◌⊑◌, fact, fact_i, emp, tables, ‵, raw, ◌⊛◌, prop, at_ret, ◌$◌, ◌∵◌, !, qed, by, move, keep, use0, use1, use2, split, join, fsplit, fsplit3, fjoin, fjoin3, feq_i, flt_i, flt_l, rewrite, regoal, whole, sub, enter, of_opd, bin, stop, fld, size_lit, first, blocks, exec, returns, alloc_all, pass_all, free_all, look_at, get, get_in, through, sets, take_at, give_at, env, usize, yes, no, part_at, layout, layouts, owns, Ptr, in_a_block, plain, types_at, nothing, opens, closes, heard, Stays, walk_of, stay_dropped, stay_ref, Goes-dropped, Goes-ref}
 use types.Kit.{some as some_item}
 use Rattle.gap_list.specs.Memory.{halves_own}
-use Rattle.gap_list.proofs.Rows.{Hr, Sr, Row, start_had, first_of, Held, Laid, laid_out, laid_in, Past, next_out, next_in}
+use Rattle.gap_list.proofs.Rows.{Hr, Sr, start_had, first_of, Held, Laid, laid_out, laid_in, Past, next_out, next_in}
 use Rattle.gap_list.specs.contracts.memory.Halves.take.{ended, clauses}
 use Rattle.gap_list.specs.contracts.memory.Halves.take.Key.{name as #self}
 use Rattle.gap_list.proofs.memory.Halves.take.Statement.{statement}
