@@ -8,6 +8,9 @@ use std::alloc::{AllocError, Global};
 use std::mem;
 use std_alloc::room::may_hold;
 
+/// A block has fewer bytes than a pointer can be moved by.
+const MOST_PLACES: usize = 0x7fff_ffff_ffff_ffff;
+
 /// `front` of the `len` elements lie before the gap, which takes the other `capacity - len` places.
 pub struct Block<T> {
     pub(crate) start: Start<T>,
@@ -134,7 +137,7 @@ impl<T> Block<T> {
         if more <= self.capacity - self.len {
             return Ok(());
         }
-        if 0x7fff_ffff_ffff_ffff - self.len < more {
+        if MOST_PLACES - self.len < more {
             return Err(NoMemory);
         }
         let wanted = (self.len + more).max(self.capacity + self.capacity);

@@ -15,6 +15,9 @@ use std::alloc::Global;
 use std::marker::Model;
 use std::mem;
 
+/// The fewest places that a list takes when it first takes memory. Later it takes at least twice as many as before.
+const FIRST_PLACES: usize = 4;
+
 /// There was no memory. The list is as it was.
 #[derive(Debug, Drop)]
 pub struct NoMemory;
@@ -102,7 +105,7 @@ impl<T> GapList<T> {
         if let Some(block) = &mut self.block {
             return block.reserve(more);
         }
-        match Block::with_capacity(self.alloc, more.max(4)) {
+        match Block::with_capacity(self.alloc, more.max(FIRST_PLACES)) {
             Err(_) => Err(NoMemory),
             Ok(block) => match mem::replace(&mut self.block, Some(block)) {
                 None => Ok(()),
