@@ -5,12 +5,18 @@
 ghost use Rattle.std.specs.Prelude.{◌≡◌, ◌+◌, ◌-◌, ◌^◌, ◌<◌, ◌≤◌, [], length, insert, remove, slice_get, slice_set, Some, option_copied, IsOk, IfOk, IfErr, OnOk, OnErr, ◌↔◌};
 ghost use Rattle.gap_list.specs.Gapped.{gapped};
 
+mod block;
+mod memory;
+#[cfg(test)]
+mod tests;
+
+use block::Block;
 use std::alloc::Global;
 use std::marker::Model;
 use std::mem;
 
-#[cfg(test)]
-mod tests;
+/// The fewest places that a list takes when it first takes memory. Later it takes at least twice as many as before.
+const FIRST_PLACES: usize = 4;
 
 /// There was no memory. The list is as it was.
 #[derive(Debug, Drop)]
@@ -21,20 +27,33 @@ pub struct NoMemory;
 pub struct Full<T>(pub T);
 
 /// A list of `T`, and its spare: how many elements `insert` takes before `reserve` is needed.
-#[derive(Drop)]
 pub struct GapList<T> {
-    vec: Vec<T>,
+    block: Option<Block<T>>,
+    alloc: Global,
 }
 
 impl<T> Model for GapList<T> {
-    ghost use Rattle.std.specs.Prelude.{◌-◌, vec_len, vec_capacity};
-    ghost use Rattle.gap_list.specs.Gapped.{Gapped, gapped, gapped_code};
+    ghost use Rattle.gap_list.specs.Gapped.{Gapped, gapped_code};
 
     ghost Value = { Gapped T };
 
     ghost coded = { gapped_code T.code };
 
-    ghost view = { λ g. gapped g.vec.items (vec_capacity g.vec - vec_len g.vec) };
+    ghost use Rattle.gap_list.specs.Block.{held, IsHeld};
+
+    ghost view = { λ g. held g.block };
+
+    ghost invariant = { λ g. IsHeld g.block };
+}
+
+impl<T: Drop> Drop for GapList<T> {
+    fn drop(self) {
+        let GapList { block, alloc: _ } = self;
+        match block {
+            None => {}
+            Some(block) => block.drop_all(),
+        }
+    }
 }
 
 impl<T> GapList<T> {
@@ -42,9 +61,7 @@ impl<T> GapList<T> {
     pub fn new(alloc: Global) -> GapList<T>
         ensures empty { result ≡ gapped [] 0 }
     {
-        GapList {
-            vec: Vec::new(alloc),
-        }
+        GapList { block: None, alloc }
     }
 
     /// How many elements there are.
@@ -52,14 +69,26 @@ impl<T> GapList<T> {
         ensures len { result ≡ length self.now.items }
         ensures within { result + self.now.spare < 2 ^ 63 }
     {
-        self.vec.len()
+        match &self.block {
+            None => 0,
+            Some(block) => block.len,
+        }
     }
 
     /// The element at `place`, counted from 0: `None` exactly where `place` is not below the length.
     pub fn get(&self, place: usize) -> Option<&T>
         ensures element { option_copied result ≡ slice_get self.now.items place }
     {
-        self.vec.get(place)
+        match &self.block {
+            None => None,
+            Some(block) => {
+                if place < block.len {
+                    Some(block.lend(place))
+                } else {
+                    None
+                }
+            }
+        }
     }
 
     /// Makes spare at least `more`. `NoMemory` comes only where spare was less, and then all is as before.
@@ -70,9 +99,18 @@ impl<T> GapList<T> {
         ensures no_memory { OnErr result (self.new ≡ self.old) }
         ensures not_needed { more ≤ self.old.spare → IsOk result }
     {
-        match self.vec.reserve(more) {
-            Ok(()) => Ok(()),
+        if more == 0 {
+            return Ok(());
+        }
+        if let Some(block) = &mut self.block {
+            return block.reserve(more);
+        }
+        match Block::with_capacity(self.alloc, more.max(FIRST_PLACES)) {
             Err(_) => Err(NoMemory),
+            Ok(block) => match mem::replace(&mut self.block, Some(block)) {
+                None => Ok(()),
+                Some(_) => unreachable!(),
+            },
         }
     }
 
@@ -84,12 +122,16 @@ impl<T> GapList<T> {
         ensures ok { OnOk result (self.new ≡ gapped (insert self.old.items place item) (self.old.spare - 1)) }
         ensures full { IfErr result (λ f. (f.0 ≡ item) × (self.new ≡ self.old)) }
     {
-        if self.vec.len() == self.vec.capacity() {
-            return Err(Full(item));
-        }
-        match self.vec.insert(place, item) {
-            Ok(()) => Ok(()),
-            Err(refused) => Err(Full(refused.value)),
+        match &mut self.block {
+            None => Err(Full(item)),
+            Some(block) => {
+                if block.len == block.capacity {
+                    return Err(Full(item));
+                }
+                block.move_gap(place);
+                block.put(item);
+                Ok(())
+            }
         }
     }
 
@@ -99,7 +141,13 @@ impl<T> GapList<T> {
         ensures value { slice_get self.old.items place ≡ Some result }
         ensures list { self.new ≡ gapped (remove self.old.items place) (self.old.spare + 1) }
     {
-        self.vec.remove(place)
+        match &mut self.block {
+            None => unreachable!(),
+            Some(block) => {
+                block.move_gap(place);
+                block.take_out()
+            }
+        }
     }
 
     /// Puts `item` in the place of the element at `place`, which it returns. Spare is as before.
@@ -108,7 +156,15 @@ impl<T> GapList<T> {
         ensures value { slice_get self.old.items place ≡ Some result }
         ensures list { self.new ≡ gapped (slice_set self.old.items place item) self.old.spare }
     {
-        mem::replace(&mut self.vec[place], item)
+        match &mut self.block {
+            None => unreachable!(),
+            Some(block) => {
+                block.move_gap(place);
+                let old = block.take_out();
+                block.put(item);
+                old
+            }
+        }
     }
 }
 
@@ -118,9 +174,21 @@ impl<T: Clone + Drop> GapList<T> {
         requires { (x y : T) → T.is_clone x y → y ≡ x }
         ensures copied { IfOk result (λ copy. copy.items ≡ self.now.items) }
     {
-        match self.vec.clone() {
-            Ok(vec) => Ok(GapList { vec }),
-            Err(_) => Err(NoMemory),
+        let mut copy = GapList::new(self.alloc);
+        let len = self.len();
+        copy.reserve(len)?;
+        for i in 0..len {
+            match self.get(i) {
+                None => unreachable!(),
+                Some(item) => match item.clone() {
+                    Err(_) => return Err(NoMemory),
+                    Ok(item) => match copy.insert(i, item) {
+                        Ok(()) => {}
+                        Err(_) => unreachable!(),
+                    },
+                },
+            }
         }
+        Ok(copy)
     }
 }
