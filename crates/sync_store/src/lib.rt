@@ -1,6 +1,7 @@
 //! The object store of the first path: tables with integer keys, columns of integers.
 #![tactic(auto)]
 
+mod dump;
 mod names;
 mod refusals;
 mod standing;

@@ -1,10 +1,12 @@
-ghost use Rattle.std.specs.Prelude.{◌≡◌, ◌||◌, ℤ, [], is_ok, IfOk, OnOk, OnErr};
+ghost use Rattle.std.specs.Prelude.{◌≡◌, ◌||◌, ◌++◌, ℤ, [], is_ok, IfOk, OnOk, OnErr};
 ghost use Rattle.sync_data.specs.Orders.{key_number};
+ghost use Rattle.sync_store.specs.Dump.{table_lines};
 ghost use Rattle.sync_store.specs.Names.{Names, no_names, has_table, has_column, has_object, break_of, verdict, table_break, column_break, object_break, update_break, names_after, AreBoth};
 
-use super::names::{ColumnName, ObjectName};
+use super::dump::put_tables;
+use super::names::{CellPath, ColumnName, ObjectName};
 use std::alloc::{AllocFailed, Global};
-use std::collections::BTreeSet;
+use std::collections::{BTreeMap, BTreeSet};
 use std::marker::Model;
 use sync_base::Break;
 use sync_data::{Instr, Key, Name, NoMemory};
@@ -180,5 +182,13 @@ impl Standing {
             Instr::CreateObject(i) => kept(self.objects.insert(object_name(&i.table, &i.key))),
             _ => Ok(()),
         }
+    }
+
+    /// Puts the dump of the tables, whose cells are these, behind what was written.
+    pub fn put_dump(&self, alloc: Global, out: &mut Vec<u8>, cells: &BTreeMap<CellPath, i64>) -> Result<(), NoMemory>
+        ensures { OnOk result (out.new.items ≡ out.old.items
+            ++ table_lines cells.now.entries self.now.columns self.now.objects self.now.tables) }
+    {
+        put_tables(alloc, out, cells, &self.tables, &self.columns, &self.objects)
     }
 }

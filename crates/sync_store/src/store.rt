@@ -1,4 +1,5 @@
 ghost use Rattle.std.specs.Prelude.{◌≡◌, ◌<◌, ◌≤◌, ◌^◌, ℕ, length, None, Some, Ok, Err, IfOk, OnOk, IfErr, is_ok, true};
+ghost use Rattle.sync_store.specs.Dump.{dump};
 ghost use Rattle.sync_store.specs.Names.{break_of, verdict};
 ghost use Rattle.sync_store.specs.States.{State, no_state, int_of, after, act_all, Applies, ChecksAll, AppliesAll};
 
@@ -134,5 +135,14 @@ impl Store {
             self.put(instr)?;
         }
         Ok(())
+    }
+
+    /// The lines of the tables, columns and objects (docs/FORMATS.md, "Dump").
+    pub fn dump(&self) -> Result<Vec<u8>, NoMemory>
+        ensures { IfOk result (λ text. text.items ≡ dump self.now) }
+    {
+        let mut out = Vec::new(self.alloc);
+        self.standing.put_dump(self.alloc, &mut out, &self.cells)?;
+        Ok(out)
     }
 }
