@@ -17,7 +17,7 @@ use Rattle.sync_data.specs.declared.column.Shape.{Shape}
 use Rattle.sync_data.specs.declared.column.Shape.TheVariants as shapes
 use Rattle.sync_data.specs.declared.column.Column.{Column}
 use Rattle.sync_value_text.specs.Forms.{provided}
-use Rattle.sync_value_text.specs.Fields.{exactly_form, name_of_text, key_of_text, text_form, name_form, id_form, flag_form, int_form}
+use Rattle.sync_value_text.specs.Fields.{exactly_form, name_of_text, key_of_text, hex_form, text_form, name_form, id_form, flag_form, int_form}
 use Rattle.sync_value_text.specs.Keys.{uuid_form, key_form, key_field_form}
 use Rattle.sync_value_text.specs.Values.{bytes_form, is_time, time_form, link_form}
 use Rattle.sync_value_text.specs.Columns.{plain_kind, kind_form, shape_of_word, shape_form, column_beside, column_form}
@@ -38,7 +38,7 @@ unfolding uuid_form exactly_form id_form text_form
 id_back id is = sym is
 
 pub bytes_back : (bytes : List ℕ) → IsBytes bytes → bytes_form (data_of_bytes bytes) ≡ Some bytes
-unfolding bytes_form exactly_form text_form
+unfolding bytes_form exactly_form hex_form text_form
 bytes_back bytes small = ap result_ok (decode_of-encode_lower bytes small)
 
 is_time_is : (secs nanos : ℤ) → IsTime secs nanos → is_time secs nanos ≡ true

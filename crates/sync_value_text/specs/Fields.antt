@@ -1,8 +1,10 @@
 -- The fields of a JSON object: how many there are, and what stands under a name.
 use Rattle.std.specs.Prelude.{ℕ, ℤ, ◌^◌, ◌==◌, ◌&&◌, nat_lt, nat_le, List, length, Bool, Option, Some, None, is_some, ⊤}
+use Rattle.std.specs.Result.{result_ok}
 use Rattle.serde_json.specs.Data.{Data}
 use Rattle.serde_json.specs.Events.{members_len}
 use Rattle.serde_json.specs.Find.{get, as_object, as_str, as_bool, as_number, as_i64, as_u64}
+use Rattle.hex.specs.Hex.{decode_of}
 use Rattle.uuid.specs.Text.{parsed}
 use Rattle.sync_value_text.specs.Forms.{◌>>=◌, provided}
 
@@ -43,6 +45,12 @@ unfoldable pub id_form : Data → List ℕ → Option (List ℕ)
 id_form d field = do
   text ← text_form d field
   parsed text
+
+-- two hex digits a byte, in either case
+unfoldable pub hex_form : Data → List ℕ → Option (List ℕ)
+hex_form d field = do
+  text ← text_form d field
+  result_ok (decode_of text)
 
 unfoldable pub flag_form : Data → List ℕ → Option Bool
 flag_form d field = do

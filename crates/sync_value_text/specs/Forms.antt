@@ -13,7 +13,11 @@ None >>= f = None
 abbrev pub provided : {A : Type 0} → Bool → A → Option A
 provided b x = if b then Some x else None
 
--- What a function answered is what the form gives: the value, or `BadValue` exactly where the data has another form.
+-- What a call answered is what the form gives: the value, seen by `view`, or `BadValue` exactly where there is none.
+abbrev pub DecidesBy : {X Y : Type 0} → (X → Y) → Result X TextRefusal → Option Y → Type 0
+DecidesBy view (Ok x) form = form ≡ Some (view x)
+DecidesBy view (Err e) form = (e ≡ refusals.BadValue) × (form ≡ None)
+
 abbrev pub Decides : {X : Type 0} → Result X TextRefusal → Option X → Type 0
 Decides (Ok x) form = form ≡ Some x
 Decides (Err e) form = (e ≡ refusals.BadValue) × (form ≡ None)
@@ -22,6 +26,10 @@ Decides (Err e) form = (e ≡ refusals.BadValue) × (form ≡ None)
 abbrev pub Refuses : {X : Type 0} → TextRefusal → Option X → Type 0
 Refuses refusals.BadValue form = form ≡ None
 Refuses refusals.NoMemory form = Unit {0}
+
+abbrev pub ReadsBy : {X Y : Type 0} → (X → Y) → Result X TextRefusal → Option Y → Type 0
+ReadsBy view (Ok x) form = form ≡ Some (view x)
+ReadsBy view (Err e) form = Refuses e form
 
 abbrev pub Reads : {X : Type 0} → Result X TextRefusal → Option X → Type 0
 Reads (Ok x) form = form ≡ Some x

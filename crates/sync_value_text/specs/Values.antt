@@ -1,22 +1,19 @@
 -- A value is null, an integer, a flag, a text, or an object that is named by one of its fields:
 -- `{"bytes":HEX}`, `{"secs":I,"nanos":I}`, `{"uuid":U}`, `{"link":TABLE,"key":KEY}`.
 use Rattle.std.specs.Prelude.{ℕ, ℤ, pos, negsuc, int_lt, int_le, ◌&&◌, ◌||◌, not, Bool, List, codes, Option, Some, None, option_map, if◌then◌else◌}
-use Rattle.std.specs.Result.{result_ok}
 use Rattle.serde_json.specs.Data.{Data, null, boolean, number, string, array, object}
 use Rattle.serde_json.specs.Find.{get, as_i64}
-use Rattle.hex.specs.Hex.{decode_of}
 use Rattle.sync_data.specs.Times.{Moment}
 use Rattle.sync_data.specs.declared.value.Value.{Value}
 use Rattle.sync_data.specs.declared.value.Value.TheVariants as values
 use Rattle.sync_value_text.specs.Forms.{◌>>=◌, provided}
-use Rattle.sync_value_text.specs.Fields.{exactly_form, has, text_form, name_form, int_form}
+use Rattle.sync_value_text.specs.Fields.{exactly_form, has, hex_form, name_form, int_form}
 use Rattle.sync_value_text.specs.Keys.{uuid_form, key_field_form}
 
 unfoldable pub bytes_form : Data → Option (List ℕ)
 bytes_form d = do
   all ← exactly_form 1 d
-  text ← text_form d (codes "bytes")
-  result_ok (decode_of text)
+  hex_form d (codes "bytes")
 
 -- less than a second of nanoseconds, and none of the other sign than the seconds
 abbrev pub is_time : ℤ → ℤ → Bool

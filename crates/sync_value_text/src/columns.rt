@@ -3,7 +3,7 @@ ghost use Rattle.sync_value_text.specs.Forms.{Decides};
 ghost use Rattle.sync_value_text.specs.Columns.{plain_kind as plain_kind_of, kind_form, shape_of_word, shape_form, field_count as count_of_fields, column_beside as beside_form, column_form};
 ghost use Rattle.serde_json.specs.View.{view};
 
-use super::fields::{exactly, flag_field, name_field, word_field};
+use super::fields::{exactly, flag_field, name_field, text_field};
 use super::refusal::TextRefusal;
 use serde_json::Value as Json;
 use sync_data::{Column, Kind, Shape};
@@ -47,7 +47,7 @@ fn field_count(kind: &Kind) -> usize
 fn kind_field(json: &Json) -> Result<Kind, TextRefusal>
     ensures { Decides result (kind_form (view json.now)) }
 {
-    let word = word_field(json, "kind")?;
+    let word = text_field(json, "kind")?;
     if word == "Link" {
         return Ok(Kind::Link(name_field(json, "target")?));
     }
@@ -73,7 +73,7 @@ fn plain_kind(word: &str) -> Option<Kind>
 fn shape_field(json: &Json) -> Result<Shape, TextRefusal>
     ensures { Decides result (shape_form (view json.now)) }
 {
-    let word = word_field(json, "shape")?;
+    let word = text_field(json, "shape")?;
     shape_of(word).ok_or(TextRefusal::BadValue)
 }
 

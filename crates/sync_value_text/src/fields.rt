@@ -1,14 +1,14 @@
-ghost use Rattle.std.specs.Prelude.{◌≡◌, option_map, Some, None, MatchResult};
-ghost use Rattle.sync_value_text.specs.declared.refusal.TextRefusal.TheVariants as refusals;
-ghost use Rattle.sync_value_text.specs.Forms.{Decides, Reads};
-ghost use Rattle.sync_value_text.specs.Fields.{exactly_form, text_form, name_form, key_text_form, id_form, flag_form, int_form, number_form, place_form, key_of_text, has};
+ghost use Rattle.std.specs.Prelude.{◌≡◌};
+ghost use Rattle.sync_value_text.specs.Forms.{Decides, DecidesBy, Reads};
+ghost use Rattle.sync_value_text.specs.Fields.{exactly_form, text_form, name_form, key_text_form, id_form, hex_form, flag_form, int_form, number_form, place_form, key_of_text, has};
 ghost use Rattle.serde_json.specs.View.{view};
 ghost use Rattle.uuid.specs.Text.{parsed};
 
 use super::refusal::TextRefusal;
+use hex::FromHexError;
 use serde_json::Value as Json;
 use std::alloc::Global;
-use sync_data::{Id, KeyRefusal, KeyText, Name};
+use sync_data::{Blob, Id, KeyRefusal, KeyText, Name};
 use uuid::Uuid;
 
 /// Whether it is an object of that many fields: `BadValue` where it is not. It takes no memory.
@@ -23,14 +23,6 @@ pub fn exactly(json: &Json, count: usize) -> Result<(), TextRefusal>
     Ok(())
 }
 
-/// The text under that name, where the value is an object that has one. It takes no memory.
-#[tactic(auto, unfolding(crate::specs::Fields::text_form))]
-pub fn text_field<'j>(json: &'j Json, field: &str) -> Option<&'j str>
-    ensures { option_map (λ t. t.now) result ≡ text_form (view json.now) field.now }
-{
-    json.get(field)?.as_str()
-}
-
 /// Whether there is a field of that name. It takes no memory.
 pub fn has_field(json: &Json, field: &str) -> bool
     ensures { result ≡ has (view json.now) field.now }
@@ -38,11 +30,13 @@ pub fn has_field(json: &Json, field: &str) -> bool
     json.get(field).is_some()
 }
 
-/// That text as a word, or `BadValue`. It takes no memory.
-pub fn word_field<'j>(json: &'j Json, field: &str) -> Result<&'j str, TextRefusal>
-    ensures { MatchResult result (λ t. text_form (view json.now) field.now ≡ Some t.now) (λ e. (e ≡ refusals.BadValue) × (text_form (view json.now) field.now ≡ None)) }
+/// The text under that field. It takes no memory.
+#[tactic(auto, unfolding(crate::specs::Fields::text_form))]
+pub fn text_field<'j>(json: &'j Json, field: &str) -> Result<&'j str, TextRefusal>
+    ensures { DecidesBy (λ text. text.now) result (text_form (view json.now) field.now) }
 {
-    text_field(json, field).ok_or(TextRefusal::BadValue)
+    let found = json.get(field).ok_or(TextRefusal::BadValue)?;
+    found.as_str().ok_or(TextRefusal::BadValue)
 }
 
 /// The name under that field: a text of 1 to 63 bytes. It takes no memory.
@@ -50,7 +44,7 @@ pub fn word_field<'j>(json: &'j Json, field: &str) -> Result<&'j str, TextRefusa
 pub fn name_field(json: &Json, field: &str) -> Result<Name, TextRefusal>
     ensures { Decides result (name_form (view json.now) field.now) }
 {
-    let text = text_field(json, field).ok_or(TextRefusal::BadValue)?;
+    let text = text_field(json, field)?;
     match Name::new(text) {
         Ok(name) => Ok(name),
         Err(_) => Err(TextRefusal::BadValue),
@@ -73,7 +67,7 @@ pub(crate) fn key_text_of(alloc: Global, text: &str) -> Result<KeyText, TextRefu
 pub fn key_text_field(alloc: Global, json: &Json, field: &str) -> Result<KeyText, TextRefusal>
     ensures { Reads result (key_text_form (view json.now) field.now) }
 {
-    let text = text_field(json, field).ok_or(TextRefusal::BadValue)?;
+    let text = text_field(json, field)?;
     key_text_of(alloc, text)
 }
 
@@ -82,7 +76,7 @@ pub fn key_text_field(alloc: Global, json: &Json, field: &str) -> Result<KeyText
 pub fn id_field(json: &Json, field: &str) -> Result<Id, TextRefusal>
     ensures { Decides result (id_form (view json.now) field.now) }
 {
-    let text = text_field(json, field).ok_or(TextRefusal::BadValue)?;
+    let text = text_field(json, field)?;
     id_of_text(text)
 }
 
@@ -91,6 +85,19 @@ fn id_of_text(text: &str) -> Result<Id, TextRefusal>
 {
     match Uuid::parse_str(text) {
         Ok(id) => Ok(id.into_bytes()),
+        Err(_) => Err(TextRefusal::BadValue),
+    }
+}
+
+/// The bytes under that field: a text of two hex digits a byte, in either case.
+#[tactic(auto, unfolding(crate::specs::Fields::hex_form))]
+pub fn hex_field(alloc: Global, json: &Json, field: &str) -> Result<Blob, TextRefusal>
+    ensures { Reads result (hex_form (view json.now) field.now) }
+{
+    let text = text_field(json, field)?;
+    match hex::decode(alloc, text.as_bytes()) {
+        Ok(bytes) => Ok(Blob::new(alloc, bytes.as_slice())?),
+        Err(FromHexError::OutOfMemory) => Err(TextRefusal::NoMemory),
         Err(_) => Err(TextRefusal::BadValue),
     }
 }

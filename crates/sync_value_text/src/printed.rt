@@ -56,11 +56,13 @@ pub fn json_of_column(alloc: Global, column: &Column) -> Result<Json, NoMemory>
     match target_of(&column.kind) {
         Some(target) => {
             let target = target.text();
-            json!(in alloc; {"kind": kind, "nullable": nullable, "shape": shape, "target": target})
-                .map_err(|_| NoMemory)
+            json!(in alloc; {"kind": kind, "nullable": nullable, "shape": shape, "target": target}).map_err(
+                |_| NoMemory,
+            )
         }
-        None => json!(in alloc; {"kind": kind, "nullable": nullable, "shape": shape})
-            .map_err(|_| NoMemory),
+        None => json!(in alloc; {"kind": kind, "nullable": nullable, "shape": shape}).map_err(
+            |_| NoMemory,
+        ),
     }
 }
 

@@ -1,7 +1,7 @@
 ghost use Rattle.std.specs.Prelude.{◌≡◌};
 ghost use Rattle.sync_value_text.specs.declared.refusal.TextRefusal.TheVariants as refusals;
 
-use std::alloc::AllocError;
+use std::alloc::AllocFailed;
 use sync_data::NoMemory;
 use thiserror::Error;
 
@@ -22,10 +22,10 @@ impl From<NoMemory> for TextRefusal {
     }
 }
 
-impl From<AllocError> for TextRefusal {
+impl<T: Drop> From<AllocFailed<T>> for TextRefusal {
     ghost from_gives = { λ _ e. e ≡ refusals.NoMemory };
 
-    fn from(_e: AllocError) -> TextRefusal {
+    fn from(_e: AllocFailed<T>) -> TextRefusal {
         TextRefusal::NoMemory
     }
 }

@@ -3,10 +3,9 @@ ghost use Rattle.sync_value_text.specs.Forms.{Decides, Reads};
 ghost use Rattle.sync_value_text.specs.Values.{bytes_form, time_form, link_form, object_form, value_form, value_field_form};
 ghost use Rattle.serde_json.specs.View.{view};
 
-use super::fields::{exactly, has_field, int_field, name_field, word_field};
+use super::fields::{exactly, has_field, hex_field, int_field, name_field};
 use super::keys::{key_field, uuid_of};
 use super::refusal::TextRefusal;
-use hex::FromHexError;
 use serde_json::Value as Json;
 use std::alloc::Global;
 use sync_data::{Blob, Text, Time, Value};
@@ -57,12 +56,7 @@ fn bytes_of(alloc: Global, json: &Json) -> Result<Blob, TextRefusal>
     ensures { Reads result (bytes_form (view json.now)) }
 {
     exactly(json, 1)?;
-    let text = word_field(json, "bytes")?;
-    match hex::decode(alloc, text.as_bytes()) {
-        Ok(bytes) => Ok(Blob::new(alloc, bytes.as_slice())?),
-        Err(FromHexError::OutOfMemory) => Err(TextRefusal::NoMemory),
-        Err(_) => Err(TextRefusal::BadValue),
-    }
+    hex_field(alloc, json, "bytes")
 }
 
 #[tactic(auto, unfolding(crate::specs::Values::time_form))]
