@@ -6,6 +6,8 @@ mod fields;
 mod keys;
 mod printed;
 mod refusal;
+#[cfg(test)]
+mod tests;
 mod values;
 
 pub use columns::{column_beside, column_of};
