@@ -1,0 +1,4 @@
+pub mod Objects
+pub mod Edits
+pub mod Events
+pub mod Lines
