@@ -13,7 +13,7 @@ use Rattle.sync_top.specs.declared.command.LineEnd.{LineEnd}
 use Rattle.sync_top.specs.declared.command.LineEnd.TheVariants as line_ends
 use Rattle.sync_io.specs.declared.sink.SinkRefusal.{SinkRefusal}
 use Rattle.sync_io.specs.declared.sink.SinkRefusal.TheVariants as sinks
-use Rattle.sync_top.specs.Runs.{Ran, ended, onto, answered, status_at, is_fault, Follows, FollowsTold, EndsAt, write_status, EndsReading, run_from, runs, answer_to, AnsweredAll}
+use Rattle.sync_top.specs.Runs.{Ran, ended, onto, answered, status_at, is_fault, Follows, FollowsTold, EndsAt, write_status, EndsReading, run_from, runs, answer_to, AnsweredAll, IsRunStatus, IsDoneOrNoMemory}
 
 -- nothing was written
 pub took_none : (sink : Option (List ℕ)) → Took [] sink sink
@@ -131,3 +131,16 @@ cut_at_end status fault None old mid new is same follows = tt
 cut_at_end status fault (Some ran) old mid new is same follows =
     subst (λ n. Follows fault ran old n) (sym same)
     (subst (λ b. MatchBool b (TookSome ran.written old mid) ((fault ≡ ran.status) × Took ran.written old mid)) (sym is) (follows_some status ran old mid follows))
+
+-- a run that was not cut short, and that is meant to be done
+pub done_or : (status : Status) (ran : Ran) (old new : Option (List ℕ)) → Follows status ran old new → ran.status ≡ statuses.Done → IsRunStatus status → (status ≡ statuses.ReadFault → ⊥) → (status ≡ statuses.WriteFault → ⊥) → IsDoneOrNoMemory status
+done_or statuses.Done ran old new follows meant only read write = tt
+done_or statuses.NoMemory ran old new follows meant only read write = tt
+done_or statuses.BadWords ran old new follows meant only read write = absurd only
+done_or (statuses.BadInput place) ran old new follows meant only read write = let e = follows.0 ∙ meant in cc
+done_or statuses.ReadFault ran old new follows meant only read write = read refl
+done_or statuses.WriteFault ran old new follows meant only read write = write refl
+done_or statuses.DiskFault ran old new follows meant only read write = absurd only
+done_or (statuses.BadFile place) ran old new follows meant only read write = absurd only
+done_or statuses.InputTooLong ran old new follows meant only read write = let e = follows.0 ∙ meant in cc
+done_or (statuses.Unbuilt line) ran old new follows meant only read write = let e = follows.0 ∙ meant in cc

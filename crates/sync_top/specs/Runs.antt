@@ -99,6 +99,8 @@ read_status number reads.NoMemory = statuses.NoMemory
 
 -- a line that is read ends a run by its own fault, that of a write, or want of memory
 abbrev pub IsLineStatus : Status → Type 0
+IsLineStatus statuses.BadWords = ⊥
+IsLineStatus (statuses.BadFile place) = ⊥
 IsLineStatus statuses.ReadFault = ⊥
 IsLineStatus statuses.DiskFault = ⊥
 IsLineStatus status = Unit {0}
@@ -131,3 +133,23 @@ IsReportStatus statuses.Done = Unit {0}
 IsReportStatus statuses.WriteFault = Unit {0}
 IsReportStatus statuses.NoMemory = Unit {0}
 IsReportStatus status = ⊥
+
+-- the ends of a run over lines
+abbrev pub IsRunStatus : Status → Type 0
+IsRunStatus statuses.BadWords = ⊥
+IsRunStatus statuses.DiskFault = ⊥
+IsRunStatus (statuses.BadFile place) = ⊥
+IsRunStatus status = Unit {0}
+
+abbrev pub IsDoneOrNoMemory : Status → Type 0
+IsDoneOrNoMemory statuses.Done = Unit {0}
+IsDoneOrNoMemory statuses.NoMemory = Unit {0}
+IsDoneOrNoMemory status = ⊥
+
+-- the ends of a run at a read
+abbrev pub IsReadStatus : Status → Type 0
+IsReadStatus (statuses.BadInput place) = Unit {0}
+IsReadStatus statuses.InputTooLong = Unit {0}
+IsReadStatus statuses.ReadFault = Unit {0}
+IsReadStatus statuses.NoMemory = Unit {0}
+IsReadStatus status = ⊥

@@ -1,7 +1,7 @@
 ghost use Rattle.std.specs.Prelude.{◌≡◌, ℕ, List, Result, Ok, Err, IfOk};
 ghost use Rattle.sync_top.specs.declared.command.LineEnd.{LineEnd};
 
-use sync_io::NoMemory;
+use sync_data::NoMemory;
 
 /// Why a run ends at a line.
 #[derive(Clone, Copy, Debug, PartialEq, Eq)]

@@ -3,11 +3,12 @@ ghost use Rattle.sync_io.specs.Faults.{HasRisen};
 ghost use Rattle.sync_io.specs.Devices.{Took};
 ghost use Rattle.sync_io.specs.Input.{max_input};
 ghost use Rattle.sync_io.specs.Readers.{readings, readings_of};
-ghost use Rattle.sync_top.specs.Runs.{Follows, ended, IsReportStatus, answer_to, AnsweredAll, Read, CountsRead, EndsReading, is_blank, runs, FollowsTold, Answered, EndsAt, IsLineStatus, read_status, write_status};
+ghost use Rattle.sync_top.specs.Runs.{Follows, ended, IsReportStatus, answer_to, AnsweredAll, Read, CountsRead, EndsReading, is_blank, runs, FollowsTold, Answered, EndsAt, IsLineStatus, IsReadStatus, IsRunStatus, read_status, write_status};
 
 use super::command::{Command, LineEnd};
 use std::alloc::Global;
-use sync_io::{LineReader, NoMemory, ReadRefusal, Sink, SinkRefusal, Source, Status, write_all};
+use sync_data::NoMemory;
+use sync_io::{LineReader, ReadRefusal, Sink, SinkRefusal, Source, Status, write_all};
 
 /// Spaces, tabs and carriage returns only.
 fn is_blank(line: &[u8]) -> bool
@@ -110,6 +111,7 @@ fn next_line<S: Source>(
     ensures err { IfErr result (λ status. EndsReading status (before + 1) (readings_of reader.old (S.left source.old))) }
     ensures faults { S.faults source.old ≤ S.faults source.new }
     ensures cause { result ≡ Err Status.ReadFault → HasRisen (S.faults source.old) (S.faults source.new) }
+    ensures only { IfErr result IsReadStatus }
 {
     match reader.next(source) {
         Ok(line) => Ok(line),
@@ -134,6 +136,7 @@ fn answer_lines<S: Source, K: Sink, C: Command>(
     ensures sink_faults { K.faults sink.old ≤ K.faults sink.new }
     ensures read_cause { result ≡ Err Status.ReadFault → HasRisen (S.faults source.old) (S.faults source.new) }
     ensures write_cause { result ≡ Err Status.WriteFault → HasRisen (K.faults sink.old) (K.faults sink.new) }
+    ensures only { IfErr result IsRunStatus }
 {
     let mut number: u64 = 0;
     'lines: loop {
@@ -163,10 +166,11 @@ fn answer_all<S: Source, K: Sink, C: Command>(
     ensures sink_faults { K.faults sink.old ≤ K.faults sink.new }
     ensures read_cause { result ≡ Status.ReadFault → HasRisen (S.faults source.old) (S.faults source.new) }
     ensures write_cause { result ≡ Status.WriteFault → HasRisen (K.faults sink.old) (K.faults sink.new) }
+    ensures only { IsRunStatus result }
 {
     let mut reader = match LineReader::new(alloc) {
         Ok(reader) => reader,
-        Err(NoMemory) => return Status::NoMemory,
+        Err(_) => return Status::NoMemory,
     };
     match answer_lines(&mut reader, source, sink, command) {
         Ok(()) => write_report(sink, command),
@@ -205,6 +209,7 @@ pub fn run_lines<S: Source, K: Sink, C: Command>(
     ensures sink_faults { K.faults sink.old ≤ K.faults sink.new }
     ensures read_cause { result ≡ Status.ReadFault → HasRisen (S.faults source.old) (S.faults source.new) }
     ensures write_cause { result ≡ Status.WriteFault → HasRisen (K.faults sink.old) (K.faults sink.new) }
+    ensures only { IsRunStatus result }
 {
     let status = answer_all(alloc, source, sink, command);
     match sink.flush() {
