@@ -1,4 +1,4 @@
-ghost use Rattle.std.specs.Prelude.{◌≡◌, ◌≤◌, length, IfOk, IsOk, IfErr, ◌↔◌};
+ghost use Rattle.std.specs.Prelude.{◌≡◌, length, IfOk, IsOk, IfErr, ◌↔◌};
 ghost use Rattle.sync_data.specs.Payload.{payload_all, capped, Changes, IsSmall};
 
 use super::instr::Instr;
@@ -67,8 +67,7 @@ impl Changeset {
 
     /// The instructions, in order.
     pub fn instrs(&self) -> &[Instr]
-        ensures instrs { result.now ≡ self.now.instrs }
-        ensures few { length self.now.instrs ≤ 65536 }
+        ensures { result.now ≡ self.now.instrs }
     {
         self.instrs.as_slice()
     }

@@ -8,8 +8,9 @@ mod standing;
 mod store;
 mod text;
 
-
 pub use names::{CellPath, ColumnName, ObjectName};
 pub use refusals::{AllRefusal, ApplyRefusal};
 pub use store::Store;
 
+#[cfg(test)]
+mod tests;

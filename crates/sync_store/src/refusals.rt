@@ -14,7 +14,7 @@ pub enum ApplyRefusal {
 pub enum AllRefusal {
     /// The instruction at this place, counted from 0, is the first that doesn't act after those
     /// before it. The state stays as it was.
-    Break { place: u32, cause: Break },
+    Break { place: u64, cause: Break },
     /// Memory ran out. The store isn't used again.
     NoMemory,
 }

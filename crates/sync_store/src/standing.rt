@@ -68,7 +68,11 @@ fn kept<K: Drop>(inserted: Result<bool, AllocFailed<K>>) -> Result<(), NoMemory>
 fn check_table(has_it: bool) -> Result<(), Break>
     ensures { result ≡ verdict (table_break has_it) }
 {
-    if has_it { Err(Break::TableExists) } else { Ok(()) }
+    if has_it {
+        Err(Break::TableExists)
+    } else {
+        Ok(())
+    }
 }
 
 fn check_column(has_its_table: bool, has_it: bool) -> Result<(), Break>
@@ -77,16 +81,28 @@ fn check_column(has_its_table: bool, has_it: bool) -> Result<(), Break>
     if !has_its_table {
         return Err(Break::NoTable);
     }
-    if has_it { Err(Break::ColumnExists) } else { Ok(()) }
+    if has_it {
+        Err(Break::ColumnExists)
+    } else {
+        Ok(())
+    }
 }
 
 fn check_object(has_its_table: bool) -> Result<(), Break>
     ensures { result ≡ verdict (object_break has_its_table) }
 {
-    if has_its_table { Ok(()) } else { Err(Break::NoTable) }
+    if has_its_table {
+        Ok(())
+    } else {
+        Err(Break::NoTable)
+    }
 }
 
-fn check_update(has_its_table: bool, has_its_object: bool, has_its_column: bool) -> Result<(), Break>
+fn check_update(
+    has_its_table: bool,
+    has_its_object: bool,
+    has_its_column: bool,
+) -> Result<(), Break>
     ensures { result ≡ verdict (update_break has_its_table has_its_object has_its_column) }
 {
     if !has_its_table {
@@ -95,7 +111,11 @@ fn check_update(has_its_table: bool, has_its_object: bool, has_its_column: bool)
     if !has_its_object {
         return Err(Break::NoObject);
     }
-    if has_its_column { Ok(()) } else { Err(Break::NoColumn) }
+    if has_its_column {
+        Ok(())
+    } else {
+        Err(Break::NoColumn)
+    }
 }
 
 impl Standing {
@@ -185,10 +205,22 @@ impl Standing {
     }
 
     /// Puts the dump of the tables, whose cells are these, behind what was written.
-    pub fn put_dump(&self, alloc: Global, out: &mut Vec<u8>, cells: &BTreeMap<CellPath, i64>) -> Result<(), NoMemory>
+    pub fn put_dump(
+        &self,
+        alloc: Global,
+        out: &mut Vec<u8>,
+        cells: &BTreeMap<CellPath, i64>,
+    ) -> Result<(), NoMemory>
         ensures { OnOk result (out.new.items ≡ out.old.items
             ++ table_lines cells.now.entries self.now.columns self.now.objects self.now.tables) }
     {
-        put_tables(alloc, out, cells, &self.tables, &self.columns, &self.objects)
+        put_tables(
+            alloc,
+            out,
+            cells,
+            &self.tables,
+            &self.columns,
+            &self.objects,
+        )
     }
 }

@@ -106,7 +106,6 @@ impl Store {
 
     /// Whether instructions act one after the other.
     fn check_all(&self, instrs: &[Instr]) -> Result<(), AllRefusal>
-        requires { length instrs.now < 2 ^ 32 }
         ensures { ChecksAll result (act_all 0 instrs.now self.now) }
     {
         let mut added = Standing::new(self.alloc);
@@ -114,7 +113,7 @@ impl Store {
             match self.standing.check(&added, instr) {
                 Ok(()) => {}
                 Err(cause) => {
-                    let place = place as u32;
+                    let place = place as u64;
                     return Err(AllRefusal::Break { place, cause });
                 }
             }

@@ -54,7 +54,10 @@ pub fn put_column(alloc: Global, out: &mut Vec<u8>, column: &ColumnName) -> Resu
 {
     put(out, "{\"column\":")?;
     put_name(alloc, out, &column.column)?;
-    put(out, ",\"kind\":\"Int\",\"nullable\":false,\"shape\":\"One\",\"table\":")?;
+    put(
+        out,
+        ",\"kind\":\"Int\",\"nullable\":false,\"shape\":\"One\",\"table\":",
+    )?;
     put_name(alloc, out, &column.table)?;
     put(out, "}\n")
 }

@@ -18,9 +18,7 @@ pub fn is_built(instr: &Instr) -> bool
         Instr::AddTable(i) => matches!(i.key, KeyKind::Int),
         Instr::AddColumn(i) => is_int_column(&i.def),
         Instr::CreateObject(i) => matches!(i.key, Key::Int(_)),
-        Instr::Update(i) => {
-            matches!(i.cell.key, Key::Int(_)) && matches!(i.value, Held::Int(_))
-        }
+        Instr::Update(i) => { matches!(i.cell.key, Key::Int(_)) && matches!(i.value, Held::Int(_)) }
         _ => false,
     }
 }

@@ -8,12 +8,14 @@ mod lines;
 mod outcome;
 mod program;
 mod replay;
-
 mod text;
 
 pub use client::Client;
 pub use command::{Command, LineEnd};
 pub use lines::run_lines;
 pub use outcome::Outcome;
-pub use replay::Replay;
 pub use program::run;
+pub use replay::Replay;
+
+#[cfg(test)]
+mod tests;

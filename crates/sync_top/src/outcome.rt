@@ -26,7 +26,7 @@ pub enum Outcome {
     /// The client's transactions have no further number.
     NumbersFull,
     /// The instruction at this place doesn't act.
-    Break { place: u32, cause: Break },
+    Break { place: u64, cause: Break },
 }
 
 /// Puts the words of an outcome.
@@ -49,7 +49,7 @@ fn put_words(alloc: Global, out: &mut Vec<u8>, outcome: &Outcome) -> Result<(), 
         Outcome::NumbersFull => put(out, "refused NumbersFull"),
         Outcome::Break { place, cause } => {
             put(out, "refused Break ")?;
-            put_number(alloc, out, *place as u64)?;
+            put_number(alloc, out, *place)?;
             put(out, " ")?;
             put_number(alloc, out, cause.code() as u64)
         }

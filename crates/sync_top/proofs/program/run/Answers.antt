@@ -13,4 +13,4 @@ returns-clause-complete g c =
     let new = g.K.Sink.taken c.run_lines.new.sink in
     let follows = subst (λ (cs : List Client). FollowsTold c.run_lines.result (runs answers report 0 (readings 0 [] left) cs) old new) c.new-replay.ensures c.run_lines.ensures.follows in
     λ words valid read write. complete c.run_lines.result left old new follows valid c.run_lines.ensures.only
-      (λ e. read (c.run_lines.ensures.read_cause e)) (λ e. write (c.run_lines.ensures.write_cause e))
+    (λ e. read (c.run_lines.ensures.read_cause e)) (λ e. write (c.run_lines.ensures.write_cause e))

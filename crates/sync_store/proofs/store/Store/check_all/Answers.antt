@@ -15,8 +15,7 @@ loop-place-preserved c =
     let instr = c.index-instrs-place.result in
     let added = c.loop-place.added in
     let inside = subst (λ n. AreBoth now.names n added) (sym (ap (λ (s : State). s.names) c.self.view_is)) kept.1 in
-    let whole : break_of now.names instr ≡ None = not_broken _ (sym c.in-Ok.is ∙ c.check.ensures now.names inside) in
-    (
+    let whole : break_of now.names instr ≡ None = not_broken _ (sym c.in-Ok.is ∙ c.check.ensures now.names inside) in (
       after now instr,
       subst (λ n. AreBoth (names_after now.names instr) c.args.self.now.names n) (sym c.in-Ok-add.ensures) (both_after instr now.names c.args.self.now.names added kept.1),
       kept.2 ∙ act_at c.loop-place.place c.args.instrs.now instr now c.loop-place-test.true c.index-instrs-place.is ∙ acted_on _ c.loop-place.place _ whole,

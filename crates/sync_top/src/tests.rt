@@ -1,0 +1,282 @@
+use super::*;
+use std::alloc::{AllocError, Global};
+use std::test::Fail;
+use sync_io::{MemorySink, MemorySource, Status};
+
+const CLIENT: &str =
+    "{\"event\":\"client\",\"name\":\"A\",\"uuid\":\"00000000-0000-4000-8000-000000000001\"}";
+
+const EDIT: &str =
+    "{\"event\":\"edit\",\"client\":\"A\",\"ms\":5,\"edits\":[{\"op\":\"AddTable\",\"table\":\"t\",\"key\":\"Int\"},{\"op\":\"AddColumn\",\"table\":\"t\",\"column\":\"f\",\"kind\":\"Int\",\"nullable\":false,\"shape\":\"One\"},{\"op\":\"CreateObject\",\"table\":\"t\",\"key\":1},{\"op\":\"Update\",\"table\":\"t\",\"key\":1,\"column\":\"f\",\"value\":3}]}";
+
+const REPORT: &str =
+    "server 0\nclient \"A\" 0 0 1\n{\"key\":\"Int\",\"table\":\"t\"}\n{\"column\":\"f\",\"kind\":\"Int\",\"nullable\":false,\"shape\":\"One\",\"table\":\"t\"}\n{\"cells\":{\"f\":3},\"key\":1,\"table\":\"t\"}\n";
+
+fn words(alloc: Global, all: &[&str]) -> Result<Vec<String>, AllocError> {
+    let mut words = Vec::new(alloc);
+    for word in all {
+        words.push(String::from_str(alloc, word)?)?;
+    }
+    Ok(words)
+}
+
+/// The status and the output of a replay in which these reads and writes fail.
+fn replayed(
+    alloc: Global,
+    input: &[u8],
+    reads: &[u64],
+    writes: &[u64],
+) -> Result<(Status, Vec<u8>), AllocError> {
+    let words = words(alloc, &["replay"])?;
+    let mut source = MemorySource::new(
+        Vec::from_slice(alloc, input)?,
+        Vec::from_slice(alloc, reads)?,
+    );
+    let mut sink = MemorySink::new(alloc, Vec::from_slice(alloc, writes)?);
+    let status = run(alloc, &words, &mut source, &mut sink);
+    Ok((status, Vec::from_slice(alloc, sink.bytes())?))
+}
+
+fn joined(alloc: Global, parts: &[&str]) -> Result<Vec<u8>, AllocError> {
+    let mut all = Vec::new(alloc);
+    for part in parts {
+        all.extend_from_slice(part.as_bytes())?;
+    }
+    Ok(all)
+}
+
+#[test]
+fn the_first_exchange_and_none(rt: HostRuntime) -> Result<(), Fail> {
+    let alloc = rt.alloc();
+    let input = joined(alloc, &[CLIENT, "\n", EDIT, "\n"])?;
+    let (status, output) = replayed(alloc, &input, &[], &[])?;
+    assert_eq!(rt; status, Status::Done);
+    let want = joined(alloc, &["1 client \"A\"\n2 made 1\n", REPORT])?;
+    assert!(rt; output.as_slice() == want.as_slice());
+    let (status, output) = replayed(alloc, b"", &[], &[])?;
+    assert_eq!(rt; status, Status::Done);
+    assert!(rt; output.as_slice() == b"server 0\n".as_slice());
+    Ok(())
+}
+
+#[test]
+fn words_that_are_no_command(rt: HostRuntime) -> Result<(), Fail> {
+    let alloc = rt.alloc();
+    let table: [&[&str]; 6] = [
+        &[],
+        &["replay", "x"],
+        &["Replay"],
+        &["--help"],
+        &["--version"],
+        &["gen", "18446744073709551616", "1"],
+    ];
+    for all in table {
+        let mut source = MemorySource::new(joined(alloc, &[CLIENT])?, Vec::new(alloc));
+        let mut sink = MemorySink::new(alloc, Vec::new(alloc));
+        let status = run(alloc, &words(alloc, all)?, &mut source, &mut sink);
+        assert_eq!(rt; status, Status::BadWords);
+        assert!(rt; sink.bytes().is_empty());
+    }
+    Ok(())
+}
+
+#[test]
+fn inputs_good_and_bad(rt: HostRuntime) -> Result<(), Fail> {
+    let alloc = rt.alloc();
+    let done = "1 client \"A\"\nserver 0\nclient \"A\" 0 0 0\n";
+    let bind = "{\"event\":\"bind\",\"client\":\"A\"}\n";
+    let table: [(&[&str], Status, &str); 17] = [
+        // no last line feed; CR before it; blank lines of spaces, tabs and CR, which are counted
+        (&[CLIENT], Status::Done, done),
+        (&[CLIENT, "\r\n"], Status::Done, done),
+        (&[CLIENT, "\n \t\r\n\n\r\n"], Status::Done, done),
+        (
+            &[" \t\r\n\n", CLIENT, "\nx\n"],
+            Status::BadInput { place: 4 },
+            "3 client \"A\"\n",
+        ),
+        // not JSON; no object; no text; an object that is no form
+        (&["x\n"], Status::BadInput { place: 1 }, ""),
+        (&["[]\n"], Status::BadInput { place: 1 }, ""),
+        (&["1\n"], Status::BadInput { place: 1 }, ""),
+        (&["{\n"], Status::BadInput { place: 1 }, ""),
+        (&["{}\n"], Status::BadInput { place: 1 }, ""),
+        (
+            &[CLIENT, "\n{\"event\":\"fly\"}\n"],
+            Status::BadInput { place: 2 },
+            "1 client \"A\"\n",
+        ),
+        // a wrong field, a missing one, one too many, a name of no bytes
+        (
+            &[
+                "{\"event\":\"client\",\"name\":1,\"uuid\":\"00000000-0000-4000-8000-000000000001\"}",
+            ],
+            Status::BadInput { place: 1 },
+            "",
+        ),
+        (
+            &["{\"event\":\"client\",\"name\":\"A\"}"],
+            Status::BadInput { place: 1 },
+            "",
+        ),
+        (
+            &[
+                "{\"event\":\"client\",\"name\":\"A\",\"x\":1,\"uuid\":\"00000000-0000-4000-8000-000000000001\"}",
+            ],
+            Status::BadInput { place: 1 },
+            "",
+        ),
+        (
+            &[
+                "{\"event\":\"client\",\"name\":\"\",\"uuid\":\"00000000-0000-4000-8000-000000000001\"}",
+            ],
+            Status::BadInput { place: 1 },
+            "",
+        ),
+        // forms that aren't built yet
+        (
+            &[CLIENT, "\n", bind],
+            Status::Unbuilt { line: 2 },
+            "1 client \"A\"\n",
+        ),
+        (
+            &[
+                CLIENT,
+                "\n{\"event\":\"edit\",\"client\":\"A\",\"ms\":5,\"edits\":[{\"op\":\"EraseObject\",\"table\":\"t\",\"key\":1}]}",
+            ],
+            Status::Unbuilt { line: 2 },
+            "1 client \"A\"\n",
+        ),
+        (
+            &[
+                CLIENT,
+                "\n{\"event\":\"edit\",\"client\":\"A\",\"ms\":5,\"edits\":[{\"op\":\"AddTable\",\"table\":\"t\",\"key\":\"Text\"}]}",
+            ],
+            Status::Unbuilt { line: 2 },
+            "1 client \"A\"\n",
+        ),
+    ];
+    for (parts, want, output) in table {
+        let (status, written) = replayed(alloc, &joined(alloc, parts)?, &[], &[])?;
+        assert_eq!(rt; status, want, "{parts:?}");
+        assert!(rt; written.as_slice() == output.as_bytes(), "{parts:?}");
+    }
+    let (status, written) = replayed(alloc, b"\xff\xfe\n", &[], &[])?;
+    assert_eq!(rt; status, Status::BadInput { place: 1 });
+    assert!(rt; written.is_empty());
+    Ok(())
+}
+
+/// An edit line of client A with these edits.
+fn edit(alloc: Global, edits: &str) -> Result<Vec<u8>, AllocError> {
+    joined(
+        alloc,
+        &[
+            "{\"event\":\"edit\",\"client\":\"A\",\"ms\":6,\"edits\":[",
+            edits,
+            "]}\n",
+        ],
+    )
+}
+
+#[test]
+fn refused_events_change_nothing(rt: HostRuntime) -> Result<(), Fail> {
+    let alloc = rt.alloc();
+    let table = [
+        (
+            "{\"op\":\"CreateObject\",\"table\":\"t\",\"key\":2},{\"op\":\"AddTable\",\"table\":\"t\",\"key\":\"Int\"}",
+            "3 refused Break 1 10\n",
+        ),
+        (
+            "{\"op\":\"CreateObject\",\"table\":\"t\",\"key\":2},{\"op\":\"CreateObject\",\"table\":\"u\",\"key\":1}",
+            "3 refused Break 1 11\n",
+        ),
+        (
+            "{\"op\":\"AddColumn\",\"table\":\"u\",\"column\":\"f\",\"kind\":\"Int\",\"nullable\":false,\"shape\":\"One\"}",
+            "3 refused Break 0 11\n",
+        ),
+        (
+            "{\"op\":\"AddColumn\",\"table\":\"t\",\"column\":\"f\",\"kind\":\"Int\",\"nullable\":false,\"shape\":\"One\"}",
+            "3 refused Break 0 12\n",
+        ),
+        (
+            "{\"op\":\"Update\",\"table\":\"t\",\"key\":1,\"column\":\"f\",\"value\":4},{\"op\":\"Update\",\"table\":\"t\",\"key\":1,\"column\":\"g\",\"value\":4}",
+            "3 refused Break 1 14\n",
+        ),
+        (
+            "{\"op\":\"Update\",\"table\":\"t\",\"key\":2,\"column\":\"f\",\"value\":4}",
+            "3 refused Break 0 30\n",
+        ),
+        (
+            "{\"op\":\"Update\",\"table\":\"u\",\"key\":1,\"column\":\"f\",\"value\":4}",
+            "3 refused Break 0 11\n",
+        ),
+    ];
+    for (edits, line) in table {
+        let mut input = joined(alloc, &[CLIENT, "\n", EDIT, "\n"])?;
+        input.extend_from_slice(&edit(alloc, edits)?)?;
+        let (status, output) = replayed(alloc, &input, &[], &[])?;
+        assert_eq!(rt; status, Status::Done, "{edits}");
+        let want = joined(alloc, &["1 client \"A\"\n2 made 1\n", line, REPORT])?;
+        assert!(rt; output.as_slice() == want.as_slice(), "{edits}");
+    }
+    Ok(())
+}
+
+#[test]
+fn names_uuids_nodes_and_sizes(rt: HostRuntime) -> Result<(), Fail> {
+    let alloc = rt.alloc();
+    let mut many = joined(
+        alloc,
+        &["{\"op\":\"CreateObject\",\"table\":\"t\",\"key\":1}"],
+    )?;
+    for _ in 0..65_536 {
+        many.extend_from_slice(b",{\"op\":\"CreateObject\",\"table\":\"t\",\"key\":1}")?;
+    }
+    let mut input = joined(
+        alloc,
+        &[
+            "{\"event\":\"client\",\"name\":\"server\",\"uuid\":\"00000000-0000-4000-8000-000000000001\"}\n",
+            CLIENT,
+            "\n",
+            CLIENT,
+            "\n",
+            "{\"uuid\":\"{00000000-0000-4000-8000-000000000001}\",\"name\":\"B\",\"event\":\"client\"}\n",
+            "{\"event\":\"client\",\"name\":\"B\",\"uuid\":\"00000000-0000-4000-8000-000000000002\"}\n",
+            "{\"event\":\"edit\",\"client\":\"C\",\"ms\":1,\"edits\":[]}\n",
+            "{\"event\":\"edit\",\"client\":\"B\",\"ms\":1,\"edits\":[]}\n",
+            "{\"event\":\"edit\",\"client\":\"server\",\"ms\":1,\"edits\":[]}\n",
+            "{\"event\":\"edit\",\"client\":\"A\",\"ms\":1,\"edits\":[",
+        ],
+    )?;
+    input.extend_from_slice(&many)?;
+    input.extend_from_slice(b"]}\n")?;
+    let (status, output) = replayed(alloc, &input, &[], &[])?;
+    assert_eq!(rt; status, Status::Done);
+    let want =
+        "1 refused NameTaken\n2 client \"A\"\n3 refused NameTaken\n4 refused UuidTaken\n5 client \"B\"\n6 refused NoNode\n7 made 1\n8 refused NoNode\n9 refused TooLarge\nserver 0\nclient \"A\" 0 0 0\nclient \"B\" 0 0 1\n";
+    assert!(rt; output.as_slice() == want.as_bytes());
+    Ok(())
+}
+
+#[test]
+fn each_read_and_each_write_fails_in_turn(rt: HostRuntime) -> Result<(), Fail> {
+    let alloc = rt.alloc();
+    let input = joined(alloc, &[CLIENT, "\n", EDIT, "\n"])?;
+    let (_, whole) = replayed(alloc, &input, &[], &[])?;
+    // two reads: the bytes, and the end
+    for call in 1..3u64 {
+        let (status, output) = replayed(alloc, &input, &[call], &[])?;
+        assert_eq!(rt; status, Status::ReadFault, "read {call}");
+        assert!(rt; whole.as_slice().starts_with(output.as_slice()));
+    }
+    assert_eq!(rt; replayed(alloc, &input, &[3], &[])?.0, Status::Done);
+    // three writes and a flush: the two outcome lines, and the report
+    for call in 1..5u64 {
+        let (status, output) = replayed(alloc, &input, &[], &[call])?;
+        assert_eq!(rt; status, Status::WriteFault, "write {call}");
+        assert!(rt; whole.as_slice().starts_with(output.as_slice()));
+    }
+    assert_eq!(rt; replayed(alloc, &input, &[], &[5])?.0, Status::Done);
+    Ok(())
+}
