@@ -1,11 +1,11 @@
 -- Reading more bytes leaves the input that is ahead as it was.
-use Rattle.std.proofs.Common.{◌≡◌, ℕ, ◌+◌, ◌-◌, ◌≤◌, List, ◌++◌, length, take, drop, min, Option, None, Some, nat_le, refl, sym, ap, ◌∙◌, append_assoc, arith, length-append, add_assoc}
+use Rattle.std.proofs.Common.{◌≡◌, ℕ, ◌+◌, ◌-◌, ◌≤◌, List, ◌++◌, length, take, drop, Option, None, Some, nat_le, sym, ap, ◌∙◌, append_assoc, arith, length-append}
 use Rattle.std.specs.Option.{option_map}
 use Rattle.std.proofs.Math.Seq.{take-append-add, take-append_seam, take-add}
 use Rattle.std.proofs.lemmas.Grind.{common_steps}
-use Rattle.std.proofs.lemmas.List.{take-append-drop, length-take, take-append-le, length-take-le}
+use Rattle.std.proofs.lemmas.List.{take-append-drop, length-take-le}
 use Rattle.sync_io.specs.Devices.{Gave, Took, TookSome}
-use Rattle.sync_io.specs.Input.{max_input, Input, input_ahead, input_of}
+use Rattle.sync_io.specs.Input.{max_input, input_ahead, input_of}
 
 take_past : (n : ℕ) (p rest : List ℕ) → length p ≤ n → take n (p ++ rest) ≡ p ++ take (n - length p) rest
 take_past n p rest h = ap (λ m. take m (p ++ rest)) (let e : n ≡ length p + (n - length p) = omega arith in e) ∙ take-append-add p rest (n - length p)

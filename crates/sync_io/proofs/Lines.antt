@@ -1,9 +1,8 @@
 -- What a reader gives over a source, by the bytes that it holds.
-use Rattle.std.proofs.Common.{◌≡◌, ℕ, suc, ◌+◌, ◌-◌, ◌<◌, ◌≤◌, Bool, true, false, cond, nat_le, nat_lt, List, [], ◌∷◌, ◌++◌, length, take, drop, Option, None, Some, Err, refl, sym, ap, subst, ◌∙◌, arith, rules}
+use Rattle.std.proofs.Common.{◌≡◌, ℕ, ◌+◌, ◌-◌, ◌<◌, ◌≤◌, true, false, nat_le, List, [], ◌∷◌, ◌++◌, length, take, drop, Option, None, Some, Err, refl, sym, ap, subst, ◌∙◌, arith}
 use Rattle.std.specs.Option.{option_map, IfSome}
-use Rattle.std.proofs.lemmas.Grind.{common_steps}
-use Rattle.std.proofs.lemmas.List.{append-nil, length-take-le}
-use Rattle.std.proofs.Math.Seq.{drop-length, take-nil}
+use Rattle.std.proofs.lemmas.List.{length-take-le}
+use Rattle.std.proofs.Math.Seq.{take-nil}
 use Rattle.sync_io.specs.Input.{max_input, input_ahead}
 use Rattle.sync_io.specs.Reading.{max_line, feed_place, Reading, Ends, Gives, AtEnd, AtLongLine, AtLimit, given, last_line, reading_from, reading_of}
 use Rattle.sync_io.specs.Input.{Input, input_of}

@@ -1,5 +1,5 @@
 -- What sources give and sinks take.
-use Rattle.std.specs.Prelude.{◌≡◌, ℕ, List, ◌++◌, take, drop, Option, None, Some}
+use Rattle.std.specs.Prelude.{◌≡◌, ℕ, List, ◌++◌, take, Option}
 use Rattle.std.specs.Option.{option_map}
 
 -- The source had the piece in front of what it has left. A source that doesn't tell its bytes goes on not telling them.

@@ -1,5 +1,5 @@
 -- Counts of faults. A count never falls, and stands still at 2^64 - 1.
-use Rattle.std.specs.Prelude.{ℕ, ◌+◌, ◌-◌, ◌^◌, ◌≤◌, min}
+use Rattle.std.specs.Prelude.{ℕ, ◌+◌, ◌≤◌, min}
 
 -- the greatest count
 abbrev pub most_faults : ℕ

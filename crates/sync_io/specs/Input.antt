@@ -1,5 +1,5 @@
 -- The part of an input that a reader hands out: its first 2^32 bytes.
-use Rattle.std.specs.Prelude.{◌≡◌, ℕ, ◌+◌, ◌-◌, Bool, List, ◌++◌, length, take, nat_le, Option}
+use Rattle.std.specs.Prelude.{ℕ, ◌+◌, ◌-◌, Bool, List, ◌++◌, length, take, nat_le, Option}
 use Rattle.std.specs.Option.{option_map}
 
 -- as many bytes are read, and no more

@@ -1,4 +1,4 @@
-use Rattle.std.proofs.Common.{◌≡◌, ◌+◌, ◌≤◌, ◌<◌, ◌++◌, ℕ, ◌∙◌, ap, sym, length, arith, length-append, subst}
+use Rattle.std.proofs.Common.{◌≡◌, ◌+◌, ◌∙◌, ap, length, arith, length-append, subst}
 use Rattle.sync_io.specs.Reading.{feed_place}
 use Rattle.sync_io.specs.Intakes.{Filled}
 use Rattle.sync_io.proofs.Feeds.{feed_later}

@@ -1,7 +1,5 @@
-use Rattle.std.proofs.Common.{◌≡◌, ◌+◌, ◌≤◌, ℕ, drop, length, arith, length-drop, rules}
-use Rattle.std.proofs.lemmas.Result.{err_from_is_err_and}
+use Rattle.std.proofs.Common.{arith, length-drop, rules}
 use Rattle.std.proofs.lemmas.List.{take_rest}
-use Rattle.std.specs.Result.{OnErr}
 use Rattle.sync_io.proofs.Inputs.{took_part, took_on}
 use Rattle.sync_io.proofs.writing.write_all.Goals as goal
 

@@ -1,4 +1,4 @@
-use Rattle.std.proofs.Common.{◌≡◌, ◌+◌, ◌≤◌, ◌++◌, ℕ, ◌∙◌, ap, sym, take, length, arith, rules}
+use Rattle.std.proofs.Common.{◌+◌, ◌≤◌, ◌∙◌, ap, take, length, rules}
 use Rattle.sync_io.specs.Input.{input_of, max_input}
 use Rattle.sync_io.proofs.Inputs.{gave_step}
 use Rattle.sync_io.proofs.intake.Intake.fill.Goals as goal

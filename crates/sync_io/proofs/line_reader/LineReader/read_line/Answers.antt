@@ -1,6 +1,6 @@
-use Rattle.std.proofs.Common.{◌≡◌, ◌+◌, ◌<◌, ◌≤◌, ℕ, List, [], Some, Err, refl, ◌∙◌, ap, sym, subst, take, drop, length, arith}
+use Rattle.std.proofs.Common.{◌≡◌, ◌+◌, ◌<◌, [], Err, ◌∙◌, ap, sym, subst, drop, length, arith}
 use Rattle.std.specs.Option.{option_map, IfSome}
-use Rattle.sync_io.specs.Reading.{Reading, Ends, Gives, AtEnd, AtLimit, reading_of}
+use Rattle.sync_io.specs.Reading.{Ends, Gives, AtEnd, AtLimit, reading_of}
 use Rattle.sync_io.specs.Intakes.{Taken}
 use Rattle.sync_io.specs.Readers.{readings, readings_of, LineState, AnswersLine, CountsLine}
 use Rattle.sync_io.specs.Found.{FindsEnd, KeepsInput}

@@ -1,4 +1,4 @@
-use Rattle.std.proofs.Common.{◌≡◌, ◌+◌, ◌≤◌, ◌++◌, ℕ, Some, ◌∙◌, ap, sym, take, drop, length, arith, length-drop}
+use Rattle.std.proofs.Common.{◌≡◌, ◌+◌, ◌≤◌, ◌++◌, Some, ◌∙◌, ap, sym, take, drop, length, arith, length-drop}
 use Rattle.std.proofs.lemmas.List.{take_rest}
 use Rattle.sync_io.proofs.Inputs.{read_and_left}
 use Rattle.sync_io.proofs.memory_source.MemorySourceSource.read.Goals as goal
