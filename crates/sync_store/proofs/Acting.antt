@@ -1,5 +1,5 @@
 -- Instructions that act one after the other.
-use Rattle.std.proofs.Common.{◌≡◌, ℕ, suc, ◌+◌, List, [], ◌∷◌, length, drop, Option, None, Some, Result, Ok, Err, refl, sym, ap, subst, ◌∙◌, get_or, ◌<◌, arith}
+use Rattle.std.proofs.Common.{◌≡◌, ℕ, suc, ◌+◌, List, ◌∷◌, length, drop, Option, None, Some, Result, Ok, refl, ap, get_or, ◌<◌, arith}
 use Rattle.std.proofs.Math.Seq.{drop-cons}
 use Rattle.sync_data.specs.declared.instr.Instr.{Instr}
 use Rattle.sync_base.specs.declared.answers.Break.{Break}

@@ -2,17 +2,16 @@
 use Rattle.std.proofs.Common.{◌≡◌, Bool, true, false, ◌||◌, List, [], ◌∷◌, refl, sym, ap, ◌∙◌}
 use Rattle.std.specs.declared.cmp.Ordering.{Ordering}
 use Rattle.std.specs.declared.cmp.Ordering.TheVariants.{Less, Equal, Greater}
-use Rattle.std.specs.Ordering.{match_ordering, is_eq, on, then_cmp, int_cmp}
+use Rattle.std.specs.Ordering.{match_ordering, is_eq}
 use Rattle.std.specs.Cmp.{IsTotalOrder, alike_right, on_total, then_total, int_cmp_total}
 use Rattle.std.specs.Cmp.Lexicographic.{nat_list_cmp_total}
 use Rattle.std.specs.BTreeMap.{is_at}
 use Rattle.std.specs.BTreeSet.{insert_key}
-use Rattle.sync_data.specs.Orders.{name_cmp}
 use Rattle.sync_data.specs.declared.instr.Instr.{Instr}
 use Rattle.sync_data.specs.declared.instr.Instr.TheVariants as instrs
 use Rattle.sync_store.specs.declared.names.ColumnName.{ColumnName}
 use Rattle.sync_store.specs.declared.names.ObjectName.{ObjectName}
-use Rattle.sync_store.specs.Names.{column_cmp, object_cmp, Names, no_names, has, has_table, has_column, has_object, names_after, AreBoth}
+use Rattle.sync_store.specs.Names.{column_cmp, object_cmp, Names, no_names, has, names_after, AreBoth}
 
 pub columns_total : IsTotalOrder column_cmp
 columns_total = then_total (on_total (λ (c : ColumnName). c.table) nat_list_cmp_total) (on_total (λ (c : ColumnName). c.column) nat_list_cmp_total)

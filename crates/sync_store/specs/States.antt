@@ -14,7 +14,6 @@ use Rattle.sync_store.specs.declared.refusals.ApplyRefusal.{ApplyRefusal}
 use Rattle.sync_store.specs.declared.refusals.ApplyRefusal.TheVariants as refusals
 use Rattle.sync_store.specs.declared.refusals.AllRefusal.{AllRefusal}
 use Rattle.sync_store.specs.declared.refusals.AllRefusal.TheVariants as all_refusals
-use Rattle.sync_store.specs.declared.names.ObjectName.{ObjectName}
 use Rattle.sync_store.specs.declared.names.CellPath.{CellPath}
 use Rattle.sync_store.specs.Names.{Names, no_names, object_cmp, break_of, names_after}
 

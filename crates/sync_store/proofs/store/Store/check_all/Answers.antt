@@ -1,6 +1,6 @@
 use Rattle.std.proofs.Common.{◌≡◌, None, sym, ap, subst, ◌∙◌, refl}
-use Rattle.sync_store.specs.Names.{AreBoth, names_after, no_names, break_of, verdict}
-use Rattle.sync_store.specs.States.{State, acted, act_all, after}
+use Rattle.sync_store.specs.Names.{AreBoth, names_after, break_of}
+use Rattle.sync_store.specs.States.{State, after}
 use Rattle.sync_store.proofs.Joined.{both_nothing, both_after}
 use Rattle.sync_store.proofs.Acting.{act_at, not_broken, acted_on}
 use Rattle.sync_store.proofs.store.Store.check_all.Goals as goal
