@@ -1,7 +1,6 @@
 -- A replay of valid lines is done.
-use Rattle.std.proofs.Common.{◌≡◌, ℕ, ◌+◌, Bool, true, false, ◌||◌, cond, List, [], Option, None, Some, Result, Ok, Err, refl, sym, ap, subst, ◌∙◌}
+use Rattle.std.proofs.Common.{◌≡◌, ℕ, ◌+◌, Bool, true, false, ◌||◌, cond, List, [], Option, None, Some, Result, Ok, Err, refl}
 use Rattle.std.specs.List.{list_all, position}
-use Rattle.std.specs.Option.{IfSome}
 use Rattle.sync_data.specs.declared.instr.Instr.{Instr}
 use Rattle.sync_io.specs.Input.{input_ahead}
 use Rattle.sync_io.specs.Readers.{readings}
@@ -13,9 +12,8 @@ use Rattle.sync_edits.specs.declared.event.Event.TheVariants as events
 use Rattle.sync_edits.specs.Lines.{event_form_of_line}
 use Rattle.sync_top.specs.declared.client.Client.{Client}
 use Rattle.sync_top.specs.declared.command.LineEnd.{LineEnd}
-use Rattle.sync_top.specs.declared.outcome.Outcome.{Outcome}
 use Rattle.sync_top.specs.Runs.{Ran, is_blank, answered, answer_to, run_from, runs, FollowsTold, IsRunStatus, IsDoneOrNoMemory}
-use Rattle.sync_top.specs.Exchange.{answers, report, answered_event, answered_form, outcome_of, edited, joined, is_built, is_named, is_built_event, is_built_form, is_valid, IsValidReading, IsValidInput}
+use Rattle.sync_top.specs.Exchange.{answers, report, answered_event, answered_form, outcome_of, edited, is_built, is_named, is_built_event, is_built_form, IsValidReading, IsValidInput}
 use Rattle.sync_top.proofs.RunLemmas.{done_or}
 
 -- an answer that isn't an end

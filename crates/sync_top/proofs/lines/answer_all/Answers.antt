@@ -1,4 +1,4 @@
-use Rattle.std.proofs.Common.{◌≡◌, subst}
+use Rattle.std.proofs.Common.{subst}
 use Rattle.sync_io.specs.Readers.{readings_of, LineState}
 use Rattle.sync_top.specs.Runs.{runs, AnsweredAll}
 use Rattle.sync_top.proofs.RunLemmas.{reported}

@@ -1,9 +1,7 @@
-use Rattle.std.proofs.Common.{◌≡◌, refl, sym, ap, subst, ◌∙◌, rules, Err, Option, List, ℕ}
-use Rattle.sync_io.specs.Devices.{TookSome}
-use Rattle.sync_io.specs.declared.status.Status.{Status}
+use Rattle.std.proofs.Common.{refl, ap, ◌∙◌, rules}
 use Rattle.sync_io.specs.declared.status.Status.TheVariants as statuses
 use Rattle.sync_top.specs.declared.command.LineEnd.TheVariants as line_ends
-use Rattle.sync_top.specs.Runs.{EndsAt, answered, is_fault, write_status}
+use Rattle.sync_top.specs.Runs.{answered, is_fault}
 use Rattle.sync_top.proofs.RunLemmas.{ends_at, cut_off, cut_answer, is_write_fault}
 use Rattle.sync_top.proofs.lines.answer_filled.Goals as goal
 

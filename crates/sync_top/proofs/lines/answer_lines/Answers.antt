@@ -1,7 +1,6 @@
-use Rattle.std.proofs.Common.{◌≡◌, ◌+◌, ◌++◌, List, ℕ, Ok, Err, refl, sym, ap, subst, ◌∙◌, arith}
+use Rattle.std.proofs.Common.{◌≡◌, ◌+◌, ◌++◌, ap, subst, ◌∙◌, arith}
 use Rattle.sync_io.specs.Reading.{Gives}
 use Rattle.std.specs.Option.{option_map}
-use Rattle.std.specs.Result.{OnOk, IfErr}
 use Rattle.sync_io.specs.Readers.{readings_of}
 use Rattle.sync_io.proofs.Inputs.{took_more}
 use Rattle.sync_top.specs.Runs.{Read, CountsRead, onto, runs, Answered, EndsAt, answer_to}
