@@ -12,6 +12,7 @@ pub mod Leaves
 pub mod Looks
 pub mod Maps
 pub mod Mirror
+pub mod Objects
 pub mod Pairs
 pub mod Places
 pub mod Reads
