@@ -14,6 +14,7 @@ pub mod Maps
 pub mod Mirror
 pub mod Objects
 pub mod Pairs
+pub mod Payloads
 pub mod Places
 pub mod Reads
 pub mod Rows

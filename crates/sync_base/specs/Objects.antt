@@ -1,8 +1,8 @@
--- Which object an instruction is about, and pairs that are apart.
+-- Which object an instruction is about, pairs that are apart, and what is left of an instruction.
 use Rattle.std.specs.Prelude.{◌≡◌, Bool, true, false, if◌then◌else◌, Option, None, Some, Ok, IfOk}
 use Rattle.std.specs.Ordering.{eq_by_cmp}
 use Rattle.sync_data.specs.declared.instr.Instr.{Instr}
-use Rattle.sync_base.specs.declared.answers.Outcome.{Outcome}
+use Rattle.sync_data.specs.Payload.{payload}
 use Rattle.sync_base.specs.Effects.{ObjectName, Effect, NewTable, NewColumn, Create, Erase, Change, effect_of}
 use Rattle.sync_base.specs.States.{object_cmp}
 use Rattle.sync_base.specs.Rules.{meeting}
@@ -33,3 +33,11 @@ IsAbout o (Some i) = object_of (effect_of i) ≡ o
 
 abbrev pub ObjectsStay : Instr → Instr → Type 0
 ObjectsStay a b = (later : Bool) → IfOk (meeting a b later) (λ o. IsAbout (object_of (effect_of a)) o.left × IsAbout (object_of (effect_of b)) o.right)
+
+-- what is left of an instruction carries as many bytes
+abbrev pub CarriesAsMuch : Instr → Option Instr → Type 0
+CarriesAsMuch i None = Unit {0}
+CarriesAsMuch i (Some j) = payload j ≡ payload i
+
+abbrev pub PayloadsStay : Instr → Instr → Type 0
+PayloadsStay a b = (later : Bool) → IfOk (meeting a b later) (λ o. CarriesAsMuch a o.left × CarriesAsMuch b o.right)

@@ -6,11 +6,10 @@ use Rattle.std.specs.Cmp.{tied_then}
 use Rattle.std.proofs.Common.{sym, ◌∙◌, ap, subst}
 use Rattle.sync_data.specs.Orders.{name_cmp}
 use Rattle.sync_data.specs.declared.instr.Instr.{Instr}
-use Rattle.sync_base.specs.declared.answers.Mismatch.TheVariants as mismatches
 use Rattle.sync_base.specs.Effects.{ObjectName, CellPath, Edit, Effect, NewTable, NewColumn, Create, Erase, Change, effect_of, instr_of}
 use Rattle.sync_base.specs.States.{object_cmp, key_rank_of}
 use Rattle.sync_base.specs.Merged.{path_cmp, same_column}
-use Rattle.sync_base.specs.Rules.{Answer, Outcomes, rule, rule_of_edits, kept, neither, only_left, only_right, has_row, lifted, placed, outcome_of}
+use Rattle.sync_base.specs.Rules.{Answer, rule, rule_of_edits, kept, neither, only_left, only_right, has_row, lifted, placed, outcome_of}
 use Rattle.sync_base.specs.Objects.{object_of, are_apart, ApartStay, IsAbout, ObjectsStay}
 use Rattle.sync_base.specs.Lemmas.Maps.{tied_is}
 use Rattle.sync_base.specs.Lemmas.Looks.{path_exact}
