@@ -1,5 +1,6 @@
 pub mod Setting
 pub mod Pairs
+pub mod Edits
 pub mod Texts
 pub mod Breaks
 pub mod Prelude

@@ -12,7 +12,9 @@ pub mod Leaves
 pub mod Looks
 pub mod Maps
 pub mod Mirror
+pub mod Objects
 pub mod Pairs
+pub mod Payloads
 pub mod Places
 pub mod Reads
 pub mod Rows

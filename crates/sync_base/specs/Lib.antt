@@ -6,6 +6,7 @@ pub mod Checks
 pub mod Merged
 pub mod Codes
 pub mod Rules
+pub mod Objects
 pub mod Footprints
 pub mod Agreement
 pub mod Lemmas

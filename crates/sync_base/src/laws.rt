@@ -9,6 +9,7 @@ ghost use Rattle.sync_base.specs.Checks.{act, act_all, break_of, break_at, unbro
 ghost use Rattle.sync_base.specs.Merged.{merge, same_column};
 ghost use Rattle.sync_base.specs.Rules.{meeting};
 ghost use Rattle.sync_base.specs.Agreement.{TwoSided, Mirrored, Differ, SizesFit};
+ghost use Rattle.sync_base.specs.Objects.{ApartStay, ObjectsStay, PayloadsStay};
 ghost use Rattle.sync_base.specs.Footprints.{Framed};
 
 /// Two instructions that act on a state and meet without a mismatch end in the merged state, in either order.
@@ -58,4 +59,12 @@ pub fn tests_tell()
 pub fn breaks_tell()
     ensures one { (i : Instr) (s : State) → is_effect (effect_of i) ≡ true → act i s ≡ unbroken (break_of s (effect_of i)) (after s (effect_of i)) }
     ensures all { (instrs : List Instr) (s : State) → AllPlaced instrs → is_some (act_all instrs s) ≡ not (is_some (break_at instrs s)) }
+{}
+
+/// Instructions about two objects stay as they are when they meet. What is left of an instruction is about its object, and
+/// carries as many bytes.
+pub fn objects_stay()
+    ensures apart { (a b : Instr) → ApartStay a b }
+    ensures about { (a b : Instr) → ObjectsStay a b }
+    ensures payload { (a b : Instr) → PayloadsStay a b }
 {}

@@ -12,8 +12,8 @@ mod tests;
 pub use act::Act;
 pub use answers::{Break, Mismatch, Outcome};
 pub use laws::{
-    both_orders_agree, breaks_tell, definitions_differ, effects_tell, frames_hold, sizes_fit,
-    states_stay, table_is_mirrored, tests_tell,
+    both_orders_agree, breaks_tell, definitions_differ, effects_tell, frames_hold, objects_stay,
+    sizes_fit, states_stay, table_is_mirrored, tests_tell,
 };
 pub use meets::{Meets, keep_both, keep_left, keep_neither, keep_right};
 pub use same::{

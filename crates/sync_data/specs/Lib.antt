@@ -3,3 +3,4 @@ pub mod Times
 pub mod Stamps
 pub mod Orders
 pub mod Payload
+pub mod Equality

@@ -5,6 +5,7 @@ mod blob;
 mod changeset;
 mod column;
 mod entry;
+mod equality;
 mod instr;
 mod key;
 mod key_text;
@@ -22,6 +23,7 @@ pub use blob::Blob;
 pub use changeset::{Changeset, MOST_INSTRS, MOST_PAYLOAD, TooLarge};
 pub use column::{Column, Kind, Shape};
 pub use entry::{Entry, Ident, Stamp};
+pub use equality::equality_is_exact;
 pub use instr::{
     AddColumn, AddInteger, AddTable, CellName, Clear, CreateObject, DictUpdate, EraseObject, Instr,
     ListErase, ListInsert, ListUpdate, SetErase, SetInsert, Update,

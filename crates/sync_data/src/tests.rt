@@ -106,7 +106,8 @@ fn what_takes_memory_is_made(rt: HostRuntime) -> Result<(), Fail> {
         changes,
     };
     let copy = entry.copy()?;
-    assert_eq!(rt; (copy.changes.ms(), copy.changes.instrs().len()), (9, 1));
+    assert_eq!(rt; (copy.origin, copy.number, copy.changes.ms()), (1, 2, 9));
+    assert!(rt; copy.changes == entry.changes);
     Ok(())
 }
 

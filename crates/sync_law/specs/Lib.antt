@@ -1,2 +1,4 @@
 pub mod Instrs
 pub mod Law
+pub mod Coded
+pub mod CodedLaw

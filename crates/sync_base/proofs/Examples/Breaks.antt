@@ -7,10 +7,15 @@ use Rattle.sync_data.specs.declared.column.Kind.TheVariants as kinds
 use Rattle.sync_data.specs.declared.column.Shape.TheVariants as shapes
 use Rattle.sync_base.specs.declared.answers.Break.TheVariants as breaks
 use Rattle.sync_base.specs.Effects.{Set, Add, Replace, Insert, Remove, Include, Bind, Empty, NewTable, NewColumn, Create, Erase, Change}
-use Rattle.sync_base.specs.States.{no_state}
+use Rattle.std.specs.FinMap as map
+use Rattle.sync_base.specs.States.{State, Many, no_state}
 use Rattle.sync_base.specs.Checks.{break_of, act_effect}
 use Rattle.sync_base.specs.Rules.{spot}
-use Rattle.sync_base.proofs.Examples.Setting.{t, n, s, l, u, k, d, z, a, int, object, path, column, n_column, here, looks}
+use Rattle.sync_base.proofs.Examples.Setting.{t, n, s, l, u, k, d, z, a, int, object, path, column, n_column, here, cells, looks}
+
+-- the same state with an empty list
+abbrev empty_list : State
+empty_list = record { tables = here.tables; objects = map.insert map.empty (object 1) (map.insert cells l (Many [])) }
 
 -- ---- tables and columns
 first_table : break_of no_state (NewTable t key_kinds.Int) ≡ None
@@ -76,6 +81,9 @@ link_to_an_absent_object = simp looks refl
 
 another_size : break_of here (Change (path l) (Insert (spot 0 1) a)) ≡ Some breaks.BadPrior
 another_size = simp looks refl
+
+beyond_an_empty_list : break_of empty_list (Change (path l) (Insert (spot 1 1) a)) ≡ Some breaks.BadPrior
+beyond_an_empty_list = simp looks refl
 
 insert_at_the_end : break_of here (Change (path l) (Insert (spot 2 2) a)) ≡ None
 insert_at_the_end = simp looks refl

@@ -130,7 +130,7 @@ update_and_update_right_later : meeting (update n (int 1)) (update n (int 2)) fa
 update_and_update_right_later = refl
 
 -- the greatest number and one more is the least
-wrapped : sum64 (pos 9223372036854775807) (pos 1) ≡ negsuc 9223372036854775807
+pub wrapped : sum64 (pos 9223372036854775807) (pos 1) ≡ negsuc 9223372036854775807
 wrapped = sym (wrapping_add_is w64 (pos 9223372036854775807) (pos 1) (record { sfits = lit< tt }) (record { sfits = lit< tt }))
 
 update_and_later_addition : meeting (update n (values.Int (pos 9223372036854775807))) (add n 1) false ≡ both (update n (values.Int (negsuc 9223372036854775807))) (add n 1)
