@@ -8,7 +8,7 @@ use Rattle.hex.specs.Hex.{decode_of}
 use Rattle.uuid.specs.Text.{parsed}
 use Rattle.sync_value_text.specs.Forms.{◌>>=◌, provided}
 
--- an object of so many fields
+-- An object of so many fields. A form also looks up each of its fields by name, so that these are all.
 unfoldable pub exactly_form : ℕ → Data → Option ⊤
 exactly_form count d = do
   fields ← as_object d
