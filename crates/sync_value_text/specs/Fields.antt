@@ -1,5 +1,5 @@
 -- The fields of a JSON object: how many there are, and what stands under a name.
-use Rattle.std.specs.Prelude.{ℕ, ℤ, ◌^◌, ◌==◌, ◌&&◌, nat_lt, nat_le, List, length, Bool, Option, Some, None, is_some, ⊤}
+use Rattle.std.specs.Prelude.{ℕ, ℤ, ◌^◌, ◌==◌, ◌&&◌, nat_lt, nat_le, List, length, Bool, Option, is_some, ⊤}
 use Rattle.std.specs.Result.{result_ok}
 use Rattle.serde_json.specs.Data.{Data}
 use Rattle.serde_json.specs.Events.{members_len}

@@ -1,4 +1,4 @@
-ghost use Rattle.std.specs.Prelude.{◌≡◌, ◌+◌, ◌<◌, ◌^◌};
+ghost use Rattle.std.specs.Prelude.{◌≡◌, ◌+◌, ◌<◌};
 ghost use Rattle.sync_value_text.specs.Forms.{Decides};
 ghost use Rattle.sync_value_text.specs.Columns.{plain_kind as plain_kind_of, kind_form, shape_of_word, shape_form, field_count as count_of_fields, column_beside as beside_form, column_form};
 ghost use Rattle.serde_json.specs.View.{view};
