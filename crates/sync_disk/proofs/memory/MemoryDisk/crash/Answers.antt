@@ -1,4 +1,4 @@
-use Rattle.std.proofs.Common.{◌≡◌, List, [], ℕ, Some, sym, ◌∙◌, ap, subst}
+use Rattle.std.proofs.Common.{◌≡◌, sym, ◌∙◌, ap, subst}
 use Rattle.sync_disk.specs.Images.{IsImage, state, only_synced}
 use Rattle.sync_disk.specs.Leaving.{left_by, left_after}
 use Rattle.sync_disk.specs.Memory.{strokes_of}
