@@ -1,9 +1,9 @@
 -- Several appends, one after the other: what a call that makes them keeps from one to the next.
-use Rattle.std.proofs.Common.{◌≡◌, ℕ, zero, suc, ◌+◌, ◌<◌, ◌≤◌, List, [], ◌∷◌, ◌++◌, length, take, get_or, refl, sym, ◌∙◌, ap, subst, arith, append_assoc, append-nil}
+use Rattle.std.proofs.Common.{◌≡◌, ℕ, zero, suc, ◌+◌, ◌<◌, List, [], ◌∷◌, ◌++◌, length, take, get_or, sym, ◌∙◌, ap, subst, arith, append_assoc, append-nil}
 use Rattle.std.proofs.lemmas.List.{take_more}
 use Rattle.sync_disk.specs.Strokes.{Act, Stroke, AllDone, CutByFault}
 use Rattle.sync_disk.proofs.Asking.{all_done, cut_later, cut_before}
-use Rattle.sync_journal.specs.Records.{records_of, StandsForPrefix}
+use Rattle.sync_journal.specs.Records.{StandsForPrefix}
 use Rattle.sync_journal.specs.Records.Reading.{Good}
 use Rattle.sync_journal.specs.Journal.{strokes_of, strokes_of_all, size_of_all}
 
