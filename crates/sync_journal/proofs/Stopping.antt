@@ -5,8 +5,10 @@ use Rattle.sync_disk.specs.Strokes.{Act, Stroke, done, broken, acts_of, AllDone,
 use Rattle.sync_disk.specs.Strokes.Act.{Write, Sync}
 use Rattle.sync_disk.specs.Origin.{Origin}
 use Rattle.sync_disk.specs.Faults.{is_write, planned}
-use Rattle.sync_disk.specs.Images.{State, IsImage, synced, act_on, after, state, image_act, is_image_after, only_synced, image_synced}
-use Rattle.sync_disk.specs.Leaving.{left_by, left_is_image, IsAmong, among_act, among}
+use Rattle.sync_disk.specs.Images.{State, IsImage, synced, act_on, after, state}
+use Rattle.sync_disk.specs.ImageLaws.{image_act, is_image_after, only_synced, image_synced}
+use Rattle.sync_disk.specs.Leaving.{left_by}
+use Rattle.sync_disk.specs.LeavingLaws.{left_is_image, IsAmong, among_act, among}
 use Rattle.sync_disk.specs.declared.leaves.Leaves.{Leaves}
 use Rattle.sync_disk.specs.declared.leaves.Leaves.TheVariants.{Drop, Keep, Torn as torn}
 use Rattle.sync_disk.proofs.Tearing.{torn_write, after_append}
