@@ -1,4 +1,4 @@
-ghost use Rattle.std.specs.Prelude.{◌≡◌, ◌+◌, ◌<◌};
+ghost use Rattle.std.specs.Prelude.{◌≡◌, ◌+◌, ◌<◌, ◌^◌};
 ghost use Rattle.sync_value_text.specs.Forms.{Decides};
 ghost use Rattle.sync_value_text.specs.Columns.{plain_kind as plain_kind_of, kind_form, shape_of_word, shape_form, field_count as count_of_fields, column_beside as beside_form, column_form};
 ghost use Rattle.serde_json.specs.View.{view};
@@ -19,7 +19,7 @@ pub fn column_of(json: &Json) -> Result<Column, TextRefusal>
 /// The column in an object that has so many other fields beside those of the column. It takes no memory.
 #[tactic(auto, unfolding(crate::specs::Columns::column_beside))]
 pub fn column_beside(json: &Json, others: usize) -> Result<Column, TextRefusal>
-    requires { others < 1000 }
+    requires { others + 4 < 2 ^ 64 }
     ensures { Decides result (beside_form others (view json.now)) }
 {
     let kind = kind_field(json)?;
