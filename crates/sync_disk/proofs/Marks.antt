@@ -1,10 +1,9 @@
 -- Which strokes of a disk in memory fail, and which have no effect.
-use Rattle.std.proofs.Common.{◌≡◌, ℕ, zero, suc, ◌+◌, ◌-◌, ◌≤◌, ◌<◌, Bool, true, false, not, ◌&&◌, nat_le, nat_lt, ◌==◌, if◌then◌else◌, Option, Some, None, List, [], ◌∷◌, ◌++◌, length, map, refl, sym, ◌∙◌, ap, arith}
+use Rattle.std.proofs.Common.{◌≡◌, ℕ, suc, ◌+◌, ◌-◌, ◌≤◌, ◌<◌, Bool, false, not, ◌&&◌, Option, Some, None, List, [], ◌∷◌, ◌++◌, length, map, refl, sym, ◌∙◌, ap, arith}
 use Rattle.std.proofs.lemmas.List.{map_push}
 use Rattle.std.proofs.lemmas.Bool.Decides.{nat_tests}
 use Rattle.sync_disk.specs.Faults.{is_past, is_at, is_lost, has_stopped, is_write}
 use Rattle.sync_disk.specs.Strokes.{Act}
-use Rattle.sync_disk.specs.Strokes.Act.{Write, Sync}
 use Rattle.sync_disk.specs.Memory.{act_of, failures_of, failures, losses_of, losses}
 use Rattle.sync_disk.specs.declared.kept.KeptStroke.{KeptStroke}
 

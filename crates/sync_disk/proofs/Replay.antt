@@ -1,15 +1,15 @@
 -- How a content is made again from the strokes, and which of them come after the last sync.
-use Rattle.std.proofs.Common.{◌≡◌, ◌⊎◌, ℕ, zero, suc, ◌+◌, ◌≤◌, ◌<◌, Bool, true, false, not, ◌&&◌, ◌||◌, nat_le, nat_lt, List, [], ◌∷◌, ◌++◌, length, take, drop, map, get_or, refl, sym, ◌∙◌, ap, subst, arith, length-append, take_all}
+use Rattle.std.proofs.Common.{◌≡◌, ℕ, ◌+◌, ◌≤◌, ◌<◌, Bool, true, false, ◌&&◌, ◌||◌, nat_le, nat_lt, List, [], ◌∷◌, ◌++◌, length, take, drop, get_or, refl, sym, ◌∙◌, ap, arith, take_all}
 use Rattle.std.proofs.lemmas.List.{map_push, map-append, take-append-le, drop-append-le, drop_all, take_more, take-append-drop}
 use Rattle.std.proofs.lemmas.List.Folds.{list_any-append}
 use Rattle.std.proofs.Math.Bool.{or_comm}
-use Rattle.sync_disk.specs.Strokes.{Act, Stroke}
-use Rattle.sync_disk.specs.Images.{State, act_on, acted, content_after, state, synced, after, is_written}
+use Rattle.sync_disk.specs.Strokes.{Stroke}
+use Rattle.sync_disk.specs.Images.{State, act_on, acted, content_after, state, synced, is_written}
 use Rattle.sync_disk.specs.Memory.{act_of, stroke_of, strokes_of, ends_writes, is_over, writes_over, IsLastSync}
 use Rattle.sync_disk.specs.declared.kept.Asked.{Asked}
 use Rattle.sync_disk.specs.declared.kept.Asked.TheVariants.{Write, Sync}
 use Rattle.sync_disk.specs.declared.kept.KeptStroke.{KeptStroke}
-use Rattle.sync_disk.proofs.Tearing.{state_push, content_push, after_content, content_grows}
+use Rattle.sync_disk.proofs.Tearing.{state_push, after_content, content_grows}
 
 pub content_append : (b : List ℕ) (xs ys : List Stroke) → content_after b (xs ++ ys) ≡ content_after (content_after b xs) ys
 content_append b [] ys = refl

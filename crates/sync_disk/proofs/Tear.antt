@@ -1,5 +1,5 @@
 -- How bytes are torn, one after the other.
-use Rattle.std.proofs.Common.{◌≡◌, ℕ, suc, ◌+◌, ◌-◌, ◌<◌, Bool, true, false, nat_lt, if◌then◌else◌, List, [], ◌∷◌, ◌++◌, length, take, drop, get_or, refl, sym, ◌∙◌, ap, arith, append_assoc}
+use Rattle.std.proofs.Common.{◌≡◌, ℕ, ◌+◌, ◌-◌, ◌<◌, Bool, true, false, nat_lt, if◌then◌else◌, List, [], ◌∷◌, ◌++◌, length, take, drop, get_or, sym, ◌∙◌, ap, arith, append_assoc}
 use Rattle.std.proofs.lemmas.List.{drop_more, take_more, take_more_set, drop-set-lt}
 use Rattle.std.proofs.Math.ListN.{set}
 use Rattle.std.proofs.lemmas.Bool.Decides.{nat_tests}
@@ -34,8 +34,8 @@ module _ (k left : ℕ) (ranges : List (ℕ × ℕ)) (bytes : List ℕ) (inside 
   tear_half there more =
       let some : nat_lt 0 left ≡ true = grind (arith, nat_tests) in
       ap (λ (l : List ℕ). take k bytes ++ l)
-          (step ∙ ap (λ (w : Bool). if w then (if nat_lt 0 left then b ∷ tear (k + 1) (left - 1) ranges rest else 0x5a ∷ tear (k + 1) 0 ranges rest) else b ∷ tear (k + 1) left ranges rest) there
-           ∙ ap (λ (w : Bool). if w then b ∷ tear (k + 1) (left - 1) ranges rest else 0x5a ∷ tear (k + 1) 0 ranges rest) some)
+      (step ∙ ap (λ (w : Bool). if w then (if nat_lt 0 left then b ∷ tear (k + 1) (left - 1) ranges rest else 0x5a ∷ tear (k + 1) 0 ranges rest) else b ∷ tear (k + 1) left ranges rest) there
+      ∙ ap (λ (w : Bool). if w then b ∷ tear (k + 1) (left - 1) ranges rest else 0x5a ∷ tear (k + 1) 0 ranges rest) some)
       ∙ moved (tear (k + 1) (left - 1) ranges rest)
 
   -- one of the others
@@ -44,8 +44,8 @@ module _ (k left : ℕ) (ranges : List (ℕ × ℕ)) (bytes : List ℕ) (inside 
   tear_torn there none =
       let no : nat_lt 0 left ≡ false = grind (arith, nat_tests) in
       ap (λ (l : List ℕ). take k bytes ++ l)
-          (step ∙ ap (λ (w : Bool). if w then (if nat_lt 0 left then b ∷ tear (k + 1) (left - 1) ranges rest else 0x5a ∷ tear (k + 1) 0 ranges rest) else b ∷ tear (k + 1) left ranges rest) there
-           ∙ ap (λ (w : Bool). if w then b ∷ tear (k + 1) (left - 1) ranges rest else 0x5a ∷ tear (k + 1) 0 ranges rest) no)
+      (step ∙ ap (λ (w : Bool). if w then (if nat_lt 0 left then b ∷ tear (k + 1) (left - 1) ranges rest else 0x5a ∷ tear (k + 1) 0 ranges rest) else b ∷ tear (k + 1) left ranges rest) there
+      ∙ ap (λ (w : Bool). if w then b ∷ tear (k + 1) (left - 1) ranges rest else 0x5a ∷ tear (k + 1) 0 ranges rest) no)
       ∙ sym (append_assoc (take k bytes) (0x5a ∷ []) (tear (k + 1) 0 ranges rest))
       ∙ ap (λ (l : List ℕ). l ++ tear (k + 1) 0 ranges rest) (sym (take_more_set bytes k 0x5a inside))
       ∙ ap (λ (l : List ℕ). take (k + 1) (set bytes k 0x5a) ++ tear (k + 1) 0 ranges l) (sym (drop-set-lt (k + 1) bytes k 0x5a (omega arith)))

@@ -65,3 +65,8 @@ armed at leaves o n = record { start = o.start; stop = if has_stopped o.stop n t
 
 abbrev pub disarmed : Origin → ℕ → Origin
 disarmed o n = record { start = o.start; stop = if has_stopped o.stop n then o.stop else None; leaves = o.leaves; listed = o.listed }
+
+-- no call fails
+pub record IsSound (o : Origin) : Type 0 where
+  pub never : o.stop ≡ None
+  pub none : o.listed ≡ 0

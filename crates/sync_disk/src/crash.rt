@@ -4,8 +4,8 @@ ghost use Rattle.sync_disk.specs.Images.{state, is_written};
 ghost use Rattle.sync_disk.specs.Leaving.{count_written, tear, left_by};
 ghost use Rattle.sync_disk.specs.Memory.{act_of, strokes_of, ends_writes, is_over, writes_over, IsLastSync};
 
-use crate::kept::{Asked, KeptStroke};
 use crate::Leaves;
+use crate::kept::{Asked, KeptStroke};
 use crate::writing::{refill, replay};
 
 /// What a torn place holds.

@@ -1,5 +1,5 @@
 -- The form of each edit but its word: which fields it has, and the instruction that they are.
-use Rattle.std.specs.Prelude.{ℕ, ◌^◌, nat_lt, nat_le, List, codes, Option, Some, None, option_map, if◌then◌else◌}
+use Rattle.std.specs.Prelude.{ℕ, nat_lt, nat_le, List, codes, Option, Some, None, if◌then◌else◌}
 use Rattle.std.specs.Str.{bytes_eq}
 use Rattle.serde_json.specs.Data.{Data}
 use Rattle.sync_data.specs.Spot.{Spot}

@@ -1,4 +1,3 @@
-ghost use Rattle.std.specs.Prelude.{◌≡◌};
 ghost use Rattle.sync_value_text.specs.Forms.{Reads, ReadsBy};
 ghost use Rattle.sync_edits.specs.Edits.{edit_form, edit_by_word as by_word, list_or_dict_form as collection_form, all_edits as all_of, edits_form};
 ghost use Rattle.serde_json.specs.View.{view, items_view};

@@ -47,7 +47,7 @@ fn event_by_word(alloc: Global, word: &str, json: &Json) -> Result<Event, TextRe
 
 #[tactic(auto, unfolding(crate::specs::Events::client_form))]
 fn client_event(json: &Json) -> Result<Event, TextRefusal>
-    ensures { Reads result (client_form (view json.now)) }
+    ensures { Decides result (client_form (view json.now)) }
 {
     exactly(json, 3)?;
     let name = name_field(json, "name")?;
@@ -76,7 +76,7 @@ fn only_client_of(json: &Json) -> Result<Name, TextRefusal>
 
 #[tactic(auto, unfolding(crate::specs::Events::bind_form))]
 fn bind_event(json: &Json) -> Result<Event, TextRefusal>
-    ensures { Reads result (bind_form (view json.now)) }
+    ensures { Decides result (bind_form (view json.now)) }
 {
     let client = only_client_of(json)?;
     Ok(Event::Bind { client })
@@ -84,7 +84,7 @@ fn bind_event(json: &Json) -> Result<Event, TextRefusal>
 
 #[tactic(auto, unfolding(crate::specs::Events::upload_form))]
 fn upload_event(json: &Json) -> Result<Event, TextRefusal>
-    ensures { Reads result (upload_form (view json.now)) }
+    ensures { Decides result (upload_form (view json.now)) }
 {
     let client = only_client_of(json)?;
     Ok(Event::Upload { client })
@@ -92,7 +92,7 @@ fn upload_event(json: &Json) -> Result<Event, TextRefusal>
 
 #[tactic(auto, unfolding(crate::specs::Events::ask_form))]
 fn ask_event(json: &Json) -> Result<Event, TextRefusal>
-    ensures { Reads result (ask_form (view json.now)) }
+    ensures { Decides result (ask_form (view json.now)) }
 {
     let client = only_client_of(json)?;
     Ok(Event::Ask { client })
@@ -100,7 +100,7 @@ fn ask_event(json: &Json) -> Result<Event, TextRefusal>
 
 #[tactic(auto, unfolding(crate::specs::Events::upgrade_form))]
 fn upgrade_event(json: &Json) -> Result<Event, TextRefusal>
-    ensures { Reads result (upgrade_form (view json.now)) }
+    ensures { Decides result (upgrade_form (view json.now)) }
 {
     let client = only_client_of(json)?;
     Ok(Event::Upgrade { client })
@@ -108,7 +108,7 @@ fn upgrade_event(json: &Json) -> Result<Event, TextRefusal>
 
 #[tactic(auto, unfolding(crate::specs::Events::deliver_form))]
 fn deliver_event(json: &Json) -> Result<Event, TextRefusal>
-    ensures { Reads result (deliver_form (view json.now)) }
+    ensures { Decides result (deliver_form (view json.now)) }
 {
     exactly(json, 3)?;
     let message = place_field(json, "message")?;
@@ -118,7 +118,7 @@ fn deliver_event(json: &Json) -> Result<Event, TextRefusal>
 
 #[tactic(auto, unfolding(crate::specs::Events::restart_form))]
 fn restart_event(json: &Json) -> Result<Event, TextRefusal>
-    ensures { Reads result (restart_form (view json.now)) }
+    ensures { Decides result (restart_form (view json.now)) }
 {
     exactly(json, 2)?;
     let node = name_field(json, "node")?;
@@ -127,7 +127,7 @@ fn restart_event(json: &Json) -> Result<Event, TextRefusal>
 
 #[tactic(auto, unfolding(crate::specs::Events::stop_form))]
 fn stop_event(json: &Json) -> Result<Event, TextRefusal>
-    ensures { Reads result (stop_form (view json.now)) }
+    ensures { Decides result (stop_form (view json.now)) }
 {
     exactly(json, 4)?;
     let node = name_field(json, "node")?;
@@ -185,7 +185,7 @@ pub(crate) fn node_line_from(alloc: Global, json: &Json) -> Result<NodeLine, Tex
 
 #[tactic(auto, unfolding(crate::specs::Events::born_form))]
 fn born_line(json: &Json) -> Result<NodeLine, TextRefusal>
-    ensures { Reads result (born_form (view json.now)) }
+    ensures { Decides result (born_form (view json.now)) }
 {
     exactly(json, 1)?;
     let id = id_field(json, "uuid")?;
@@ -204,7 +204,7 @@ fn commit_line(alloc: Global, json: &Json) -> Result<NodeLine, TextRefusal>
 
 #[tactic(auto, unfolding(crate::specs::Events::node_upgrade_form))]
 fn upgrade_line(json: &Json) -> Result<NodeLine, TextRefusal>
-    ensures { Reads result (node_upgrade_form (view json.now)) }
+    ensures { Decides result (node_upgrade_form (view json.now)) }
 {
     exactly(json, 1)?;
     if number_field(json, "upgrade")? != 2 {

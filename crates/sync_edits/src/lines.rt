@@ -1,4 +1,3 @@
-ghost use Rattle.std.specs.Prelude.{◌≡◌};
 ghost use Rattle.sync_value_text.specs.Forms.{Reads, ReadsBy};
 ghost use Rattle.sync_edits.specs.Lines.{line_data, event_form_of_line, node_form_of_line, ReadsLine};
 ghost use Rattle.serde_json.specs.View.{view};

@@ -63,7 +63,7 @@ fn between_of(json: &Json) -> Result<Between, TextRefusal>
 
 #[tactic(auto, unfolding(crate::specs::Objects::add_table_form))]
 pub(crate) fn add_table(json: &Json) -> Result<Instr, TextRefusal>
-    ensures { Reads result (add_table_form (view json.now)) }
+    ensures { Decides result (add_table_form (view json.now)) }
 {
     exactly(json, 3)?;
     let table = name_field(json, "table")?;
@@ -74,7 +74,7 @@ pub(crate) fn add_table(json: &Json) -> Result<Instr, TextRefusal>
 
 #[tactic(auto, unfolding(crate::specs::Objects::add_column_form))]
 pub(crate) fn add_column(json: &Json) -> Result<Instr, TextRefusal>
-    ensures { Reads result (add_column_form (view json.now)) }
+    ensures { Decides result (add_column_form (view json.now)) }
 {
     let table = name_field(json, "table")?;
     let column = name_field(json, "column")?;

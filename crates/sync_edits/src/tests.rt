@@ -78,10 +78,18 @@ fn limits_are_kept(rt: HostRuntime) -> Result<(), Fail> {
             "{front}"
         );
     }
-    let mut nested = "[".repeat(alloc, 128)?;
-    nested.push_str("]".repeat(alloc, 128)?.as_str())?;
-    assert!(rt; is_bad(alloc, nested.as_bytes()));
+    assert!(rt; event_of(alloc, nested_line(alloc, 126)?.as_bytes()).is_ok());
+    assert!(rt; is_bad(alloc, nested_line(alloc, 127)?.as_bytes()));
     Ok(())
+}
+
+/// An event whose first `client`, which the second replaces, is that many nested arrays.
+fn nested_line(alloc: Global, depth: usize) -> Result<String, Fail> {
+    let mut line = String::from_str(alloc, "{\"event\":\"bind\",\"client\":")?;
+    line.push_str("[".repeat(alloc, depth)?.as_str())?;
+    line.push_str("]".repeat(alloc, depth)?.as_str())?;
+    line.push_str(",\"client\":\"A\"}")?;
+    Ok(line)
 }
 
 #[test]

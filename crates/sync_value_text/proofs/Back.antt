@@ -1,11 +1,10 @@
 -- What is printed is read back.
-use Rattle.std.proofs.Common.{◌≡◌, ℕ, ℤ, pos, negsuc, ◌<◌, ◌≤◌, ◌&&◌, List, length, Bool, true, false, Option, Some, None, refl, sym, ap, ◌∙◌, arith}
-use Rattle.std.proofs.lemmas.Grind.{common_steps}
+use Rattle.std.proofs.Common.{◌≡◌, ℕ, ℤ, pos, negsuc, ◌<◌, ◌≤◌, List, length, Bool, true, Some, refl, sym, ap, arith}
 use Rattle.std.specs.Prelude.{FitsSigned, IfSome}
 use Rattle.std.specs.Int.{w64}
 use Rattle.std.specs.Result.{result_ok}
 use Rattle.serde_json.specs.Find.{as_i64, of_integer}
-use Rattle.hex.specs.Hex.{IsBytes, decode_of, encode_lower}
+use Rattle.hex.specs.Hex.{IsBytes}
 use Rattle.hex.proofs.HexLemmas.{decode_of-encode_lower}
 use Rattle.uuid.specs.Text.{parsed, hyphenated_text, lower}
 use Rattle.sync_data.specs.Times.{IsTime}
@@ -16,7 +15,6 @@ use Rattle.sync_data.specs.declared.column.Kind.TheVariants as kinds
 use Rattle.sync_data.specs.declared.column.Shape.{Shape}
 use Rattle.sync_data.specs.declared.column.Shape.TheVariants as shapes
 use Rattle.sync_data.specs.declared.column.Column.{Column}
-use Rattle.sync_value_text.specs.Forms.{provided}
 use Rattle.sync_value_text.specs.Fields.{exactly_form, name_of_text, key_of_text, hex_form, text_form, name_form, id_form, flag_form, int_form}
 use Rattle.sync_value_text.specs.Keys.{uuid_form, key_form, key_field_form}
 use Rattle.sync_value_text.specs.Values.{bytes_form, is_time, time_form, link_form}

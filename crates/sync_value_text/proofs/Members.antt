@@ -1,5 +1,5 @@
 -- How many members an object has, as its map counts them.
-use Rattle.std.proofs.Common.{◌≡◌, ℕ, List, length, String, Global}
+use Rattle.std.proofs.Common.{◌≡◌, List, length, String, Global}
 use Rattle.serde_json.specs.Events.{members_len}
 use Rattle.serde_json.specs.View.{members_view}
 use Rattle.serde_json.specs.declared.value.Value.{Value}

@@ -1,5 +1,5 @@
 -- The fields of a JSON object: how many there are, and what stands under a name.
-use Rattle.std.specs.Prelude.{ℕ, ℤ, ◌^◌, ◌==◌, ◌&&◌, nat_lt, nat_le, List, length, Bool, Option, Some, None, is_some, ⊤}
+use Rattle.std.specs.Prelude.{ℕ, ℤ, ◌^◌, ◌==◌, ◌&&◌, nat_lt, nat_le, List, length, Bool, Option, is_some, ⊤}
 use Rattle.std.specs.Result.{result_ok}
 use Rattle.serde_json.specs.Data.{Data}
 use Rattle.serde_json.specs.Events.{members_len}
@@ -8,7 +8,7 @@ use Rattle.hex.specs.Hex.{decode_of}
 use Rattle.uuid.specs.Text.{parsed}
 use Rattle.sync_value_text.specs.Forms.{◌>>=◌, provided}
 
--- an object of so many fields
+-- An object of so many fields. A form also looks up each of its fields by name, so that these are all.
 unfoldable pub exactly_form : ℕ → Data → Option ⊤
 exactly_form count d = do
   fields ← as_object d

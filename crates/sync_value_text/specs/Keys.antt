@@ -1,5 +1,5 @@
 -- A key is an integer, a text of up to 255 bytes, or `{"uuid":U}`.
-use Rattle.std.specs.Prelude.{ℕ, List, codes, Option, Some, None, option_map}
+use Rattle.std.specs.Prelude.{ℕ, List, codes, Option, None, option_map}
 use Rattle.serde_json.specs.Data.{Data, null, boolean, number, string, array, object}
 use Rattle.serde_json.specs.Find.{get, as_i64}
 use Rattle.sync_data.specs.declared.key.Key.{Key}

@@ -1,6 +1,6 @@
 -- A value is null, an integer, a flag, a text, or an object that is named by one of its fields:
 -- `{"bytes":HEX}`, `{"secs":I,"nanos":I}`, `{"uuid":U}`, `{"link":TABLE,"key":KEY}`.
-use Rattle.std.specs.Prelude.{ℕ, ℤ, pos, negsuc, int_lt, int_le, ◌&&◌, ◌||◌, not, Bool, List, codes, Option, Some, None, option_map, if◌then◌else◌}
+use Rattle.std.specs.Prelude.{ℕ, ℤ, pos, negsuc, int_le, ◌&&◌, ◌||◌, Bool, List, codes, Option, Some, None, option_map, if◌then◌else◌}
 use Rattle.serde_json.specs.Data.{Data, null, boolean, number, string, array, object}
 use Rattle.serde_json.specs.Find.{get, as_i64}
 use Rattle.sync_data.specs.Times.{Moment}

@@ -19,7 +19,7 @@ pub fn column_of(json: &Json) -> Result<Column, TextRefusal>
 /// The column in an object that has so many other fields beside those of the column. It takes no memory.
 #[tactic(auto, unfolding(crate::specs::Columns::column_beside))]
 pub fn column_beside(json: &Json, others: usize) -> Result<Column, TextRefusal>
-    requires { others < 1000 }
+    requires { others + 4 < 2 ^ 64 }
     ensures { Decides result (beside_form others (view json.now)) }
 {
     let kind = kind_field(json)?;

@@ -11,7 +11,8 @@ use std::alloc::Global;
 use sync_data::{Blob, Id, KeyRefusal, KeyText, Name};
 use uuid::Uuid;
 
-/// Whether it is an object of that many fields: `BadValue` where it is not. It takes no memory.
+/// An object of that many fields, or `BadValue` exactly where it is none. A form that also looks up so many names
+/// has no other field. It takes no memory.
 #[tactic(auto, using(crate::proofs::Members::member_count), unfolding(crate::specs::Fields::exactly_form))]
 pub fn exactly(json: &Json, count: usize) -> Result<(), TextRefusal>
     ensures { Decides result (exactly_form count (view json.now)) }

@@ -1,4 +1,3 @@
-ghost use Rattle.std.specs.Prelude.{◌≡◌};
 ghost use Rattle.sync_value_text.specs.Forms.{Decides, Reads};
 ghost use Rattle.sync_value_text.specs.Values.{bytes_form, time_form, link_form, object_form, value_form, value_field_form};
 ghost use Rattle.serde_json.specs.View.{view};

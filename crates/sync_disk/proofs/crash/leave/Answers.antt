@@ -1,5 +1,5 @@
-use Rattle.std.proofs.Common.{◌≡◌, ◌+◌, ◌≤◌, List, ℕ, length, take, drop, sym, ◌∙◌, ap, arith}
-use Rattle.sync_disk.specs.Images.{state, synced, content_after, is_image_after}
+use Rattle.std.proofs.Common.{length, take, ◌∙◌, ap, arith}
+use Rattle.sync_disk.specs.Images.{synced, content_after}
 use Rattle.sync_disk.specs.Memory.{strokes_of}
 use Rattle.sync_disk.proofs.Tearing.{after_content, content_grows}
 use Rattle.sync_disk.proofs.Replay.{replay_short}

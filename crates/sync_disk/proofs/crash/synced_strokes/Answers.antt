@@ -1,4 +1,4 @@
-use Rattle.std.proofs.Common.{◌≡◌, ◌+◌, ◌∷◌, [], ◌++◌, List, true, false, length, take, get_or, sym, ◌∙◌, ap, subst, arith, length-take}
+use Rattle.std.proofs.Common.{◌≡◌, ◌+◌, ◌∷◌, [], ◌++◌, take, sym, ◌∙◌, ap, subst, arith, length-take}
 use Rattle.std.proofs.lemmas.List.{take_more}
 use Rattle.sync_disk.specs.declared.kept.KeptStroke.{KeptStroke}
 use Rattle.sync_disk.specs.Memory.{IsLastSync}
@@ -14,12 +14,12 @@ loop-i-preserved c =
     let more : take (i + 1) all ≡ take i all ++ x ∷ [] = take_more all i x (omega arith) ∙ ap (λ (k : KeptStroke). take i all ++ k ∷ []) (sym c.index-strokes-i.is) in
     elim c.if-is_effective_sync.branch [
       | then-is_effective_sync w ↦ record {
-          within = omega (arith, w.synced-is);
-          last = last_here (take i all) (take (i + 1) all) x _ more (omega (arith, w.synced-is, length-take (i + 1) all)) (sym c.is_effective_sync.ensures ∙ w.if-is_effective_sync.true);
-        }
+        within = omega (arith, w.synced-is);
+        last = last_here (take i all) (take (i + 1) all) x _ more (omega (arith, w.synced-is, length-take (i + 1) all)) (sym c.is_effective_sync.ensures ∙ w.if-is_effective_sync.true);
+      }
       | else-is_effective_sync w ↦ record {
-          within = omega (arith, w.synced-is, c.loop-i.invariant.within);
-          last = last_before (take i all) (take (i + 1) all) x _ more (omega (arith, w.synced-is, c.loop-i.invariant.within, length-take i all)) (sym c.is_effective_sync.ensures ∙ w.if-is_effective_sync.false)
-              (subst (λ n. IsLastSync n (take i all)) (sym w.synced-is) c.loop-i.invariant.last);
-        }
+        within = omega (arith, w.synced-is, c.loop-i.invariant.within);
+        last = last_before (take i all) (take (i + 1) all) x _ more (omega (arith, w.synced-is, c.loop-i.invariant.within, length-take i all)) (sym c.is_effective_sync.ensures ∙ w.if-is_effective_sync.false)
+            (subst (λ n. IsLastSync n (take i all)) (sym w.synced-is) c.loop-i.invariant.last);
+      }
     ]

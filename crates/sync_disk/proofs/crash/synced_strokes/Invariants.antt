@@ -1,4 +1,4 @@
-use Rattle.std.proofs.Common.{◌≡◌, ◌≤◌, ℕ, List, take, drop}
+use Rattle.std.proofs.Common.{◌≤◌, take}
 use Rattle.sync_disk.specs.Memory.{IsLastSync}
 use Rattle.sync_disk.proofs.crash.synced_strokes.Given as goal
 

@@ -1,4 +1,4 @@
-use Rattle.std.proofs.Common.{◌≡◌, ◌+◌, ◌-◌, ◌/◌, ◌++◌, ◌∷◌, ◌<◌, ℕ, List, Bool, true, false, length, take, drop, sym, ◌∙◌, ap, arith}
+use Rattle.std.proofs.Common.{◌≡◌, ◌+◌, ◌-◌, ◌++◌, ◌<◌, ℕ, List, length, take, drop, sym, ◌∙◌, ap, arith}
 use Rattle.sync_disk.specs.Leaving.{tear}
 use Rattle.sync_disk.proofs.Tear.{tear_kept, tear_half, tear_torn}
 use Rattle.sync_disk.proofs.crash.tear_bytes.Goals as goal

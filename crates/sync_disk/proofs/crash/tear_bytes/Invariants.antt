@@ -1,4 +1,4 @@
-use Rattle.std.proofs.Common.{◌≡◌, ◌+◌, ◌-◌, ◌/◌, ◌++◌, ◌≤◌, ℕ, List, take, drop, length}
+use Rattle.std.proofs.Common.{◌≡◌, ◌/◌, ◌++◌, ℕ, List, take, drop, length}
 use Rattle.sync_disk.specs.Images.{is_written}
 use Rattle.sync_disk.specs.Leaving.{count_written, tear}
 use Rattle.sync_disk.specs.Memory.{writes_over}

@@ -1,4 +1,4 @@
-use Rattle.std.proofs.Common.{◌≡◌, ◌+◌, ◌≤◌, length, take, sym, ◌∙◌, ap, arith}
+use Rattle.std.proofs.Common.{◌≡◌, ◌+◌, length, take, sym, ◌∙◌, ap, arith}
 use Rattle.sync_disk.specs.Images.{acted, content_after}
 use Rattle.sync_disk.specs.Memory.{act_of, strokes_of}
 use Rattle.sync_disk.proofs.Replay.{replay_more, replay_short}

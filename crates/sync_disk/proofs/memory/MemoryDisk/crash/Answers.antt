@@ -1,6 +1,8 @@
-use Rattle.std.proofs.Common.{◌≡◌, List, [], ℕ, Some, sym, ◌∙◌, ap, subst}
-use Rattle.sync_disk.specs.Images.{IsImage, state, only_synced}
-use Rattle.sync_disk.specs.Leaving.{left_by, left_after}
+use Rattle.std.proofs.Common.{◌≡◌, sym, ◌∙◌, ap, subst}
+use Rattle.sync_disk.specs.Images.{IsImage, state}
+use Rattle.sync_disk.specs.ImageLaws.{only_synced}
+use Rattle.sync_disk.specs.Leaving.{left_by}
+use Rattle.sync_disk.specs.LeavingLaws.{left_after}
 use Rattle.sync_disk.specs.Memory.{strokes_of}
 use Rattle.sync_disk.proofs.memory.MemoryDisk.crash.Goals as goal
 

@@ -1,4 +1,4 @@
-use Rattle.std.proofs.Common.{◌≡◌, ◌-◌, ◌++◌, ◌∷◌, [], List, ℕ, length, map, sym, ◌∙◌, ap, arith, rules}
+use Rattle.std.proofs.Common.{◌≡◌, ◌++◌, ◌∷◌, [], List, ℕ, length, sym, ◌∙◌, ap, arith, rules}
 use Rattle.sync_disk.specs.Memory.{strokes_of, stroke_of, act_of}
 use Rattle.sync_disk.specs.Images.{acted}
 use Rattle.sync_disk.proofs.Tearing.{content_push}
