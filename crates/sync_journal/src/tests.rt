@@ -73,27 +73,28 @@ fn files_and_what_they_stand_for(rt: HostRuntime) -> Result<(), Fail> {
     let alloc = rt.alloc();
     let one = b"RSYNCJ01\x01\x00\x00\x00\x02\xaa\xbb\x00";
     let two = b"RSYNCJ01\x01\x00\x00\x00\x01\xaa\x01\x00\x00\x00\x00\x00";
-    for (file, want, after) in [
-        (&b""[..], Ok(&[][..]), EMPTY),
-        (&b"x"[..], Ok(&[][..]), EMPTY),
-        (&b"RSYNCJ01"[..], Ok(&[][..]), EMPTY),
-        (&b"\x00\x00\x00\x00\x00\x00\x00\x00"[..], Ok(&[][..]), EMPTY),
-        (&b"RSYNCJ01\x01"[..], Ok(&[][..]), EMPTY),
-        (
-            &b"\x00\x00\x00\x00\x00\x00\x00\x00\x00"[..],
-            Ok(&[][..]),
-            EMPTY,
-        ),
-        (
-            &b"RSYNCJ01\x00\xff"[..],
-            Ok(&[][..]),
-            &b"RSYNCJ01\x00\xff"[..],
-        ),
-        (&one[..], Ok(&[&b"\xaa\xbb"[..]][..]), &one[..]),
-        (&two[..], Ok(&[&b"\xaa"[..], &b""[..]][..]), &two[..]),
-    ] {
-        opens(&rt, alloc, file, want, after)?;
-    }
+    opens(&rt, alloc, b"", Ok(&[]), EMPTY)?;
+    opens(&rt, alloc, b"x", Ok(&[]), EMPTY)?;
+    opens(&rt, alloc, b"RSYNCJ01", Ok(&[]), EMPTY)?;
+    opens(&rt, alloc, &[0; 8], Ok(&[]), EMPTY)?;
+    opens(&rt, alloc, b"RSYNCJ01\x01", Ok(&[]), EMPTY)?;
+    opens(&rt, alloc, &[0; 9], Ok(&[]), EMPTY)?;
+    opens(
+        &rt,
+        alloc,
+        b"RSYNCJ01\x00\xff",
+        Ok(&[]),
+        b"RSYNCJ01\x00\xff",
+    )?;
+    opens(&rt, alloc, one, Ok(&[b"\xaa\xbb"]), one)?;
+    opens(&rt, alloc, two, Ok(&[b"\xaa", b""]), two)
+}
+
+#[test]
+fn files_that_are_no_journals(rt: HostRuntime) -> Result<(), Fail> {
+    let alloc = rt.alloc();
+    let one = b"RSYNCJ01\x01\x00\x00\x00\x02\xaa\xbb\x00";
+    let two = b"RSYNCJ01\x01\x00\x00\x00\x01\xaa\x01\x00\x00\x00\x00\x00";
     // Of ten bytes the first that is none of a journal is named.
     for place in 0..8 {
         let mut file = b"RSYNCJ01\x00\x00".to_vec(alloc)?;
@@ -125,12 +126,17 @@ fn files_and_what_they_stand_for(rt: HostRuntime) -> Result<(), Fail> {
         Err(8),
         b"RSYNCJ01\x01\x04\x00\x00\x01\x00",
     )?;
-    // Behind a closed gate nothing counts, and it stays.
+    Ok(())
+}
+
+#[test]
+fn nothing_counts_behind_a_closed_gate(rt: HostRuntime) -> Result<(), Fail> {
+    let alloc = rt.alloc();
     for gate in [0, 2, 0x5a, 0xff] {
         let mut file = b"RSYNCJ01\x01\x00\x00\x00\x01\xaa".to_vec(alloc)?;
         file.push(gate)?;
         file.extend_from_slice(b"\x00\x00\x00\x01\xbb\x00")?;
-        opens(&rt, alloc, &file, Ok(&[&b"\xaa"[..]]), &file)?;
+        opens(&rt, alloc, &file, Ok(&[b"\xaa"]), &file)?;
     }
     Ok(())
 }
@@ -174,48 +180,111 @@ fn armed(alloc: Global, at: u32, leaves: Leaves) -> Result<Journal<MemoryDisk>, 
     Ok(journal)
 }
 
+// The disk stops at that stroke of an append: what is answered then, and what stands after the crash.
+fn stops(
+    rt: &impl std::process::Abort,
+    alloc: Global,
+    at: u32,
+    leaves: Leaves,
+) -> Result<(), Fail> {
+    let mut journal = armed(alloc, at, leaves)?;
+    assert_eq!(rt;
+        journal.append(&[2, 3]),
+        Err(JournalRefusal::DiskFault),
+        "at {at}"
+    );
+    assert!(rt; journal.stopped());
+    assert_eq!(rt;
+        journal.append(&[4]),
+        Err(JournalRefusal::Closed),
+        "at {at}"
+    );
+    let mut disk = journal.into_disk();
+    disk.crash();
+    let (mut journal, records) = open(alloc, disk).ok().ok_or("after the crash")?;
+    let stands = at >= 3 && leaves == Leaves::Keep;
+    assert_eq!(rt;
+        are(&records, &[&[1], &[2, 3]]),
+        stands,
+        "at {at}, {leaves:?}"
+    );
+    assert_eq!(rt; are(&records, &[&[1]]), !stands, "at {at}, {leaves:?}");
+    assert_eq!(rt; journal.append(&[5]), Ok(()));
+    Ok(())
+}
+
+// The disk would stop behind an append, and is disarmed.
+fn passes(rt: &impl std::process::Abort, alloc: Global, leaves: Leaves) -> Result<(), Fail> {
+    let mut journal = armed(alloc, 5, leaves)?;
+    assert_eq!(rt; journal.append(&[2, 3]), Ok(()));
+    assert!(rt; !journal.stopped());
+    journal.disarm();
+    assert_eq!(rt; journal.append(&[4]), Ok(()));
+    let mut disk = journal.into_disk();
+    disk.crash();
+    let (_, records) = open(alloc, disk).ok().ok_or("after the crash")?;
+    assert!(rt; are(&records, &[&[1], &[2, 3], &[4]]), "{leaves:?}");
+    Ok(())
+}
+
 #[test]
 fn a_stop_at_each_stroke_of_an_append(rt: HostRuntime) -> Result<(), Fail> {
     let alloc = rt.alloc();
-    for at in 1..=4 {
-        for leaves in [Leaves::Drop, Leaves::Keep, Leaves::Torn] {
-            let mut journal = armed(alloc, at, leaves)?;
-            assert_eq!(rt;
-                journal.append(&[2, 3]),
-                Err(JournalRefusal::DiskFault),
-                "at {at}"
-            );
-            assert!(rt; journal.stopped());
-            assert_eq!(rt;
-                journal.append(&[4]),
-                Err(JournalRefusal::Closed),
-                "at {at}"
-            );
-            let mut disk = journal.into_disk();
-            disk.crash();
-            let (mut journal, records) = open(alloc, disk).ok().ok_or("after the crash")?;
-            let kept = at >= 3 && leaves == Leaves::Keep;
-            let want = if kept {
-                &[&[1][..], &[2, 3][..]][..]
-            } else {
-                &[&[1][..]][..]
-            };
-            assert!(rt; are(&records, want), "at {at}, {leaves:?}");
-            assert_eq!(rt; journal.append(&[5]), Ok(()));
-        }
-    }
-    // A stop behind the append leaves it.
     for leaves in [Leaves::Drop, Leaves::Keep, Leaves::Torn] {
-        let mut journal = armed(alloc, 5, leaves)?;
-        assert_eq!(rt; journal.append(&[2, 3]), Ok(()));
-        assert!(rt; !journal.stopped());
-        journal.disarm();
-        assert_eq!(rt; journal.append(&[4]), Ok(()));
-        let mut disk = journal.into_disk();
-        disk.crash();
-        let (_, records) = open(alloc, disk).ok().ok_or("after the crash")?;
-        assert!(rt; are(&records, &[&[1], &[2, 3], &[4]]), "{leaves:?}");
+        for at in 1..=4 {
+            stops(&rt, alloc, at, leaves)?;
+        }
+        passes(&rt, alloc, leaves)?;
     }
+    Ok(())
+}
+
+// The call of that number fails, if the opening makes as many.
+fn open_fails(
+    rt: &impl std::process::Abort,
+    alloc: Global,
+    file: &[u8],
+    call: u64,
+    fails: bool,
+) -> Result<(), Fail> {
+    let mut disk = disk_with(alloc, file)?;
+    disk.fail_at(call)?;
+    let cause = open(alloc, &mut disk).err();
+    assert_eq!(rt;
+        cause,
+        if fails {
+            Some(OpenCause::DiskFault)
+        } else {
+            None
+        },
+        "at {call}"
+    );
+    Ok(())
+}
+
+// That stroke of an append fails.
+fn append_fails(rt: &impl std::process::Abort, alloc: Global, stroke: u64) -> Result<(), Fail> {
+    let mut disk = disk_with(alloc, b"RSYNCJ01\x00\x00")?;
+    disk.fail_at(stroke.saturating_add(3))?;
+    let (mut journal, _) = open(alloc, &mut disk).ok().ok_or("a journal")?;
+    assert_eq!(rt;
+        journal.append(&[1]),
+        Err(JournalRefusal::DiskFault),
+        "at {stroke}"
+    );
+    assert_eq!(rt;
+        journal.append(&[2]),
+        Err(JournalRefusal::Closed),
+        "at {stroke}"
+    );
+    let (mut journal, records) = open(alloc, &mut disk).ok().ok_or("after the fault")?;
+    // Only where the gate was written is the record there.
+    assert_eq!(rt;
+        records.len(),
+        if stroke == 4 { 1 } else { 0 },
+        "at {stroke}"
+    );
+    assert_eq!(rt; journal.append(&[3]), Ok(()));
     Ok(())
 }
 
@@ -223,38 +292,18 @@ fn a_stop_at_each_stroke_of_an_append(rt: HostRuntime) -> Result<(), Fail> {
 fn a_fault_at_each_disk_call(rt: HostRuntime) -> Result<(), Fail> {
     let alloc = rt.alloc();
     // A small file is synced, measured, read, written and synced, and any other one isn't written.
-    for (file, calls) in [(&b""[..], 5), (&b"RSYNCJ01\x01\x00\x00\x00\x00\x00"[..], 3)] {
-        for call in 1..=calls + 1 {
-            let mut disk = disk_with(alloc, file)?;
-            disk.fail_at(call)?;
-            let cause = open(alloc, &mut disk).err();
-            let want = if call <= calls {
-                Some(OpenCause::DiskFault)
-            } else {
-                None
-            };
-            assert_eq!(rt; cause, want, "at {call}");
-        }
+    for call in 1..=6 {
+        open_fails(&rt, alloc, b"", call, call <= 5)?;
+        open_fails(
+            &rt,
+            alloc,
+            b"RSYNCJ01\x01\x00\x00\x00\x00\x00",
+            call,
+            call <= 3,
+        )?;
     }
-    for call in 1..=4 {
-        let mut disk = MemoryDisk::new(alloc)?;
-        let (journal, _) = open(alloc, &mut disk).ok().ok_or("an empty disk")?;
-        journal.into_disk().fail_at(call + 5)?;
-        let (mut journal, _) = open(alloc, &mut disk).ok().ok_or("again")?;
-        assert_eq!(rt;
-            journal.append(&[1]),
-            Err(JournalRefusal::DiskFault),
-            "at {call}"
-        );
-        assert_eq!(rt;
-            journal.append(&[2]),
-            Err(JournalRefusal::Closed),
-            "at {call}"
-        );
-        let (mut journal, records) = open(alloc, &mut disk).ok().ok_or("after the fault")?;
-        // Only where the gate was written is the record there.
-        assert_eq!(rt; records.len(), if call == 4 { 1 } else { 0 }, "at {call}");
-        assert_eq!(rt; journal.append(&[3]), Ok(()));
+    for stroke in 1..=4 {
+        append_fails(&rt, alloc, stroke)?;
     }
     Ok(())
 }
