@@ -1,0 +1,47 @@
+-- When a cell refuses an edit.
+use Rattle.std.specs.Prelude.{◌≡◌, ℕ, ℤ, Bool, true, false, if◌then◌else◌, List, Option, None, Some, Result, Ok, Err}
+use Rattle.sync_data.specs.declared.value.Value.{Value}
+use Rattle.sync_data.specs.declared.value.Value.TheVariants as values
+use Rattle.sync_base.specs.States.{Cell, One, Many, Members, Dict, cell_rank}
+use Rattle.sync_base.specs.Effects.{Edit}
+use Rattle.sync_base.specs.Checks.{has_shape, is_prior}
+use Rattle.sync_cells.specs.declared.refusal.CellRefusal.{CellRefusal}
+use Rattle.sync_cells.specs.declared.refusal.CellRefusal.TheVariants as refusals
+use Rattle.sync_cells.specs.declared.refusal.WrongShape.{WrongShape}
+
+-- a wrong shape alone is refused
+abbrev pub shape_refusal : Edit → Cell → Option CellRefusal
+shape_refusal e x = if has_shape e (cell_rank x) then None else Some refusals.WrongShape
+
+-- then a prior length that isn't the list's
+abbrev pub list_refusal : Edit → Cell → Option CellRefusal
+list_refusal e x = if has_shape e (cell_rank x) then (if is_prior e x then None else Some refusals.BadPrior) else Some refusals.WrongShape
+
+-- to an integer or null something may be added
+abbrev pub is_summand : Value → Bool
+is_summand (values.Int n) = true
+is_summand values.Null = true
+is_summand v = false
+
+abbrev pub sum_refusal : Cell → Option CellRefusal
+sum_refusal (One v) = if is_summand v then None else Some refusals.WrongKind
+sum_refusal x = Some refusals.WrongShape
+
+-- the answer of a call that takes no memory
+abbrev pub answer_of : Option CellRefusal → Result (Unit {0}) CellRefusal
+answer_of None = Ok tt
+answer_of (Some e) = Err e
+
+abbrev pub shape_answer : Bool → Result (Unit {0}) WrongShape
+shape_answer true = Ok tt
+shape_answer false = Err (record {})
+
+-- the refusal itself, where it isn't want of memory
+abbrev pub cause_of : CellRefusal → Option CellRefusal
+cause_of refusals.NoMemory = None
+cause_of e = Some e
+
+-- what is refused is the refusal found, and where none is found want of memory alone
+abbrev pub IsRefusedBy : Option CellRefusal → Result (Unit {0}) CellRefusal → Type 0
+IsRefusedBy found (Ok u) = found ≡ None
+IsRefusedBy found (Err e) = found ≡ cause_of e

@@ -1,0 +1,19 @@
+//! The cell of an object: one value, a list, a set, or a dictionary by text keys.
+#![tactic(auto)]
+
+mod cell;
+mod content;
+mod dict;
+mod edit;
+mod inverse;
+mod list;
+mod refusal;
+mod set;
+#[cfg(test)]
+mod tests;
+
+pub use cell::Cell;
+pub use content::Content;
+pub use edit::{Edit, Former};
+pub use inverse::inverse_of;
+pub use refusal::{CellRefusal, WrongShape};

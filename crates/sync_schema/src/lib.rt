@@ -1,0 +1,13 @@
+//! The schema: tables with the kind of their keys, and their columns.
+#![tactic(auto)]
+
+mod kinds;
+mod refusal;
+mod schema;
+mod table;
+#[cfg(test)]
+mod tests;
+
+pub use kinds::{is_of_kind, is_sound};
+pub use refusal::SchemaRefusal;
+pub use schema::Schema;
