@@ -16,8 +16,9 @@ pub loop-name-preserved : goal.loop-name-preserved
 loop-name-preserved c =
     let put = was_ok c.insert.result c.if-is_err.ensures.value c.insert.ensures.updates in
     let name : c.in_ok-copy.field-0 ≡ c.in-Some.name.now = cc c.in_ok-copy.ensures.equal in
+    let def : c.in_ok-copy-2.field-0 ≡ c.in-Some.def.now = cc c.in_ok-copy-2.ensures.equal in
     let now = inserted_name c.loop-name.columns c.insert.new.self _ _ put.0 in
-    ap (λ m. filled (λ v. v) m c.next.new.self) (now ∙ (λ i. map.insert (map.from_entries {R = name_cmp} c.loop-name.columns.entries) (name i) (c.in_ok-copy-2.ensures.equal i))) ∙ ap (filled (λ v. v) (map.from_entries {R = name_cmp} c.loop-name.columns.entries)) (sym c.in-Some.ensures.steps) ∙ c.loop-name.invariant
+    ap (λ m. filled (λ v. v) m c.next.new.self) (now ∙ (λ i. map.insert (map.from_entries {R = name_cmp} c.loop-name.columns.entries) (name i) (def i))) ∙ ap (filled (λ v. v) (map.from_entries {R = name_cmp} c.loop-name.columns.entries)) (sym c.in-Some.ensures.steps) ∙ c.loop-name.invariant
 
 pub returns : goal.returns
 returns c =
