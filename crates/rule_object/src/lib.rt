@@ -1,0 +1,39 @@
+//! What is left where an object is created or erased, and words that the other rules share.
+#![tactic(auto)]
+
+mod apart;
+#[cfg(test)]
+mod tests;
+mod words;
+
+use sync_base::{
+    CreateObject, EraseObject, Meets, Mismatch, Outcome, keep_both, keep_neither, same_object,
+};
+pub use words::{is_erased, later_wins, left_wins, right_wins};
+
+/// The rules of CreateObject and EraseObject, also where they meet AddTable and AddColumn.
+pub struct ObjectRules;
+
+impl Meets<CreateObject, EraseObject> for ObjectRules {
+    fn meet(left: CreateObject, right: EraseObject, _: bool) -> Result<Outcome, Mismatch> {
+        let clash = same_object(&left.table, &left.key, &right.table, &right.key);
+        right_wins(clash, left, right)
+    }
+}
+
+impl Meets<EraseObject, CreateObject> for ObjectRules {
+    fn meet(left: EraseObject, right: CreateObject, _: bool) -> Result<Outcome, Mismatch> {
+        let clash = same_object(&left.table, &left.key, &right.table, &right.key);
+        left_wins(clash, left, right)
+    }
+}
+
+impl Meets<EraseObject, EraseObject> for ObjectRules {
+    fn meet(left: EraseObject, right: EraseObject, _: bool) -> Result<Outcome, Mismatch> {
+        if same_object(&left.table, &left.key, &right.table, &right.key) {
+            keep_neither()
+        } else {
+            keep_both(left, right)
+        }
+    }
+}
