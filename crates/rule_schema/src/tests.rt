@@ -6,6 +6,7 @@ use sync_base::{Column, KeyKind, Kind, Name, Shape};
 type Stays = Result<(bool, bool), Mismatch>;
 
 const BOTH: Stays = Ok((true, true));
+
 const NEITHER: Stays = Ok((false, false));
 
 fn table(name: &str, key: KeyKind) -> Result<AddTable, Fail> {
