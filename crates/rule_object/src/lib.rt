@@ -1,15 +1,14 @@
-//! What is left where an object is created or erased, and words that the other rules share.
+//! What is left where an object is created or erased.
 #![tactic(auto)]
 
 mod apart;
 #[cfg(test)]
 mod tests;
-mod words;
 
 use sync_base::{
-    CreateObject, EraseObject, Meets, Mismatch, Outcome, keep_both, keep_neither, same_object,
+    CreateObject, EraseObject, Meets, Mismatch, Outcome, keep_both, keep_neither, left_wins,
+    right_wins, same_object,
 };
-pub use words::{is_erased, later_wins, left_wins, right_wins};
 
 /// The rules of CreateObject and EraseObject, also where they meet AddTable and AddColumn.
 pub struct ObjectRules;

@@ -6,6 +6,7 @@ mod answers;
 mod laws;
 mod meets;
 mod same;
+mod sides;
 #[cfg(test)]
 mod tests;
 
@@ -19,6 +20,7 @@ pub use meets::{Meets, keep_both, keep_left, keep_neither, keep_right};
 pub use same::{
     same_cell, same_columns, same_key_kind, same_name, same_object, same_text_key, same_value,
 };
+pub use sides::{erases, is_erased, later_wins, left_wins, right_wins};
 pub use sync_data::{
     AddColumn, AddInteger, AddTable, BadPlace, BadTime, Between, Blob, CellName, Changeset, Clear,
     Column, CreateObject, DictUpdate, Entry, EraseObject, Id, Ident, Inside, Instr, Key, KeyKind,

@@ -3,9 +3,11 @@ ghost use Rattle.std.specs.Ordering.{eq_by_cmp};
 ghost use Rattle.sync_base.specs.Effects.{path_of};
 ghost use Rattle.sync_base.specs.States.{object_cmp};
 
-use sync_base::{
-    Act, CellName, EraseObject, Mismatch, Outcome, keep_both, keep_left, keep_right, same_object,
-};
+use super::act::Act;
+use super::answers::{Mismatch, Outcome};
+use super::meets::{keep_both, keep_left, keep_right};
+use super::same::same_object;
+use sync_data::{CellName, EraseObject};
 
 /// Where the sides clash, the left alone stays; else both.
 pub fn left_wins<A: Act, B: Act + Drop>(clash: bool, left: A, right: B) -> Result<Outcome, Mismatch>
@@ -55,4 +57,11 @@ pub fn is_erased(cell: &CellName, erase: &EraseObject) -> bool
     ensures { result ≡ eq_by_cmp object_cmp (path_of cell.now).0 (erase.now.table, erase.now.key) }
 {
     same_object(&cell.table, &cell.key, &erase.table, &erase.key)
+}
+
+/// Whether the erased object is the cell's.
+pub fn erases(erase: &EraseObject, cell: &CellName) -> bool
+    ensures { result ≡ eq_by_cmp object_cmp (erase.now.table, erase.now.key) (path_of cell.now).0 }
+{
+    same_object(&erase.table, &erase.key, &cell.table, &cell.key)
 }
