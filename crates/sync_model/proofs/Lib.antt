@@ -1,5 +1,6 @@
 pub mod Bytes
 mod Examples
+pub mod Small
 pub mod Stamps
 pub mod Lists
 pub mod Moves

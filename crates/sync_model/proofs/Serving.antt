@@ -10,19 +10,22 @@ use Rattle.sync_theory.proofs.Recip.{carry_carried}
 use Rattle.sync_theory.proofs.Server.{test_true}
 use Rattle.sync_theory.specs.Changesets.{Changeset}
 use Rattle.sync_theory.specs.Lists.{ok_state}
-use Rattle.sync_model.specs.Profile.{Profile, Stuck, apply_all, act_changeset, cross_changesets, Lawful, needs, fitting, IsNamedKind}
+use Rattle.sync_model.specs.Profile.{Profile, Stuck, apply_all, act_changeset, cross_changesets, is_small, Lawful, needs, fitting, IsNamedKind}
 use Rattle.sync_model.proofs.Mismatches.{carry_kind}
 use Rattle.sync_model.specs.Messages.{Change, Sent, Message, Bind, Ident, Upload, Ask, Download, Refused, Stored, Ask2}
 use Rattle.sync_model.specs.Clients.{Step, state_or, ok_list, change_of}
 use Rattle.sync_model.specs.Servers.{Server, ServerRecord, Client, Entry, Form, ServerStep, ServerRefusal, NumberGap, BaseBack, AheadOfHistory, HistoryFull, code_of, at_place, place_of, last_base, after_server, after_all, entry_of, made_in, history_of, state_of, entries_from, server_objects, count, new_records, merge_applied, merge_carried, carried_change, merge_read, merge, merged, serve_changes, sent_of, serve_bind, download, first_form, download_first, if_there, is_given, serve, refuses, replies}
 use Rattle.sync_model.specs.Worlds.{Node, at}
+use Rattle.sync_model.specs.Limits.{no_more, and_each}
 use Rattle.sync_model.specs.Log.{MayRefuse, IsFair}
 use Rattle.sync_theory.proofs.Integrate.{server_acts}
 use Rattle.sync_theory.proofs.Logs.{Rising}
+use Rattle.sync_model.proofs.Limits.{each_at, each_map}
+use Rattle.sync_model.proofs.Small.{SmallSets, SmallMade, SmallLog, entries_small, read_small, client_lists}
 use Rattle.sync_model.proofs.Stamps.{SameStamp, apply_is, carry_stamp, sets_law, sets_kinds}
 use Rattle.sync_model.proofs.Moves.{waiting_here, waiting_none}
 use Rattle.sync_model.proofs.Lists.{class, place_new, take_all, find_uuid, at_of_map, own_class, own_not_zero, most_at, last_below, rising_drop, drop_length}
-use Rattle.sync_model.proofs.Sim.{Numbered, no_numbers, a_number, uuid_of, uuids, Bears, no_entries, an_entry, Uploaded, a_change, Sim, TellsUpload, Mine, Tells, Later, HasForm, AllOld, no_more_old, an_old, Reads, longer}
+use Rattle.sync_model.proofs.Sim.{as_log, Numbered, no_numbers, a_number, uuid_of, uuids, Bears, no_entries, an_entry, Uploaded, a_change, Sim, TellsUpload, Mine, Tells, Later, HasForm, AllOld, no_more_old, an_old, Reads, longer}
 use Rattle.sync_model.proofs.Steps.{later_refl}
 use Rattle.sync_model.proofs.Idents.{with_id, bind_own, bind_foreign, form_sim}
 use Rattle.sync_model.proofs.Entries.{with_entry, entry_own, entry_own_later, entry_foreign, entry_foreign_later}
@@ -277,16 +280,30 @@ module _ {I S : Type 0} (p : Profile I S) where
 
     -- the changes of a client of the exchange
 
-    own_change : (n : Nodes (Changeset I) S) (c f : ℕ) (m : LogMade (Changeset I)) (h : Change) (is : List I) → Numbered c 1 (n.mades c) → at (n.mades c) f ≡ Some m → h ≡ change_of p (record { base = m.base; number = m.change.number; ms = m.change.ms; instrs = m.change.instrs }) → p.unspell h.body ≡ Ok is → made_of c h is ≡ m
-    own_change n c f m h is numbered here h_is read =
+    own_change : (n : Nodes (Changeset I) S) (c f : ℕ) (m : LogMade (Changeset I)) (h : Change) (is : List I) → Numbered c 1 (n.mades c) → at (n.mades c) f ≡ Some m → h ≡ change_of p (record { base = m.base; number = m.change.number; ms = m.change.ms; instrs = m.change.instrs }) → is_small p m.change.instrs ≡ true → p.unspell h.body ≡ Ok is → made_of c h is ≡ m
+    own_change n c f m h is numbered here h_is small read =
         let b = ap (λ z. z.base) h_is in
         let k = ap (λ z. z.number) h_is in
         let ms = ap (λ z. z.ms) h_is in
         let o = (numbered_at f m numbered here).1 in
         let body = ap (λ z. p.unspell z.body) h_is in
-        let back = law.spelled m.change.instrs in
+        let back = law.spelled m.change.instrs small in
         let instrs : is ≡ m.change.instrs = cc (read, body, back) in
         λ i. record { base = b i; change = record { origin = sym o i; number = k i; ms = ms i; instrs = instrs i } }
+
+    -- what a client of the exchange made is within the limits of a changeset
+    made_small : (s : Server I) (n : Nodes (Changeset I) S) (sim : Sim p s cls inj n) (c k : ℕ) (m : LogMade (Changeset I)) → class s.ids us c ≡ true → at (n.mades c) k ≡ Some m → is_small p m.change.instrs ≡ true
+    made_small s n sim c k m mine here =
+        let o = own_class s.ids us c mine in
+        let nd = at_of_map (uuid_of p) cls o.0 (Some o.1) o.2 in
+        let w = sim.clients o.0 nd.0 nd.1 in
+        let a = w.born in
+        let b = nd.2 in
+        let same : w.id ≡ o.1 = cc (a, b) in
+        let is : c ≡ place_of w.id s.ids = o.3 ∙ ap (λ x. place_of x s.ids) (sym same) in
+        ⊎_elim (λ f. absurd (own_not_zero s.ids us c mine (is ∙ f.0)))
+        (λ g. each_at (n.mades c) k m (subst (λ l. SmallMade p l) (sym (ap n.mades is ∙ g.1.mades)) (each_map (as_log (place_of w.id s.ids)) (λ q h. h) (client_lists p law nd.0.records).made)) here)
+        w.is
 
     pub serve_own : (hs : List Change) (s : Server I) (n : Nodes (Changeset I) S) (sim : Sim p s cls inj n) (c f : ℕ) → c ≢ 0 → c ≤ length s.ids → class s.ids us c ≡ true → f ≤ length (of_origin c n.log) → Uploaded p (n.mades c) f hs → (j : ℕ) → ServerNext s cls inj n (after_all p s (take j (serve_changes p s c hs).records))
     serve_own [] s n sim c f given there mine known up = silent s cls inj n sim
@@ -317,14 +334,14 @@ module _ {I S : Type 0} (p : Profile I S) where
             let b = count_is in
             let f_is : f ≡ length (of_origin c n.log) = omega arith in
             let g = merging s c h new r_is in
-            let same = own_change n c f m h g.instrs (sim.numbered c) here h_is g.read in
+            let same = own_change n c f m h g.instrs (sim.numbered c) here h_is (made_small s n sim c f m mine here) g.read in
             let ahead = sim.ahead c in
             let next : n.mades c ≡ of_origin c n.log ++ made_of c h g.instrs ∷ tail ahead.0 = at_end (of_origin c n.log) ahead.0 ahead.1 f_is ∙ ap (λ z. of_origin c n.log ++ z ∷ tail ahead.0) (sym same) in
             let o : Nodes (Changeset I) S = Rattle.sync_theory.specs.Logs.nodes_integrate n c (made_of c h g.instrs) g.entry g.state in
             let longer_ = ap length (Rattle.sync_model.proofs.Moves.origin_here c (made_of c h g.instrs) n.log) ∙ Rattle.sync_theory.proofs.Logs.length_snoc (of_origin c n.log) (made_of c h g.instrs) in
             cut_at s n sim c h new g o
-            (λ s1 sim1 l i. entry_own p s1 cls inj n sim1 c (made_of c h g.instrs) g.entry g.state (stamp_here s n sim c h new g) refl (carried_here s n sim c h new g) (acts_here s n sim c h new g) (tail ahead.0) next (ap (λ z. class z us c) i ∙ mine))
-            (entry_own_later p s cls inj n sim c (made_of c h g.instrs) g.entry g.state (stamp_here s n sim c h new g) refl (carried_here s n sim c h new g) (acts_here s n sim c h new g) (tail ahead.0) next mine)
+            (λ s1 sim1 l i. entry_own p s1 cls inj n sim1 c (made_of c h g.instrs) g.entry g.state (stamp_here s n sim c h new g) refl (read_small p law h.body g.instrs g.read) (carried_here s n sim c h new g) (acts_here s n sim c h new g) (tail ahead.0) next (ap (λ z. class z us c) i ∙ mine))
+            (entry_own_later p s cls inj n sim c (made_of c h g.instrs) g.entry g.state (stamp_here s n sim c h new g) refl (read_small p law h.body g.instrs g.read) (carried_here s n sim c h new g) (acts_here s n sim c h new g) (tail ahead.0) next mine)
             (serve_changes p (after_all p s new) c hs).records
             (λ s2 b1 m_is s2_is ids_are j.
             let up2 : Uploaded p (b1.m.mades c) (suc f) hs = subst (λ z. Uploaded p (z.mades c) (suc f) hs) (sym m_is) up in
@@ -389,7 +406,7 @@ module _ {I S : Type 0} (p : Profile I S) where
         in_history = let l = made_within s n sim c (length (of_origin c n.log)) m mine here in let f = ap length sim.log_is in let b = base_is in omega arith
 
         body_is : p.unspell h.body ≡ Ok m.change.instrs
-        body_is = ap (λ z. p.unspell z.body) h_is ∙ law.spelled m.change.instrs
+        body_is = ap (λ z. p.unspell z.body) h_is ∙ law.spelled m.change.instrs (made_small s n sim c (length (of_origin c n.log)) m mine here)
 
         open_is : Rattle.sync_theory.specs.Logs.open_of (n.mades c) n.log c ≡ m ∷ more
         open_is = ap (drop (length (of_origin c n.log))) next ∙ drop_length (of_origin c n.log) (m ∷ more)
@@ -459,19 +476,20 @@ module _ {I S : Type 0} (p : Profile I S) where
                 → f ≡ length (of_origin c n.log) → n.mades c ≡ of_origin c n.log ++ m ∷ tail (sim.ahead c).0
                 → IsFair (merged c h.number r (λ new. serve_changes p (after_all p s new) c hs)).answer
             on (Err why) r_is rec f_is next =
-                let back = ap (λ z. p.unspell z.body) h_is ∙ law.spelled m.change.instrs in
-                let same = own_change n c f m h m.change.instrs (sim.numbered c) here h_is back in
+                let small = made_small s n sim c f m mine here in
+                let back = ap (λ z. p.unspell z.body) h_is ∙ law.spelled m.change.instrs small in
+                let same = own_change n c f m h m.change.instrs (sim.numbered c) here h_is small back in
                 let a = number_is in
                 (why, refl, refl, own_fair s n sim c m (tail (sim.ahead c).0) h mine next h_is same (omega arith) why r_is)
             on (Ok new) r_is rec f_is next0 =
                 let g = merging s c h new r_is in
-                let same = own_change n c f m h g.instrs (sim.numbered c) here h_is g.read in
+                let same = own_change n c f m h g.instrs (sim.numbered c) here h_is (made_small s n sim c f m mine here) g.read in
                 let next : n.mades c ≡ of_origin c n.log ++ made_of c h g.instrs ∷ tail (sim.ahead c).0 = next0 ∙ ap (λ z. of_origin c n.log ++ z ∷ tail (sim.ahead c).0) (sym same) in
                 let o : Nodes (Changeset I) S = Rattle.sync_theory.specs.Logs.nodes_integrate n c (made_of c h g.instrs) g.entry g.state in
                 let longer_ = ap length (Rattle.sync_model.proofs.Moves.origin_here c (made_of c h g.instrs) n.log) ∙ Rattle.sync_theory.proofs.Logs.length_snoc (of_origin c n.log) (made_of c h g.instrs) in
                 let all = entered s n sim c h new g o
-                (λ s1 sim1 l i. entry_own p s1 cls inj n sim1 c (made_of c h g.instrs) g.entry g.state (stamp_here s n sim c h new g) refl (carried_here s n sim c h new g) (acts_here s n sim c h new g) (tail (sim.ahead c).0) next (ap (λ z. class z us c) i ∙ mine))
-                (entry_own_later p s cls inj n sim c (made_of c h g.instrs) g.entry g.state (stamp_here s n sim c h new g) refl (carried_here s n sim c h new g) (acts_here s n sim c h new g) (tail (sim.ahead c).0) next mine) in
+                (λ s1 sim1 l i. entry_own p s1 cls inj n sim1 c (made_of c h g.instrs) g.entry g.state (stamp_here s n sim c h new g) refl (read_small p law h.body g.instrs g.read) (carried_here s n sim c h new g) (acts_here s n sim c h new g) (tail (sim.ahead c).0) next (ap (λ z. class z us c) i ∙ mine))
+                (entry_own_later p s cls inj n sim c (made_of c h g.instrs) g.entry g.state (stamp_here s n sim c h new g) refl (read_small p law h.body g.instrs g.read) (carried_here s n sim c h new g) (acts_here s n sim c h new g) (tail (sim.ahead c).0) next mine) in
                 let m_is = all.is in
                 let up2 : Uploaded p (all.whole.m.mades c) (suc f) hs = subst (λ z. Uploaded p (z.mades c) (suc f) hs) (sym m_is) up in
                 let known2 : suc f ≤ length (of_origin c all.whole.m.log) = subst (λ z. suc f ≤ length (of_origin c z.log)) (sym m_is) (omega (arith, longer_)) in
@@ -499,8 +517,8 @@ module _ {I S : Type 0} (p : Profile I S) where
             let ahead = subst (λ l. h.base ≤ length l) (sym sim.log_is) g.ahead in
             let o : Nodes (Changeset I) S = Rattle.sync_model.proofs.Moves.nodes_foreign n c (made_of c h g.instrs) g.entry g.state in
             cut_at s n sim c h new g o
-            (λ s1 sim1 l i. entry_foreign p s1 cls inj n sim1 c (made_of c h g.instrs) g.entry g.state (stamp_here s n sim c h new g) refl (carried_here s n sim c h new g) (acts_here s n sim c h new g) (ap (λ z. class z us c) i ∙ theirs) given (subst (λ z. c ≤ length z) (sym i) there) number back ahead)
-            (entry_foreign_later p s cls inj n sim c (made_of c h g.instrs) g.entry g.state (stamp_here s n sim c h new g) refl (carried_here s n sim c h new g) (acts_here s n sim c h new g) theirs given there number back ahead)
+            (λ s1 sim1 l i. entry_foreign p s1 cls inj n sim1 c (made_of c h g.instrs) g.entry g.state (stamp_here s n sim c h new g) refl (read_small p law h.body g.instrs g.read) (carried_here s n sim c h new g) (acts_here s n sim c h new g) (ap (λ z. class z us c) i ∙ theirs) given (subst (λ z. c ≤ length z) (sym i) there) number back ahead)
+            (entry_foreign_later p s cls inj n sim c (made_of c h g.instrs) g.entry g.state (stamp_here s n sim c h new g) refl (read_small p law h.body g.instrs g.read) (carried_here s n sim c h new g) (acts_here s n sim c h new g) theirs given there number back ahead)
             (serve_changes p (after_all p s new) c hs).records
             (λ s2 b1 m_is s2_is ids_are j.
             subst (λ z. ServerNext s2 cls inj b1.m (after_all p s2 (take j (serve_changes p z c hs).records))) s2_is
@@ -541,28 +559,28 @@ module _ {I S : Type 0} (p : Profile I S) where
         go true r = an_old h r
         go false r = no_more_old
 
-    old_first : (xs : List (Changeset I)) → AllOld p (map (sent_of p) (first_form p xs))
-    old_first [] = no_more_old
-    old_first (x ∷ xs) = go (needs p x.instrs) refl (old_first xs)
+    old_first : (xs : List (Changeset I)) → SmallSets p xs → AllOld p (map (sent_of p) (first_form p xs))
+    old_first [] no_more = no_more_old
+    old_first (x ∷ xs) (and_each small smalls) = go (needs p x.instrs) refl (old_first xs smalls)
       where
         go : (t : Bool) → needs p x.instrs ≡ t → AllOld p (map (sent_of p) (first_form p xs)) → AllOld p (map (sent_of p) (if t then [] else x ∷ first_form p xs))
         go true is r = no_more_old
-        go false is r = an_old (ap (λ q. needs p (ok_list q)) (law.spelled x.instrs) ∙ is) r
+        go false is r = an_old (ap (λ q. needs p (ok_list q)) (law.spelled x.instrs small) ∙ is) r
 
     module _ (s : Server I) (n : Nodes (Changeset I) S) (sim : Sim p s cls inj n) where
       downloaded : (c cursor : ℕ) (xs : List (Changeset I)) → c ≢ 0 → c ≤ length s.ids → Bears p n cursor (map (sent_of p) xs) → (class s.ids us c ≡ true → Reads p n cls s.ids c cursor (map (sent_of p) xs)) → Served s cls inj n (download p c cursor xs)
       downloaded c cursor xs given there b reads = answered s cls inj n sim (Download c cursor (fitting (λ e. length e.body) p.most p.room (map (sent_of p) xs)))
           (given, bears_fitting n cursor p.most p.room (map (sent_of p) xs) b, there, λ own. let r = reads own in record { before = r.before; form = ⊎_elim (λ o. inl (old_fitting p.most p.room (map (sent_of p) xs) o)) (λ f. inr f) r.form })
 
-      downloaded_first : (c cursor : ℕ) (xs : List (Changeset I)) → c ≢ 0 → c ≤ length s.ids → Bears p n cursor (map (sent_of p) xs) → (class s.ids us c ≡ true → cursor ≤ n.cursor c) → Served s cls inj n (download_first p c cursor xs)
-      downloaded_first c cursor [] given there b before = downloaded c cursor [] given there b (λ own. record { before = before own; form = inl no_more_old })
-      downloaded_first c cursor (x ∷ xs) given there b before = go (needs p x.instrs) (downloaded c cursor (first_form p (x ∷ xs)) given there (bears_first n cursor (x ∷ xs) b) (λ own. record { before = before own; form = inl (old_first (x ∷ xs)) }))
+      downloaded_first : (c cursor : ℕ) (xs : List (Changeset I)) → SmallSets p xs → c ≢ 0 → c ≤ length s.ids → Bears p n cursor (map (sent_of p) xs) → (class s.ids us c ≡ true → cursor ≤ n.cursor c) → Served s cls inj n (download_first p c cursor xs)
+      downloaded_first c cursor [] smalls given there b before = downloaded c cursor [] given there b (λ own. record { before = before own; form = inl no_more_old })
+      downloaded_first c cursor (x ∷ xs) smalls given there b before = go (needs p x.instrs) (downloaded c cursor (first_form p (x ∷ xs)) given there (bears_first n cursor (x ∷ xs) b) (λ own. record { before = before own; form = inl (old_first (x ∷ xs) smalls) }))
         where
           go : (t : Bool) → Served s cls inj n (download p c cursor (first_form p (x ∷ xs))) → Served s cls inj n (if t then refuses c 0 (Rattle.sync_model.specs.Servers.NeedsForm2 cursor) else download p c cursor (first_form p (x ∷ xs)))
           go true r = answered s cls inj n sim _ tt
           go false r = r
 
-      asked : (c cursor : ℕ) (go : List (Changeset I) → ServerStep) → (c ≢ 0 → c ≤ length s.ids → (xs : List (Changeset I)) → Bears p n cursor (map (sent_of p) xs) → Served s cls inj n (go xs)) → Served s cls inj n (if_there p s c cursor go)
+      asked : (c cursor : ℕ) (go : List (Changeset I) → ServerStep) → (c ≢ 0 → c ≤ length s.ids → (xs : List (Changeset I)) → SmallSets p xs → Bears p n cursor (map (sent_of p) xs) → Served s cls inj n (go xs)) → Served s cls inj n (if_there p s c cursor go)
       asked c cursor go then_ = first (is_given s c) refl (nat_lt (length s.log) cursor) refl
         where
           given_then : (a b : Bool) → (a && b) ≡ true → (a ≡ true) × (b ≡ true)
@@ -580,7 +598,7 @@ module _ {I S : Type 0} (p : Profile I S) where
               let there : c ≤ length s.ids = grind (arith, nat_tests) in
               let in_history : cursor ≤ length s.log = ltb-false (length s.log) cursor b_is in
               let l = ap length sim.log_is in
-              then_ given there (entries_from p s.log (length s.log - cursor) cursor) (entries_bear s n sim (length s.log - cursor) cursor (omega arith))
+              then_ given there (entries_from p s.log (length s.log - cursor) cursor) (entries_small p law s.log (subst (λ l. SmallLog p l) sim.log_is sim.small) (length s.log - cursor) cursor) (entries_bear s n sim (length s.log - cursor) cursor (omega arith))
 
       -- ---- any message
 
@@ -650,8 +668,8 @@ module _ {I S : Type 0} (p : Profile I S) where
               let r : c ≤ length s.ids = grind (arith, nat_tests) in
               uploaded c hs comes (λ z. omega arith) r
           go false a_is = answered s cls inj n sim _ tt
-      served (Ask c cursor settled) comes = asked c cursor (download_first p c cursor) (λ given there xs b. downloaded_first c cursor xs given there b comes)
-      served (Ask2 c cursor settled) comes = asked c cursor (download p c cursor) (λ given there xs b. downloaded c cursor xs given there b (λ own. let x = comes own in record { before = x.0; form = inr x.1 }))
+      served (Ask c cursor settled) comes = asked c cursor (download_first p c cursor) (λ given there xs smalls b. downloaded_first c cursor xs smalls given there b comes)
+      served (Ask2 c cursor settled) comes = asked c cursor (download p c cursor) (λ given there xs smalls b. downloaded c cursor xs given there b (λ own. let x = comes own in record { before = x.0; form = inr x.1 }))
       served (Ident u c) comes = answered s cls inj n sim _ tt
       served (Download c from es) comes = answered s cls inj n sim _ tt
       served (Refused c number code place) comes = answered s cls inj n sim _ tt

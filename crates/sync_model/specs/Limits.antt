@@ -1,10 +1,11 @@
 -- The limits of messages and records, and what holds of the numbers of nodes.
-use Rattle.std.specs.Prelude.{◌≡◌, ◌≢◌, ◌≤◌, ◌+◌, ℕ, List, [], ◌∷◌, Some, length, sum_by}
+use Rattle.std.specs.Prelude.{◌≡◌, ◌≢◌, ◌≤◌, ◌+◌, ℕ, true, List, [], ◌∷◌, Some, length, sum_by}
+use Rattle.sync_theory.specs.Changesets.{Changeset}
 use Rattle.sync_theory.specs.Logs.{of_origin}
-use Rattle.sync_model.specs.Profile.{Profile}
+use Rattle.sync_model.specs.Profile.{Profile, is_small}
 use Rattle.sync_model.specs.Messages.{Change, Sent, Message, Bind, Ident, Upload, Ask, Download, Refused, Stored, Ask2}
 use Rattle.sync_model.specs.Clients.{Client, ClientRecord, Born, Named, Made, Took, Form, Unsent}
-use Rattle.sync_model.specs.Servers.{Server, ServerRecord, Entry, count, last_base}
+use Rattle.sync_model.specs.Servers.{Server, ServerRecord, Entry, count, last_base, history_of}
 use Rattle.sync_model.specs.Worlds.{Node, World, at}
 
 -- each of a list
@@ -97,3 +98,20 @@ module _ {I S : Type 0} (p : Profile I S) where
     pub messages : (k : ℕ) (m : Message) → at w.messages k ≡ Some m → IsMessage m
     pub clients : (i : ℕ) (nd : Node) → at w.clients i ≡ Some nd → Each IsClientRecord nd.records
     pub server : Each IsServerRecord w.server
+
+  -- ---- the lists of nodes
+
+  -- each is within the limits of a changeset: as a client made it, and as it was carried since
+  pub record ClientLists (c : Client I S) : Type 0 where
+    pub made : Each (λ o. is_small p o.instrs ≡ true) c.made
+    pub unsent : Each (λ u. (is_small p u.original.instrs ≡ true) × (is_small p u.current ≡ true)) c.unsent
+
+  -- and so are a server's originals and the entries of its history
+  pub record ServerLists (s : Server I) : Type 0 where
+    pub originals : Each (λ e. is_small p e.change.instrs ≡ true) s.log
+    pub history : (k : ℕ) (x : Changeset I) → history_of p s.log k ≡ Some x → is_small p x.instrs ≡ true
+
+  -- where two changesets cross, what is left of one within the limits is within them
+  pub record CrossSmall (a b x y : Changeset I) : Type 0 where
+    pub left : is_small p a.instrs ≡ true → is_small p x.instrs ≡ true
+    pub right : is_small p b.instrs ≡ true → is_small p y.instrs ≡ true

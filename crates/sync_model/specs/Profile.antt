@@ -1,5 +1,5 @@
 -- What the nodes stand on: instructions, states, the rule table, the spelling of changesets, and the limits.
-use Rattle.std.specs.Prelude.{◌≡◌, ◌⊎◌, ℕ, zero, suc, ◌-◌, Bool, false, ◌||◌, List, [], ◌∷◌, Option, Some, Result, Ok, Err, IfOk, IfErr, nat_le, if◌then◌else◌}
+use Rattle.std.specs.Prelude.{◌≡◌, ◌⊎◌, ◌≤◌, ℕ, zero, suc, ◌-◌, Bool, true, false, ◌&&◌, ◌||◌, List, [], ◌∷◌, Option, Some, None, Result, Ok, Err, IfOk, IfErr, nat_le, if◌then◌else◌, length, sum_by}
 use Rattle.sync_theory.specs.Changesets.{Changeset, cross_sets, act_set}
 use Rattle.sync_theory.specs.Lists.{ok_state, Keeps, TwoSided}
 use Rattle.sync_model.specs.Bytes.{Bytes}
@@ -17,8 +17,11 @@ pub record Profile (I S : Type 0) : Type 0 where
   pub spell : List I → Bytes
   -- and back, or the offset and the rule of the first fault
   pub unspell : Bytes → Result (List I) (ℕ × ℕ)
-  -- the limits of a changeset hold
-  pub is_small : List I → Bool
+  -- the bytes that an instruction carries
+  pub weight : I → ℕ
+  -- the most instructions of a changeset, and the most bytes that they carry together
+  pub most_instrs : ℕ
+  pub most_weight : ℕ
   -- version 1 of the bytes has no form for it
   pub needs_second : I → Bool
   -- the most changes of a message, the most bytes of its bodies, and the greatest number, length and ident
@@ -68,6 +71,15 @@ module _ {I S : Type 0} (p : Profile I S) where
   abbrev pub cross_changesets : Meet (Changeset I) Stuck
   cross_changesets = cross_sets p.meet
 
+  -- the limits of a changeset hold
+  abbrev pub is_small : List I → Bool
+  is_small is = nat_le (length is) p.most_instrs && nat_le (sum_by p.weight is) p.most_weight
+
+  -- what is left of an instruction carries no more bytes
+  abbrev pub IsNoHeavier : I → Option I → Type 0
+  IsNoHeavier i None = Unit {0}
+  IsNoHeavier i (Some j) = p.weight j ≤ p.weight i
+
   -- some instruction of the list needs version 2
   abbrev pub needs : List I → Bool
   needs [] = false
@@ -84,5 +96,8 @@ module _ {I S : Type 0} (p : Profile I S) where
     pub keeps : Keeps Fits act
     pub two_sided : (later : Bool) → TwoSided Fits act (λ a b. p.meet a b later)
     pub kinds : (later : Bool) (a b : I) (s sa sb : S) → Fits s → act a s ≡ Some sa → act b s ≡ Some sb → IfErr (p.meet a b later) IsNamedKind
-    pub spelled : (is : List I) → p.unspell (p.spell is) ≡ Ok is
+    pub weighs : (later : Bool) (a b : I) → IfOk (p.meet a b later) (λ o. IsNoHeavier a o.0 × IsNoHeavier b o.1)
+    -- a list within the limits is read back from its bytes; only such lists are read, each from its own bytes alone
+    pub spelled : (is : List I) → is_small is ≡ true → p.unspell (p.spell is) ≡ Ok is
+    pub read_small : (bytes : Bytes) → IfOk (p.unspell bytes) (λ is. is_small is ≡ true)
     pub spelling : (bytes : Bytes) → IfOk (p.unspell bytes) (λ is. p.spell is ≡ bytes)

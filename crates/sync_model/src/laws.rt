@@ -1,11 +1,13 @@
 ghost use Rattle.std.specs.Prelude.{IfOk, List, None, Ok, Option, Some, false, map, take, true, ◌++◌, ◌<◌, ℕ, ◌≡◌};
+ghost use Rattle.sync_theory.specs.Changesets.{Changeset};
 ghost use Rattle.sync_model.specs.Bytes.{Bytes, Name, Uuid};
 ghost use Rattle.sync_model.specs.Clients.{ClientRecord, ask, bind, born, client_of, commit, no_client, take as take_message, upgrade, upload};
 ghost use Rattle.sync_model.specs.Files.{FilesOpen, client_opens, client_reads, server_opens, server_reads};
-ghost use Rattle.sync_model.specs.Limits.{ClientNumbers, Each, IsClientRecord, IsMessage, IsServerRecord, ServerNumbers, WorldNumbers};
+ghost use Rattle.sync_model.specs.Limits.{ClientLists, ClientNumbers, CrossSmall, Each, IsClientRecord, IsMessage, IsServerRecord, ServerLists, ServerNumbers, WorldNumbers};
 ghost use Rattle.sync_model.specs.Log.{Stands, WorldFacts};
 ghost use Rattle.sync_model.specs.Messages.{Change, Message};
 ghost use Rattle.sync_model.specs.Parts.{at_ident, given_of, merge_by, merged_of, parts_of, serve_by, served_of};
+ghost use Rattle.sync_model.specs.Profile.{cross_changesets};
 ghost use Rattle.sync_model.specs.Reports.{report_by_log, report_of};
 ghost use Rattle.sync_model.specs.Servers.{ServerRecord, count, is_given, merge, no_server, serve, server_of};
 ghost use Rattle.sync_model.specs.Worlds.{ClientsGrow, Edits, Event, IsReached, Made, World, empty_world, happens, world_after};
@@ -74,6 +76,14 @@ pub fn nodes_stay_within_limits<E: Exchange>()
     ensures servers { (records : List ServerRecord) → server_opens E.profile no_server records ≡ true → ServerNumbers E.profile (server_of E.profile records) }
     ensures entries { (records : List ServerRecord) → server_opens E.profile no_server records ≡ true → Each (IsServerRecord E.profile) records }
     ensures replies { (records : List ServerRecord) (m : Message) → server_opens E.profile no_server records ≡ true → IsMessage E.profile (serve E.profile (server_of E.profile records) m).answer }
+{}
+
+/// Every list that a node spells is within the limits of a changeset, so that its bytes are read back: what clients
+/// made, what they have unsent as it was carried since, and the server's history. Crossing keeps lists within them.
+pub fn lists_stay_small<E: Exchange>()
+    ensures clients { (records : List ClientRecord) → ClientLists E.profile (client_of E.profile records) }
+    ensures servers { (records : List ServerRecord) → ServerLists E.profile (server_of E.profile records) }
+    ensures crossings { (a b x y : Changeset E.Instr) → cross_changesets E.profile a b ≡ Ok (x, y) → CrossSmall E.profile a b x y }
 {}
 
 /// A file that is read gives records that opening accepts, and records that opening accepts are read back from their
