@@ -1,0 +1,64 @@
+-- What an index knows of a list of instructions, and what it tells of an instruction that may meet them.
+use Rattle.std.specs.Prelude.{◌≡◌, Bool, true, false, not, List, [], ◌∷◌, Option, None, Some, is_some, Ok}
+use Rattle.std.specs.Option.{option_map_or, unwrap_or}
+use Rattle.std.specs.Ordering.{eq_by_cmp}
+use Rattle.std.specs.FinMap as map
+use Rattle.std.specs.FinSet as set
+use Rattle.sync_data.specs.Orders.{name_cmp, key_cmp}
+use Rattle.sync_data.specs.declared.instr.Instr.{Instr}
+use Rattle.sync_base.specs.Effects.{ObjectName, effect_of}
+use Rattle.sync_base.specs.States.{object_cmp}
+use Rattle.sync_base.specs.Objects.{object_of}
+use Rattle.sync_base.specs.Rules.{meeting}
+
+-- the objects that the instructions are about, by table, and whether one of them adds a table or a column
+pub record Touched : Type 0 where
+  pub objects : map.FinMap name_cmp (set.FinSet key_cmp)
+  pub schema : Bool
+
+abbrev pub has_object : Touched → ObjectName → Bool
+has_object t o = option_map_or (λ keys. set.contains keys o.1) (map.get t.objects o.0) false
+
+-- ---- what is indexed
+abbrev pub is_one : ObjectName → Option ObjectName → Bool
+is_one o None = false
+is_one o (Some p) = eq_by_cmp object_cmp o p
+
+abbrev pub is_about : ObjectName → Instr → Bool
+is_about o i = is_one o (object_of (effect_of i))
+
+-- it adds a table or a column
+abbrev pub is_of_schema : Instr → Bool
+is_of_schema i = not (is_some (object_of (effect_of i)))
+
+-- with one instruction more
+abbrev pub with_object : ObjectName → Touched → Touched
+with_object o t = record { objects = map.insert t.objects o.0 (set.insert (unwrap_or (map.get t.objects o.0) set.empty) o.1); schema = t.schema }
+
+abbrev pub with_one : Option ObjectName → Touched → Touched
+with_one None t = record { objects = t.objects; schema = true }
+with_one (Some o) t = with_object o t
+
+abbrev pub with_instr : Instr → Touched → Touched
+with_instr i t = with_one (object_of (effect_of i)) t
+
+-- ---- what may be touched
+abbrev pub touches : Touched → Option ObjectName → Bool
+touches t None = t.schema
+touches t (Some o) = has_object t o
+
+abbrev pub may_touch : Touched → Instr → Bool
+may_touch t i = touches t (object_of (effect_of i))
+
+-- the index knows of every instruction of the list
+abbrev pub Covers : Touched → List Instr → Type 0
+Covers t [] = Unit {0}
+Covers t (b ∷ bs) = (may_touch t b ≡ true) × Covers t bs
+
+-- both stay as they are, on whichever side they stand and whichever is later
+abbrev pub Apart : Instr → Instr → Type 0
+Apart a b = (later : Bool) → (meeting a b later ≡ Ok (record { left = Some a; right = Some b })) × (meeting b a later ≡ Ok (record { left = Some b; right = Some a }))
+
+abbrev pub ApartFromAll : Instr → List Instr → Type 0
+ApartFromAll a [] = Unit {0}
+ApartFromAll a (b ∷ bs) = Apart a b × ApartFromAll a bs

@@ -1,0 +1,97 @@
+ghost use Rattle.std.specs.Prelude.{◌≡◌, ◌||◌, List, true, false, IfOk, OnOk};
+ghost use Rattle.std.specs.List.{list_any};
+ghost use Rattle.sync_data.specs.declared.instr.Instr.{Instr};
+ghost use Rattle.sync_base.specs.Effects.{ObjectName};
+ghost use Rattle.sync_index.specs.Touched.{has_object, may_touch, is_about, is_of_schema, with_object, with_instr, Covers, ApartFromAll};
+
+use super::keys::Keys;
+use super::object::object_of;
+use std::alloc::Global;
+use std::collections::BTreeMap;
+use std::marker::Model;
+use sync_base::{Instr, Key, Name, NoMemory};
+
+/// The objects that a list of instructions is about, and whether one of them adds a table or a column.
+#[derive(Drop)]
+pub struct Index {
+    alloc: Global,
+    objects: BTreeMap<Name, Keys>,
+    schema: bool,
+}
+
+impl Model for Index {
+    ghost use Rattle.std.specs.FinMap as map;
+    ghost use Rattle.sync_index.specs.Touched.{Touched};
+    ghost use Rattle.sync_index.specs.Codes.{coded_touched};
+
+    ghost Value = { Touched };
+
+    ghost coded = { coded_touched };
+
+    ghost view = { λ a. record { objects = map.from_entries a.objects.entries; schema = a.schema } };
+}
+
+impl Index {
+    /// The index of a list: the objects of the instructions that have one, and whether one adds a table or a column.
+    pub fn of(alloc: Global, instrs: &[Instr]) -> Result<Index, NoMemory>
+        ensures objects { IfOk result (λ index. (o : ObjectName) → has_object index o ≡ list_any (is_about o) instrs.now) }
+        ensures schema { IfOk result (λ index. index.schema ≡ list_any is_of_schema instrs.now) }
+        ensures covers { IfOk result (λ index. Covers index instrs.now) }
+    {
+        let mut index = Index {
+            alloc,
+            objects: BTreeMap::new(alloc),
+            schema: false,
+        };
+        for instr in instrs {
+            index.include(instr)?;
+        }
+        Ok(index)
+    }
+
+    /// Whether the instruction may touch an instruction of the list: its object is there or, where it adds a table or a
+    /// column, another of the list does so too. Where it may not, it meets none of them, and none that is left of them:
+    /// all stay as they are. It takes no memory.
+    pub fn may_touch(&self, instr: &Instr) -> bool
+        ensures value { result ≡ may_touch self.now instr.now }
+        ensures apart { result ≡ false → (instrs : List Instr) → Covers self.now instrs → ApartFromAll instr.now instrs }
+    {
+        match object_of(instr) {
+            Some((table, key)) => self.has_object(table, key),
+            None => self.schema,
+        }
+    }
+
+    fn has_object(&self, table: &Name, key: &Key) -> bool
+        ensures { result ≡ has_object self.now (table.now, key.now) }
+    {
+        match self.objects.get(table) {
+            Some(keys) => keys.contains(key),
+            None => false,
+        }
+    }
+
+    fn include(&mut self, instr: &Instr) -> Result<(), NoMemory>
+        ensures { OnOk result (self.new ≡ with_instr instr.now self.old) }
+    {
+        let Some((table, key)) = object_of(instr) else {
+            self.schema = true;
+            return Ok(());
+        };
+        self.include_object(table, key.copy()?)
+    }
+
+    fn include_object(&mut self, table: &Name, key: Key) -> Result<(), NoMemory>
+        ensures { OnOk result (self.new ≡ with_object (table.now, key) self.old) }
+    {
+        if let Some(keys) = self.objects.get_mut(table) {
+            return keys.put(key);
+        }
+        let mut keys = Keys::new(self.alloc);
+        keys.put(key)?;
+        if self.objects.insert(table.copy()?, keys).is_err() {
+            return Err(NoMemory);
+        }
+        Ok(())
+    }
+}

@@ -1,0 +1,10 @@
+//! The objects that a list of instructions touches, so that what can't meet is passed over.
+#![tactic(auto)]
+
+mod index;
+mod keys;
+mod object;
+#[cfg(test)]
+mod tests;
+
+pub use index::Index;
