@@ -14,7 +14,7 @@ use Rattle.sync_base.specs.States.{object_cmp}
 use Rattle.sync_base.specs.Objects.{object_of}
 use Rattle.sync_base.specs.Lemmas.Looks.{name_total, name_exact, object_total}
 use Rattle.sync_base.specs.Lemmas.Maps.{tied_is}
-use Rattle.sync_index.specs.Touched.{Touched, has_object, is_one, is_about, is_of_schema, with_object, with_one, with_instr, touches, may_touch, Covers}
+use Rattle.sync_index.specs.Touched.{Touched, has_object, is_one, is_about, is_of_schema, with_object, with_one, with_instr, touches, Covers}
 
 -- with each of the instructions
 abbrev pub indexed : Touched → List Instr → Touched

@@ -5,7 +5,6 @@ use Rattle.std.specs.Option.{unwrap_or, option_copied_mut}
 use Rattle.sync_base.specs.Lemmas.Looks.{name_total, name_exact}
 use Rattle.sync_maps.specs.Answers.{then_ok, was_ok}
 use Rattle.sync_maps.specs.Seen.{seen_at, inserted, written}
-use Rattle.sync_index.specs.Touched.{Touched}
 use Rattle.sync_index.proofs.index.Index.include_object.Goals as goal
 
 pub returns-in-Some : goal.returns-in-Some

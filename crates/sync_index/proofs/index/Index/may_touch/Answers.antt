@@ -1,4 +1,4 @@
-use Rattle.std.proofs.Common.{◌≡◌, sym, ◌∙◌, ap}
+use Rattle.std.proofs.Common.{sym, ◌∙◌, ap}
 use Rattle.sync_index.specs.Touched.{touches}
 use Rattle.sync_index.specs.Lemmas.{apart_from_all}
 use Rattle.sync_index.proofs.index.Index.may_touch.Goals as goal

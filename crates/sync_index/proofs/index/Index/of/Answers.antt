@@ -1,7 +1,7 @@
-use Rattle.std.proofs.Common.{◌≡◌, ◌∙◌, ap, sym, arith}
+use Rattle.std.proofs.Common.{◌∙◌, ap, sym, arith}
 use Rattle.std.proofs.lemmas.List.{at_drop_all}
 use Rattle.sync_index.specs.Touched.{has_object}
-use Rattle.sync_index.proofs.Indexed.{indexed, no_touched, of_objects, of_schema, covers}
+use Rattle.sync_index.proofs.Indexed.{indexed, of_objects, of_schema, covers}
 use Rattle.sync_index.proofs.index.Index.of.Goals as goal
 
 pub returns-clause-objects : goal.returns-clause-objects
