@@ -1,8 +1,8 @@
-ghost use Rattle.std.specs.Prelude.{◌≡◌, ◌-◌, ◌<◌, ◌≤◌, ◌^◌, [], length, map, string_bytes, slice_get, IsTrue, IfOk, IfSome, OnOk, OnErr, ◌↔◌};
+ghost use Rattle.std.specs.Prelude.{◌≡◌, ◌-◌, ◌<◌, ◌≤◌, ◌^◌, [], length, map, string_bytes, slice_get, is_some, IsTrue, IfOk, IfSome, OnOk, OnErr, ◌↔◌};
 ghost use Rattle.std.specs.Option.{option_map};
 ghost use Rattle.std.specs.List.{IsDistinct};
 ghost use Rattle.std.specs.Str.{bytes_eq};
-ghost use Rattle.sync_intern.specs.FirstUses.{with_string, place_of, place_in, AreShort};
+ghost use Rattle.sync_intern.specs.FirstUses.{has_string, with_string, place_of, place_in, AreShort};
 
 use indexmap::IndexSet;
 use std::alloc::Global;
@@ -81,7 +81,8 @@ impl Strings {
 
     /// The number of a string, where it was used. It changes nothing.
     pub fn place(&self, text: &str) -> Option<usize>
-        ensures { result ≡ place_in self.now text.now }
+        ensures place { result ≡ place_in self.now text.now }
+        ensures found { is_some result ≡ has_string self.now text.now }
     {
         self.kept.get_index_of(text)
     }

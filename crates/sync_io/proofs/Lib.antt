@@ -1,3 +1,5 @@
 pub mod Feeds
 pub mod Inputs
 pub mod Lines
+pub mod Numbers
+pub mod Frames

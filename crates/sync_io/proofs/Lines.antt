@@ -9,6 +9,7 @@ use Rattle.sync_io.specs.Input.{Input, input_of}
 use Rattle.sync_io.specs.Readers.{readings, AnswersLine, CountsLine}
 use Rattle.sync_io.specs.Intakes.{Taken}
 use Rattle.sync_io.specs.Found.{FindsEnd, KeepsInput}
+use Rattle.sync_io.specs.declared.found.Found.{Found}
 use Rattle.sync_io.specs.declared.refusal.ReadRefusal.{ReadRefusal}
 use Rattle.sync_io.specs.declared.refusal.ReadRefusal.TheVariants as refusals
 use Rattle.sync_io.proofs.Feeds.{feed_within, long_before, line_to_feed, line_goes_on}
@@ -81,7 +82,7 @@ readings_full taken held (Some bytes) whole small h =
     ∙ short_cut held small
 
 -- a refusal of the search for the line's end is the reader's
-pub refused_reads : (refusal : ReadRefusal) (now : Taken) (left : Option (List ℕ)) (old : Option Input) (new : Option Reading) → FindsEnd (Err refusal) now left → KeepsInput (Err refusal) old (input_of now.taken now.held left) → AnswersLine (Err refusal) (option_map reading_of old) new
+pub refused_reads : (refusal : ReadRefusal) (now : Taken) (left : Option (List ℕ)) (old : Option Input) (new : Option Reading) → FindsEnd (Err refusal) now left → KeepsInput {F = Found} (Err refusal) old (input_of now.taken now.held left) → AnswersLine (Err refusal) (option_map reading_of old) new
 refused_reads refusals.TooLong now left old new found same = subst (λ o. IfSome (option_map reading_of o) (λ reading. reading ≡ Ends AtLongLine)) same (readings_too_long now.taken now.held left found)
 refused_reads refusals.Failed now left old new found same = tt
 refused_reads refusals.NoMemory now left old new found same = tt

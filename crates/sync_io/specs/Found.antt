@@ -19,7 +19,7 @@ FindsEnd (Err refusals.NoMemory) now left = Unit {0}
 FindsEnd (Err refusal) now left = ⊥
 
 -- the input that is ahead stays as it was, unless the source failed or memory ran out
-abbrev pub KeepsInput : Result Found ReadRefusal → Option Input → Option Input → Type 0
+abbrev pub KeepsInput : {F : Type 0} → Result F ReadRefusal → Option Input → Option Input → Type 0
 KeepsInput (Err refusals.Failed) old new = Unit {0}
 KeepsInput (Err refusals.NoMemory) old new = Unit {0}
 KeepsInput result old new = new ≡ old

@@ -6,3 +6,10 @@ pub mod Intakes
 pub mod Found
 pub mod Readers
 pub mod Statuses
+pub mod Varints
+pub mod VarintLaws
+pub mod VarintReads
+pub mod Framing
+pub mod FrameReaders
+pub mod Formats
+pub mod FormatLaws

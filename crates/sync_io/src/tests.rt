@@ -1,3 +1,6 @@
+mod frames;
+mod varints;
+
 use super::*;
 use std::alloc::{AllocError, Global};
 use std::test::Fail;

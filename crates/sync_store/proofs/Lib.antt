@@ -1,2 +1,3 @@
-pub mod Joined
 pub mod Acting
+pub mod Filling
+pub mod Taking

@@ -1,3 +1,6 @@
-pub mod Names
-pub mod States
-pub mod Dump
+pub mod Applying
+pub mod Asking
+pub mod Backs
+pub mod Codes
+pub mod Flat
+pub mod Links

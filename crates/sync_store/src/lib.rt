@@ -1,16 +1,19 @@
-//! The object store of the first path: tables with integer keys, columns of integers.
+//! The object store: a schema, and the objects of its tables.
 #![tactic(auto)]
 
-mod dump;
-mod names;
+mod check;
+mod object;
+mod objects;
+mod parts;
+mod put;
+mod put_all;
 mod refusals;
-mod standing;
+mod rows;
 mod store;
-mod text;
-
-pub use names::{CellPath, ColumnName, ObjectName};
-pub use refusals::{AllRefusal, ApplyRefusal};
-pub use store::Store;
-
 #[cfg(test)]
 mod tests;
+mod undo;
+mod wanted;
+
+pub use refusals::{AllRefusal, ApplyRefusal};
+pub use store::Store;

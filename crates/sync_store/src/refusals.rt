@@ -5,7 +5,7 @@ use sync_base::Break;
 pub enum ApplyRefusal {
     /// It doesn't act on the state, which stays as it was.
     Break(Break),
-    /// Memory ran out. The store isn't used again.
+    /// Memory ran out. The store is empty from then on.
     NoMemory,
 }
 
@@ -15,6 +15,6 @@ pub enum AllRefusal {
     /// The instruction at this place, counted from 0, is the first that doesn't act after those
     /// before it. The state stays as it was.
     Break { place: u64, cause: Break },
-    /// Memory ran out. The store isn't used again.
+    /// Memory ran out. The store is empty from then on.
     NoMemory,
 }

@@ -1,147 +1,158 @@
-ghost use Rattle.std.specs.Prelude.{◌≡◌, ◌<◌, ◌≤◌, ◌^◌, ℕ, length, None, Some, Ok, Err, IfOk, OnOk, IfErr, is_ok, true};
-ghost use Rattle.sync_store.specs.Dump.{dump};
-ghost use Rattle.sync_store.specs.Names.{break_of, verdict};
-ghost use Rattle.sync_store.specs.States.{State, no_state, int_of, after, act_all, Applies, ChecksAll, AppliesAll};
+ghost use Rattle.std.specs.Prelude.{◌≡◌, ◌&&◌, false, Ok, is_some};
+ghost use Rattle.std.specs.Option.{option_copied};
+ghost use Rattle.std.specs.FinMap as map;
+ghost use Rattle.sync_data.specs.Orders.{name_cmp, key_cmp};
+ghost use Rattle.sync_base.specs.Effects.{effect_of};
+ghost use Rattle.sync_base.specs.States.{IsState, no_state, column_in, cell_at, has};
+ghost use Rattle.sync_base.specs.Checks.{break_of};
+ghost use Rattle.sync_maps.specs.Next.{IsNext};
+ghost use Rattle.sync_store.specs.Asking.{verdict};
+ghost use Rattle.sync_store.specs.Applying.{Applies, AppliesAll};
+ghost use Rattle.sync_store.specs.Links.{is_resolved};
 
-use super::names::CellPath;
+use super::objects::Objects;
+use super::parts::Parts;
 use super::refusals::{AllRefusal, ApplyRefusal};
-use super::standing::{Standing, object_name};
+use super::undo::let_go;
 use std::alloc::Global;
-use std::collections::BTreeMap;
 use std::marker::Model;
-use sync_base::Break;
-use sync_data::{Changeset, Instr, NoMemory, Value as Held};
+use sync_base::{Break, Changeset, Instr, Key, Name, NoMemory, Value as Held};
+use sync_cells::Cell;
+use sync_schema::Schema;
 
-/// The tables and the objects. Only tables with integer keys, columns of integers and the four
-/// instructions that make and set them are built.
+/// The tables with their columns, and the objects with their cells (docs/MERGE_RULES.md, "The state").
 #[derive(Drop)]
 pub struct Store {
-    alloc: Global,
-    standing: Standing,
-    cells: BTreeMap<CellPath, i64>,
+    parts: Parts,
 }
 
 impl Model for Store {
-    ghost use Rattle.sync_store.specs.States.{State};
+    ghost use Rattle.sync_base.specs.States.{State, IsState};
+    ghost use Rattle.sync_store.specs.Codes.{coded_state};
 
     ghost Value = { State };
 
-    ghost view = { λ s. record { names = s.standing; cells = s.cells.entries } };
-}
+    ghost coded = { coded_state };
 
-/// The integer of an integer value.
-fn int_of(value: &Held) -> i64
-    ensures { result ≡ int_of value.now }
-{
-    match value {
-        Held::Int(number) => *number,
-        _ => 0,
-    }
+    ghost view = { λ a. a.parts };
+
+    ghost invariant = { λ a. IsState a.parts };
 }
 
 impl Store {
     /// The store without tables.
     pub fn new(alloc: Global) -> Result<Store, NoMemory>
-        ensures { IfOk result (λ made. made ≡ no_state) }
+        ensures empty { result ≡ Ok no_state }
     {
         Ok(Store {
-            alloc,
-            standing: Standing::new(alloc),
-            cells: BTreeMap::new(alloc),
+            parts: Parts {
+                alloc,
+                schema: Schema::new(alloc)?,
+                objects: Objects::new(alloc),
+            },
         })
     }
 
-    /// Whether an instruction acts. It takes no memory.
+    /// Whether an instruction acts on the state, or its first break (docs/MERGE_RULES.md, "Breaks"). It takes no memory.
     pub fn check(&self, instr: &Instr) -> Result<(), Break>
-        ensures { result ≡ verdict (break_of self.now.names instr.now) }
+        ensures first_break { result ≡ verdict (break_of self.now (effect_of instr.now)) }
     {
-        self.standing.check(&Standing::new(self.alloc), instr)
+        self.parts.check(instr)
     }
 
-    /// The state after an instruction that acts.
-    fn put(&mut self, instr: &Instr) -> Result<(), NoMemory>
-        ensures { OnOk result (self.new ≡ after self.old instr.now) }
-    {
-        self.standing.add(instr)?;
-        if let Instr::Update(i) = instr {
-            let path = CellPath {
-                object: object_name(&i.cell.table, &i.cell.key),
-                column: i.cell.column.copy()?,
-            };
-            if self.cells.insert(path, int_of(&i.value)).is_err() {
-                return Err(NoMemory);
-            }
-        }
-        Ok(())
-    }
-
-    /// Applies one instruction, or changes nothing where it doesn't act.
+    /// Applies one instruction. `Break` comes exactly where `check` gives it, and then nothing changes. After `NoMemory`
+    /// the store is empty.
     pub fn apply(&mut self, instr: Instr) -> Result<(), ApplyRefusal>
-        ensures { Applies result instr self.old self.new }
+        ensures applied { Applies result instr self.old self.new }
     {
-        if let Err(cause) = self.check(&instr) {
-            return Err(ApplyRefusal::Break(cause));
-        }
-        match self.put(&instr) {
-            Ok(()) => Ok(()),
-            Err(NoMemory) => Err(ApplyRefusal::NoMemory),
-        }
+        let applied = self.apply_one(&instr);
+        let_go(instr);
+        applied
     }
 
-    /// Applies the instructions of a transaction in order, or changes nothing where one of them
-    /// doesn't act after those before it.
-    pub fn apply_all(&mut self, changes: &Changeset) -> Result<(), AllRefusal>
-        ensures { AppliesAll result changes.now.instrs self.old self.new }
+    fn apply_one(&mut self, instr: &Instr) -> Result<(), ApplyRefusal>
+        ensures { Applies result instr.now self.old self.new }
     {
-        let instrs = changes.instrs();
-        match self.check_all(instrs) {
+        match self.parts.check(instr) {
             Ok(()) => {}
-            Err(refusal) => return Err(refusal),
+            Err(cause) => return Err(ApplyRefusal::Break(cause)),
         }
-        match self.put_all(instrs) {
+        match self.parts.put(instr) {
+            Ok(undo) => {
+                let_go(undo);
+                Ok(())
+            }
+            Err(NoMemory) => {
+                self.parts.clear();
+                Err(ApplyRefusal::NoMemory)
+            }
+        }
+    }
+
+    /// Applies the instructions of a transaction one after the other. `Break` comes exactly where one of them doesn't act
+    /// after those before it, with the place of the first, and then nothing changes. After `NoMemory` the store is empty.
+    pub fn apply_all(&mut self, changes: &Changeset) -> Result<(), AllRefusal>
+        ensures applied { AppliesAll result changes.now.instrs self.old self.new }
+    {
+        match self.parts.put_all(changes.instrs()) {
             Ok(()) => Ok(()),
-            Err(NoMemory) => Err(AllRefusal::NoMemory),
-        }
-    }
-
-    /// Whether instructions act one after the other.
-    fn check_all(&self, instrs: &[Instr]) -> Result<(), AllRefusal>
-        ensures { ChecksAll result (act_all 0 instrs.now self.now) }
-    {
-        let mut added = Standing::new(self.alloc);
-        for (place, instr) in instrs.iter().enumerate() {
-            match self.standing.check(&added, instr) {
-                Ok(()) => {}
-                Err(cause) => {
-                    let place = place as u64;
-                    return Err(AllRefusal::Break { place, cause });
-                }
-            }
-            match added.add(instr) {
-                Ok(()) => {}
-                Err(NoMemory) => return Err(AllRefusal::NoMemory),
+            Err(AllRefusal::Break { place, cause }) => Err(AllRefusal::Break { place, cause }),
+            Err(AllRefusal::NoMemory) => {
+                self.parts.clear();
+                Err(AllRefusal::NoMemory)
             }
         }
-        Ok(())
     }
 
-    /// The state after instructions that act one after the other.
-    fn put_all(&mut self, instrs: &[Instr]) -> Result<(), NoMemory>
-        requires { is_ok (act_all 0 instrs.now self.old) ≡ true }
-        ensures { OnOk result (act_all 0 instrs.now self.old ≡ Ok self.new) }
+    /// The tables and their columns. It takes no memory.
+    pub fn schema(&self) -> &Schema
+        ensures { result.now ≡ self.now.tables }
     {
-        for instr in instrs {
-            self.put(instr)?;
+        &self.parts.schema
+    }
+
+    /// The cell of an object. It takes no memory.
+    pub fn cell(&self, table: &Name, key: &Key, column: &Name) -> Option<&Cell>
+        ensures { option_copied result ≡ cell_at self.now (table.now, key.now) column.now }
+    {
+        self.parts.objects.object(table, key)?.cell(column)
+    }
+
+    /// Whether an object stands. It takes no memory.
+    pub fn has(&self, table: &Name, key: &Key) -> bool
+        ensures { result ≡ has self.now (table.now, key.now) }
+    {
+        self.parts.objects.object(table, key).is_some()
+    }
+
+    /// Whether the value is a link whose object stands. It takes no memory.
+    pub fn is_resolved(&self, value: &Held) -> bool
+        ensures { result ≡ is_resolved self.now value.now }
+    {
+        match value {
+            Held::Link { table, key } => self.has(table, key),
+            _ => false,
         }
-        Ok(())
     }
 
-    /// The lines of the tables, columns and objects (docs/FORMATS.md, "Dump").
-    pub fn dump(&self) -> Result<Vec<u8>, NoMemory>
-        ensures { IfOk result (λ text. text.items ≡ dump self.now) }
+    /// The least table name above `after`, or the least of all. It takes no memory.
+    pub fn next_table(&self, after: Option<&Name>) -> Option<&Name>
+        ensures { IsNext name_cmp (λ t. is_some (map.get self.now.tables t)) (option_copied after.entry) (option_copied result) }
     {
-        let mut out = Vec::new(self.alloc);
-        self.standing.put_dump(self.alloc, &mut out, &self.cells)?;
-        Ok(out)
+        self.parts.schema.next_table(after)
+    }
+
+    /// The least column name of a table above `after`, or the least of all. It takes no memory.
+    pub fn next_column(&self, table: &Name, after: Option<&Name>) -> Option<&Name>
+        ensures { IsNext name_cmp (λ c. is_some (column_in self.now.tables table.now c)) (option_copied after.entry) (option_copied result) }
+    {
+        self.parts.schema.next_column(table, after)
+    }
+
+    /// The least key of a table's objects above `after`, or the least of all. It takes no memory.
+    pub fn next_key(&self, table: &Name, after: Option<&Key>) -> Option<&Key>
+        ensures { IsNext key_cmp (λ k. has self.now (table.now, k)) (option_copied after.entry) (option_copied result) }
+    {
+        self.parts.objects.next_key(table, after)
     }
 }

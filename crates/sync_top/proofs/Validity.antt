@@ -13,7 +13,7 @@ use Rattle.sync_edits.specs.Lines.{event_form_of_line}
 use Rattle.sync_top.specs.declared.client.Client.{Client}
 use Rattle.sync_top.specs.declared.command.LineEnd.{LineEnd}
 use Rattle.sync_top.specs.Runs.{Ran, is_blank, answered, answer_to, run_from, runs, FollowsTold, IsRunStatus, IsDoneOrNoMemory}
-use Rattle.sync_top.specs.Exchange.{answers, report, answered_event, answered_form, outcome_of, edited, is_built, is_named, is_built_event, is_built_form, IsValidReading, IsValidInput}
+use Rattle.sync_top.specs.Exchange.{answers, report, answered_event, answered_form, outcome_of, is_built_event, is_built_form, IsValidReading, IsValidInput}
 use Rattle.sync_top.proofs.RunLemmas.{done_or}
 
 -- an answer that isn't an end
@@ -21,13 +21,9 @@ abbrev pub Answers : Result (List ℕ × List Client) LineEnd → Type 0
 Answers (Ok answer) = Unit {0}
 Answers (Err end) = ⊥
 
-built_answers : (number : ℕ) (cs : List Client) (name : List ℕ) (edits : List Instr) (b : Bool) → b ≡ true → Answers (answered_event number (cond b (Some (edited cs name edits (position (is_named name) cs))) None))
-built_answers number cs name edits true e = tt
-built_answers number cs name edits false e = cc
-
 event_answers : (number : ℕ) (cs : List Client) (event : Event) → is_built_event event ≡ true → Answers (answered_event number (outcome_of cs event))
 event_answers number cs (events.Client name id) e = tt
-event_answers number cs (events.Edit name ms edits) e = built_answers number cs name edits (list_all is_built edits) e
+event_answers number cs (events.Edit name ms edits) e = tt
 event_answers number cs (events.Bind client) e = cc
 event_answers number cs (events.Upload client) e = cc
 event_answers number cs (events.Ask client) e = cc
@@ -35,7 +31,7 @@ event_answers number cs (events.Deliver message to) e = cc
 event_answers number cs (events.Restart node) e = cc
 event_answers number cs (events.Stop node at leaves) e = cc
 event_answers number cs (events.Inject message) e = cc
-event_answers number cs (events.Upgrade client) e = cc
+event_answers number cs (events.Upgrade client) e = tt
 
 form_answers : (number : ℕ) (cs : List Client) (form : Option Event) → is_built_form form ≡ true → Answers (answered_form cs number form)
 form_answers number cs None e = cc

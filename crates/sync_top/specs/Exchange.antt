@@ -5,21 +5,15 @@ use Rattle.std.specs.Str.{bytes_eq}
 use Rattle.std.specs.Ordering.{eq_by_cmp}
 use Rattle.sync_data.specs.Orders.{name_cmp}
 use Rattle.sync_data.specs.Payload.{payload_all}
-use Rattle.sync_data.specs.declared.key.Key.{Key}
-use Rattle.sync_data.specs.declared.key.Key.TheVariants as keys
-use Rattle.sync_data.specs.declared.key.KeyKind.{KeyKind}
-use Rattle.sync_data.specs.declared.key.KeyKind.TheVariants as key_kinds
-use Rattle.sync_data.specs.declared.value.Value.{Value}
-use Rattle.sync_data.specs.declared.value.Value.TheVariants as values
-use Rattle.sync_data.specs.declared.column.Kind.{Kind}
-use Rattle.sync_data.specs.declared.column.Kind.TheVariants as kinds
 use Rattle.sync_data.specs.declared.column.Shape.{Shape}
 use Rattle.sync_data.specs.declared.column.Shape.TheVariants as shapes
-use Rattle.sync_data.specs.declared.column.Column.{Column}
 use Rattle.sync_data.specs.declared.instr.Instr.{Instr}
 use Rattle.sync_data.specs.declared.instr.Instr.TheVariants as instrs
-use Rattle.sync_store.specs.States.{State, Broken, no_state, act_all}
-use Rattle.sync_store.specs.Dump.{name_text, dump}
+use Rattle.sync_base.specs.declared.answers.Break.{Break}
+use Rattle.sync_base.specs.Checks.{break_at}
+use Rattle.sync_base.specs.States.{no_state}
+use Rattle.sync_store.specs.Applying.{after_all}
+use Rattle.sync_dump.specs.Dump.{dump}
 use Rattle.sync_io.specs.Input.{input_ahead}
 use Rattle.sync_io.specs.Reading.{Reading, Ends, Gives, AtEnd, reading_of}
 use Rattle.sync_top.specs.Runs.{is_blank}
@@ -31,38 +25,18 @@ use Rattle.sync_top.specs.declared.command.LineEnd.{LineEnd}
 use Rattle.sync_top.specs.declared.command.LineEnd.TheVariants as line_ends
 use Rattle.sync_top.specs.declared.outcome.Outcome.{Outcome}
 use Rattle.sync_top.specs.declared.outcome.Outcome.TheVariants as outcomes
-use Rattle.sync_top.specs.Outcomes.{outcome_line}
+use Rattle.sync_top.specs.Outcomes.{name_text, outcome_line}
 
--- ---- the edits that are built: tables with integer keys, columns of integers, and their objects and cells
-abbrev pub is_int_key : Key → Bool
-is_int_key (keys.Int n) = true
-is_int_key k = false
+-- ---- the instructions that stand in files of form 2 alone: they define, change or clear what form 1 hasn't
+abbrev pub is_dict : Shape → Bool
+is_dict shapes.Dict = true
+is_dict s = false
 
-abbrev pub is_int_table : KeyKind → Bool
-is_int_table key_kinds.Int = true
-is_int_table k = false
-
-abbrev pub is_int_value : Value → Bool
-is_int_value (values.Int n) = true
-is_int_value v = false
-
-abbrev pub is_int_kind : Kind → Bool
-is_int_kind kinds.Int = true
-is_int_kind k = false
-
-abbrev pub is_one : Shape → Bool
-is_one shapes.One = true
-is_one s = false
-
-abbrev pub is_int_column : Column → Bool
-is_int_column column = is_int_kind column.kind && (if column.nullable then false else is_one column.shape)
-
-abbrev pub is_built : Instr → Bool
-is_built (instrs.AddTable i) = is_int_table i.key
-is_built (instrs.AddColumn i) = is_int_column i.def
-is_built (instrs.CreateObject i) = is_int_key i.key
-is_built (instrs.Update i) = is_int_key i.cell.key && is_int_value i.value
-is_built instr = false
+abbrev pub needs_second : Instr → Bool
+needs_second (instrs.AddColumn i) = is_dict i.def.shape
+needs_second (instrs.DictUpdate i) = true
+needs_second (instrs.Clear i) = true
+needs_second i = false
 
 -- ---- clients
 abbrev pub is_named : List ℕ → Client → Bool
@@ -75,30 +49,38 @@ abbrev pub server_name : List ℕ
 server_name = codes "server"
 
 abbrev pub new_client : List ℕ → List ℕ → Client
-new_client name id = record { name = name; id = id; objects = no_state; made = 0 }
+new_client name id = record { name = name; id = id; objects = no_state; made = 0; second = false }
 
 -- a transaction's limits
 abbrev pub is_small : List Instr → Bool
 is_small is = nat_le (length is) 65536 && nat_le (payload_all is) 4194304
 
 -- ---- what an event comes to
--- the transaction of one client
-abbrev pub transacted : Client → Result State Broken → Outcome × Client
-transacted c (Ok s) = (outcomes.Made (c.made + 1), record c { objects = s; made = c.made + 1 })
-transacted c (Err b) = (outcomes.Break b.place b.cause, c)
+-- the transaction of one client: each check in turn
+abbrev pub transacted : Client → List Instr → Option (ℕ × Break) → Outcome × Client
+transacted c edits None = (outcomes.Made (c.made + 1), record c { objects = after_all edits c.objects; made = c.made + 1 })
+transacted c edits (Some b) = (outcomes.Break b.0 b.1, c)
+
+abbrev pub formed : Client → List Instr → Option ℕ → Outcome × Client
+formed c edits None = transacted c edits (break_at edits c.objects)
+formed c edits (Some place) = (outcomes.OldForm place, c)
 
 abbrev pub committed : Client → List Instr → Outcome × Client
 committed c edits =
-    if is_small edits then (if c.made == 4294967295 then (outcomes.NumbersFull, c) else transacted c (act_all 0 edits c.objects)) else (outcomes.TooLarge, c)
+    if is_small edits then (if c.made == 4294967295 then (outcomes.NumbersFull, c) else formed c edits (if c.second then None else position needs_second edits)) else (outcomes.TooLarge, c)
 
--- the client at a place commits
-abbrev pub committed_at : List Client → ℕ → List Instr → Option Client → Outcome × List Client
-committed_at cs i edits None = (outcomes.NoNode, cs)
-committed_at cs i edits (Some c) = ((committed c edits).0, slice_set cs i (committed c edits).1)
+-- a client's file is brought to form 2
+abbrev pub upgraded : Client → Outcome × Client
+upgraded c = if c.second then (outcomes.Current, c) else (outcomes.Upgraded, record c { second = true })
 
-abbrev pub edited : List Client → List ℕ → List Instr → Option ℕ → Outcome × List Client
-edited cs name edits None = (outcomes.NoNode, cs)
-edited cs name edits (Some i) = committed_at cs i edits (slice_get cs i)
+-- the client at a place makes that step
+abbrev pub stepped_at : (Client → Outcome × Client) → List Client → ℕ → Option Client → Outcome × List Client
+stepped_at step cs i None = (outcomes.NoNode, cs)
+stepped_at step cs i (Some c) = ((step c).0, slice_set cs i (step c).1)
+
+abbrev pub stepped : (Client → Outcome × Client) → List Client → Option ℕ → Outcome × List Client
+stepped step cs None = (outcomes.NoNode, cs)
+stepped step cs (Some i) = stepped_at step cs i (slice_get cs i)
 
 abbrev pub joined : List Client → List ℕ → List ℕ → Outcome × List Client
 joined cs name id =
@@ -109,7 +91,8 @@ joined cs name id =
 -- none where the event isn't built yet
 abbrev pub outcome_of : List Client → Event → Option (Outcome × List Client)
 outcome_of cs (events.Client name id) = Some (joined cs name id)
-outcome_of cs (events.Edit name ms edits) = if list_all is_built edits then Some (edited cs name edits (position (is_named name) cs)) else None
+outcome_of cs (events.Edit name ms edits) = Some (stepped (λ c. committed c edits) cs (position (is_named name) cs))
+outcome_of cs (events.Upgrade name) = Some (stepped upgraded cs (position (is_named name) cs))
 outcome_of cs event = None
 
 -- ---- a line and its answer
@@ -151,7 +134,8 @@ is_replay (word ∷ words) = false
 -- ---- inputs whose lines are all built
 abbrev pub is_built_event : Event → Bool
 is_built_event (events.Client name id) = true
-is_built_event (events.Edit name ms edits) = list_all is_built edits
+is_built_event (events.Edit name ms edits) = true
+is_built_event (events.Upgrade name) = true
 is_built_event event = false
 
 abbrev pub is_built_form : Option Event → Bool

@@ -1,9 +1,9 @@
 //! The top call: one run of the program, from its words and input to its output and status.
 #![tactic(auto)]
 
-mod built;
 mod client;
 mod command;
+mod form;
 mod lines;
 mod outcome;
 mod program;

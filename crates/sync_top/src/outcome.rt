@@ -1,7 +1,6 @@
 ghost use Rattle.std.specs.Prelude.{◌≡◌, ◌++◌, OnOk, IfOk};
-ghost use Rattle.sync_top.specs.Outcomes.{words, outcome_line};
+ghost use Rattle.sync_top.specs.Outcomes.{words, outcome_line, name_text};
 ghost use Rattle.std.specs.Prelude.{decimal};
-ghost use Rattle.sync_store.specs.Dump.{name_text};
 
 use super::text::{put, put_name, put_number};
 use std::alloc::Global;
@@ -25,6 +24,12 @@ pub enum Outcome {
     TooLarge,
     /// The client's transactions have no further number.
     NumbersFull,
+    /// The client's file is of form 1, and the instruction at this place is the first that stands in form 2 alone.
+    OldForm { place: u64 },
+    /// The client's file is of form 2 from now on.
+    Upgraded,
+    /// The client's file was of form 2 already.
+    Current,
     /// The instruction at this place doesn't act.
     Break { place: u64, cause: Break },
 }
@@ -47,6 +52,12 @@ fn put_words(alloc: Global, out: &mut Vec<u8>, outcome: &Outcome) -> Result<(), 
         Outcome::NoNode => put(out, "refused NoNode"),
         Outcome::TooLarge => put(out, "refused TooLarge"),
         Outcome::NumbersFull => put(out, "refused NumbersFull"),
+        Outcome::OldForm { place } => {
+            put(out, "refused OldForm ")?;
+            put_number(alloc, out, *place)
+        }
+        Outcome::Upgraded => put(out, "upgraded"),
+        Outcome::Current => put(out, "current"),
         Outcome::Break { place, cause } => {
             put(out, "refused Break ")?;
             put_number(alloc, out, *place)?;

@@ -1,16 +1,17 @@
 ghost use Rattle.std.specs.Prelude.{◌≡◌, ◌++◌, [], position, IfOk, OnOk, Ok, Err};
 ghost use Rattle.std.specs.List.{list_any, list_all};
-ghost use Rattle.sync_top.specs.Exchange.{is_named, has_id, is_built, committed, edited, joined, answers, report, Takes, client_report, clients_report};
+ghost use Rattle.sync_top.specs.Exchange.{is_named, has_id, committed, upgraded, stepped, joined, answers, report, Takes, client_report, clients_report};
 
-use super::built::is_built;
 use super::client::Client;
 use super::command::{Command, LineEnd};
+use super::form::first_second;
 use super::outcome::{Outcome, outcome_line};
 use super::text::{put, put_name, put_number};
 use std::alloc::Global;
 use std::marker::Model;
 use sync_base::same_name;
 use sync_data::{Changeset, Id, Instr, Listed, Name, NoMemory};
+use sync_dump::dump_lines;
 use sync_edits::{Event, LineRefusal, event_of};
 use sync_store::{AllRefusal, Store};
 
@@ -41,6 +42,12 @@ fn commit(client: &mut Client, ms: u64, edits: Vec<Instr>) -> Result<Outcome, No
     if client.made == u32::MAX {
         return Ok(Outcome::NumbersFull);
     }
+    if !client.second {
+        if let Some(place) = first_second(changes.instrs()) {
+            let place = place as u64;
+            return Ok(Outcome::OldForm { place });
+        }
+    }
     match client.objects.apply_all(&changes) {
         Ok(()) => {
             client.made += 1;
@@ -52,10 +59,16 @@ fn commit(client: &mut Client, ms: u64, edits: Vec<Instr>) -> Result<Outcome, No
     }
 }
 
-fn all_built(edits: &[Instr]) -> bool
-    ensures { result ≡ list_all is_built edits.now }
+/// A client's file is brought to form 2.
+fn upgrade(client: &mut Client) -> Outcome
+    ensures outcome { result ≡ (upgraded client.old).0 }
+    ensures client { client.new ≡ (upgraded client.old).1 }
 {
-    edits.iter().all(|instr| is_built(instr))
+    if client.second {
+        return Outcome::Current;
+    }
+    client.second = true;
+    Outcome::Upgraded
 }
 
 /// Puts a client's part of the report.
@@ -67,7 +80,7 @@ fn put_client(alloc: Global, out: &mut Vec<u8>, client: &Client) -> Result<(), N
     put(out, " 0 0 ")?;
     put_number(alloc, out, client.made as u64)?;
     put(out, "\n")?;
-    let dump = client.objects.dump()?;
+    let dump = dump_lines(alloc, &client.objects)?;
     match out.extend_from_slice(&dump) {
         Ok(()) => Ok(()),
         Err(_) => Err(NoMemory),
@@ -126,6 +139,7 @@ impl Replay {
             id,
             objects,
             made: 0,
+            second: false,
         };
         match self.clients.push(client) {
             Ok(()) => Ok(outcome),
@@ -135,12 +149,23 @@ impl Replay {
 
     /// A client commits a transaction.
     fn edit(&mut self, name: &Name, ms: u64, edits: Listed<Instr>) -> Result<Outcome, NoMemory>
-        ensures outcome { IfOk result (λ outcome. outcome ≡ (edited self.old name.now edits (position (is_named name.now) self.old)).0) }
-        ensures clients { OnOk result (self.new ≡ (edited self.old name.now edits (position (is_named name.now) self.old)).1) }
+        ensures outcome { IfOk result (λ outcome. outcome ≡ (stepped (λ c. committed c edits) self.old (position (is_named name.now) self.old)).0) }
+        ensures clients { OnOk result (self.new ≡ (stepped (λ c. committed c edits) self.old (position (is_named name.now) self.old)).1) }
     {
         match self.find(name) {
             None => Ok(Outcome::NoNode),
             Some(place) => commit(&mut self.clients[place], ms, edits.into_vec()),
+        }
+    }
+
+    /// A client's file is brought to form 2.
+    fn upgrade(&mut self, name: &Name) -> Outcome
+        ensures outcome { result ≡ (stepped upgraded self.old (position (is_named name.now) self.old)).0 }
+        ensures clients { self.new ≡ (stepped upgraded self.old (position (is_named name.now) self.old)).1 }
+    {
+        match self.find(name) {
+            None => Outcome::NoNode,
+            Some(place) => upgrade(&mut self.clients[place]),
         }
     }
 }
@@ -162,12 +187,8 @@ impl Replay {
     {
         let outcome = match event {
             Event::Client { name, id } => self.join(name, id),
-            Event::Edit { client, ms, edits } => {
-                if !all_built(edits.as_slice()) {
-                    return Err(LineEnd::Unbuilt);
-                }
-                self.edit(&client, ms, edits)
-            }
+            Event::Edit { client, ms, edits } => self.edit(&client, ms, edits),
+            Event::Upgrade { client } => Ok(self.upgrade(&client)),
             _ => return Err(LineEnd::Unbuilt),
         };
         match outcome {

@@ -1,5 +1,5 @@
 ghost use Rattle.std.specs.Prelude.{◌≡◌, ◌++◌, OnOk, decimal};
-ghost use Rattle.sync_store.specs.Dump.{name_text};
+ghost use Rattle.sync_top.specs.Outcomes.{name_text};
 
 use serde_json::Value as Json;
 use std::alloc::Global;

@@ -66,7 +66,8 @@ pub fn json_of_column(alloc: Global, column: &Column) -> Result<Json, NoMemory>
     }
 }
 
-fn target_of(kind: &Kind) -> Option<&Name>
+/// The target of a link. It takes no memory.
+pub fn target_of(kind: &Kind) -> Option<&Name>
     ensures { option_map (λ target. target.now) result ≡ target_name kind.now }
 {
     match kind {
@@ -125,7 +126,8 @@ fn json_of_link(alloc: Global, table: &Name, key: &Key) -> Result<Json, NoMemory
     json!(in alloc; {"link": table, "key": key}).map_err(|_| NoMemory)
 }
 
-fn kind_word(kind: &Kind) -> &'static str
+/// The word of a kind. It takes no memory.
+pub fn kind_word(kind: &Kind) -> &'static str
     ensures { result.now ≡ word_of_kind kind.now }
 {
     match kind {
@@ -139,7 +141,8 @@ fn kind_word(kind: &Kind) -> &'static str
     }
 }
 
-fn shape_word(shape: Shape) -> &'static str
+/// The word of a shape. It takes no memory.
+pub fn shape_word(shape: Shape) -> &'static str
     ensures { result.now ≡ word_of_shape shape }
 {
     match shape {

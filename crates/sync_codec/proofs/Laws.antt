@@ -1,0 +1,12 @@
+pub mod Runs
+pub mod Fields
+pub mod Keys
+pub mod Columns
+pub mod Values
+pub mod Instrs
+pub mod Tables
+pub mod Uses
+pub mod Whole
+pub mod Few
+pub mod Back
+pub mod Answers

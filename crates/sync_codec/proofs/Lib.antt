@@ -1,0 +1,4 @@
+pub mod Laws
+pub mod Loops
+pub mod Places
+pub mod Written

@@ -1,0 +1,10 @@
+pub mod Fields
+pub mod Reading
+pub mod Keys
+pub mod Values
+pub mod Lemmas
+pub mod Instrs
+pub mod Spelling
+pub mod Decoding
+pub mod Writing
+pub mod Valid

@@ -1,0 +1,84 @@
+ghost use Rattle.std.specs.Prelude.{◌≡◌, ◌++◌, ◌∷◌, [], length, map, IfOk, OnOk};
+ghost use Rattle.std.specs.Prelude as kept;
+ghost use Rattle.std.specs.List.{flat_map, list_any};
+ghost use Rattle.sync_io.specs.Varints.{varint};
+ghost use Rattle.sync_codec.specs.Spelling.{spelling, version_of, instr_fields, string_bytes, table_bytes};
+ghost use Rattle.sync_codec.specs.Writing.{with_fields};
+
+use crate::decoding::any_needs_second;
+use crate::writer::Writer;
+use std::alloc::Global;
+use sync_base::{Changeset, Instr, NoMemory};
+use sync_intern::Strings;
+use sync_io::put_varint64;
+
+fn version_of(instrs: &[Instr]) -> u8
+    ensures { result ≡ version_of instrs.now }
+{
+    if any_needs_second(instrs) { 2 } else { 1 }
+}
+
+fn put_number(out: &mut Vec<u8>, number: u64) -> Result<(), NoMemory>
+    ensures { OnOk result (out.new.items ≡ out.old.items ++ varint number) }
+{
+    match put_varint64(out, number) {
+        Ok(()) => Ok(()),
+        Err(_) => Err(NoMemory),
+    }
+}
+
+fn put_bytes(out: &mut Vec<u8>, bytes: &[u8]) -> Result<(), NoMemory>
+    ensures { OnOk result (out.new.items ≡ out.old.items ++ bytes.now) }
+{
+    match out.extend_from_slice(bytes) {
+        Ok(()) => Ok(()),
+        Err(_) => Err(NoMemory),
+    }
+}
+
+fn put_string(out: &mut Vec<u8>, text: &str) -> Result<(), NoMemory>
+    ensures { OnOk result (out.new.items ≡ out.old.items ++ string_bytes text.now) }
+{
+    put_number(out, text.len() as u64)?;
+    put_bytes(out, text.as_bytes())
+}
+
+/// The number of strings, and each with its length.
+fn put_table(out: &mut Vec<u8>, strings: &Strings) -> Result<(), NoMemory>
+    ensures { OnOk result (out.new.items ≡ out.old.items ++ table_bytes strings.now) }
+{
+    put_number(out, strings.len() as u64)?;
+    put_strings(out, strings.as_slice())
+}
+
+fn put_strings(out: &mut Vec<u8>, strings: &[String]) -> Result<(), NoMemory>
+    ensures { OnOk result (out.new.items ≡ out.old.items ++ flat_map string_bytes (map (λ s. kept.string_bytes s) strings.now)) }
+{
+    for text in strings {
+        put_string(out, text.as_str())?;
+    }
+    Ok(())
+}
+
+/// The instructions' bytes, with their version, strings and number before them.
+fn with_head(alloc: Global, instrs: &[Instr], body: &Writer) -> Result<Vec<u8>, NoMemory>
+    requires { body.now ≡ with_fields (record { strings = []; bytes = [] }) (flat_map instr_fields instrs.now) }
+    ensures { IfOk result (λ v. v.items ≡ spelling instrs.now) }
+{
+    let mut out = Vec::new(alloc);
+    put_bytes(&mut out, &[version_of(instrs)])?;
+    put_table(&mut out, body.strings())?;
+    put_number(&mut out, instrs.len() as u64)?;
+    put_bytes(&mut out, body.bytes())?;
+    Ok(out)
+}
+
+/// The one spelling of a changeset's instructions. The time isn't part of it.
+pub fn encode(alloc: Global, changes: &Changeset) -> Result<Vec<u8>, NoMemory>
+    ensures { IfOk result (λ v. v.items ≡ spelling changes.now.instrs) }
+{
+    let instrs = changes.instrs();
+    let mut body = Writer::new(alloc)?;
+    body.instrs(instrs)?;
+    with_head(alloc, instrs, &body)
+}

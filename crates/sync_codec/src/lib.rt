@@ -1,0 +1,21 @@
+//! Changesets as bytes, and back.
+#![tactic(auto)]
+
+mod decoding;
+mod encoding;
+mod fields;
+mod instrs;
+mod keys;
+mod opcode;
+mod reader;
+mod refusal;
+mod strings;
+#[cfg(test)]
+mod tests;
+mod values;
+mod writer;
+mod writing;
+
+pub use decoding::{decode, spellings_differ};
+pub use encoding::encode;
+pub use refusal::{BadBytes, DecodeRefusal};

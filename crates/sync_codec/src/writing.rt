@@ -1,0 +1,304 @@
+ghost use Rattle.std.specs.Prelude.{◌≡◌, OnOk, ◌∷◌, ◌++◌, [], length};
+ghost use Rattle.std.specs.List.{flat_map};
+ghost use Rattle.sync_io.specs.Varints.{zigzag};
+ghost use Rattle.sync_codec.specs.Spelling.{byte, number, run, string, flag_byte, key_kind_byte, kind_byte, shape_byte, target_fields, key_fields, value_fields, binding_fields, column_fields, cell_fields, spot_fields, instr_fields};
+ghost use Rattle.sync_codec.specs.Writing.{with_field, with_fields};
+
+use crate::writer::Writer;
+use sync_base::{
+    AddColumn, AddTable, Between, CellName, Column, DictUpdate, Id, Inside, Instr, Key, KeyKind,
+    Kind, ListErase, ListInsert, ListUpdate, Name, NoMemory, Shape, Time, Value,
+};
+
+fn key_kind_byte(kind: KeyKind) -> u8
+    ensures { result ≡ key_kind_byte kind }
+{
+    match kind {
+        KeyKind::Int => 0,
+        KeyKind::Text => 1,
+        KeyKind::Uuid => 2,
+    }
+}
+
+fn kind_byte(kind: &Kind) -> u8
+    ensures { result ≡ kind_byte kind.now }
+{
+    match kind {
+        Kind::Int => 1,
+        Kind::Bool => 2,
+        Kind::Text => 3,
+        Kind::Bytes => 4,
+        Kind::Time => 5,
+        Kind::Uuid => 6,
+        Kind::Link(_) => 7,
+    }
+}
+
+fn shape_byte(shape: Shape) -> u8
+    ensures { result ≡ shape_byte shape }
+{
+    match shape {
+        Shape::One => 0,
+        Shape::List => 1,
+        Shape::Set => 2,
+        Shape::Dict => 3,
+    }
+}
+
+impl Writer {
+    fn flag(&mut self, flag: bool) -> Result<(), NoMemory>
+        ensures { OnOk result (self.new ≡ with_field self.old (byte (flag_byte flag))) }
+    {
+        self.byte(if flag { 1 } else { 0 })
+    }
+
+    fn name(&mut self, name: &Name) -> Result<(), NoMemory>
+        ensures { OnOk result (self.new ≡ with_field self.old (string name.now)) }
+    {
+        self.string(name.text())
+    }
+
+    /// A byte, and then 16 bytes.
+    fn tagged_id(&mut self, tag: u8, id: &Id) -> Result<(), NoMemory>
+        ensures { OnOk result (self.new ≡ with_field (with_field self.old (byte tag)) (run id.now)) }
+    {
+        self.byte(tag)?;
+        self.run(id)
+    }
+
+    fn tagged_signed(&mut self, tag: u8, value: i64) -> Result<(), NoMemory>
+        ensures { OnOk result (self.new ≡ with_field (with_field self.old (byte tag)) (number (zigzag value))) }
+    {
+        self.byte(tag)?;
+        self.signed64(value)
+    }
+
+    /// A byte, a length, and that many bytes.
+    fn tagged_bytes(&mut self, tag: u8, bytes: &[u8]) -> Result<(), NoMemory>
+        ensures { OnOk result (self.new ≡ with_field (with_field (with_field self.old (byte tag)) (number (length bytes.now))) (run bytes.now)) }
+    {
+        self.byte(tag)?;
+        self.number64(bytes.len() as u64)?;
+        self.run(bytes)
+    }
+
+    /// Writes a key.
+    pub fn key(&mut self, key: &Key) -> Result<(), NoMemory>
+        ensures { OnOk result (self.new ≡ with_fields self.old (key_fields key.now)) }
+    {
+        match key {
+            Key::Int(number) => self.tagged_signed(0, *number),
+            Key::Uuid(id) => self.tagged_id(2, id),
+            Key::Text(text) => {
+                self.byte(1)?;
+                self.string(text.text())
+            }
+        }
+    }
+
+    fn time(&mut self, time: Time) -> Result<(), NoMemory>
+        ensures { OnOk result (self.new ≡ with_fields self.old (value_fields (Value.Time time))) }
+    {
+        self.tagged_signed(5, time.secs())?;
+        self.signed32(time.nanos())
+    }
+
+    fn link(&mut self, table: &Name, key: &Key) -> Result<(), NoMemory>
+        ensures { OnOk result (self.new ≡ with_fields self.old (value_fields (Value.Link table.now key.now))) }
+    {
+        self.byte(7)?;
+        self.name(table)?;
+        self.key(key)
+    }
+
+    fn flag_value(&mut self, flag: bool) -> Result<(), NoMemory>
+        ensures { OnOk result (self.new ≡ with_fields self.old (value_fields (Value.Bool flag))) }
+    {
+        self.byte(2)?;
+        self.flag(flag)
+    }
+
+    /// Writes a value.
+    pub fn value(&mut self, value: &Value) -> Result<(), NoMemory>
+        ensures { OnOk result (self.new ≡ with_fields self.old (value_fields value.now)) }
+    {
+        match value {
+            Value::Null => self.byte(0),
+            Value::Int(number) => self.tagged_signed(1, *number),
+            Value::Bool(flag) => self.flag_value(*flag),
+            Value::Text(text) => self.tagged_bytes(3, text.text().as_bytes()),
+            Value::Bytes(bytes) => self.tagged_bytes(4, bytes.bytes()),
+            Value::Time(time) => self.time(*time),
+            Value::Uuid(id) => self.tagged_id(6, id),
+            Value::Link { table, key } => self.link(table, key),
+        }
+    }
+
+    fn binding(&mut self, value: &Option<Value>) -> Result<(), NoMemory>
+        ensures { OnOk result (self.new ≡ with_fields self.old (binding_fields value.now)) }
+    {
+        match value {
+            None => self.byte(0),
+            Some(value) => {
+                self.byte(1)?;
+                self.value(value)
+            }
+        }
+    }
+
+    fn target(&mut self, kind: &Kind) -> Result<(), NoMemory>
+        ensures { OnOk result (self.new ≡ with_fields self.old (target_fields kind.now)) }
+    {
+        match kind {
+            Kind::Link(table) => self.name(table),
+            _ => Ok(()),
+        }
+    }
+
+    fn column(&mut self, column: &Column) -> Result<(), NoMemory>
+        ensures { OnOk result (self.new ≡ with_fields self.old (column_fields column.now)) }
+    {
+        self.byte(kind_byte(&column.kind))?;
+        self.flag(column.nullable)?;
+        self.byte(shape_byte(column.shape))?;
+        self.target(&column.kind)
+    }
+
+    #[tactic(auto, using(crate::specs::Writing::with_fields_more))]
+    fn cell_name(&mut self, cell: &CellName) -> Result<(), NoMemory>
+        ensures { OnOk result (self.new ≡ with_fields self.old (cell_fields cell.now)) }
+    {
+        self.name(&cell.table)?;
+        self.key(&cell.key)?;
+        self.name(&cell.column)
+    }
+
+    fn element(&mut self, spot: Inside) -> Result<(), NoMemory>
+        ensures { OnOk result (self.new ≡ with_fields self.old (spot_fields spot)) }
+    {
+        self.number32(spot.place())?;
+        self.number32(spot.prior())
+    }
+
+    fn gap(&mut self, spot: Between) -> Result<(), NoMemory>
+        ensures { OnOk result (self.new ≡ with_fields self.old (spot_fields spot)) }
+    {
+        self.number32(spot.place())?;
+        self.number32(spot.prior())
+    }
+
+    fn add_table(&mut self, instr: &AddTable) -> Result<(), NoMemory>
+        ensures { OnOk result (self.new ≡ with_fields self.old (byte 1 ∷ string instr.now.table ∷ byte (key_kind_byte instr.now.key) ∷ [])) }
+    {
+        self.byte(1)?;
+        self.name(&instr.table)?;
+        self.byte(key_kind_byte(instr.key))
+    }
+
+    fn add_column(&mut self, instr: &AddColumn) -> Result<(), NoMemory>
+        ensures { OnOk result (self.new ≡ with_fields self.old (byte 2 ∷ string instr.now.table ∷ string instr.now.column ∷ column_fields instr.now.def)) }
+    {
+        self.byte(2)?;
+        self.name(&instr.table)?;
+        self.name(&instr.column)?;
+        self.column(&instr.def)
+    }
+
+    fn object(&mut self, opcode: u8, table: &Name, key: &Key) -> Result<(), NoMemory>
+        ensures { OnOk result (self.new ≡ with_fields self.old (byte opcode ∷ string table.now ∷ key_fields key.now)) }
+    {
+        self.byte(opcode)?;
+        self.name(table)?;
+        self.key(key)
+    }
+
+    fn cell_alone(&mut self, opcode: u8, cell: &CellName) -> Result<(), NoMemory>
+        ensures { OnOk result (self.new ≡ with_fields self.old (byte opcode ∷ cell_fields cell.now)) }
+    {
+        self.byte(opcode)?;
+        self.cell_name(cell)
+    }
+
+    #[tactic(auto, using(crate::specs::Writing::with_fields_more))]
+    fn cell_and_value(&mut self, opcode: u8, cell: &CellName, value: &Value) -> Result<(), NoMemory>
+        ensures { OnOk result (self.new ≡ with_fields self.old (byte opcode ∷ (cell_fields cell.now ++ value_fields value.now))) }
+    {
+        self.cell_alone(opcode, cell)?;
+        self.value(value)
+    }
+
+    #[tactic(auto, using(crate::specs::Writing::with_fields_more))]
+    fn add_integer(&mut self, cell: &CellName, amount: i64) -> Result<(), NoMemory>
+        ensures { OnOk result (self.new ≡ with_fields self.old (byte 6 ∷ (cell_fields cell.now ++ number (zigzag amount) ∷ []))) }
+    {
+        self.cell_alone(6, cell)?;
+        self.signed64(amount)
+    }
+
+    #[tactic(auto, using(crate::specs::Writing::with_fields_more))]
+    fn list_update(&mut self, instr: &ListUpdate) -> Result<(), NoMemory>
+        ensures { OnOk result (self.new ≡ with_fields self.old (byte 7 ∷ (cell_fields instr.now.cell ++ (spot_fields instr.now.spot ++ value_fields instr.now.value)))) }
+    {
+        self.cell_alone(7, &instr.cell)?;
+        self.element(instr.spot)?;
+        self.value(&instr.value)
+    }
+
+    #[tactic(auto, using(crate::specs::Writing::with_fields_more))]
+    fn list_insert(&mut self, instr: &ListInsert) -> Result<(), NoMemory>
+        ensures { OnOk result (self.new ≡ with_fields self.old (byte 8 ∷ (cell_fields instr.now.cell ++ (spot_fields instr.now.spot ++ value_fields instr.now.value)))) }
+    {
+        self.cell_alone(8, &instr.cell)?;
+        self.gap(instr.spot)?;
+        self.value(&instr.value)
+    }
+
+    #[tactic(auto, using(crate::specs::Writing::with_fields_more))]
+    fn list_erase(&mut self, instr: &ListErase) -> Result<(), NoMemory>
+        ensures { OnOk result (self.new ≡ with_fields self.old (byte 9 ∷ (cell_fields instr.now.cell ++ spot_fields instr.now.spot))) }
+    {
+        self.cell_alone(9, &instr.cell)?;
+        self.element(instr.spot)
+    }
+
+    #[tactic(auto, using(crate::specs::Writing::with_fields_more))]
+    fn dict_update(&mut self, instr: &DictUpdate) -> Result<(), NoMemory>
+        ensures { OnOk result (self.new ≡ with_fields self.old (byte 12 ∷ (cell_fields instr.now.cell ++ string instr.now.at ∷ binding_fields instr.now.value))) }
+    {
+        self.cell_alone(12, &instr.cell)?;
+        self.string(instr.at.text())?;
+        self.binding(&instr.value)
+    }
+
+    /// Writes an instruction.
+    #[tactic(auto, unfolding(crate::specs::Spelling::instr_fields))]
+    pub fn instr(&mut self, instr: &Instr) -> Result<(), NoMemory>
+        ensures { OnOk result (self.new ≡ with_fields self.old (instr_fields instr.now)) }
+    {
+        match instr {
+            Instr::AddTable(i) => self.add_table(i),
+            Instr::AddColumn(i) => self.add_column(i),
+            Instr::CreateObject(i) => self.object(3, &i.table, &i.key),
+            Instr::EraseObject(i) => self.object(4, &i.table, &i.key),
+            Instr::Update(i) => self.cell_and_value(5, &i.cell, &i.value),
+            Instr::AddInteger(i) => self.add_integer(&i.cell, i.amount),
+            Instr::ListUpdate(i) => self.list_update(i),
+            Instr::ListInsert(i) => self.list_insert(i),
+            Instr::ListErase(i) => self.list_erase(i),
+            Instr::SetInsert(i) => self.cell_and_value(10, &i.cell, &i.value),
+            Instr::SetErase(i) => self.cell_and_value(11, &i.cell, &i.value),
+            Instr::DictUpdate(i) => self.dict_update(i),
+            Instr::Clear(i) => self.cell_alone(13, &i.cell),
+        }
+    }
+
+    /// Writes instructions, one after the other.
+    pub fn instrs(&mut self, instrs: &[Instr]) -> Result<(), NoMemory>
+        ensures { OnOk result (self.new ≡ with_fields self.old (flat_map instr_fields instrs.now)) }
+    {
+        for instr in instrs {
+            self.instr(instr)?;
+        }
+        Ok(())
+    }
+}

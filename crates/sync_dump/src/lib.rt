@@ -1,0 +1,12 @@
+//! The dump of a store: a line of compact JSON for each table, each of its columns and each of its objects.
+#![tactic(auto)]
+
+mod cells;
+mod dump;
+mod fields;
+mod lines;
+#[cfg(test)]
+mod tests;
+mod values;
+
+pub use dump::dump_lines;

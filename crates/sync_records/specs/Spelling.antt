@@ -1,0 +1,20 @@
+-- The one spelling of each record of a journal.
+use Rattle.std.specs.Prelude.{ℕ, List, ◌∷◌, ◌++◌}
+use Rattle.sync_io.specs.Varints.{varint}
+use Rattle.sync_records.specs.declared.client.ClientRecord.{ClientRecord}
+use Rattle.sync_records.specs.declared.client.ClientRecord.TheVariants as client
+use Rattle.sync_records.specs.declared.server.ServerRecord.{ServerRecord}
+use Rattle.sync_records.specs.declared.server.ServerRecord.TheVariants as server
+
+-- a tag, and the fields; a body is what is left of the record
+abbrev pub client_spelling : ClientRecord → List ℕ
+client_spelling (client.Born id) = 1 ∷ id
+client_spelling (client.Named ident) = 2 ∷ varint ident
+client_spelling (client.Made number ms body) = 3 ∷ (varint number ++ varint ms ++ body)
+client_spelling (client.Took origin number ms body) = 4 ∷ (varint origin ++ varint number ++ varint ms ++ body)
+client_spelling client.Form = 7 ∷ varint 2
+
+abbrev pub server_spelling : ServerRecord → List ℕ
+server_spelling (server.Client id) = 5 ∷ id
+server_spelling (server.Entry origin number base ms body) = 6 ∷ (varint origin ++ varint number ++ varint base ++ varint ms ++ body)
+server_spelling server.Form = 7 ∷ varint 2

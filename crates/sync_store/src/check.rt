@@ -1,0 +1,245 @@
+ghost use Rattle.std.specs.Prelude.{◌≡◌, ◌∷◌, ℕ, List, Bool, false, [], Some, None, IfOk, IfErr, OnOk};
+ghost use Rattle.std.specs.Option.{option_copied, option_map_or};
+ghost use Rattle.sync_data.specs.declared.key.KeyKind.{KeyKind};
+ghost use Rattle.sync_base.specs.Effects.{NewTable, NewColumn, Erase, Change, effect_of, path_of};
+ghost use Rattle.sync_base.specs.Effects as effects;
+ghost use Rattle.sync_base.specs.States.{column_in, cell_at};
+ghost use Rattle.sync_base.specs.Checks.{break_of, first_failed, object_checks, size, is_int};
+ghost use Rattle.sync_base.specs.declared.answers.Break.{Break as BreakSeen};
+ghost use Rattle.sync_store.specs.Asking.{verdict, cell_checks, change_checks, is_wanted, takes, has_size};
+
+use super::parts::Parts;
+use super::wanted::Wanted;
+use sync_base::{AddColumn, Break, CellName, Column, Instr, Key, Kind, Name, Shape, Value as Held};
+use sync_cells::{Cell, Content};
+use sync_schema::is_sound;
+
+impl Parts {
+    /// Whether an instruction acts, or its first break. It takes no memory.
+    pub(crate) fn check(&self, instr: &Instr) -> Result<(), Break>
+        ensures { result ≡ verdict (break_of self.now (effect_of instr.now)) }
+    {
+        match instr {
+            Instr::AddTable(i) => self.check_table(&i.table),
+            Instr::AddColumn(i) => self.check_column(i),
+            Instr::CreateObject(i) => self.check_key(&i.table, &i.key),
+            Instr::EraseObject(i) => self.check_object(&i.table, &i.key),
+            Instr::Update(i) => self.check_change(&i.cell, Wanted::One, Some(&i.value), None),
+            Instr::AddInteger(i) => self.check_sum(&i.cell),
+            Instr::ListUpdate(i) => {
+                let prior = Some(i.spot.prior());
+                self.check_change(&i.cell, Wanted::List, Some(&i.value), prior)
+            }
+            Instr::ListInsert(i) => {
+                let prior = Some(i.spot.prior());
+                self.check_change(&i.cell, Wanted::List, Some(&i.value), prior)
+            }
+            Instr::ListErase(i) => {
+                let prior = Some(i.spot.prior());
+                self.check_change(&i.cell, Wanted::List, None, prior)
+            }
+            Instr::SetInsert(i) => self.check_change(&i.cell, Wanted::Set, Some(&i.value), None),
+            Instr::SetErase(i) => self.check_change(&i.cell, Wanted::Set, Some(&i.value), None),
+            Instr::DictUpdate(i) => self.check_binding(&i.cell, &i.value),
+            Instr::Clear(i) => self.check_change(&i.cell, Wanted::Collection, None, None),
+        }
+    }
+
+    fn check_table(&self, table: &Name) -> Result<(), Break>
+        ensures { (k : KeyKind) → result ≡ verdict (break_of self.now (NewTable table.now k)) }
+    {
+        if self.schema.table(table).is_some() {
+            return Err(Break::TableExists);
+        }
+        Ok(())
+    }
+
+    fn check_column(&self, add: &AddColumn) -> Result<(), Break>
+        ensures { result ≡ verdict (break_of self.now (NewColumn add.now.table add.now.column add.now.def)) }
+    {
+        if self.schema.table(&add.table).is_none() {
+            return Err(Break::NoTable);
+        }
+        if self.schema.column(&add.table, &add.column).is_some() {
+            return Err(Break::ColumnExists);
+        }
+        if !is_sound(&add.def) {
+            return Err(Break::BadColumn);
+        }
+        if !self.schema.has_target(&add.def.kind) {
+            return Err(Break::NoTable);
+        }
+        Ok(())
+    }
+
+    fn check_key(&self, table: &Name, key: &Key) -> Result<(), Break>
+        ensures { result ≡ verdict (first_failed (object_checks self.now.tables (table.now, key.now))) }
+    {
+        if self.schema.table(table).is_none() {
+            return Err(Break::NoTable);
+        }
+        if !self.schema.is_key_of(table, key) {
+            return Err(Break::WrongKeyKind);
+        }
+        Ok(())
+    }
+
+    fn check_object(&self, table: &Name, key: &Key) -> Result<(), Break>
+        ensures { result ≡ verdict (break_of self.now (Erase (table.now, key.now))) }
+    {
+        if self.schema.table(table).is_none() {
+            return Err(Break::NoTable);
+        }
+        if !self.schema.is_key_of(table, key) {
+            return Err(Break::WrongKeyKind);
+        }
+        if self.objects.object(table, key).is_none() {
+            return Err(Break::NoObject);
+        }
+        Ok(())
+    }
+
+    /// The column of a cell whose object stands.
+    fn find_column(&self, cell: &CellName) -> Result<&Column, Break>
+        ensures there { IfOk result (λ column. column_in self.now.tables cell.now.table cell.now.column ≡ Some column.now) }
+        ensures passed { OnOk result ((rest : List (Bool × BreakSeen)) → first_failed (cell_checks self.now (path_of cell.now) rest) ≡ first_failed rest) }
+        ensures cause { IfErr result (λ cause. (rest : List (Bool × BreakSeen)) → first_failed (cell_checks self.now (path_of cell.now) rest) ≡ Some cause) }
+    {
+        match self.check_object(&cell.table, &cell.key) {
+            Ok(()) => {}
+            Err(cause) => return Err(cause),
+        }
+        match self.schema.column(&cell.table, &cell.column) {
+            Some(column) => Ok(column),
+            None => Err(Break::NoColumn),
+        }
+    }
+
+    /// The cell of a name.
+    pub(crate) fn cell(&self, cell: &CellName) -> Option<&Cell>
+        ensures { option_copied result ≡ cell_at self.now (path_of cell.now).0 cell.now.column }
+    {
+        self.objects
+            .object(&cell.table, &cell.key)?
+            .cell(&cell.column)
+    }
+
+    /// Whether a cell is changed whose column has a wanted shape and takes the value, and whose list has that length.
+    fn check_change(
+        &self,
+        cell: &CellName,
+        shape: Wanted,
+        value: Option<&Held>,
+        prior: Option<u32>,
+    ) -> Result<(), Break>
+        ensures { result ≡ verdict (first_failed (change_checks self.now (path_of cell.now) (is_wanted shape) (takes self.now.tables (option_copied value.entry)) (has_size prior))) }
+    {
+        let column = match self.find_column(cell) {
+            Ok(column) => column,
+            Err(cause) => return Err(cause),
+        };
+        let has_shape = is_wanted(shape, column.shape);
+        let fits = self.takes(column, value);
+        let has_size = self.has_size(cell, prior);
+        judge(has_shape, fits, has_size)
+    }
+
+    fn check_sum(&self, cell: &CellName) -> Result<(), Break>
+        ensures { result ≡ verdict (first_failed (change_checks self.now (path_of cell.now) (is_wanted Wanted.One) (λ c. is_int c.kind) (has_size None))) }
+    {
+        let column = match self.find_column(cell) {
+            Ok(column) => column,
+            Err(cause) => return Err(cause),
+        };
+        let has_shape = is_wanted(Wanted::One, column.shape);
+        let fits = is_int(&column.kind);
+        let has_size = self.has_size(cell, None);
+        judge(has_shape, fits, has_size)
+    }
+
+    fn check_binding(&self, cell: &CellName, value: &Option<Held>) -> Result<(), Break>
+        ensures { (at : List ℕ) → result ≡ verdict (break_of self.now (Change (path_of cell.now) (effects.Bind at value.now))) }
+    {
+        match value {
+            Some(value) => self.check_change(cell, Wanted::Dict, Some(value), None),
+            None => self.check_change(cell, Wanted::Dict, None, None),
+        }
+    }
+
+    fn takes(&self, column: &Column, value: Option<&Held>) -> bool
+        ensures { result ≡ takes self.now.tables (option_copied value.entry) column.now }
+    {
+        match value {
+            Some(value) => self.schema.fits(column, value),
+            None => true,
+        }
+    }
+
+    /// Whether the cell is there, and is a list of that length where one is wanted.
+    fn has_size(&self, cell: &CellName, prior: Option<u32>) -> bool
+        ensures { result ≡ option_map_or (has_size prior) (cell_at self.now (path_of cell.now).0 cell.now.column) false }
+    {
+        match self.cell(cell) {
+            Some(found) => is_size(found, prior),
+            None => false,
+        }
+    }
+}
+
+/// The first of these breaks whose test fails.
+fn judge(has_shape: bool, fits: bool, has_size: bool) -> Result<(), Break>
+    ensures { result ≡ verdict (first_failed ((has_shape, BreakSeen.WrongShape) ∷ (fits, BreakSeen.WrongKind) ∷ (has_size, BreakSeen.BadPrior) ∷ [])) }
+{
+    if !has_shape {
+        return Err(Break::WrongShape);
+    }
+    if !fits {
+        return Err(Break::WrongKind);
+    }
+    if !has_size {
+        return Err(Break::BadPrior);
+    }
+    Ok(())
+}
+
+fn is_size(cell: &Cell, prior: Option<u32>) -> bool
+    ensures { result ≡ has_size prior cell.now }
+{
+    match prior {
+        Some(prior) => prior as usize == size(cell),
+        None => true,
+    }
+}
+
+/// The number of elements of a list; of another cell none.
+fn size(cell: &Cell) -> usize
+    ensures { result ≡ size cell.now }
+{
+    match cell.content() {
+        Content::List(list) => list.len(),
+        _ => 0,
+    }
+}
+
+fn is_int(kind: &Kind) -> bool
+    ensures { result ≡ is_int kind.now }
+{
+    match kind {
+        Kind::Int => true,
+        _ => false,
+    }
+}
+
+fn is_wanted(wanted: Wanted, shape: Shape) -> bool
+    ensures { result ≡ is_wanted wanted shape }
+{
+    match (wanted, shape) {
+        (Wanted::One, Shape::One) => true,
+        (Wanted::List, Shape::List) => true,
+        (Wanted::Set, Shape::Set) => true,
+        (Wanted::Dict, Shape::Dict) => true,
+        (Wanted::Collection, Shape::One) => false,
+        (Wanted::Collection, _) => true,
+        _ => false,
+    }
+}

@@ -1,0 +1,5 @@
+pub mod Turns
+pub mod Covered
+pub mod Parts
+pub mod Sizes
+pub mod Agreed

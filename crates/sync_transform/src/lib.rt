@@ -1,0 +1,14 @@
+//! All pairs of instructions, and lists and changesets of them, as they cross each other.
+#![tactic(auto)]
+
+mod crossing;
+mod pairs;
+mod row;
+mod sets;
+mod slots;
+#[cfg(test)]
+mod tests;
+
+pub use crossing::{CrossMismatch, cross, cross_indexed};
+pub use pairs::meet;
+pub use sets::{cross_sets, cross_sets_indexed, stays_apart};
