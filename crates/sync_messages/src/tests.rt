@@ -51,8 +51,8 @@ fn an_upload_of_one_change(rt: HostRuntime) -> Result<(), Fail> {
 }
 
 #[test]
-fn other_bytes_are_no_message(rt: HostRuntime) {
-    let table: [(&[u8], &str); 22] = [
+fn bytes_that_begin_no_message(rt: HostRuntime) {
+    let table: [(&[u8], &str); 10] = [
         (b"", "nothing"),
         (b"\0\x01\x01", "no tag"),
         (b"\x09\x02\x03", "a tag that isn't built"),
@@ -63,6 +63,15 @@ fn other_bytes_are_no_message(rt: HostRuntime) {
         (b"\x03\x01\x01\0\0\0\0", "number 0"),
         (b"\x03\x01\x01\x01\0\0\x01", "a short body"),
         (b"\x03\x01\x01\x01\0\0", "no body"),
+    ];
+    for (bytes, what) in table {
+        assert!(rt; message_of(rt.alloc(), bytes).is_err(), "{what}");
+    }
+}
+
+#[test]
+fn bytes_whose_numbers_are_no_message(rt: HostRuntime) {
+    let table: [(&[u8], &str); 12] = [
         (b"\x04\0\0\0", "ident 0"),
         (b"\x04\x01\x01\x02", "settled above the cursor"),
         (b"\x05\0\0\0", "ident 0"),
@@ -82,21 +91,4 @@ fn other_bytes_are_no_message(rt: HostRuntime) {
     for (bytes, what) in table {
         assert!(rt; message_of(rt.alloc(), bytes).is_err(), "{what}");
     }
-}
-
-/// Whether an Upload of two changes, with bodies of so many bytes and of none, is a message.
-fn is_small(alloc: Global, size: [u8; 4]) -> Result<bool, Fail> {
-    let mut bytes = vec![in alloc; 0u8; 16_777_239]?;
-    bytes[..6].copy_from_slice(b"\x03\x01\x02\x01\0\0");
-    bytes[6..10].copy_from_slice(&size);
-    bytes.truncate(16_777_226 + (size[0] - 128) as usize);
-    bytes.extend_from_slice(b"\x02\0\0\0")?;
-    Ok(message_of(alloc, &bytes).is_ok())
-}
-
-#[test]
-fn bodies_of_the_most_bytes_and_of_one_more(rt: HostRuntime) -> Result<(), Fail> {
-    assert!(rt; is_small(rt.alloc(), *b"\x80\x80\x80\x08")?);
-    assert!(rt; !is_small(rt.alloc(), *b"\x81\x80\x80\x08")?);
-    Ok(())
 }
