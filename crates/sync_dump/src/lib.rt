@@ -8,5 +8,6 @@ mod lines;
 #[cfg(test)]
 mod tests;
 mod values;
+mod words;
 
 pub use dump::dump_lines;

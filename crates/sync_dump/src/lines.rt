@@ -4,17 +4,17 @@ ghost use Rattle.json.specs.Tree.{members_tokens};
 ghost use Rattle.serde_json.specs.Data.{Data, object};
 ghost use Rattle.serde_json.specs.Written.{members_outline};
 ghost use Rattle.sync_value_text.specs.Printed.{target_name, target_field};
-ghost use Rattle.sync_dump.specs.Dump.{line, key_word as word_of_key_kind, data_of_table, data_of_column, data_of_object};
+ghost use Rattle.sync_dump.specs.Dump.{line, data_of_table, data_of_column, data_of_object};
 ghost use Rattle.sync_dump.specs.Tokens.{tokens_of, Adds};
 ghost use Rattle.sync_dump.specs.Walks.{columns_in};
 
 use super::fields::put_cells;
 use super::values::{put_flag_field, put_key, put_text_field};
+use super::words::{key_word, kind_word, shape_word, target_of};
 use json::Writer;
 use std::alloc::{AllocError, Global};
 use sync_base::{Column, Key, KeyKind, Kind, Name};
 use sync_store::Store;
-use sync_value_text::{kind_word, shape_word, target_of};
 
 /// Appends the line of a table.
 pub(crate) fn table_line(out: Vec<u8>, table: &Name, kind: KeyKind) -> Result<Vec<u8>, AllocError>
@@ -69,16 +69,6 @@ fn put_table(writer: &mut Writer, table: &Name, kind: KeyKind) -> Result<(), All
     put_text_field(writer, "key", key_word(kind))?;
     put_text_field(writer, "table", table.text())?;
     writer.end_object()
-}
-
-fn key_word(kind: KeyKind) -> &'static str
-    ensures { result.now ≡ word_of_key_kind kind }
-{
-    match kind {
-        KeyKind::Int => "Int",
-        KeyKind::Text => "Text",
-        KeyKind::Uuid => "Uuid",
-    }
 }
 
 fn put_column(

@@ -16,6 +16,6 @@ pub use fields::{
     number_field, place_field, text_field,
 };
 pub use keys::{key_field, key_of};
-pub use printed::{json_of_column, json_of_key, json_of_value, kind_word, shape_word, target_of};
+pub use printed::{json_of_column, json_of_key, json_of_value};
 pub use refusal::TextRefusal;
 pub use values::{value_field, value_of};

@@ -66,8 +66,7 @@ pub fn json_of_column(alloc: Global, column: &Column) -> Result<Json, NoMemory>
     }
 }
 
-/// The target of a link. It takes no memory.
-pub fn target_of(kind: &Kind) -> Option<&Name>
+fn target_of(kind: &Kind) -> Option<&Name>
     ensures { option_map (λ target. target.now) result ≡ target_name kind.now }
 {
     match kind {
@@ -126,8 +125,7 @@ fn json_of_link(alloc: Global, table: &Name, key: &Key) -> Result<Json, NoMemory
     json!(in alloc; {"link": table, "key": key}).map_err(|_| NoMemory)
 }
 
-/// The word of a kind. It takes no memory.
-pub fn kind_word(kind: &Kind) -> &'static str
+fn kind_word(kind: &Kind) -> &'static str
     ensures { result.now ≡ word_of_kind kind.now }
 {
     match kind {
@@ -141,8 +139,7 @@ pub fn kind_word(kind: &Kind) -> &'static str
     }
 }
 
-/// The word of a shape. It takes no memory.
-pub fn shape_word(shape: Shape) -> &'static str
+fn shape_word(shape: Shape) -> &'static str
     ensures { result.now ≡ word_of_shape shape }
 {
     match shape {
