@@ -1,7 +1,5 @@
 -- A replay of valid lines is done.
 use Rattle.std.proofs.Common.{◌≡◌, ℕ, ◌+◌, Bool, true, false, ◌||◌, cond, List, [], Option, None, Some, Result, Ok, Err, refl}
-use Rattle.std.specs.List.{list_all, position}
-use Rattle.sync_data.specs.declared.instr.Instr.{Instr}
 use Rattle.sync_io.specs.Input.{input_ahead}
 use Rattle.sync_io.specs.Readers.{readings}
 use Rattle.sync_io.specs.Reading.{Reading, Ends, Gives, AtEnd, AtLongLine, AtLimit, reading_of}

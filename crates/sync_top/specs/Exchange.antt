@@ -1,6 +1,6 @@
 -- An exchange of clients that only edit: what each event comes to, and the report.
 use Rattle.std.specs.Prelude.{◌≡◌, ℕ, ◌+◌, ◌==◌, ◌&&◌, ◌||◌, nat_le, Bool, true, false, if◌then◌else◌, List, [], ◌∷◌, ◌++◌, codes, decimal, length, slice_set, Option, None, Some, Result, Ok, Err}
-use Rattle.std.specs.List.{list_any, list_all, position, slice_get}
+use Rattle.std.specs.List.{list_any, position, slice_get}
 use Rattle.std.specs.Str.{bytes_eq}
 use Rattle.std.specs.Ordering.{eq_by_cmp}
 use Rattle.sync_data.specs.Orders.{name_cmp}
@@ -11,8 +11,10 @@ use Rattle.sync_data.specs.declared.instr.Instr.{Instr}
 use Rattle.sync_data.specs.declared.instr.Instr.TheVariants as instrs
 use Rattle.sync_base.specs.declared.answers.Break.{Break}
 use Rattle.sync_base.specs.Checks.{break_at}
-use Rattle.sync_base.specs.States.{no_state}
+use Rattle.sync_base.specs.States.{State, no_state}
 use Rattle.sync_store.specs.Applying.{after_all}
+use Rattle.sync_store.specs.declared.refusals.AllRefusal.{AllRefusal}
+use Rattle.sync_store.specs.declared.refusals.AllRefusal.TheVariants as all_refusals
 use Rattle.sync_dump.specs.Dump.{dump}
 use Rattle.sync_io.specs.Input.{input_ahead}
 use Rattle.sync_io.specs.Reading.{Reading, Ends, Gives, AtEnd, reading_of}
@@ -68,6 +70,12 @@ formed c edits (Some place) = (outcomes.OldForm place, c)
 abbrev pub committed : Client → List Instr → Outcome × Client
 committed c edits =
     if is_small edits then (if c.made == 4294967295 then (outcomes.NumbersFull, c) else formed c edits (if c.second then None else position needs_second edits)) else (outcomes.TooLarge, c)
+
+-- the instructions have acted, or the first break is told and nothing has changed
+abbrev pub HasApplied : Result (Unit {0}) AllRefusal → List Instr → State → State → Type 0
+HasApplied (Ok u) is old new = (break_at is old ≡ None) × (new ≡ after_all is old)
+HasApplied (Err (all_refusals.Break place cause)) is old new = (break_at is old ≡ Some (place, cause)) × (new ≡ old)
+HasApplied (Err all_refusals.NoMemory) is old new = Unit {0}
 
 -- a client's file is brought to form 2
 abbrev pub upgraded : Client → Outcome × Client

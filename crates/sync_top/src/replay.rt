@@ -1,6 +1,6 @@
-ghost use Rattle.std.specs.Prelude.{◌≡◌, ◌++◌, [], position, IfOk, OnOk, Ok, Err};
+ghost use Rattle.std.specs.Prelude.{◌≡◌, ◌++◌, [], None, if◌then◌else◌, position, IfOk, OnOk, Ok, Err};
 ghost use Rattle.std.specs.List.{list_any, list_all};
-ghost use Rattle.sync_top.specs.Exchange.{is_named, has_id, committed, upgraded, stepped, joined, answers, report, Takes, client_report, clients_report};
+ghost use Rattle.sync_top.specs.Exchange.{is_named, has_id, needs_second, HasApplied, committed, upgraded, stepped, joined, answers, report, Takes, client_report, clients_report};
 
 use super::client::Client;
 use super::command::{Command, LineEnd};
@@ -25,10 +25,31 @@ pub struct Replay {
 impl Model for Replay {
     ghost use Rattle.std.specs.Prelude.{List};
     ghost use Rattle.sync_top.specs.declared.client.Client.{Client};
+    ghost use Rattle.sync_top.specs.Codes.{coded_clients};
 
     ghost Value = { List Client };
 
+    ghost coded = { coded_clients };
+
     ghost view = { λ r. r.clients.items };
+}
+
+/// The place of the first instruction that the client's file has no form for.
+fn old_form(client: &Client, instrs: &[Instr]) -> Option<usize>
+    ensures { result ≡ (if client.now.second then None else position needs_second instrs.now) }
+{
+    if client.second {
+        None
+    } else {
+        first_second(instrs)
+    }
+}
+
+/// Applies a transaction, or tells its first break.
+fn apply_all(objects: &mut Store, changes: &Changeset) -> Result<(), AllRefusal>
+    ensures { HasApplied result changes.now.instrs objects.old objects.new }
+{
+    objects.apply_all(changes)
 }
 
 /// A client commits a transaction.
@@ -42,13 +63,11 @@ fn commit(client: &mut Client, ms: u64, edits: Vec<Instr>) -> Result<Outcome, No
     if client.made == u32::MAX {
         return Ok(Outcome::NumbersFull);
     }
-    if !client.second {
-        if let Some(place) = first_second(changes.instrs()) {
-            let place = place as u64;
-            return Ok(Outcome::OldForm { place });
-        }
+    if let Some(place) = old_form(client, changes.instrs()) {
+        let place = place as u64;
+        return Ok(Outcome::OldForm { place });
     }
-    match client.objects.apply_all(&changes) {
+    match apply_all(&mut client.objects, &changes) {
         Ok(()) => {
             client.made += 1;
             let number = client.made;

@@ -85,7 +85,7 @@ fn inputs_good_and_bad(rt: HostRuntime) -> Result<(), Fail> {
     let alloc = rt.alloc();
     let done = "1 client \"A\"\nserver 0\nclient \"A\" 0 0 0\n";
     let bind = "{\"event\":\"bind\",\"client\":\"A\"}\n";
-    let table: [(&[&str], Status, &str); 17] = [
+    let table: [(&[&str], Status, &str); 15] = [
         // no last line feed; CR before it; blank lines of spaces, tabs and CR, which are counted
         (&[CLIENT], Status::Done, done),
         (&[CLIENT, "\r\n"], Status::Done, done),
@@ -136,22 +136,6 @@ fn inputs_good_and_bad(rt: HostRuntime) -> Result<(), Fail> {
         // forms that aren't built yet
         (
             &[CLIENT, "\n", bind],
-            Status::Unbuilt { line: 2 },
-            "1 client \"A\"\n",
-        ),
-        (
-            &[
-                CLIENT,
-                "\n{\"event\":\"edit\",\"client\":\"A\",\"ms\":5,\"edits\":[{\"op\":\"EraseObject\",\"table\":\"t\",\"key\":1}]}",
-            ],
-            Status::Unbuilt { line: 2 },
-            "1 client \"A\"\n",
-        ),
-        (
-            &[
-                CLIENT,
-                "\n{\"event\":\"edit\",\"client\":\"A\",\"ms\":5,\"edits\":[{\"op\":\"AddTable\",\"table\":\"t\",\"key\":\"Text\"}]}",
-            ],
             Status::Unbuilt { line: 2 },
             "1 client \"A\"\n",
         ),
@@ -278,5 +262,54 @@ fn each_read_and_each_write_fails_in_turn(rt: HostRuntime) -> Result<(), Fail> {
         assert!(rt; whole.as_slice().starts_with(output.as_slice()));
     }
     assert_eq!(rt; replayed(alloc, &input, &[], &[5])?.0, Status::Done);
+    Ok(())
+}
+
+const KINDS: &str =
+    "{\"op\":\"AddTable\",\"table\":\"t\",\"key\":\"Int\"},{\"op\":\"AddColumn\",\"table\":\"t\",\"column\":\"n\",\"kind\":\"Int\",\"nullable\":false,\"shape\":\"One\"},{\"op\":\"AddColumn\",\"table\":\"t\",\"column\":\"m\",\"kind\":\"Int\",\"nullable\":true,\"shape\":\"One\"},{\"op\":\"CreateObject\",\"table\":\"t\",\"key\":1},{\"op\":\"Update\",\"table\":\"t\",\"key\":1,\"column\":\"n\",\"value\":9223372036854775807},{\"op\":\"AddInteger\",\"table\":\"t\",\"key\":1,\"column\":\"n\",\"amount\":1},{\"op\":\"AddInteger\",\"table\":\"t\",\"key\":1,\"column\":\"m\",\"amount\":1}";
+
+const ERASURE: &str = "{\"op\":\"EraseObject\",\"table\":\"t\",\"key\":2}";
+
+#[test]
+fn additions_wrap_and_leave_null(rt: HostRuntime) -> Result<(), Fail> {
+    let alloc = rt.alloc();
+    let mut input = joined(alloc, &[CLIENT, "\n"])?;
+    input.extend_from_slice(&edit(alloc, KINDS)?)?;
+    input.extend_from_slice(&edit(alloc, ERASURE)?)?;
+    let (status, output) = replayed(alloc, &input, &[], &[])?;
+    assert_eq!(rt; status, Status::Done);
+    let want =
+        "1 client \"A\"\n2 made 1\n3 refused Break 0 30\nserver 0\nclient \"A\" 0 0 1\n{\"key\":\"Int\",\"table\":\"t\"}\n{\"column\":\"m\",\"kind\":\"Int\",\"nullable\":true,\"shape\":\"One\",\"table\":\"t\"}\n{\"column\":\"n\",\"kind\":\"Int\",\"nullable\":false,\"shape\":\"One\",\"table\":\"t\"}\n{\"cells\":{\"m\":null,\"n\":-9223372036854775808},\"key\":1,\"table\":\"t\"}\n";
+    assert!(rt; output.as_slice() == want.as_bytes());
+    Ok(())
+}
+
+const COLLECTIONS: &str =
+    "{\"op\":\"AddTable\",\"table\":\"t\",\"key\":\"Int\"},{\"op\":\"AddColumn\",\"table\":\"t\",\"column\":\"l\",\"kind\":\"Text\",\"nullable\":false,\"shape\":\"List\"},{\"op\":\"AddColumn\",\"table\":\"t\",\"column\":\"u\",\"kind\":\"Int\",\"nullable\":false,\"shape\":\"Set\"},{\"op\":\"CreateObject\",\"table\":\"t\",\"key\":1}";
+
+const INSERTION: &str =
+    "{\"op\":\"ListInsert\",\"table\":\"t\",\"key\":1,\"column\":\"l\",\"place\":1,\"prior\":1,\"value\":\"x\"}";
+
+const FIVES: &str =
+    "{\"op\":\"SetErase\",\"table\":\"t\",\"key\":1,\"column\":\"u\",\"value\":5},{\"op\":\"SetInsert\",\"table\":\"t\",\"key\":1,\"column\":\"u\",\"value\":5},{\"op\":\"SetInsert\",\"table\":\"t\",\"key\":1,\"column\":\"u\",\"value\":5}";
+
+const DICTIONARY: &str =
+    "{\"op\":\"AddColumn\",\"table\":\"t\",\"column\":\"d\",\"kind\":\"Int\",\"nullable\":false,\"shape\":\"Dict\"}";
+
+const UPGRADE: &str = "{\"event\":\"upgrade\",\"client\":\"A\"}\n";
+
+#[test]
+fn lists_sets_and_the_second_form(rt: HostRuntime) -> Result<(), Fail> {
+    let alloc = rt.alloc();
+    let mut input = joined(alloc, &[CLIENT, "\n"])?;
+    for edits in [COLLECTIONS, INSERTION, FIVES, DICTIONARY] {
+        input.extend_from_slice(&edit(alloc, edits)?)?;
+    }
+    input.extend_from_slice(&joined(alloc, &[UPGRADE, UPGRADE])?)?;
+    let (status, output) = replayed(alloc, &input, &[], &[])?;
+    assert_eq!(rt; status, Status::Done);
+    let want =
+        "1 client \"A\"\n2 made 1\n3 refused Break 0 23\n4 made 2\n5 refused OldForm 0\n6 upgraded\n7 current\nserver 0\nclient \"A\" 0 0 2\n{\"key\":\"Int\",\"table\":\"t\"}\n{\"column\":\"l\",\"kind\":\"Text\",\"nullable\":false,\"shape\":\"List\",\"table\":\"t\"}\n{\"column\":\"u\",\"kind\":\"Int\",\"nullable\":false,\"shape\":\"Set\",\"table\":\"t\"}\n{\"cells\":{\"l\":[],\"u\":[5]},\"key\":1,\"table\":\"t\"}\n";
+    assert!(rt; output.as_slice() == want.as_bytes());
     Ok(())
 }
