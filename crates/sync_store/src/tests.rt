@@ -166,6 +166,23 @@ fn text_keys_break(store: &mut Store, alloc: Global, does: Does) -> Result<bool,
     Ok(is_refused(store, instr, Break::WrongKeyKind))
 }
 
+/// Whether it meets that break in object 1, at a place of a list of five.
+fn breaks(
+    store: &mut Store,
+    alloc: Global,
+    does: Does,
+    column: &str,
+    want: Break,
+) -> Result<bool, Fail> {
+    let instr = instr(alloc, does, cell("t", Key::Int(1), column)?, 5)?;
+    Ok(is_refused(store, instr, want))
+}
+
+fn acts(store: &Store, alloc: Global, does: Does, column: &str) -> Result<bool, Fail> {
+    let instr = instr(alloc, does, cell("t", Key::Int(1), column)?, 5)?;
+    Ok(store.check(&instr).is_ok())
+}
+
 /// Whether a number breaks it in a column of texts, and a wrong length in a list.
 fn later_checks_break(
     store: &mut Store,
@@ -174,20 +191,16 @@ fn later_checks_break(
     own: &str,
     of_text: &str,
 ) -> Result<bool, Fail> {
-    let of_text = instr(alloc, does, cell("t", Key::Int(1), of_text)?, 5)?;
-    let of_list = instr(alloc, does, cell("t", Key::Int(1), own)?, 5)?;
-    Ok(match does {
-        Remove => {
-            is_refused(store, of_text, Break::BadPrior)
-                & is_refused(store, of_list, Break::BadPrior)
-        }
-        Replace | Insert => {
-            is_refused(store, of_text, Break::WrongKind)
-                & is_refused(store, of_list, Break::BadPrior)
-        }
-        Empty => store.check(&of_text).is_ok() & store.check(&of_list).is_ok(),
-        _ => is_refused(store, of_text, Break::WrongKind) & store.check(&of_list).is_ok(),
-    })
+    let texts = match does {
+        Remove => breaks(store, alloc, does, of_text, Break::BadPrior)?,
+        Empty => acts(store, alloc, does, of_text)?,
+        _ => breaks(store, alloc, does, of_text, Break::WrongKind)?,
+    };
+    let numbers = match does {
+        Remove | Replace | Insert => breaks(store, alloc, does, own, Break::BadPrior)?,
+        _ => acts(store, alloc, does, own)?,
+    };
+    Ok(texts & numbers)
 }
 
 #[test]
