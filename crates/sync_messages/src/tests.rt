@@ -2,6 +2,7 @@ use super::*;
 use std::alloc::Global;
 use std::test::Fail;
 use sync_data::Blob;
+use sync_io::put_varint32;
 
 /// The bytes are read as a message whose copy is spelled so.
 fn is_spelling(alloc: Global, bytes: &[u8]) -> Result<bool, Fail> {
@@ -51,8 +52,8 @@ fn an_upload_of_one_change(rt: HostRuntime) -> Result<(), Fail> {
 }
 
 #[test]
-fn bytes_that_begin_no_message(rt: HostRuntime) {
-    let table: [(&[u8], &str); 10] = [
+fn other_bytes_are_no_message(rt: HostRuntime) {
+    let table: [(&[u8], &str); 22] = [
         (b"", "nothing"),
         (b"\0\x01\x01", "no tag"),
         (b"\x09\x02\x03", "a tag that isn't built"),
@@ -63,15 +64,6 @@ fn bytes_that_begin_no_message(rt: HostRuntime) {
         (b"\x03\x01\x01\0\0\0\0", "number 0"),
         (b"\x03\x01\x01\x01\0\0\x01", "a short body"),
         (b"\x03\x01\x01\x01\0\0", "no body"),
-    ];
-    for (bytes, what) in table {
-        assert!(rt; message_of(rt.alloc(), bytes).is_err(), "{what}");
-    }
-}
-
-#[test]
-fn bytes_whose_numbers_are_no_message(rt: HostRuntime) {
-    let table: [(&[u8], &str); 12] = [
         (b"\x04\0\0\0", "ident 0"),
         (b"\x04\x01\x01\x02", "settled above the cursor"),
         (b"\x05\0\0\0", "ident 0"),
@@ -91,4 +83,23 @@ fn bytes_whose_numbers_are_no_message(rt: HostRuntime) {
     for (bytes, what) in table {
         assert!(rt; message_of(rt.alloc(), bytes).is_err(), "{what}");
     }
+}
+
+/// Whether an Upload of two changes, with bodies of so many bytes and of none, is a message.
+fn is_small(alloc: Global, size: u32) -> Result<bool, Fail> {
+    let body = vec![in alloc; 0u8; size as usize]?;
+    let mut bytes = Vec::new(alloc);
+    bytes.extend_from_slice(b"\x03\x01\x02\x01\0\0")?;
+    put_varint32(&mut bytes, size).map_err(|_| "size")?;
+    bytes.extend_from_slice(&body)?;
+    bytes.extend_from_slice(b"\x02\0\0\0")?;
+    Ok(message_of(alloc, &bytes).is_ok())
+}
+
+#[test]
+fn bodies_of_the_most_bytes_and_of_one_more(rt: HostRuntime) -> Result<(), Fail> {
+    for (size, want) in [(16_777_216, true), (16_777_217, false)] {
+        assert_eq!(rt; is_small(rt.alloc(), size)?, want);
+    }
+    Ok(())
 }
