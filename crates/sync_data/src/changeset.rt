@@ -67,14 +67,16 @@ impl Changeset {
 
     /// The instructions, in order.
     pub fn instrs(&self) -> &[Instr]
-        ensures { result.now ≡ self.now.instrs }
+        ensures listed { result.now ≡ self.now.instrs }
+        ensures small { IsSmall self.now.instrs }
     {
         self.instrs.as_slice()
     }
 
     /// The instructions, given back. It takes no memory.
     pub fn into_instrs(self) -> Vec<Instr>
-        ensures { result.items ≡ self.instrs }
+        ensures listed { result.items ≡ self.instrs }
+        ensures small { IsSmall self.instrs }
     {
         self.instrs
     }

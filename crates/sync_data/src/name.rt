@@ -60,6 +60,13 @@ impl Name {
         str::from_utf8(&self.buf[..self.len]).unwrap()
     }
 
+    /// The bytes of the name's text.
+    fn bytes(&self) -> &[u8]
+        ensures { result.now ≡ self.now }
+    {
+        &self.buf[..self.len]
+    }
+
     /// An equal name. It takes no memory and always succeeds.
     pub fn copy(&self) -> Result<Name, NoMemory>
         ensures equal { result ≡ Ok self.now }
@@ -77,7 +84,7 @@ impl PartialEq for Name {
     ghost laws = { partial_equiv_from_equiv nat_list_eq_equiv };
 
     fn eq(&self, other: &Name) -> bool {
-        self.text() == other.text()
+        self.bytes() == other.bytes()
     }
 }
 
@@ -105,6 +112,6 @@ impl Ord for Name {
     ghost matches_eq = { texts_ties };
 
     fn cmp(&self, other: &Name) -> Ordering {
-        self.text().cmp(other.text())
+        self.bytes().cmp(other.bytes())
     }
 }
