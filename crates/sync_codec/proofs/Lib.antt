@@ -1,4 +1,3 @@
-pub mod Laws
 pub mod Loops
 pub mod Places
 pub mod Written

@@ -1,4 +1,16 @@
--- Tests that say what the readers' types say.
+-- Lemmas: tests that say what the readers' types say, and what reading and spelling have to do with each other.
+pub mod Runs
+pub mod Fields
+pub mod Keys
+pub mod Columns
+pub mod Values
+pub mod Instrs
+pub mod Tables
+pub mod Uses
+pub mod Whole
+pub mod Few
+pub mod Back
+pub mod Answers
 use Rattle.std.proofs.Common.{◌≡◌, ℕ, zero, suc, ◌+◌, ◌<◌, Bool, true, false, List, ℤ, pos, negsuc, refl, arith}
 use Rattle.std.specs.Prelude.{◌≤ℤ◌, ◌&&◌}
 use Rattle.std.specs.Str.{IsUtf8, is_utf8}

@@ -1,5 +1,5 @@
 use Rattle.std.proofs.Common.{arith}
-use Rattle.sync_codec.proofs.Laws.Answers.{is_found, is_only}
+use Rattle.sync_codec.specs.Lemmas.Answers.{is_found, is_only}
 use Rattle.sync_codec.proofs.decoding.decode.Goals as goal
 
 pub returns-clause-found : goal.returns-clause-found

@@ -15,9 +15,9 @@ use Rattle.sync_codec.specs.Keys.{flag_at, key_at}
 use Rattle.sync_codec.specs.Values.{is_time, time_at, blob_at, text_at, int_value_at, flag_value_at, text_value_at, bytes_value_at, time_value_at, uuid_value_at, link_value_at, later_value_at, value_at, binding_at}
 use Rattle.sync_codec.specs.Spelling.{Field, byte, number, run, string, flag_byte, key_fields, value_fields, binding_fields}
 use Rattle.sync_codec.specs.Valid.{IsName, IsKey, IsTimeValue, IsTextValue, IsValue, IsBinding}
-use Rattle.sync_codec.proofs.Laws.Runs.{bind_ok, ok_is, choice, passed, Run, Run-append, run_from, run_same, From, Reads, one, two, tagged, two_checked}
-use Rattle.sync_codec.proofs.Laws.Fields.{Always, read_byte, read_number32, read_signed32, read_signed64, read_run}
-use Rattle.sync_codec.proofs.Laws.Keys.{Pair, no_tag, alone, of_tag, refield, read_own_name, read_flag, read_key}
+use Rattle.sync_codec.specs.Lemmas.Runs.{bind_ok, ok_is, choice, passed, Run, Run-append, run_from, run_same, From, Reads, one, two, tagged, two_checked}
+use Rattle.sync_codec.specs.Lemmas.Fields.{Always, read_byte, read_number32, read_signed32, read_signed64, read_run}
+use Rattle.sync_codec.specs.Lemmas.Keys.{Pair, no_tag, alone, of_tag, refield, read_own_name, read_flag, read_key}
 
 -- ---- times, bytes and texts
 pub read_time : (second : Bool) → Reads second time_at (λ t. number (zigzag t.secs) ∷ number (zigzag t.nanos) ∷ []) IsTimeValue

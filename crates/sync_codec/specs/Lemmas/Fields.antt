@@ -12,7 +12,7 @@ use Rattle.sync_codec.specs.declared.refusal.Rule.TheVariants.{Truncated, String
 use Rattle.sync_codec.specs.Fields.{◌>>=◌, breaks, byte_in, run_in, numbered, number32_in, number64_in, signed32_in, signed64_in}
 use Rattle.sync_codec.specs.Reading.{Reading, behind, byte_at, run_at, number32_at, signed32_at, signed64_at, found, string_at, is_name, name_at}
 use Rattle.sync_codec.specs.Spelling.{byte, number, run, string}
-use Rattle.sync_codec.proofs.Laws.Runs.{bind_ok, done, ok_is, not_passed, Took, TookString, single, Reads, checked}
+use Rattle.sync_codec.specs.Lemmas.Runs.{bind_ok, done, ok_is, not_passed, Took, TookString, single, Reads, checked}
 
 -- what always holds
 abbrev pub Always : {A : Type 0} → A → Type 0

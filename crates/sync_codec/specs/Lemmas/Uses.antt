@@ -10,8 +10,8 @@ use Rattle.sync_intern.specs.FirstUses.{has_string, place_of, with_string, with_
 use Rattle.sync_io.specs.Varints.{varint}
 use Rattle.sync_codec.specs.Reading.{Reading}
 use Rattle.sync_codec.specs.Spelling.{Field, byte, number, run, string, strings_in_field, strings_of, field_bytes}
-use Rattle.sync_codec.proofs.Laws.Runs.{Took, TookString, Run}
-use Rattle.sync_codec.proofs.Laws.Tables.{Fresh}
+use Rattle.sync_codec.specs.Lemmas.Runs.{Took, TookString, Run}
+use Rattle.sync_codec.specs.Lemmas.Tables.{Fresh}
 
 abbrev some : List ℕ → Option (List ℕ)
 some s = Some s

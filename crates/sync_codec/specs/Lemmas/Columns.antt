@@ -13,9 +13,9 @@ use Rattle.sync_codec.specs.Reading.{Reading, byte_at, name_at}
 use Rattle.sync_codec.specs.Keys.{flag_at, shape_at, kind_byte_at, link_at, kind_at, column_at}
 use Rattle.sync_codec.specs.Spelling.{byte, string, kind_byte, shape_byte, flag_byte, target_fields, column_fields}
 use Rattle.sync_codec.specs.Valid.{IsName, IsKind}
-use Rattle.sync_codec.proofs.Laws.Runs.{bind_ok, ok_is, choice, Run, Run-append, run_from, run_same, From, Reads, one, checked}
-use Rattle.sync_codec.proofs.Laws.Fields.{Always, read_byte}
-use Rattle.sync_codec.proofs.Laws.Keys.{Pair, alone, both_true, ShapeFits, read_own_name, read_flag, read_shape}
+use Rattle.sync_codec.specs.Lemmas.Runs.{bind_ok, ok_is, choice, Run, Run-append, run_from, run_same, From, Reads, one, checked}
+use Rattle.sync_codec.specs.Lemmas.Fields.{Always, read_byte}
+use Rattle.sync_codec.specs.Lemmas.Keys.{Pair, alone, both_true, ShapeFits, read_own_name, read_flag, read_shape}
 
 abbrev in_table : ℕ → Bool
 in_table b = ltb 0 b && ltb b 8

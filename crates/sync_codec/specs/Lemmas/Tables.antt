@@ -12,8 +12,8 @@ use Rattle.sync_codec.specs.Fields.{◌>>=◌, breaks, run_in, numbered, number3
 use Rattle.sync_codec.specs.Spelling.{string_bytes, table_bytes}
 use Rattle.sync_codec.specs.Decoding.{string_len_in, as_text, string_in, repeated, strings_in, table_in}
 use Rattle.sync_codec.specs.Valid.{IsString}
-use Rattle.sync_codec.proofs.Laws.Runs.{bind_ok, done, ok_is, passed, not_passed, bytes_behind}
-use Rattle.sync_codec.proofs.Laws.Fields.{numbered_ok, run_ok, run_again}
+use Rattle.sync_codec.specs.Lemmas.Runs.{bind_ok, done, ok_is, passed, not_passed, bytes_behind}
+use Rattle.sync_codec.specs.Lemmas.Fields.{numbered_ok, run_ok, run_again}
 
 -- none of them is known, and none stands twice
 abbrev pub Fresh : List (List ℕ) → List (List ℕ) → Type 0

@@ -16,8 +16,8 @@ use Rattle.sync_codec.specs.Reading.{Reading, run_at, number32_at, signed64_at, 
 use Rattle.sync_codec.specs.Keys.{flag_at, key_kind_at, shape_at, int_key_at, text_key_at, uuid_key_at, key_at, cell_name_at, element_at, gap_at}
 use Rattle.sync_codec.specs.Spelling.{Field, byte, number, run, string, key_kind_byte, shape_byte, flag_byte, key_fields, cell_fields, spot_fields, has_dictionaries}
 use Rattle.sync_codec.specs.Valid.{IsName, IsKey, IsCell, IsElement, IsGap}
-use Rattle.sync_codec.proofs.Laws.Runs.{ok_is, choice, Run, From, Reads, one, three, refit, tagged, two_checked}
-use Rattle.sync_codec.proofs.Laws.Fields.{Always, read_byte, read_number32, read_signed64, read_run, read_string, read_name}
+use Rattle.sync_codec.specs.Lemmas.Runs.{ok_is, choice, Run, From, Reads, one, three, refit, tagged, two_checked}
+use Rattle.sync_codec.specs.Lemmas.Fields.{Always, read_byte, read_number32, read_signed64, read_run, read_string, read_name}
 
 pub read_own_name : (second : Bool) → Reads second name_at (λ s. string s ∷ []) IsName
 read_own_name second = refit second name_at (λ s. string s ∷ []) _ IsName (read_name second) (λ a h. h.1) (λ a h. (tt, h))

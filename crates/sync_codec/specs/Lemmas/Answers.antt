@@ -9,9 +9,9 @@ use Rattle.sync_codec.specs.declared.refusal.DecodeRefusal.TheVariants as refusa
 use Rattle.sync_codec.specs.Spelling.{spelling}
 use Rattle.sync_codec.specs.Decoding.{Answers, IsRead}
 use Rattle.sync_codec.specs.Valid.{AreInstrs}
-use Rattle.sync_codec.proofs.Laws.Runs.{ok_is}
-use Rattle.sync_codec.proofs.Laws.Whole.{spelled_so}
-use Rattle.sync_codec.proofs.Laws.Back.{read_back}
+use Rattle.sync_codec.specs.Lemmas.Runs.{ok_is}
+use Rattle.sync_codec.specs.Lemmas.Whole.{spelled_so}
+use Rattle.sync_codec.specs.Lemmas.Back.{read_back}
 
 pub is_found : (ms : ℕ) (bytes : List ℕ) (r : Result Changes DecodeRefusal) → IsBytes bytes → Answers ms bytes r → IfOk r (λ v. (v.ms ≡ ms) × AreInstrs v.instrs × (bytes ≡ spelling v.instrs))
 is_found ms bytes (Ok v) h a = let p = spelled_so bytes v.instrs h a.1 in (a.0, p.0, p.1)

@@ -12,12 +12,12 @@ use Rattle.sync_codec.specs.Reading.{Reading}
 use Rattle.sync_codec.specs.Spelling.{instr_fields, needs_second, strings_of, field_bytes, table_bytes, spelling}
 use Rattle.sync_codec.specs.Decoding.{instrs_at, ended, instrs_in}
 use Rattle.sync_codec.specs.Valid.{IsInstr, AreInstrs}
-use Rattle.sync_codec.proofs.Laws.Runs.{done, Run}
-use Rattle.sync_codec.proofs.Laws.Instrs.{InstrFits}
-use Rattle.sync_codec.proofs.Laws.Tables.{table_again}
-use Rattle.sync_codec.proofs.Laws.Uses.{fresh_strings, run_exists}
-use Rattle.sync_codec.proofs.Laws.Whole.{version_byte, version_again, count_again, instrs_again}
-use Rattle.sync_codec.proofs.Laws.Few.{strings_few}
+use Rattle.sync_codec.specs.Lemmas.Runs.{done, Run}
+use Rattle.sync_codec.specs.Lemmas.Instrs.{InstrFits}
+use Rattle.sync_codec.specs.Lemmas.Tables.{table_again}
+use Rattle.sync_codec.specs.Lemmas.Uses.{fresh_strings, run_exists}
+use Rattle.sync_codec.specs.Lemmas.Whole.{version_byte, version_again, count_again, instrs_again}
+use Rattle.sync_codec.specs.Lemmas.Few.{strings_few}
 
 either : (b : Bool) → (b || true) ≡ true
 either true = refl

@@ -27,11 +27,11 @@ use Rattle.sync_codec.specs.Values.{value_at, binding_at}
 use Rattle.sync_codec.specs.Instrs.{add_table_at, add_column_at, create_object_at, erase_object_at, update_at, add_integer_at, list_update_at, list_insert_at, list_erase_at, set_insert_at, set_erase_at, dict_update_at, clear_at, opcode_of, taken, fields_at, instr_behind, instr_at}
 use Rattle.sync_codec.specs.Spelling.{Field, byte, number, string, key_kind_byte, key_fields, value_fields, binding_fields, column_fields, cell_fields, spot_fields, instr_fields, needs_second}
 use Rattle.sync_codec.specs.Valid.{IsName, IsKey, IsCell, IsValue, IsBinding, IsElement, IsGap, IsInstr}
-use Rattle.sync_codec.proofs.Laws.Runs.{ok_is, choice, Run, From, Reads, one, two, three, tagged}
-use Rattle.sync_codec.proofs.Laws.Fields.{Always, read_byte, read_signed64, read_string}
-use Rattle.sync_codec.proofs.Laws.Keys.{no_tag, both_true, refield, read_own_name, read_key_kind, read_key, read_cell, read_element, read_gap}
-use Rattle.sync_codec.proofs.Laws.Columns.{ColumnFits, read_column}
-use Rattle.sync_codec.proofs.Laws.Values.{read_value, read_binding}
+use Rattle.sync_codec.specs.Lemmas.Runs.{ok_is, choice, Run, From, Reads, one, two, three, tagged}
+use Rattle.sync_codec.specs.Lemmas.Fields.{Always, read_byte, read_signed64, read_string}
+use Rattle.sync_codec.specs.Lemmas.Keys.{no_tag, both_true, refield, read_own_name, read_key_kind, read_key, read_cell, read_element, read_gap}
+use Rattle.sync_codec.specs.Lemmas.Columns.{ColumnFits, read_column}
+use Rattle.sync_codec.specs.Lemmas.Values.{read_value, read_binding}
 
 module _ (second : Bool) where
   read_add_table : Reads second add_table_at (λ (i : AddTable). string i.table ∷ byte (key_kind_byte i.key) ∷ []) (λ (i : AddTable). IsName i.table × Always i.key)

@@ -17,11 +17,11 @@ use Rattle.sync_codec.specs.Instrs.{instr_at}
 use Rattle.sync_codec.specs.Spelling.{Field, instr_fields, needs_second, version_of, strings_of, field_bytes, table_bytes, spelling}
 use Rattle.sync_codec.specs.Decoding.{version_in, repeated, next_at, instrs_at, ended, table_in, count_in, instrs_in}
 use Rattle.sync_codec.specs.Valid.{IsInstr, IsString, AreInstrs}
-use Rattle.sync_codec.proofs.Laws.Runs.{bind_ok, done, ok_is, choice, not_passed, Run, Run-append, Run-split, run_from, run_same, From}
-use Rattle.sync_codec.proofs.Laws.Fields.{numbered_ok}
-use Rattle.sync_codec.proofs.Laws.Instrs.{InstrFits, read_instr}
-use Rattle.sync_codec.proofs.Laws.Tables.{table_takes}
-use Rattle.sync_codec.proofs.Laws.Uses.{run_ended}
+use Rattle.sync_codec.specs.Lemmas.Runs.{bind_ok, done, ok_is, choice, not_passed, Run, Run-append, Run-split, run_from, run_same, From}
+use Rattle.sync_codec.specs.Lemmas.Fields.{numbered_ok}
+use Rattle.sync_codec.specs.Lemmas.Instrs.{InstrFits, read_instr}
+use Rattle.sync_codec.specs.Lemmas.Tables.{table_takes}
+use Rattle.sync_codec.specs.Lemmas.Uses.{run_ended}
 
 abbrev Read : Type 0
 Read = List Instr × Reading
