@@ -28,7 +28,7 @@ as_read bytes (Err fault) = Err ((bad_bytes bytes fault).offset, (bad_bytes byte
 abbrev pub unspell : List ℕ → Result (List Instr) (ℕ × ℕ)
 unspell bytes = as_read bytes (instrs_in bytes)
 
-pub the_profile : Profile Instr State
+abbrev pub the_profile : Profile Instr State
 the_profile = record {
   empty = no_state;
   apply = apply;

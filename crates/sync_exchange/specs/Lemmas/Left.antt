@@ -1,7 +1,8 @@
 -- What is left of two instructions that can be spelled can be spelled.
-use Rattle.std.specs.Prelude.{◌≡◌, ℕ, ◌+◌, ◌-◌, ◌<◌, ◌≤◌, ◌^◌, Bool, true, false, not, cond, ◌&&◌, ◌||◌, ◌==◌, nat_lt, nat_le, Option, None, Some, Ok, Err, IfOk, ℤ, pos, negsuc, ◌+ℤ◌, refl}
+use Rattle.std.specs.Prelude.{◌≡◌, ℕ, ◌+◌, ◌-◌, ◌<◌, ◌≤◌, ◌^◌, Bool, true, false, not, cond, ◌&&◌, ◌||◌, ◌==◌, nat_lt, nat_le, List, ◌++◌, Option, None, Some, Ok, Err, IfOk, ℤ, pos, negsuc, ◌+ℤ◌, FitsSigned, refl}
+use Rattle.std.specs.List.{flat_map, AllByRecursion}
 use Rattle.std.specs.Option.{option_map}
-use Rattle.std.specs.Int.{int_wrap, w64, FitsSigned}
+use Rattle.std.specs.Int.{int_wrap, w64}
 use Rattle.std.specs.Ordering.{eq_by_cmp}
 use Rattle.std.proofs.Common.{subst, sym, ap, ◌∙◌, arith}
 use Rattle.std.proofs.lemmas.Bool.{eqb-true, eqb-false, leb-true, leb-false, ltb-true, ltb-false, lt-ltb, le-ltb}
@@ -13,7 +14,7 @@ use Rattle.sync_data.specs.declared.value.Value.TheVariants as values
 use Rattle.sync_data.specs.declared.instr.Instr.{Instr}
 use Rattle.sync_base.specs.declared.answers.Mismatch.TheVariants as mismatches
 use Rattle.sync_base.specs.After.{added}
-use Rattle.sync_base.specs.Effects.{CellPath, Edit, Effect, Set, Add, Replace, Insert, Remove, Include, Exclude, Bind, Empty, NewTable, NewColumn, Create, Erase, Change, effect_of, instr_of}
+use Rattle.sync_base.specs.Effects.{CellPath, Edit, Effect, Set, Add, Replace, Insert, Remove, Include, Exclude, Bind, Empty, NewTable, NewColumn, Create, Erase, Change, cell_name, effect_of, instr_of}
 use Rattle.sync_base.specs.Lemmas.Maps.{tied_is}
 use Rattle.sync_base.specs.Lemmas.Looks.{path_exact}
 use Rattle.sync_base.specs.Lemmas.Apart.{changes_there, changes_apart}
@@ -22,9 +23,10 @@ use Rattle.sync_base.specs.Merged.{path_cmp, same_column}
 use Rattle.sync_base.specs.Rules.{Answer, rule, rule_of_edits, sized, top, spot, is_summed, lifted, placed, outcome_of, meeting, kept, only_left, only_right, neither, later_of, has_row}
 use Rattle.sync_base.specs.States.{object_cmp, key_rank_of}
 use Rattle.sync_io.specs.Varints.{zigzag}
-use Rattle.sync_codec.specs.Spelling.{instr_fields}
-use Rattle.sync_codec.specs.Valid.{IsElement, IsGap, IsValue, IsInstr}
+use Rattle.sync_codec.specs.Spelling.{Field, cell_fields, instr_fields, spot_fields, strings_in_field, value_fields}
+use Rattle.sync_codec.specs.Valid.{IsElement, IsGap, IsString}
 use Rattle.sync_exchange.specs.Lemmas.Whole.{IsWhole}
+use Rattle.sync_exchange.specs.Lemmas.Strings.{fields_append}
 
 -- ---- edits, in one cell
 abbrev Held : CellPath → Edit → Type 0
@@ -72,17 +74,21 @@ in_gap s h = ltb-false s.prior s.place (not_less (nat_lt s.prior s.place) h.2)
 in_element : (s : Spot) → IsElement s → s.place < s.prior
 in_element s h = ltb-true s.place s.prior h.2
 
+-- other fields behind the cell's name, of the same strings
+same_strings : (cs fs gs : List Field) → flat_map strings_in_field fs ≡ flat_map strings_in_field gs → AllByRecursion IsString (flat_map strings_in_field (cs ++ fs)) → AllByRecursion IsString (flat_map strings_in_field (cs ++ gs))
+same_strings cs fs gs e h = subst (AllByRecursion IsString) (fields_append cs fs ∙ ap (λ ss. flat_map strings_in_field cs ++ ss) e ∙ sym (fields_append cs gs)) h
+
 inserted : (p : CellPath) (s t : Spot) (v : Value) → IsGap t → Held p (Insert s v) → Held p (Insert t v)
 unfolding instr_fields
-inserted p s t v g h = record { fields = (h.fields.0, g, h.fields.2); strings = h.strings }
+inserted p s t v g h = record { fields = (h.fields.0, g, h.fields.2); strings = same_strings (cell_fields (cell_name p)) (spot_fields s ++ value_fields v) (spot_fields t ++ value_fields v) refl h.strings }
 
 replaced : (p : CellPath) (s t : Spot) (v : Value) → IsElement t → Held p (Replace s v) → Held p (Replace t v)
 unfolding instr_fields
-replaced p s t v g h = record { fields = (h.fields.0, g, h.fields.2); strings = h.strings }
+replaced p s t v g h = record { fields = (h.fields.0, g, h.fields.2); strings = same_strings (cell_fields (cell_name p)) (spot_fields s ++ value_fields v) (spot_fields t ++ value_fields v) refl h.strings }
 
 removed : (p : CellPath) (s t : Spot) → IsElement t → Held p (Remove s) → Held p (Remove t)
 unfolding instr_fields
-removed p s t g h = record { fields = (h.fields.0, g); strings = h.strings }
+removed p s t g h = record { fields = (h.fields.0, g); strings = same_strings (cell_fields (cell_name p)) (spot_fields s) (spot_fields t) refl h.strings }
 
 -- sums
 small_zigzag : (z : ℤ) → FitsSigned w64 z → zigzag z < 2 ^ 64
@@ -92,7 +98,7 @@ small_zigzag (negsuc n) h = omega (arith, ints, h)
 summed : (p : CellPath) (n : ℤ) (v : Value) → Held p (Set v) → Held p (Set (added n v))
 unfolding instr_fields
 summed p n values.Null h = h
-summed p n (values.Int m) h = record { fields = (h.fields.0, small_zigzag (int_wrap w64 (m +ℤ n)) (SFits-int_wrap w64 (m +ℤ n))); strings = h.strings }
+summed p n (values.Int m) h = record { fields = (h.fields.0, small_zigzag (int_wrap w64 (m +ℤ n)) (SFits-int_wrap w64 (m +ℤ n))); strings = same_strings (cell_fields (cell_name p)) (value_fields (values.Int m)) (value_fields (added n (values.Int m))) refl h.strings }
 summed p n (values.Bool b) h = h
 summed p n (values.Text t) h = h
 summed p n (values.Bytes b) h = h

@@ -30,11 +30,11 @@ module _ (P : List ℕ → Type 0) where
   -- a string that is there has what all have
   known_has : (known : List (List ℕ)) (s : List ℕ) → has_string known s ≡ true → AllByRecursion P known → P s
   known_has [] s e h = cc
-  known_has (t ∷ known) s e h = go (bytes_eq s t) refl e
+  known_has (t ∷ known) s e h = go (bytes_eq s t) refl e (λ f. known_has known s f h.1)
     where
-      go : (b : Bool) → bytes_eq s t ≡ b → (b || has_string known s) ≡ true → P s
-      go true is f = subst P (sym ((bytes_eq-Decides s t).0 is)) h.0
-      go false is f = known_has known s f h.1
+      go : (b : Bool) → bytes_eq s t ≡ b → (b || has_string known s) ≡ true → (has_string known s ≡ true → P s) → P s
+      go true is f rest = subst P (sym ((bytes_eq-Decides s t).0 is)) h.0
+      go false is f rest = rest f
 
   with_one : (known : List (List ℕ)) (s : List ℕ) → AllByRecursion P known → P s → AllByRecursion P (with_string known s)
   with_one known s h p = go (has_string known s)
@@ -62,7 +62,7 @@ module _ (P : List ℕ → Type 0) where
       (one.0, (one.1, rest.1))
 
 -- ---- the strings of several instructions
-fields_append : (fs gs : List Field) → flat_map strings_in_field (fs ++ gs) ≡ flat_map strings_in_field fs ++ flat_map strings_in_field gs
+pub fields_append : (fs gs : List Field) → flat_map strings_in_field (fs ++ gs) ≡ flat_map strings_in_field fs ++ flat_map strings_in_field gs
 fields_append [] gs = refl
 fields_append (f ∷ fs) gs = ap (λ (ss : List (List ℕ)). strings_in_field f ++ ss) (fields_append fs gs) ∙ sym (append_assoc (strings_in_field f) (flat_map strings_in_field fs) (flat_map strings_in_field gs))
 
