@@ -1,3 +1,4 @@
 pub mod Whole
 pub mod Profile
+pub mod Seen
 pub mod Lemmas

@@ -298,6 +298,8 @@ pub fn message_of(alloc: Global, bytes: &[u8]) -> Result<Message, MessageRefusal
     ensures found { IfOk result (λ message. bytes.now ≡ message_spelling message) }
     // What is spelled so is read, unless memory runs out.
     ensures only { (message : Message) → IsMessage message → bytes.now ≡ message_spelling message → Gives (λ m. m) result (Some message) }
+    // What is read, unless memory runs out.
+    ensures exact { Gives (λ m. m) result (message_in bytes.now) }
 {
     all_of(alloc, bytes)
 }

@@ -148,6 +148,8 @@ impl ClientRecord {
         ensures found { IfOk result (λ found. bytes.now ≡ client_spelling found) }
         // What is spelled so is read, unless memory runs out.
         ensures only { (spelled : ClientRecord) → IsClientRecord spelled → bytes.now ≡ client_spelling spelled → Gives (λ x. x) result (Some spelled) }
+        // What is read, unless memory runs out.
+        ensures exact { Gives (λ x. x) result (record_in client_forms bytes.now) }
     {
         all_of(alloc, bytes)
     }

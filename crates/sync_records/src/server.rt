@@ -122,6 +122,8 @@ impl ServerRecord {
         ensures found { IfOk result (λ found. bytes.now ≡ server_spelling found) }
         // What is spelled so is read, unless memory runs out.
         ensures only { (spelled : ServerRecord) → IsServerRecord spelled → bytes.now ≡ server_spelling spelled → Gives (λ x. x) result (Some spelled) }
+        // What is read, unless memory runs out.
+        ensures exact { Gives (λ x. x) result (record_in server_forms bytes.now) }
     {
         all_of(alloc, bytes)
     }

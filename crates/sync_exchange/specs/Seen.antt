@@ -1,0 +1,72 @@
+-- The messages and records of the code as those of the model, one line a kind.
+use Rattle.std.specs.Prelude.{ℕ, List, map, Option, Some, None}
+use Rattle.std.specs.Option.{option_map}
+use Rattle.sync_model.specs.Bytes.{Bytes}
+use Rattle.sync_model.specs.Messages.{Change, Sent, Message}
+use Rattle.sync_model.specs.Clients.{ClientRecord}
+use Rattle.sync_model.specs.Servers.{ServerRecord}
+use Rattle.sync_messages.specs.Parts.{ChangeParts, SentParts}
+use Rattle.sync_messages.specs.declared.message.Message.{Message as CodeMessage}
+use Rattle.sync_messages.specs.declared.message.Message.TheVariants as messages
+use Rattle.sync_records.specs.declared.client.ClientRecord.{ClientRecord as CodeClientRecord}
+use Rattle.sync_records.specs.declared.client.ClientRecord.TheVariants as clients
+use Rattle.sync_records.specs.declared.server.ServerRecord.{ServerRecord as CodeServerRecord}
+use Rattle.sync_records.specs.declared.server.ServerRecord.TheVariants as servers
+use Rattle.sync_records.specs.Reading.{client_forms, server_forms, record_in}
+use Rattle.sync_records.specs.Spelling.{client_spelling, server_spelling}
+
+-- ---- messages
+abbrev pub change_seen : ChangeParts → Change
+change_seen h = record { number = h.number; base = h.base; ms = h.ms; body = h.body }
+
+abbrev pub sent_seen : SentParts → Sent
+sent_seen e = record { origin = e.origin; number = e.number; ms = e.ms; body = e.body }
+
+abbrev pub message_seen : CodeMessage → Message
+message_seen (messages.Bind uuid) = Message.Bind uuid
+message_seen (messages.Ident given) = Message.Ident given.uuid given.ident
+message_seen (messages.Upload upload) = Message.Upload upload.ident (map change_seen upload.changes)
+message_seen (messages.Ask ask) = Message.Ask ask.ident ask.cursor ask.settled
+message_seen (messages.Download download) = Message.Download download.ident download.from (map sent_seen download.entries)
+message_seen (messages.Refused ident number code place) = Message.Refused ident number code place
+message_seen (messages.Stored stored) = Message.Stored stored.ident stored.number
+message_seen (messages.Ask2 ask) = Message.Ask2 ask.ident ask.cursor ask.settled
+
+-- ---- records of a client's file
+abbrev pub client_seen : CodeClientRecord → ClientRecord
+client_seen (clients.Born id) = ClientRecord.Born id
+client_seen (clients.Named ident) = ClientRecord.Named ident
+client_seen (clients.Made number ms body) = ClientRecord.Made number ms body
+client_seen (clients.Took origin number ms body) = ClientRecord.Took origin number ms body
+client_seen clients.Form = ClientRecord.Form
+
+abbrev pub client_kept : ClientRecord → CodeClientRecord
+client_kept (ClientRecord.Born id) = clients.Born id
+client_kept (ClientRecord.Named ident) = clients.Named ident
+client_kept (ClientRecord.Made number ms body) = clients.Made number ms body
+client_kept (ClientRecord.Took origin number ms body) = clients.Took origin number ms body
+client_kept ClientRecord.Form = clients.Form
+
+-- a record as its bytes, and back
+abbrev pub client_bytes : ClientRecord → Bytes
+client_bytes r = client_spelling (client_kept r)
+
+abbrev pub read_client : Bytes → Option ClientRecord
+read_client bytes = option_map client_seen (record_in client_forms bytes)
+
+-- ---- records of a server's file
+abbrev pub server_seen : CodeServerRecord → ServerRecord
+server_seen (servers.Client id) = ServerRecord.Client id
+server_seen (servers.Entry origin number base ms body) = ServerRecord.Entry origin number base ms body
+server_seen servers.Form = ServerRecord.Form
+
+abbrev pub server_kept : ServerRecord → CodeServerRecord
+server_kept (ServerRecord.Client id) = servers.Client id
+server_kept (ServerRecord.Entry origin number base ms body) = servers.Entry origin number base ms body
+server_kept ServerRecord.Form = servers.Form
+
+abbrev pub server_bytes : ServerRecord → Bytes
+server_bytes r = server_spelling (server_kept r)
+
+abbrev pub read_server : Bytes → Option ServerRecord
+read_server bytes = option_map server_seen (record_in server_forms bytes)
