@@ -3,3 +3,4 @@ pub mod Whole
 pub mod Strings
 pub mod Left
 pub mod Lawful
+pub mod Coded
