@@ -16,6 +16,6 @@ mod values;
 mod writer;
 mod writing;
 
-pub use decoding::{decode, spellings_differ};
+pub use decoding::{any_needs_second, decode, needs_second, spellings_differ};
 pub use encoding::encode;
 pub use refusal::{BadBytes, DecodeRefusal};

@@ -10,10 +10,10 @@ loop-instr-preserved c = λ others there.
 
 pub returns-clause-left : goal.returns-clause-left
 returns-clause-left c = λ _ others there later.
-    let all = take_all c.loop-instr.instr-index c.instrs-instr-items.result.now (omega arith) ∙ c.instrs-instr-items.ensures in
+    let all = take_all c.loop-instr.instr-index c.instrs-instr-items.result.now (omega arith) ∙ c.instrs-instr-items.ensures.listed in
     apart_cross later c.args.changes.now.instrs others (subst (λ l. AllApart l others) all (c.loop-instr.invariant others there))
 
 pub returns-clause-right : goal.returns-clause-right
 returns-clause-right c = λ _ others there later.
-    let all = take_all c.loop-instr.instr-index c.instrs-instr-items.result.now (omega arith) ∙ c.instrs-instr-items.ensures in
+    let all = take_all c.loop-instr.instr-index c.instrs-instr-items.result.now (omega arith) ∙ c.instrs-instr-items.ensures.listed in
     apart_cross later others c.args.changes.now.instrs (turned_apart c.args.changes.now.instrs others (subst (λ l. AllApart l others) all (c.loop-instr.invariant others there)))

@@ -1,0 +1,4 @@
+pub mod Seen
+pub mod Refusals
+pub mod Entries
+pub mod Transactions

@@ -1,0 +1,138 @@
+ghost use Rattle.std.specs.Prelude.{◌≡◌, ◌≢◌, ◌<◌, ◌+◌, List, Some, IfOk, IfErr, OnOk, OnErr};
+ghost use Rattle.sync_theory.specs.Grid.{tail};
+ghost use Rattle.sync_base.specs.Checks.{act_all};
+ghost use Rattle.sync_data.specs.declared.instr.Instr.{Instr};
+ghost use Rattle.sync_model.specs.Clients.{Original};
+ghost use Rattle.sync_model.specs.Limits.{ClientLists};
+ghost use Rattle.sync_exchange.specs.Profile.{the_profile};
+ghost use Rattle.sync_exchange.specs.Seen.{sent_seen};
+ghost use Rattle.sync_client.specs.Seen.{seen};
+ghost use Rattle.sync_client.specs.Entries.{IsRead, IsUnread, RefusesActing, RefusesOther, Takes, TookOther};
+ghost use Rattle.sync_client.specs.Refusals.{rebase_refusal};
+ghost use Rattle.sync_rebase.specs.Taking.{IsHead};
+
+use crate::let_go::let_go;
+use crate::refusal::ClientRefusal;
+use crate::replica::Replica;
+use std::alloc::Global;
+use sync_codec::{DecodeRefusal, any_needs_second, decode};
+use sync_data::{Changeset, Entry};
+use sync_exchange::limits_tell;
+use sync_messages::Sent;
+use sync_rebase::RebaseRefusal;
+use sync_store::AllRefusal;
+
+/// The changeset of an entry of this version.
+fn changes_of(alloc: Global, version: u32, sent: &Sent) -> Result<Changeset, ClientRefusal>
+    ensures read { IfOk result (IsRead sent.now.ms sent.now.body) }
+    ensures unread { IfErr result (IsUnread version sent.now.body) }
+{
+    limits_tell();
+    match decode(alloc, sent.ms(), sent.body()) {
+        Ok(changes) => Ok(changes),
+        Err(DecodeRefusal::Bad(bad)) => Err(ClientRefusal::BadBody {
+            version,
+            offset: bad.offset,
+            rule: bad.rule,
+        }),
+        Err(DecodeRefusal::NoMemory) => Err(ClientRefusal::NoMemory),
+    }
+}
+
+impl Replica {
+    /// Takes an entry of the history, whose version is the cursor.
+    pub(crate) fn take_entry(&mut self, alloc: Global, sent: &Sent) -> Result<(), ClientRefusal>
+        requires { self.old.cursor < 4294967295 }
+        ensures { (made : List (Original Instr)) → ClientLists the_profile (seen made self.old) → Takes (seen made self.old) (seen made self.new) (sent_seen sent.now) result }
+    {
+        let changes = match changes_of(alloc, self.cursor, sent) {
+            Ok(changes) => changes,
+            Err(refusal) => return Err(refusal),
+        };
+        if !self.second && any_needs_second(changes.instrs()) {
+            return Err(ClientRefusal::OldEntry {
+                version: self.cursor,
+            });
+        }
+        let entry = Entry {
+            origin: sent.origin(),
+            number: sent.number(),
+            changes,
+        };
+        if entry.origin == self.ident {
+            self.take_own(&entry)
+        } else {
+            self.take_other(alloc, &entry)
+        }
+    }
+
+    /// Takes an entry of its own: the oldest unsent changeset is in the history now.
+    fn take_own(&mut self, entry: &Entry) -> Result<(), ClientRefusal>
+        requires { self.old.cursor < 4294967295 }
+        ensures head { OnOk result (IsHead entry.now self.old.unsent) }
+        ensures took { OnOk result (self.new ≡ record self.old { unsent = tail self.old.unsent; cursor = self.old.cursor + 1 }) }
+        ensures forked { IfErr result (λ why. why ≡ ClientRefusal.Forked entry.now.number) }
+        ensures differs { OnErr result (¬ IsHead entry.now self.old.unsent) }
+        ensures unchanged { OnErr result (self.new ≡ self.old) }
+    {
+        if !self.unsent.is_head(entry) {
+            return Err(ClientRefusal::Forked {
+                number: entry.number,
+            });
+        }
+        self.unsent.drop_head();
+        self.cursor += 1;
+        Ok(())
+    }
+
+    /// Takes an entry of another: it is carried over the unsent changesets, and acts on the objects.
+    fn take_other(&mut self, alloc: Global, entry: &Entry) -> Result<(), ClientRefusal>
+        requires room { self.old.cursor < 4294967295 }
+        requires other { self.old.ident ≢ entry.now.origin }
+        ensures took { OnOk result (TookOther self.old self.new entry.now) }
+        ensures refused { IfErr result (RefusesOther self.old self.new entry.now) }
+    {
+        let carried = match self.unsent.carry(alloc, self.ident, entry) {
+            Ok(carried) => carried,
+            Err(refusal) => return Err(self.carry_refusal(refusal)),
+        };
+        match self.apply_carried(carried.changes()) {
+            Ok(()) => {}
+            Err(refusal) => return Err(refusal),
+        }
+        let_go(self.unsent.settle(carried));
+        self.cursor += 1;
+        Ok(())
+    }
+
+    fn carry_refusal(&self, refusal: RebaseRefusal) -> ClientRefusal
+        ensures { result ≡ rebase_refusal self.now.cursor refusal }
+    {
+        match refusal {
+            RebaseRefusal::Mismatch { number, kind } => ClientRefusal::Mismatch {
+                version: self.cursor,
+                number,
+                kind: kind.code(),
+            },
+            RebaseRefusal::Forked { number } => ClientRefusal::Forked { number },
+            RebaseRefusal::NoMemory => ClientRefusal::NoMemory,
+        }
+    }
+
+    fn apply_carried(&mut self, changes: &Changeset) -> Result<(), ClientRefusal>
+        ensures acts { OnOk result (act_all changes.now.instrs self.old.objects ≡ Some self.new.objects) }
+        ensures others { OnOk result (self.new ≡ record self.old { objects = self.new.objects }) }
+        ensures refused { IfErr result (RefusesActing self.old self.new changes.now.instrs) }
+    {
+        let _ = changes.instrs();
+        match self.objects.apply_all(changes) {
+            Ok(()) => Ok(()),
+            Err(AllRefusal::Break { place, cause }) => Err(ClientRefusal::NotApplicable {
+                version: self.cursor,
+                place: place as u32,
+                code: cause.code(),
+            }),
+            Err(AllRefusal::NoMemory) => Err(ClientRefusal::NoMemory),
+        }
+    }
+}

@@ -1,0 +1,17 @@
+use crate::refusal::ClientRefusal;
+use std::alloc::Global;
+use sync_data::{Id, Ident, NoMemory};
+use sync_rebase::PendingList;
+use sync_store::Store;
+
+/// What a client keeps in memory of its records.
+#[derive(Drop)]
+pub struct Replica {
+    pub(crate) id: Option<Id>,
+    pub(crate) ident: Ident,
+    pub(crate) second: bool,
+    pub(crate) cursor: u32,
+    pub(crate) count: u32,
+    pub(crate) unsent: PendingList,
+    pub(crate) objects: Store,
+}
