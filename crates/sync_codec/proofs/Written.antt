@@ -26,7 +26,7 @@ bytes_written w (string s ∷ fields) =
     let place : place_of (with_fields m fields).strings s ≡ place_of (with_string w.strings s) s = ap (λ (ss : List (List ℕ)). place_of ss s) (strings_written m fields) ∙ place_stays (with_string w.strings s) (flat_map strings_in_field fields) s (has_used w.strings s) in
     bytes_written m fields ∙ append_assoc w.bytes (varint (place_of (with_string w.strings s) s)) _ ∙ ap (λ (n : ℕ). w.bytes ++ (varint n ++ flat_map (field_bytes (with_fields m fields).strings) fields)) (sym place)
 
-spelled_out : (fields : List Field) (w : Written) → w ≡ with_fields (record { strings = []; bytes = [] }) fields → (w.strings ≡ strings_of fields) × (w.bytes ≡ flat_map (field_bytes (strings_of fields)) fields)
+pub spelled_out : (fields : List Field) (w : Written) → w ≡ with_fields (record { strings = []; bytes = [] }) fields → (w.strings ≡ strings_of fields) × (w.bytes ≡ flat_map (field_bytes (strings_of fields)) fields)
 spelled_out fields w e =
     let start : Written = record { strings = []; bytes = [] } in
     let ss : w.strings ≡ strings_of fields = ap (λ (v : Written). v.strings) e ∙ strings_written start fields in

@@ -11,6 +11,7 @@ pub mod Whole
 pub mod Few
 pub mod Back
 pub mod Answers
+pub mod Strings
 use Rattle.std.proofs.Common.{◌≡◌, ℕ, zero, suc, ◌+◌, ◌<◌, Bool, true, false, List, ℤ, pos, negsuc, refl, arith}
 use Rattle.std.specs.Prelude.{◌≤ℤ◌, ◌&&◌}
 use Rattle.std.specs.Str.{IsUtf8, is_utf8}

@@ -1,4 +1,4 @@
-ghost use Rattle.std.specs.Prelude.{◌≡◌, ℕ, ◌+◌, ◌≤◌, List, [], ◌++◌, length, IfOk, OnOk};
+ghost use Rattle.std.specs.Prelude.{◌≡◌, ℕ, ◌+◌, ◌≤◌, List, [], ◌++◌, length, IfOk, OnOk, Ok};
 ghost use Rattle.std.specs.List.{list_any};
 ghost use Rattle.sync_data.specs.Payload.{IsSmall, payload_all};
 ghost use Rattle.sync_codec.specs.Fields.{Gives};
@@ -215,4 +215,9 @@ pub fn decode(alloc: Global, ms: u64, bytes: &[u8]) -> Result<Changeset, DecodeR
 /// Bytes that spell a changeset begin no other spelling, and spell no other one.
 pub fn spellings_differ()
     ensures { (is others : List Instr) (more : List ℕ) → AreInstrs is → AreInstrs others → spelling is ++ more ≡ spelling others → (more ≡ []) × (is ≡ others) }
+{}
+
+/// The spelling of a changeset's instructions is read, and gives them back.
+pub fn what_is_spelled_is_read()
+    ensures { (is : List Instr) → AreInstrs is → instrs_in (spelling is) ≡ Ok is }
 {}

@@ -1,9 +1,10 @@
 ghost use Rattle.std.specs.Prelude.{◌≡◌, ◌++◌, ◌∷◌, [], length, map, IfOk, OnOk};
 ghost use Rattle.std.specs.Prelude as kept;
-ghost use Rattle.std.specs.List.{flat_map, list_any};
+ghost use Rattle.std.specs.List.{flat_map, list_any, AllByRecursion};
 ghost use Rattle.sync_io.specs.Varints.{varint};
-ghost use Rattle.sync_codec.specs.Spelling.{spelling, version_of, instr_fields, string_bytes, table_bytes};
+ghost use Rattle.sync_codec.specs.Spelling.{spelling, version_of, instr_fields, strings_of, string_bytes, table_bytes};
 ghost use Rattle.sync_codec.specs.Writing.{with_fields};
+ghost use Rattle.sync_codec.specs.Valid.{IsString, AreInstrs};
 
 use crate::decoding::any_needs_second;
 use crate::writer::Writer;
@@ -63,7 +64,8 @@ fn put_strings(out: &mut Vec<u8>, strings: &[String]) -> Result<(), NoMemory>
 /// The instructions' bytes, with their version, strings and number before them.
 fn with_head(alloc: Global, instrs: &[Instr], body: &Writer) -> Result<Vec<u8>, NoMemory>
     requires { body.now ≡ with_fields (record { strings = []; bytes = [] }) (flat_map instr_fields instrs.now) }
-    ensures { IfOk result (λ v. v.items ≡ spelling instrs.now) }
+    ensures spelled { IfOk result (λ v. v.items ≡ spelling instrs.now) }
+    ensures strings { OnOk result (AllByRecursion IsString (strings_of (flat_map instr_fields instrs.now))) }
 {
     let mut out = Vec::new(alloc);
     put_bytes(&mut out, &[version_of(instrs)])?;
@@ -75,7 +77,9 @@ fn with_head(alloc: Global, instrs: &[Instr], body: &Writer) -> Result<Vec<u8>, 
 
 /// The one spelling of a changeset's instructions. The time isn't part of it.
 pub fn encode(alloc: Global, changes: &Changeset) -> Result<Vec<u8>, NoMemory>
-    ensures { IfOk result (λ v. v.items ≡ spelling changes.now.instrs) }
+    ensures spelled { IfOk result (λ v. v.items ≡ spelling changes.now.instrs) }
+    // Each changeset's instructions are valid, so their spelling is read back.
+    ensures are { OnOk result (AreInstrs changes.now.instrs) }
 {
     let instrs = changes.instrs();
     let mut body = Writer::new(alloc)?;

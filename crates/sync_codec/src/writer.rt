@@ -1,7 +1,9 @@
-ghost use Rattle.std.specs.Prelude.{◌≡◌, OnOk, ◌∷◌, [], length, ◌≤◌};
+ghost use Rattle.std.specs.Prelude.{◌≡◌, OnOk, ◌∷◌, [], length, ◌≤◌, ◌<◌, ◌^◌};
+ghost use Rattle.std.specs.List.{AllByRecursion};
 ghost use Rattle.sync_io.specs.Varints.{zigzag};
 ghost use Rattle.sync_codec.specs.Spelling.{byte, number, run, string};
 ghost use Rattle.sync_codec.specs.Writing.{with_field};
+ghost use Rattle.sync_codec.specs.Valid.{IsString};
 
 use std::alloc::Global;
 use std::marker::Model;
@@ -20,11 +22,15 @@ pub struct Writer {
 }
 
 impl Model for Writer {
+    ghost use Rattle.std.specs.List.{AllByRecursion};
     ghost use Rattle.sync_codec.specs.Writing.{Written};
+    ghost use Rattle.sync_codec.specs.Valid.{IsString};
 
     ghost Value = { Written };
 
     ghost view = { λ a. record { strings = a.strings; bytes = a.bytes.items } };
+
+    ghost invariant = { λ a. AllByRecursion IsString a.strings };
 }
 
 impl Writer {
@@ -43,7 +49,8 @@ impl Writer {
 
     /// The strings that the fields use, in order of first use.
     pub fn strings(&self) -> &Strings
-        ensures { result.now ≡ self.now.strings }
+        ensures used { result.now ≡ self.now.strings }
+        ensures are { AllByRecursion IsString self.now.strings }
     {
         &self.strings
     }
@@ -87,14 +94,16 @@ impl Writer {
 
     /// Writes a number with a sign, of at most 32 bits.
     pub fn signed32(&mut self, value: i32) -> Result<(), NoMemory>
-        ensures { OnOk result (self.new ≡ with_field self.old (number (zigzag value))) }
+        ensures small { zigzag value < 2 ^ 32 }
+        ensures spelled { OnOk result (self.new ≡ with_field self.old (number (zigzag value))) }
     {
         self.number32(zigzag32(value))
     }
 
     /// Writes a number with a sign, of at most 64 bits.
     pub fn signed64(&mut self, value: i64) -> Result<(), NoMemory>
-        ensures { OnOk result (self.new ≡ with_field self.old (number (zigzag value))) }
+        ensures small { zigzag value < 2 ^ 64 }
+        ensures spelled { OnOk result (self.new ≡ with_field self.old (number (zigzag value))) }
     {
         self.number64(zigzag64(value))
     }
@@ -110,6 +119,7 @@ impl Writer {
     }
 
     /// Writes the number of a string of at most 255 bytes, which is used from now on.
+    #[tactic(auto, using(crate::specs::Lemmas::utf8_is, crate::specs::Lemmas::Strings::with_one))]
     pub fn string(&mut self, text: &str) -> Result<(), NoMemory>
         requires { length text.now ≤ 255 }
         ensures { OnOk result (self.new ≡ with_field self.old (string text.now)) }

@@ -1,8 +1,11 @@
-ghost use Rattle.std.specs.Prelude.{◌≡◌, OnOk, ◌∷◌, ◌++◌, [], length};
+ghost use Rattle.std.specs.Prelude.{◌≡◌, ◌<◌, ◌^◌, All, OnOk, ◌∷◌, ◌++◌, [], length};
 ghost use Rattle.std.specs.List.{flat_map};
+ghost use Rattle.sync_data.specs.Payload.{payload, value_payload, binding_payload_of, IsSmall};
+ghost use Rattle.sync_data.specs.declared.instr.Instr.{Instr};
 ghost use Rattle.sync_io.specs.Varints.{zigzag};
 ghost use Rattle.sync_codec.specs.Spelling.{byte, number, run, string, flag_byte, key_kind_byte, kind_byte, shape_byte, target_fields, key_fields, value_fields, binding_fields, column_fields, cell_fields, spot_fields, instr_fields};
 ghost use Rattle.sync_codec.specs.Writing.{with_field, with_fields};
+ghost use Rattle.sync_codec.specs.Valid.{IsName, IsKey, IsTimeValue, IsValue, IsBinding, IsKind, IsCell, IsElement, IsGap, IsInstr};
 
 use crate::writer::Writer;
 use sync_base::{
@@ -53,21 +56,24 @@ impl Writer {
     }
 
     fn name(&mut self, name: &Name) -> Result<(), NoMemory>
-        ensures { OnOk result (self.new ≡ with_field self.old (string name.now)) }
+        ensures spelled { OnOk result (self.new ≡ with_field self.old (string name.now)) }
+        ensures is { OnOk result (IsName name.now) }
     {
         self.string(name.text())
     }
 
     /// A byte, and then 16 bytes.
     fn tagged_id(&mut self, tag: u8, id: &Id) -> Result<(), NoMemory>
-        ensures { OnOk result (self.new ≡ with_field (with_field self.old (byte tag)) (run id.now)) }
+        ensures spelled { OnOk result (self.new ≡ with_field (with_field self.old (byte tag)) (run id.now)) }
+        ensures is { OnOk result (length id.now ≡ 16) }
     {
         self.byte(tag)?;
         self.run(id)
     }
 
     fn tagged_signed(&mut self, tag: u8, value: i64) -> Result<(), NoMemory>
-        ensures { OnOk result (self.new ≡ with_field (with_field self.old (byte tag)) (number (zigzag value))) }
+        ensures spelled { OnOk result (self.new ≡ with_field (with_field self.old (byte tag)) (number (zigzag value))) }
+        ensures is { OnOk result (zigzag value < 2 ^ 64) }
     {
         self.byte(tag)?;
         self.signed64(value)
@@ -84,7 +90,8 @@ impl Writer {
 
     /// Writes a key.
     pub fn key(&mut self, key: &Key) -> Result<(), NoMemory>
-        ensures { OnOk result (self.new ≡ with_fields self.old (key_fields key.now)) }
+        ensures spelled { OnOk result (self.new ≡ with_fields self.old (key_fields key.now)) }
+        ensures is { OnOk result (IsKey key.now) }
     {
         match key {
             Key::Int(number) => self.tagged_signed(0, *number),
@@ -97,14 +104,16 @@ impl Writer {
     }
 
     fn time(&mut self, time: Time) -> Result<(), NoMemory>
-        ensures { OnOk result (self.new ≡ with_fields self.old (value_fields (Value.Time time))) }
+        ensures spelled { OnOk result (self.new ≡ with_fields self.old (value_fields (Value.Time time))) }
+        ensures is { OnOk result (IsTimeValue time) }
     {
         self.tagged_signed(5, time.secs())?;
         self.signed32(time.nanos())
     }
 
     fn link(&mut self, table: &Name, key: &Key) -> Result<(), NoMemory>
-        ensures { OnOk result (self.new ≡ with_fields self.old (value_fields (Value.Link table.now key.now))) }
+        ensures spelled { OnOk result (self.new ≡ with_fields self.old (value_fields (Value.Link table.now key.now))) }
+        ensures is { OnOk result (IsName table.now × IsKey key.now) }
     {
         self.byte(7)?;
         self.name(table)?;
@@ -119,8 +128,11 @@ impl Writer {
     }
 
     /// Writes a value.
+    #[tactic(auto, using(crate::specs::Lemmas::utf8_is))]
     pub fn value(&mut self, value: &Value) -> Result<(), NoMemory>
-        ensures { OnOk result (self.new ≡ with_fields self.old (value_fields value.now)) }
+        requires small { value_payload value.now < 2 ^ 32 }
+        ensures spelled { OnOk result (self.new ≡ with_fields self.old (value_fields value.now)) }
+        ensures is { OnOk result (IsValue value.now) }
     {
         match value {
             Value::Null => self.byte(0),
@@ -135,7 +147,9 @@ impl Writer {
     }
 
     fn binding(&mut self, value: &Option<Value>) -> Result<(), NoMemory>
-        ensures { OnOk result (self.new ≡ with_fields self.old (binding_fields value.now)) }
+        requires small { binding_payload_of value.now < 2 ^ 32 }
+        ensures spelled { OnOk result (self.new ≡ with_fields self.old (binding_fields value.now)) }
+        ensures is { OnOk result (IsBinding value.now) }
     {
         match value {
             None => self.byte(0),
@@ -147,7 +161,8 @@ impl Writer {
     }
 
     fn target(&mut self, kind: &Kind) -> Result<(), NoMemory>
-        ensures { OnOk result (self.new ≡ with_fields self.old (target_fields kind.now)) }
+        ensures spelled { OnOk result (self.new ≡ with_fields self.old (target_fields kind.now)) }
+        ensures is { OnOk result (IsKind kind.now) }
     {
         match kind {
             Kind::Link(table) => self.name(table),
@@ -156,7 +171,8 @@ impl Writer {
     }
 
     fn column(&mut self, column: &Column) -> Result<(), NoMemory>
-        ensures { OnOk result (self.new ≡ with_fields self.old (column_fields column.now)) }
+        ensures spelled { OnOk result (self.new ≡ with_fields self.old (column_fields column.now)) }
+        ensures is { OnOk result (IsKind column.now.kind) }
     {
         self.byte(kind_byte(&column.kind))?;
         self.flag(column.nullable)?;
@@ -166,7 +182,8 @@ impl Writer {
 
     #[tactic(auto, using(crate::specs::Writing::with_fields_more))]
     fn cell_name(&mut self, cell: &CellName) -> Result<(), NoMemory>
-        ensures { OnOk result (self.new ≡ with_fields self.old (cell_fields cell.now)) }
+        ensures spelled { OnOk result (self.new ≡ with_fields self.old (cell_fields cell.now)) }
+        ensures is { OnOk result (IsCell cell.now) }
     {
         self.name(&cell.table)?;
         self.key(&cell.key)?;
@@ -174,21 +191,24 @@ impl Writer {
     }
 
     fn element(&mut self, spot: Inside) -> Result<(), NoMemory>
-        ensures { OnOk result (self.new ≡ with_fields self.old (spot_fields spot)) }
+        ensures spelled { OnOk result (self.new ≡ with_fields self.old (spot_fields spot)) }
+        ensures is { OnOk result (IsElement spot) }
     {
         self.number32(spot.place())?;
         self.number32(spot.prior())
     }
 
     fn gap(&mut self, spot: Between) -> Result<(), NoMemory>
-        ensures { OnOk result (self.new ≡ with_fields self.old (spot_fields spot)) }
+        ensures spelled { OnOk result (self.new ≡ with_fields self.old (spot_fields spot)) }
+        ensures is { OnOk result (IsGap spot) }
     {
         self.number32(spot.place())?;
         self.number32(spot.prior())
     }
 
     fn add_table(&mut self, instr: &AddTable) -> Result<(), NoMemory>
-        ensures { OnOk result (self.new ≡ with_fields self.old (byte 1 ∷ string instr.now.table ∷ byte (key_kind_byte instr.now.key) ∷ [])) }
+        ensures spelled { OnOk result (self.new ≡ with_fields self.old (byte 1 ∷ string instr.now.table ∷ byte (key_kind_byte instr.now.key) ∷ [])) }
+        ensures is { OnOk result (IsName instr.now.table) }
     {
         self.byte(1)?;
         self.name(&instr.table)?;
@@ -196,7 +216,8 @@ impl Writer {
     }
 
     fn add_column(&mut self, instr: &AddColumn) -> Result<(), NoMemory>
-        ensures { OnOk result (self.new ≡ with_fields self.old (byte 2 ∷ string instr.now.table ∷ string instr.now.column ∷ column_fields instr.now.def)) }
+        ensures spelled { OnOk result (self.new ≡ with_fields self.old (byte 2 ∷ string instr.now.table ∷ string instr.now.column ∷ column_fields instr.now.def)) }
+        ensures is { OnOk result (IsName instr.now.table × IsName instr.now.column × IsKind instr.now.def.kind) }
     {
         self.byte(2)?;
         self.name(&instr.table)?;
@@ -205,7 +226,8 @@ impl Writer {
     }
 
     fn object(&mut self, opcode: u8, table: &Name, key: &Key) -> Result<(), NoMemory>
-        ensures { OnOk result (self.new ≡ with_fields self.old (byte opcode ∷ string table.now ∷ key_fields key.now)) }
+        ensures spelled { OnOk result (self.new ≡ with_fields self.old (byte opcode ∷ string table.now ∷ key_fields key.now)) }
+        ensures is { OnOk result (IsName table.now × IsKey key.now) }
     {
         self.byte(opcode)?;
         self.name(table)?;
@@ -213,7 +235,8 @@ impl Writer {
     }
 
     fn cell_alone(&mut self, opcode: u8, cell: &CellName) -> Result<(), NoMemory>
-        ensures { OnOk result (self.new ≡ with_fields self.old (byte opcode ∷ cell_fields cell.now)) }
+        ensures spelled { OnOk result (self.new ≡ with_fields self.old (byte opcode ∷ cell_fields cell.now)) }
+        ensures is { OnOk result (IsCell cell.now) }
     {
         self.byte(opcode)?;
         self.cell_name(cell)
@@ -221,7 +244,9 @@ impl Writer {
 
     #[tactic(auto, using(crate::specs::Writing::with_fields_more))]
     fn cell_and_value(&mut self, opcode: u8, cell: &CellName, value: &Value) -> Result<(), NoMemory>
-        ensures { OnOk result (self.new ≡ with_fields self.old (byte opcode ∷ (cell_fields cell.now ++ value_fields value.now))) }
+        requires small { value_payload value.now < 2 ^ 32 }
+        ensures spelled { OnOk result (self.new ≡ with_fields self.old (byte opcode ∷ (cell_fields cell.now ++ value_fields value.now))) }
+        ensures is { OnOk result (IsCell cell.now × IsValue value.now) }
     {
         self.cell_alone(opcode, cell)?;
         self.value(value)
@@ -229,7 +254,8 @@ impl Writer {
 
     #[tactic(auto, using(crate::specs::Writing::with_fields_more))]
     fn add_integer(&mut self, cell: &CellName, amount: i64) -> Result<(), NoMemory>
-        ensures { OnOk result (self.new ≡ with_fields self.old (byte 6 ∷ (cell_fields cell.now ++ number (zigzag amount) ∷ []))) }
+        ensures spelled { OnOk result (self.new ≡ with_fields self.old (byte 6 ∷ (cell_fields cell.now ++ number (zigzag amount) ∷ []))) }
+        ensures is { OnOk result (IsCell cell.now × (zigzag amount < 2 ^ 64)) }
     {
         self.cell_alone(6, cell)?;
         self.signed64(amount)
@@ -237,7 +263,9 @@ impl Writer {
 
     #[tactic(auto, using(crate::specs::Writing::with_fields_more))]
     fn list_update(&mut self, instr: &ListUpdate) -> Result<(), NoMemory>
-        ensures { OnOk result (self.new ≡ with_fields self.old (byte 7 ∷ (cell_fields instr.now.cell ++ (spot_fields instr.now.spot ++ value_fields instr.now.value)))) }
+        requires small { value_payload instr.now.value < 2 ^ 32 }
+        ensures spelled { OnOk result (self.new ≡ with_fields self.old (byte 7 ∷ (cell_fields instr.now.cell ++ (spot_fields instr.now.spot ++ value_fields instr.now.value)))) }
+        ensures is { OnOk result (IsInstr (Instr.ListUpdate instr.now)) }
     {
         self.cell_alone(7, &instr.cell)?;
         self.element(instr.spot)?;
@@ -246,7 +274,9 @@ impl Writer {
 
     #[tactic(auto, using(crate::specs::Writing::with_fields_more))]
     fn list_insert(&mut self, instr: &ListInsert) -> Result<(), NoMemory>
-        ensures { OnOk result (self.new ≡ with_fields self.old (byte 8 ∷ (cell_fields instr.now.cell ++ (spot_fields instr.now.spot ++ value_fields instr.now.value)))) }
+        requires small { value_payload instr.now.value < 2 ^ 32 }
+        ensures spelled { OnOk result (self.new ≡ with_fields self.old (byte 8 ∷ (cell_fields instr.now.cell ++ (spot_fields instr.now.spot ++ value_fields instr.now.value)))) }
+        ensures is { OnOk result (IsInstr (Instr.ListInsert instr.now)) }
     {
         self.cell_alone(8, &instr.cell)?;
         self.gap(instr.spot)?;
@@ -255,7 +285,8 @@ impl Writer {
 
     #[tactic(auto, using(crate::specs::Writing::with_fields_more))]
     fn list_erase(&mut self, instr: &ListErase) -> Result<(), NoMemory>
-        ensures { OnOk result (self.new ≡ with_fields self.old (byte 9 ∷ (cell_fields instr.now.cell ++ spot_fields instr.now.spot))) }
+        ensures spelled { OnOk result (self.new ≡ with_fields self.old (byte 9 ∷ (cell_fields instr.now.cell ++ spot_fields instr.now.spot))) }
+        ensures is { OnOk result (IsInstr (Instr.ListErase instr.now)) }
     {
         self.cell_alone(9, &instr.cell)?;
         self.element(instr.spot)
@@ -263,7 +294,9 @@ impl Writer {
 
     #[tactic(auto, using(crate::specs::Writing::with_fields_more))]
     fn dict_update(&mut self, instr: &DictUpdate) -> Result<(), NoMemory>
-        ensures { OnOk result (self.new ≡ with_fields self.old (byte 12 ∷ (cell_fields instr.now.cell ++ string instr.now.at ∷ binding_fields instr.now.value))) }
+        requires small { binding_payload_of instr.now.value < 2 ^ 32 }
+        ensures spelled { OnOk result (self.new ≡ with_fields self.old (byte 12 ∷ (cell_fields instr.now.cell ++ string instr.now.at ∷ binding_fields instr.now.value))) }
+        ensures is { OnOk result (IsInstr (Instr.DictUpdate instr.now)) }
     {
         self.cell_alone(12, &instr.cell)?;
         self.string(instr.at.text())?;
@@ -273,7 +306,9 @@ impl Writer {
     /// Writes an instruction.
     #[tactic(auto, unfolding(crate::specs::Spelling::instr_fields))]
     pub fn instr(&mut self, instr: &Instr) -> Result<(), NoMemory>
-        ensures { OnOk result (self.new ≡ with_fields self.old (instr_fields instr.now)) }
+        requires small { payload instr.now < 2 ^ 32 }
+        ensures spelled { OnOk result (self.new ≡ with_fields self.old (instr_fields instr.now)) }
+        ensures is { OnOk result (IsInstr instr.now) }
     {
         match instr {
             Instr::AddTable(i) => self.add_table(i),
@@ -294,7 +329,9 @@ impl Writer {
 
     /// Writes instructions, one after the other.
     pub fn instrs(&mut self, instrs: &[Instr]) -> Result<(), NoMemory>
-        ensures { OnOk result (self.new ≡ with_fields self.old (flat_map instr_fields instrs.now)) }
+        requires small { IsSmall instrs.now }
+        ensures spelled { OnOk result (self.new ≡ with_fields self.old (flat_map instr_fields instrs.now)) }
+        ensures are { OnOk result (All IsInstr instrs.now) }
     {
         for instr in instrs {
             self.instr(instr)?;
