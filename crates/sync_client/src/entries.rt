@@ -1,7 +1,8 @@
-ghost use Rattle.std.specs.Prelude.{◌≡◌, ◌≢◌, ◌<◌, ◌+◌, List, Some, IfOk, IfErr, OnOk, OnErr};
+ghost use Rattle.std.specs.Prelude.{◌≡◌, ◌≢◌, ◌<◌, ◌+◌, ◌&&◌, not, List, Some, IfOk, IfErr, OnOk, OnErr};
 ghost use Rattle.sync_theory.specs.Grid.{tail};
 ghost use Rattle.sync_base.specs.Checks.{act_all};
 ghost use Rattle.sync_data.specs.declared.instr.Instr.{Instr};
+ghost use Rattle.sync_model.specs.Profile.{needs};
 ghost use Rattle.sync_model.specs.Clients.{Original};
 ghost use Rattle.sync_model.specs.Limits.{ClientLists};
 ghost use Rattle.sync_exchange.specs.Profile.{the_profile};
@@ -49,7 +50,7 @@ impl Replica {
             Ok(changes) => changes,
             Err(refusal) => return Err(refusal),
         };
-        if !self.second && any_needs_second(changes.instrs()) {
+        if self.is_beyond(&changes) {
             return Err(ClientRefusal::OldEntry {
                 version: self.cursor,
             });
@@ -64,6 +65,13 @@ impl Replica {
         } else {
             self.take_other(alloc, &entry)
         }
+    }
+
+    /// Whether the changeset needs form 2, and the file is in form 1.
+    fn is_beyond(&self, changes: &Changeset) -> bool
+        ensures { result ≡ (needs the_profile changes.now.instrs && not self.now.second) }
+    {
+        any_needs_second(changes.instrs()) && !self.second
     }
 
     /// Takes an entry of its own: the oldest unsent changeset is in the history now.

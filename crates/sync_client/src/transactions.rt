@@ -1,5 +1,5 @@
-ghost use Rattle.std.specs.Prelude.{◌≡◌, ◌<◌, ◌+◌, List, length, IfOk, IfErr, OnOk, OnErr, Some, None};
-ghost use Rattle.std.specs.List.{list_any};
+ghost use Rattle.std.specs.Prelude.{◌≡◌, ◌≤◌, List, length, IfSome, None, true, false};
+ghost use Rattle.sync_model.specs.Profile.{first_need, needs};
 ghost use Rattle.sync_data.specs.declared.instr.Instr.{Instr};
 ghost use Rattle.sync_model.specs.Clients.{Original};
 ghost use Rattle.sync_exchange.specs.Profile.{the_profile};
@@ -70,6 +70,8 @@ impl Replica {
 /// The place of the first instruction that isn't in the first version.
 fn first_second(instrs: &[Instr]) -> Option<u32>
     requires { length instrs.now ≤ 65536 }
+    ensures found { IfSome result (λ place. (needs the_profile instrs.now ≡ true) × (first_need the_profile instrs.now ≡ place)) }
+    ensures none { result ≡ None → needs the_profile instrs.now ≡ false }
 {
     match instrs.iter().position(|instr| needs_second(instr)) {
         Some(place) => Some(place as u32),

@@ -1,0 +1,4 @@
+pub mod Needs
+pub mod Acting
+pub mod Small
+pub mod Taking
