@@ -54,7 +54,7 @@ decided : (c : Replicated) (e : Sent) (is : List Instr) → unspell e.body ≡ O
     → entry_refusal the_profile c e ≡ (if e.origin == c.ident then own_refusal the_profile c.unsent e else crossed_refusal the_profile c (rebase (cross_changesets the_profile) (map (changeset_of c.ident) c.unsent) (sent_changeset e is)))
 decided c e is r b = ap (read_refusal the_profile c e) r ∙ if_false (needs the_profile is && not c.second) _ _ b
 
-differ : (a b : ℕ) → ¬ (a ≡ b) → (a == b) ≡ false
+pub differ : (a b : ℕ) → ¬ (a ≡ b) → (a == b) ≡ false
 differ a b h = go (a == b) refl
   where
     go : (t : Bool) → (a == b) ≡ t → t ≡ false

@@ -5,9 +5,11 @@ use Rattle.sync_base.specs.States.{State}
 use Rattle.sync_model.specs.Clients.{Client, ClientRecord, ClientRefusal, Original, after_record, appends, commit_born, refuse}
 use Rattle.sync_exchange.specs.Profile.{the_profile}
 use Rattle.sync_client.specs.declared.refusal.ClientRefusal.{ClientRefusal as CodeRefusal}
+use Rattle.sync_client.specs.declared.refusal.ClientRefusal.TheVariants as codes
 use Rattle.sync_client.specs.declared.replica.Replica.{Replica}
 use Rattle.sync_client.specs.declared.transactions.Made.{Made}
 use Rattle.sync_client.specs.Refusals.{refusal_seen, IfSeen}
+use Rattle.sync_client.specs.Entries.{Breaks}
 use Rattle.sync_client.specs.Seen.{seen}
 
 -- the changeset that a client makes next
@@ -28,3 +30,9 @@ pub record Uncommitted (made : List (Original Instr)) (old new : Replica) (ms : 
 abbrev pub Commits : List (Original Instr) → Replica → Replica → ℕ → List Instr → Result Made CodeRefusal → Type 0
 Commits made old new ms is (Ok m) = Committed made old new ms is m
 Commits made old new ms is (Err why) = IfSeen (refusal_seen why) (Uncommitted made old new ms is)
+
+-- what the objects refuse
+abbrev pub RefusesEdits : Replica → Replica → List Instr → CodeRefusal → Type 0
+RefusesEdits old new is (codes.Break place code) = Breaks is old.objects place code × (new ≡ old)
+RefusesEdits old new is codes.NoMemory = Unit {0}
+RefusesEdits old new is why = ⊥

@@ -1,10 +1,11 @@
-ghost use Rattle.std.specs.Prelude.{◌≡◌, ◌≤◌, List, length, IfSome, None, true, false};
+ghost use Rattle.std.specs.Prelude.{◌≡◌, ◌≤◌, ◌&&◌, not, List, length, IfSome, IfErr, OnOk, OnErr, Some, None, true, false};
+ghost use Rattle.sync_base.specs.Checks.{act_all};
 ghost use Rattle.sync_model.specs.Profile.{first_need, needs};
 ghost use Rattle.sync_data.specs.declared.instr.Instr.{Instr};
 ghost use Rattle.sync_model.specs.Clients.{Original};
 ghost use Rattle.sync_exchange.specs.Profile.{the_profile};
 ghost use Rattle.sync_client.specs.Seen.{seen};
-ghost use Rattle.sync_client.specs.Transactions.{Commits};
+ghost use Rattle.sync_client.specs.Transactions.{Commits, RefusesEdits};
 
 use crate::refusal::ClientRefusal;
 use crate::replica::Replica;
@@ -40,20 +41,13 @@ impl Replica {
         if self.count == u32::MAX {
             return Err(ClientRefusal::NumbersFull);
         }
-        if !self.second {
-            if let Some(place) = first_second(changes.instrs()) {
-                return Err(ClientRefusal::OldForm { place });
-            }
-        }
-        match self.objects.apply_all(&changes) {
+        match self.check_form(&changes) {
             Ok(()) => {}
-            Err(AllRefusal::Break { place, cause }) => {
-                return Err(ClientRefusal::Break {
-                    place: place as u32,
-                    code: cause.code(),
-                });
-            }
-            Err(AllRefusal::NoMemory) => return Err(ClientRefusal::NoMemory),
+            Err(refusal) => return Err(refusal),
+        }
+        match self.act(&changes) {
+            Ok(()) => {}
+            Err(refusal) => return Err(refusal),
         }
         let number = self.count + 1;
         let Ok(unsent) = Unsent::made(number, self.cursor, changes) else {
@@ -65,16 +59,53 @@ impl Replica {
         self.count = number;
         Ok(Made { number, body })
     }
+
+    /// In form 1 none of the instructions may need form 2.
+    fn check_form(&self, changes: &Changeset) -> Result<(), ClientRefusal>
+        ensures fine { OnOk result ((needs the_profile changes.now.instrs && not self.now.second) ≡ false) }
+        ensures old { OnErr result ((needs the_profile changes.now.instrs && not self.now.second) ≡ true) }
+        ensures place { IfErr result (λ why. why ≡ ClientRefusal.OldForm (first_need the_profile changes.now.instrs)) }
+    {
+        if self.second {
+            return Ok(());
+        }
+        match first_second(changes.instrs()) {
+            Some(place) => Err(ClientRefusal::OldForm { place }),
+            None => Ok(()),
+        }
+    }
+
+    /// The instructions act on the objects.
+    fn act(&mut self, changes: &Changeset) -> Result<(), ClientRefusal>
+        ensures acts { OnOk result (act_all changes.now.instrs self.old.objects ≡ Some self.new.objects) }
+        ensures others { OnOk result (self.new ≡ record self.old { objects = self.new.objects }) }
+        ensures refused { IfErr result (RefusesEdits self.old self.new changes.now.instrs) }
+    {
+        let _ = changes.instrs();
+        match self.objects.apply_all(changes) {
+            Ok(()) => Ok(()),
+            Err(AllRefusal::Break { place, cause }) => Err(ClientRefusal::Break {
+                place: place as u32,
+                code: cause.code(),
+            }),
+            Err(AllRefusal::NoMemory) => Err(ClientRefusal::NoMemory),
+        }
+    }
 }
 
 /// The place of the first instruction that isn't in the first version.
 fn first_second(instrs: &[Instr]) -> Option<u32>
     requires { length instrs.now ≤ 65536 }
-    ensures found { IfSome result (λ place. (needs the_profile instrs.now ≡ true) × (first_need the_profile instrs.now ≡ place)) }
+    ensures some { IfSome result (λ _. needs the_profile instrs.now ≡ true) }
+    ensures place { IfSome result (λ place. place ≡ first_need the_profile instrs.now) }
     ensures none { result ≡ None → needs the_profile instrs.now ≡ false }
 {
-    match instrs.iter().position(|instr| needs_second(instr)) {
-        Some(place) => Some(place as u32),
-        None => None,
+    let mut place: u32 = 0;
+    for instr in instrs {
+        if needs_second(instr) {
+            return Some(place);
+        }
+        place += 1;
     }
+    None
 }
