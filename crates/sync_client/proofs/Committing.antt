@@ -26,7 +26,7 @@ use Rattle.sync_client.specs.Refusals.{refusal_seen, IfSeen}
 use Rattle.sync_client.specs.Seen.{seen}
 use Rattle.sync_client.specs.Transactions.{Committed, Commits, RefusesEdits, Uncommitted, next_original}
 use Rattle.sync_client.proofs.Acting.{run_applied}
-use Rattle.sync_client.proofs.Taking.{differ}
+use Rattle.sync_client.proofs.Refusing.{differ}
 
 negated : (b : Bool) → (b ≡ true → ⊥) → not b ≡ true
 negated true h = absurd (h refl)

@@ -1,5 +1,7 @@
 pub mod Needs
 pub mod Acting
 pub mod Small
-pub mod Taking
+pub mod Refusing
 pub mod Committing
+pub mod Calls
+pub mod Taken

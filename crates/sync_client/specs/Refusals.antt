@@ -38,3 +38,9 @@ abbrev pub rebase_refusal : ℕ → RebaseRefusal → CodeRefusal
 rebase_refusal version (rebases.Mismatch number kind) = codes.Mismatch version number (mismatch_code kind)
 rebase_refusal version (rebases.Forked number) = codes.Forked number
 rebase_refusal version rebases.NoMemory = codes.NoMemory
+
+-- a client in memory is neither closed nor meets faults
+abbrev pub IsPlain : CodeRefusal → Type 0
+IsPlain codes.Closed = ⊥
+IsPlain codes.DiskFault = ⊥
+IsPlain why = Unit {0}

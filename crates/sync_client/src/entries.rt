@@ -1,4 +1,4 @@
-ghost use Rattle.std.specs.Prelude.{◌≡◌, ◌≢◌, ◌<◌, ◌+◌, ◌&&◌, not, List, Some, IfOk, IfErr, OnOk, OnErr};
+ghost use Rattle.std.specs.Prelude.{◌≡◌, ◌≢◌, ◌<◌, ◌+◌, ◌≤◌, ◌&&◌, not, List, length, Some, IfOk, IfErr, OnOk, OnErr};
 ghost use Rattle.sync_theory.specs.Grid.{tail};
 ghost use Rattle.sync_base.specs.Checks.{act_all};
 ghost use Rattle.sync_data.specs.declared.instr.Instr.{Instr};
@@ -6,10 +6,9 @@ ghost use Rattle.sync_model.specs.Profile.{needs};
 ghost use Rattle.sync_model.specs.Clients.{Original};
 ghost use Rattle.sync_model.specs.Limits.{ClientLists};
 ghost use Rattle.sync_exchange.specs.Profile.{the_profile};
-ghost use Rattle.sync_exchange.specs.Seen.{sent_seen};
 ghost use Rattle.sync_client.specs.Seen.{seen};
 ghost use Rattle.sync_client.specs.Entries.{IsRead, IsUnread, RefusesActing, RefusesOther, Takes, TookOther};
-ghost use Rattle.sync_client.specs.Refusals.{rebase_refusal};
+ghost use Rattle.sync_client.specs.Refusals.{rebase_refusal, IsPlain};
 ghost use Rattle.sync_rebase.specs.Taking.{IsHead};
 
 use crate::let_go::let_go;
@@ -17,19 +16,25 @@ use crate::refusal::ClientRefusal;
 use crate::replica::Replica;
 use std::alloc::Global;
 use sync_codec::{DecodeRefusal, any_needs_second, decode};
-use sync_data::{Changeset, Entry};
+use sync_data::{Changeset, Entry, Ident};
 use sync_exchange::limits_tell;
-use sync_messages::Sent;
 use sync_rebase::RebaseRefusal;
 use sync_store::AllRefusal;
 
 /// The changeset of an entry of this version.
-fn changes_of(alloc: Global, version: u32, sent: &Sent) -> Result<Changeset, ClientRefusal>
-    ensures read { IfOk result (IsRead sent.now.ms sent.now.body) }
-    ensures unread { IfErr result (IsUnread version sent.now.body) }
+fn changes_of(
+    alloc: Global,
+    version: u32,
+    ms: u64,
+    body: &[u8],
+) -> Result<Changeset, ClientRefusal>
+    requires { length body.now ≤ 67108864 }
+    ensures read { IfOk result (IsRead ms body.now) }
+    ensures unread { IfErr result (IsUnread version body.now) }
+    ensures plain { IfErr result IsPlain }
 {
     limits_tell();
-    match decode(alloc, sent.ms(), sent.body()) {
+    match decode(alloc, ms, body) {
         Ok(changes) => Ok(changes),
         Err(DecodeRefusal::Bad(bad)) => Err(ClientRefusal::BadBody {
             version,
@@ -41,12 +46,27 @@ fn changes_of(alloc: Global, version: u32, sent: &Sent) -> Result<Changeset, Cli
 }
 
 impl Replica {
-    /// Takes an entry of the history, whose version is the cursor.
-    pub(crate) fn take_entry(&mut self, alloc: Global, sent: &Sent) -> Result<(), ClientRefusal>
-        requires { self.old.cursor < 4294967295 }
-        ensures { (made : List (Original Instr)) → ClientLists the_profile (seen made self.old) → Takes (seen made self.old) (seen made self.new) (sent_seen sent.now) result }
+    /// Takes an entry of the history, whose version is the cursor: the client that made it, its number among that client's, its
+    /// time in milliseconds since the epoch, and its bytes.
+    pub(crate) fn take_entry(
+        &mut self,
+        alloc: Global,
+        origin: Ident,
+        number: u32,
+        ms: u64,
+        body: &[u8],
+    ) -> Result<(), ClientRefusal>
+        requires room { self.old.cursor < 4294967295 }
+        requires length { length body.now ≤ 67108864 }
+        ensures plain { IfErr result IsPlain }
+        ensures origin { origin ≤ 4294967295 }
+        ensures number { number ≤ 4294967295 }
+        ensures ident { self.new.ident ≡ self.old.ident }
+        ensures count { self.new.count ≡ self.old.count }
+        ensures cursor { OnOk result (self.new.cursor ≡ self.old.cursor + 1) }
+        ensures step { (made : List (Original Instr)) → ClientLists the_profile (seen made self.old) → Takes (seen made self.old) (seen made self.new) (record { origin = origin; number = number; ms = ms; body = body.now }) result }
     {
-        let changes = match changes_of(alloc, self.cursor, sent) {
+        let changes = match changes_of(alloc, self.cursor, ms, body) {
             Ok(changes) => changes,
             Err(refusal) => return Err(refusal),
         };
@@ -56,8 +76,8 @@ impl Replica {
             });
         }
         let entry = Entry {
-            origin: sent.origin(),
-            number: sent.number(),
+            origin,
+            number,
             changes,
         };
         if entry.origin == self.ident {
@@ -80,6 +100,7 @@ impl Replica {
         ensures head { OnOk result (IsHead entry.now self.old.unsent) }
         ensures took { OnOk result (self.new ≡ record self.old { unsent = tail self.old.unsent; cursor = self.old.cursor + 1 }) }
         ensures forked { IfErr result (λ why. why ≡ ClientRefusal.Forked entry.now.number) }
+        ensures plain { IfErr result IsPlain }
         ensures differs { OnErr result (¬ IsHead entry.now self.old.unsent) }
         ensures unchanged { OnErr result (self.new ≡ self.old) }
     {
@@ -98,7 +119,11 @@ impl Replica {
         requires room { self.old.cursor < 4294967295 }
         requires other { self.old.ident ≢ entry.now.origin }
         ensures took { OnOk result (TookOther self.old self.new entry.now) }
+        ensures ident { self.new.ident ≡ self.old.ident }
+        ensures count { self.new.count ≡ self.old.count }
+        ensures cursor { OnOk result (self.new.cursor ≡ self.old.cursor + 1) }
         ensures refused { IfErr result (RefusesOther self.old self.new entry.now) }
+        ensures plain { IfErr result IsPlain }
     {
         let carried = match self.unsent.carry(alloc, self.ident, entry) {
             Ok(carried) => carried,
@@ -114,7 +139,8 @@ impl Replica {
     }
 
     fn carry_refusal(&self, refusal: RebaseRefusal) -> ClientRefusal
-        ensures { result ≡ rebase_refusal self.now.cursor refusal }
+        ensures value { result ≡ rebase_refusal self.now.cursor refusal }
+        ensures plain { IsPlain result }
     {
         match refusal {
             RebaseRefusal::Mismatch { number, kind } => ClientRefusal::Mismatch {
@@ -129,8 +155,9 @@ impl Replica {
 
     fn apply_carried(&mut self, changes: &Changeset) -> Result<(), ClientRefusal>
         ensures acts { OnOk result (act_all changes.now.instrs self.old.objects ≡ Some self.new.objects) }
-        ensures others { OnOk result (self.new ≡ record self.old { objects = self.new.objects }) }
+        ensures others { self.new ≡ record self.old { objects = self.new.objects } }
         ensures refused { IfErr result (RefusesActing self.old self.new changes.now.instrs) }
+        ensures plain { IfErr result IsPlain }
     {
         let _ = changes.instrs();
         match self.objects.apply_all(changes) {

@@ -1,10 +1,13 @@
 //! A client of the exchange: its journal, its objects, its cursor and its unsent changesets.
 #![tactic(auto)]
 
+mod client;
 mod entries;
 mod let_go;
 mod refusal;
 mod replica;
+mod taking;
 mod transactions;
 
+pub use client::Client;
 pub use refusal::ClientRefusal;

@@ -1,10 +1,10 @@
-ghost use Rattle.std.specs.Prelude.{◌≡◌, ◌≤◌, ◌&&◌, not, List, length, IfSome, IfErr, OnOk, OnErr, Some, None, true, false};
+ghost use Rattle.std.specs.Prelude.{◌≡◌, ◌≤◌, ◌&&◌, not, List, length, IfSome, IfOk, IfErr, OnOk, OnErr, Some, None, true, false};
 ghost use Rattle.sync_base.specs.Checks.{act_all};
 ghost use Rattle.sync_model.specs.Profile.{first_need, needs};
 ghost use Rattle.sync_data.specs.declared.instr.Instr.{Instr};
 ghost use Rattle.sync_model.specs.Clients.{Original};
 ghost use Rattle.sync_exchange.specs.Profile.{the_profile};
-ghost use Rattle.sync_client.specs.Seen.{seen};
+ghost use Rattle.sync_client.specs.Refusals.{IsPlain};
 ghost use Rattle.sync_client.specs.Transactions.{Commits, RefusesEdits};
 
 use crate::refusal::ClientRefusal;
@@ -30,7 +30,9 @@ impl Replica {
         ms: u64,
         edits: Vec<Instr>,
     ) -> Result<Made, ClientRefusal>
-        ensures { (made : List (Original Instr)) → length made ≡ self.old.count → Commits made self.old self.new ms edits.items result }
+        ensures step { (made : List (Original Instr)) → length made ≡ self.old.count → Commits made self.old self.new ms edits.items result }
+        ensures number { IfOk result (λ made. made.number ≤ 4294967295) }
+        ensures plain { IfErr result IsPlain }
     {
         let Ok(changes) = Changeset::checked(ms, edits) else {
             return Err(ClientRefusal::TooLarge);
@@ -65,6 +67,7 @@ impl Replica {
         ensures fine { OnOk result ((needs the_profile changes.now.instrs && not self.now.second) ≡ false) }
         ensures old { OnErr result ((needs the_profile changes.now.instrs && not self.now.second) ≡ true) }
         ensures place { IfErr result (λ why. why ≡ ClientRefusal.OldForm (first_need the_profile changes.now.instrs)) }
+        ensures plain { IfErr result IsPlain }
     {
         if self.second {
             return Ok(());
@@ -80,6 +83,7 @@ impl Replica {
         ensures acts { OnOk result (act_all changes.now.instrs self.old.objects ≡ Some self.new.objects) }
         ensures others { OnOk result (self.new ≡ record self.old { objects = self.new.objects }) }
         ensures refused { IfErr result (RefusesEdits self.old self.new changes.now.instrs) }
+        ensures plain { IfErr result IsPlain }
     {
         let _ = changes.instrs();
         match self.objects.apply_all(changes) {

@@ -1,0 +1,47 @@
+-- What the calls of a client answer, and what they leave.
+use Rattle.std.specs.Prelude.{◌≡◌, ℕ, List, [], ◌∷◌, ◌++◌, length, map, true, false, Bool, Option, Some, None, Result, Ok, Err}
+use Rattle.sync_data.specs.declared.instr.Instr.{Instr}
+use Rattle.sync_disk.specs.declared.disk.Disk.{Ghosts}
+use Rattle.sync_journal.specs.declared.journal.Journal.{Journal}
+use Rattle.sync_journal.specs.Stands.{Stands}
+use Rattle.sync_model.specs.Clients.{ClientRecord, ClientRefusal, ClientStep}
+use Rattle.sync_exchange.specs.Seen.{client_bytes}
+use Rattle.sync_client.specs.declared.client.Client.{Client}
+use Rattle.sync_client.specs.declared.refusal.ClientRefusal.{ClientRefusal as CodeRefusal}
+use Rattle.sync_client.specs.declared.replica.Replica.{Replica}
+use Rattle.sync_client.specs.Keeping.{Keeps}
+use Rattle.sync_client.specs.Refusals.{refusal_seen, IfSeen}
+
+module _ {D : Type 0} {G : Ghosts D} where
+  abbrev pub replica_of : Client D G → Replica
+  replica_of c = c.replica
+
+  abbrev pub journal_of : Client D G → Journal D G
+  journal_of c = c.journal
+
+  abbrev pub is_closed : Client D G → Bool
+  is_closed c = c.closed
+
+  -- an open client of these records
+  pub record IsClientOf (records : List ClientRecord) (c : Client D G) : Type 0 where
+    pub kept : Keeps records c.replica
+    pub open_ : c.closed ≡ false
+
+  -- its disk holds them
+  abbrev pub IsStored : (content : D → Option (List ℕ)) (images : D → List ℕ → Type 0) → List ClientRecord → Client D G → Type 0
+  IsStored content images records c = Stands content images (map client_bytes records) c.journal
+
+  -- a call did so
+  pub record Did {A : Type 0} (did : ClientStep A) (answer : Result A ClientRefusal) (records : List ClientRecord) (c : Client D G) : Type 0 where
+    pub answer_is : did.answer ≡ answer
+    pub client : IsClientOf (records ++ did.records) c
+
+  -- it answered as defined and appended the step's records; want of memory, a fault and a closed client are told elsewhere
+  abbrev pub Says : {A : Type 0} → ClientStep A → List ClientRecord → Client D G → Result A CodeRefusal → Type 0
+  Says did records new (Ok a) = Did did (Ok a) records new
+  Says did records new (Err why) = IfSeen (refusal_seen why) (λ w. Did did (Err w) records new)
+
+  -- and the disk holds them
+  abbrev pub Stores : {A B : Type 0} → (content : D → Option (List ℕ)) (images : D → List ℕ → Type 0) → ClientStep A → List ClientRecord → Client D G → Result B CodeRefusal → Type 0
+  Stores content images did records new (Ok a) = IsStored content images (records ++ did.records) new
+  Stores content images did records new (Err why) = IfSeen (refusal_seen why) (λ w. IsStored content images (records ++ did.records) new)

@@ -1,0 +1,162 @@
+ghost use Rattle.std.specs.Prelude.{◌≡◌, ◌↔◌, ◌⊎◌, ◌++◌, ◌∷◌, [], ℕ, List, map, IsErrOf, IfErr, IfOk, OnOk, OnErr, true, false};
+ghost use Rattle.sync_disk.specs.Disk.{Rose};
+ghost use Rattle.sync_model.specs.Clients as model;
+ghost use Rattle.sync_exchange.specs.Profile.{the_profile};
+ghost use Rattle.sync_exchange.specs.Seen.{client_bytes, client_seen};
+ghost use Rattle.sync_journal.specs.Stands.{disk_of};
+ghost use Rattle.sync_client.specs.Refusals.{refusal_seen, IfSeen};
+
+use crate::refusal::ClientRefusal;
+use crate::replica::Replica;
+use crate::transactions::Made;
+use std::alloc::Global;
+use sync_data::{Blob, Id, Instr};
+use sync_disk::Disk;
+use sync_journal::{Journal, JournalRefusal};
+use sync_records::ClientRecord;
+
+/// A client over a disk: its journal, its objects, its cursor (the number of entries of the history that it has taken) and
+/// its unsent changesets.
+#[derive(Drop)]
+pub struct Client<D: Disk> {
+    pub(crate) alloc: Global,
+    pub(crate) journal: Journal<D>,
+    pub(crate) replica: Replica,
+    pub(crate) closed: bool,
+}
+
+impl<D: Disk> Client<D> {
+    ghost use Rattle.sync_client.specs.Clients.{IsClientOf, IsStored, Says, Stores, is_closed, journal_of, replica_of};
+
+    /// Records the client's uuid. Errors: Closed, AlreadyBorn, DiskFault, NoMemory.
+    pub fn born(&mut self, id: Id) -> Result<(), ClientRefusal>
+        ensures step { (records : List model.ClientRecord) → IsClientOf records self.old → Says (model.born (model.client_of the_profile records) id) records self.new result }
+        ensures stored { (records : List model.ClientRecord) → IsClientOf records self.old → IsStored D.content D.images records self.old → Stores D.content D.images (model.born (model.client_of the_profile records) id) records self.new result }
+        ensures closed { IsErrOf result ClientRefusal.Closed ↔ (is_closed self.old ≡ true) }
+        ensures closes { IsErrOf result ClientRefusal.DiskFault ⊎ IsErrOf result ClientRefusal.NoMemory → is_closed self.new ≡ true }
+        ensures fault { IsErrOf result ClientRefusal.DiskFault → Rose (D.faults (disk_of (journal_of self.old))) (D.faults (disk_of (journal_of self.new))) }
+    {
+        if self.closed {
+            return Err(ClientRefusal::Closed);
+        }
+        if self.replica.id.is_some() {
+            return Err(ClientRefusal::AlreadyBorn);
+        }
+        match self.append(&ClientRecord::Born { id }) {
+            Ok(()) => {}
+            Err(refusal) => return Err(refusal),
+        }
+        self.replica.id = Some(id);
+        Ok(())
+    }
+
+    /// One transaction on the client's objects, at that time in milliseconds since the epoch. It answers its number, counted
+    /// from 1, once it is on the disk; its base is the cursor. An empty one is accepted, and a client may commit before it has
+    /// an ident. Errors, in this order: Closed, NotBorn, TooLarge, NumbersFull, OldForm, Break; and DiskFault, NoMemory.
+    pub fn commit(&mut self, ms: u64, edits: Vec<Instr>) -> Result<u32, ClientRefusal>
+        ensures step { (records : List model.ClientRecord) → IsClientOf records self.old → Says (model.commit the_profile (model.client_of the_profile records) ms edits.items) records self.new result }
+        ensures stored { (records : List model.ClientRecord) → IsClientOf records self.old → IsStored D.content D.images records self.old → Stores D.content D.images (model.commit the_profile (model.client_of the_profile records) ms edits.items) records self.new result }
+        ensures closed { IsErrOf result ClientRefusal.Closed ↔ (is_closed self.old ≡ true) }
+        ensures closes { IsErrOf result ClientRefusal.DiskFault ⊎ IsErrOf result ClientRefusal.NoMemory → is_closed self.new ≡ true }
+        ensures fault { IsErrOf result ClientRefusal.DiskFault → Rose (D.faults (disk_of (journal_of self.old))) (D.faults (disk_of (journal_of self.new))) }
+    {
+        if self.closed {
+            return Err(ClientRefusal::Closed);
+        }
+        if self.replica.id.is_none() {
+            return Err(ClientRefusal::NotBorn);
+        }
+        let made = match self.replica.make(self.alloc, ms, edits) {
+            Ok(made) => made,
+            Err(refusal) => return Err(self.refused(refusal)),
+        };
+        self.append_made(ms, made)
+    }
+
+    /// The record of a transaction.
+    fn append_made(&mut self, ms: u64, made: Made) -> Result<u32, ClientRefusal>
+        requires { is_closed self.old ≡ false }
+        ensures stored { (records : List model.ClientRecord) → IsStored D.content D.images records self.old → OnOk result (IsStored D.content D.images (records ++ model.Made made.number ms made.body.items ∷ []) self.new) }
+        ensures number { IfOk result (λ number. number ≡ made.number) }
+        ensures replica { replica_of self.new ≡ replica_of self.old }
+        ensures stays_open { OnOk result (is_closed self.new ≡ false) }
+        ensures closes { OnErr result (is_closed self.new ≡ true) }
+        ensures refused { IfErr result (λ why. (why ≡ ClientRefusal.DiskFault) ⊎ (why ≡ ClientRefusal.NoMemory)) }
+        ensures fault { IsErrOf result ClientRefusal.DiskFault → Rose (D.faults (disk_of (journal_of self.old))) (D.faults (disk_of (journal_of self.new))) }
+    {
+        let Ok(body) = Blob::new(self.alloc, made.body.as_slice()) else {
+            self.closed = true;
+            return Err(ClientRefusal::NoMemory);
+        };
+        let number = made.number;
+        match self.append(&ClientRecord::Made { number, ms, body }) {
+            Ok(()) => Ok(number),
+            Err(refusal) => Err(refusal),
+        }
+    }
+
+    /// From now on the file may hold changesets of version 2: true where it is new. Errors: Closed, NotBorn, DiskFault,
+    /// NoMemory.
+    pub fn upgrade(&mut self) -> Result<bool, ClientRefusal>
+        ensures step { (records : List model.ClientRecord) → IsClientOf records self.old → Says (model.upgrade (model.client_of the_profile records)) records self.new result }
+        ensures stored { (records : List model.ClientRecord) → IsClientOf records self.old → IsStored D.content D.images records self.old → Stores D.content D.images (model.upgrade (model.client_of the_profile records)) records self.new result }
+        ensures closed { IsErrOf result ClientRefusal.Closed ↔ (is_closed self.old ≡ true) }
+        ensures closes { IsErrOf result ClientRefusal.DiskFault ⊎ IsErrOf result ClientRefusal.NoMemory → is_closed self.new ≡ true }
+        ensures fault { IsErrOf result ClientRefusal.DiskFault → Rose (D.faults (disk_of (journal_of self.old))) (D.faults (disk_of (journal_of self.new))) }
+    {
+        if self.closed {
+            return Err(ClientRefusal::Closed);
+        }
+        if self.replica.id.is_none() {
+            return Err(ClientRefusal::NotBorn);
+        }
+        if self.replica.second {
+            return Ok(false);
+        }
+        match self.append(&ClientRecord::Form) {
+            Ok(()) => {}
+            Err(refusal) => return Err(refusal),
+        }
+        self.replica.second = true;
+        Ok(true)
+    }
+
+    /// Want of memory closes the client.
+    pub(crate) fn refused(&mut self, refusal: ClientRefusal) -> ClientRefusal
+        ensures same { result ≡ refusal }
+        ensures unchanged { IfSeen (refusal_seen refusal) (λ _. self.new ≡ self.old) }
+        ensures closes { refusal ≡ ClientRefusal.NoMemory → is_closed self.new ≡ true }
+    {
+        if refusal == ClientRefusal::NoMemory {
+            self.closed = true;
+        }
+        refusal
+    }
+
+    /// Adds a record to the journal. It closes the client where that fails.
+    pub(crate) fn append(&mut self, record: &ClientRecord) -> Result<(), ClientRefusal>
+        requires { is_closed self.old ≡ false }
+        ensures stored { (records : List model.ClientRecord) → IsStored D.content D.images records self.old → OnOk result (IsStored D.content D.images (records ++ client_seen record.now ∷ []) self.new) }
+        ensures replica { replica_of self.new ≡ replica_of self.old }
+        ensures stays_open { OnOk result (is_closed self.new ≡ false) }
+        ensures closes { IsErrOf result ClientRefusal.DiskFault ⊎ IsErrOf result ClientRefusal.NoMemory → is_closed self.new ≡ true }
+        ensures refused { IfErr result (λ why. (why ≡ ClientRefusal.DiskFault) ⊎ (why ≡ ClientRefusal.NoMemory)) }
+        ensures fault { IsErrOf result ClientRefusal.DiskFault → Rose (D.faults (disk_of (journal_of self.old))) (D.faults (disk_of (journal_of self.new))) }
+    {
+        let Ok(bytes) = record.record_bytes(self.alloc) else {
+            self.closed = true;
+            return Err(ClientRefusal::NoMemory);
+        };
+        match self.journal.append(bytes.as_slice()) {
+            Ok(()) => Ok(()),
+            Err(JournalRefusal::DiskFault) => {
+                self.closed = true;
+                Err(ClientRefusal::DiskFault)
+            }
+            Err(_) => {
+                self.closed = true;
+                Err(ClientRefusal::NoMemory)
+            }
+        }
+    }
+}
