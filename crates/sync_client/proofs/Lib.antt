@@ -5,3 +5,4 @@ pub mod Refusing
 pub mod Committing
 pub mod Calls
 pub mod Taken
+pub mod Downloads

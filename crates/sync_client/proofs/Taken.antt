@@ -1,9 +1,11 @@
 -- An entry of a Download, taken by a client of these records.
 use Rattle.std.proofs.Common.{◌≡◌, ℕ, suc, ◌+◌, ◌≤◌, ◌<◌, Bool, true, false, not, ◌&&◌, List, [], ◌∷◌, ◌++◌, length, Option, Some, None, Result, Ok, Err, refl, ap, ◌∙◌, sym, subst, ◌==◌, nat_lt, arith, inl, inr}
-use Rattle.std.proofs.lemmas.Bool.{lt-ltb}
+use Rattle.std.proofs.lemmas.Bool.{lt-ltb, eq-eqb}
+use Rattle.std.specs.Option.{is_some}
+use Rattle.sync_model.proofs.Own.{if_true, if_false}
 use Rattle.std.specs.Prelude.{◌⊎◌, OnOk, IfErr}
 use Rattle.sync_disk.specs.declared.disk.Disk.{Ghosts}
-use Rattle.sync_model.specs.Clients.{Client as Model, ClientRecord, ClientRefusal, after_record, client_of, entry_refusal, took}
+use Rattle.sync_model.specs.Clients.{Client as Model, ClientRecord, ClientRefusal, IdentDiffers, Named, after_record, answers, appends, client_of, entry_refusal, take_ident, took}
 use Rattle.sync_model.specs.Files.{client_admits, client_opens}
 use Rattle.sync_model.specs.Limits.{ClientLists}
 use Rattle.sync_model.specs.Messages.{Sent}
@@ -17,13 +19,13 @@ use Rattle.sync_client.specs.declared.client.Client.{Client}
 use Rattle.sync_client.specs.declared.refusal.ClientRefusal.{ClientRefusal as CodeRefusal}
 use Rattle.sync_client.specs.declared.refusal.ClientRefusal.TheVariants as codes
 use Rattle.sync_client.specs.declared.replica.Replica.{Replica}
-use Rattle.sync_client.specs.Clients.{IsClientOf}
+use Rattle.sync_client.specs.Clients.{Did, IsClientOf}
 use Rattle.sync_client.specs.Entries.{Declines, Takes, TakesIt}
 use Rattle.sync_client.specs.Keeping.{Keeps}
 use Rattle.sync_client.specs.Refusals.{refusal_seen, IfSeen}
 use Rattle.sync_client.specs.Seen.{seen}
 use Rattle.sync_client.specs.Taking.{SentRefused, SentSays, SentTaken}
-use Rattle.sync_client.proofs.Calls.{if_seen_both, keeps_next, unseen}
+use Rattle.sync_client.proofs.Calls.{did_none, did_refuse, if_seen_both, keeps_next, unseen}
 use Rattle.sync_client.proofs.Refusing.{differ}
 
 -- the lists of a client are small
@@ -88,3 +90,34 @@ module _ {D : Type 0} {G : Ghosts D} where
     client = record { kept = subst (Keeps (records ++ took e ∷ [])) (sym same) (took_keeps records r s e k m t count); open_ = open_ };
   }
   sent_says records r s n e (Err why) k m t count same open_ refused = unseen why (SentRefused records n e) refused
+
+-- ---- the first ident
+pub named_is : (records : List ClientRecord) (r : Replica) (ident : ℕ) → Keeps records r → r.ident ≡ 0 → take_ident (client_of the_profile records) ident ≡ appends (Named ident) r.cursor
+named_is records r ident k none =
+    ap (λ c. take_ident c ident) k.stands_for ∙ if_true (r.ident == 0) _ _ (eq-eqb r.ident 0 none)
+
+pub named_keeps : (records : List ClientRecord) (r : Replica) (ident : ℕ) → Keeps records r → is_some r.id ≡ true → r.ident ≡ 0 → 1 ≤ ident → ident ≤ 4294967295 → Keeps (records ++ Named ident ∷ []) (record r { ident = ident })
+named_keeps records r ident k born none named small =
+    let id = ap (λ (c : Model Instr State). c.id) k.stands_for in
+    let old = ap (λ (c : Model Instr State). c.ident) k.stands_for in
+    keeps_next records (Named ident) r (record r { ident = ident }) k.made k
+        (both _ true (both _ _ (ap (λ o. is_there o) id ∙ there r.id born) (both _ _ (eq-eqb _ 0 (old ∙ none)) (positive ident named))) refl)
+        (record { positive = λ e. none_positive ident named e; small = small }) refl k.count
+  where
+    there : (o : Option (List ℕ)) → is_some o ≡ true → is_there o ≡ true
+    there None e = cc
+    there (Some id) e = refl
+    none_positive : (n : ℕ) → 1 ≤ n → n ≡ 0 → ⊥
+    none_positive n h e = absurd (omega (arith, h, e))
+
+module _ {D : Type 0} {G : Ghosts D} where
+  -- an ident that the client keeps already
+  pub same_ident : (records : List ClientRecord) (c : Client D G) (ident : ℕ) → IsClientOf records c → 1 ≤ ident → c.replica.ident ≡ ident → Did (take_ident (client_of the_profile records) ident) (Ok c.replica.cursor) records c
+  same_ident records c ident k named same =
+      let is : take_ident (client_of the_profile records) ident ≡ answers c.replica.cursor = ap (λ m. take_ident m ident) k.kept.stands_for ∙ if_false (c.replica.ident == 0) _ _ (differ c.replica.ident 0 (λ e. absurd (omega (arith, named, same, e)))) ∙ if_true (c.replica.ident == ident) _ _ (eq-eqb _ _ same) in
+      did_none (take_ident (client_of the_profile records) ident) (Ok c.replica.cursor) records c (ap (λ d. d.records) is) (ap (λ d. d.answer) is) k
+
+  pub other_ident : (records : List ClientRecord) (c : Client D G) (ident : ℕ) → IsClientOf records c → ¬ (c.replica.ident ≡ ident) → ¬ (c.replica.ident ≡ 0) → Did (take_ident (client_of the_profile records) ident) (Err (IdentDiffers c.replica.ident ident)) records c
+  other_ident records c ident k other some =
+      did_refuse (take_ident (client_of the_profile records) ident) (IdentDiffers c.replica.ident ident) records c
+          (ap (λ m. take_ident m ident) k.kept.stands_for ∙ if_false (c.replica.ident == 0) _ _ (differ c.replica.ident 0 some) ∙ if_false (c.replica.ident == ident) _ _ (differ c.replica.ident ident other)) k

@@ -1,4 +1,4 @@
-ghost use Rattle.std.specs.Prelude.{◌≡◌, ◌↔◌, ◌⊎◌, ◌++◌, ◌∷◌, [], ℕ, List, map, IsErrOf, IfErr, IfOk, OnOk, OnErr, true, false};
+ghost use Rattle.std.specs.Prelude.{◌≡◌, ◌↔◌, ◌⊎◌, ◌≤◌, ◌++◌, ◌∷◌, [], ℕ, List, map, IsErrOf, IfErr, IfOk, OnOk, OnErr, true, false};
 ghost use Rattle.sync_disk.specs.Disk.{Rose};
 ghost use Rattle.sync_model.specs.Clients as model;
 ghost use Rattle.sync_exchange.specs.Profile.{the_profile};
@@ -125,6 +125,7 @@ impl<D: Disk> Client<D> {
     pub(crate) fn refused(&mut self, refusal: ClientRefusal) -> ClientRefusal
         ensures same { result ≡ refusal }
         ensures unchanged { IfSeen (refusal_seen refusal) (λ _. self.new ≡ self.old) }
+        ensures journal { journal_of self.new ≡ journal_of self.old }
         ensures closes { refusal ≡ ClientRefusal.NoMemory → is_closed self.new ≡ true }
     {
         if refusal == ClientRefusal::NoMemory {
@@ -141,6 +142,7 @@ impl<D: Disk> Client<D> {
         ensures stays_open { OnOk result (is_closed self.new ≡ false) }
         ensures closes { IsErrOf result ClientRefusal.DiskFault ⊎ IsErrOf result ClientRefusal.NoMemory → is_closed self.new ≡ true }
         ensures refused { IfErr result (λ why. (why ≡ ClientRefusal.DiskFault) ⊎ (why ≡ ClientRefusal.NoMemory)) }
+        ensures later { D.faults (disk_of (journal_of self.old)) ≤ D.faults (disk_of (journal_of self.new)) }
         ensures fault { IsErrOf result ClientRefusal.DiskFault → Rose (D.faults (disk_of (journal_of self.old))) (D.faults (disk_of (journal_of self.new))) }
     {
         let Ok(bytes) = record.record_bytes(self.alloc) else {
