@@ -1,4 +1,4 @@
-ghost use Rattle.std.specs.Prelude.{◌≡◌, ◌↔◌, IfOk, IsTrue};
+ghost use Rattle.std.specs.Prelude.{◌≡◌, ◌≤◌, ◌↔◌, IfOk, IsTrue};
 ghost use Rattle.sync_data.specs.Payload.{IsSmall};
 ghost use Rattle.sync_model.specs.Clients.{as_made};
 ghost use Rattle.sync_rebase.specs.Taking.{IsEntryOf};
@@ -6,7 +6,7 @@ ghost use Rattle.sync_rebase.specs.Taking.{IsEntryOf};
 use std::marker::Model;
 use sync_data::{Changeset, Entry, NoMemory, equality_is_exact};
 
-/// A changeset that the server hasn't acknowledged: its number among the client's, the version of the history on which
+/// A changeset that the server hasn't acknowledged: its number, at least 1, among the client's, the version of the history on which
 /// it was made, and its instructions as they were made and as they were rebased since.
 #[derive(Drop)]
 pub struct Unsent {
@@ -17,7 +17,7 @@ pub struct Unsent {
 }
 
 impl Model for Unsent {
-    ghost use Rattle.std.specs.Prelude.{◌≡◌};
+    ghost use Rattle.std.specs.Prelude.{◌≡◌, ◌≤◌};
     ghost use Rattle.sync_data.specs.declared.instr.Instr.{Instr};
     ghost use Rattle.sync_model.specs.Clients as clients;
 
@@ -25,13 +25,14 @@ impl Model for Unsent {
 
     ghost view = { λ a. record { original = record { base = a.base; number = a.number; ms = a.original.ms; instrs = a.original.instrs }; current = a.current.instrs } };
 
-    ghost invariant = { λ a. a.current.ms ≡ a.original.ms };
+    ghost invariant = { λ a. (1 ≤ a.number) × (a.current.ms ≡ a.original.ms) };
 }
 
 impl Unsent {
     /// A changeset as it was made, and as it was rebased since; both have one time. It takes no memory.
     pub fn new(number: u32, base: u32, original: Changeset, current: Changeset) -> Unsent
-        requires { current.ms ≡ original.ms }
+        requires numbered { 1 ≤ number }
+        requires time { current.ms ≡ original.ms }
         ensures { result ≡ record { original = record { base = base; number = number; ms = original.ms; instrs = original.instrs }; current = current.instrs } }
     {
         Unsent {
@@ -44,6 +45,7 @@ impl Unsent {
 
     /// A changeset as it was made.
     pub fn made(number: u32, base: u32, changes: Changeset) -> Result<Unsent, NoMemory>
+        requires { 1 ≤ number }
         ensures { IfOk result (λ unsent. unsent ≡ as_made (record { base = base; number = number; ms = changes.ms; instrs = changes.instrs })) }
     {
         match changes.copy() {
@@ -57,9 +59,10 @@ impl Unsent {
         }
     }
 
-    /// Its number among the client's changesets.
+    /// Its number among the client's changesets, at least 1.
     pub fn number(&self) -> u32
-        ensures { result ≡ self.now.original.number }
+        ensures value { result ≡ self.now.original.number }
+        ensures numbered { 1 ≤ result }
     {
         self.number
     }

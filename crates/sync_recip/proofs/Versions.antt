@@ -1,0 +1,124 @@
+-- Kept entries by their versions: those before a base and those from it on.
+use Rattle.std.proofs.Common.{◌≡◌, ℕ, zero, suc, ◌<◌, ◌≤◌, true, false, List, [], ◌∷◌, ◌++◌, length, map, take, drop, get_or, set, refl, sym, ap, ◌∙◌, subst, if◌then◌else◌, nat_lt, All, Result, Ok, Err, OnOk, OnErr, ◌-◌, Vec, append-nil, length-append, length-drop, arith}
+use Rattle.std.specs.List.Sorted.{IsNonDecreasingBy}
+use Rattle.std.proofs.lemmas.Bool.{lt-ltb, le-ltb}
+use Rattle.std.proofs.lemmas.List.{map-append, take-append-drop, length-map, length-take-le, with_items_is}
+use Rattle.std.proofs.Math.ListN.{drop_of_length-le}
+use Rattle.std.specs.Vec.{with_items}
+use borrow.Rule.Slice.PartMut.{put_mid}
+use Rattle.std.proofs.lemmas.List.Elements.{All-nil, All-cons, All-head, All-tail, All-push}
+use Rattle.sync_data.specs.Payload.{Changes}
+use Rattle.sync_theory.specs.Grid.{tail}
+use Rattle.sync_theory.specs.Reciprocals.{from_base, put_first, settle}
+use Rattle.sync_theory.proofs.World.{put_if, put_unless}
+use Rattle.sync_recip.specs.declared.kept.Kept.{Kept}
+use Rattle.sync_recip.specs.Lists.{kept_entry, pair_of, versions, IsRising}
+use Rattle.sync_recip.specs.declared.carried.Crossed.{Crossed}
+use Rattle.sync_recip.specs.Carrying.{with_crossed, crossed_entries, AllWithin}
+
+-- ---- what rises
+first_least : (v : ℕ) (ks : List Kept) (i : ℕ) (d : Kept) → All (λ w. v < w) (versions ks) → i < length ks → v < (get_or ks i d).version
+first_least v [] i d a h = absurd (omega arith)
+first_least v (k ∷ ks) zero d a h = All-head (λ w. v < w) k.version (versions ks) a
+first_least v (k ∷ ks) (suc i) d a h = first_least v ks i d (All-tail (λ w. v < w) k.version (versions ks) a) (omega arith)
+
+pub rising_far : (ks : List Kept) → IsRising (versions ks) → IsNonDecreasingBy (λ k. k.version) ks
+rising_far [] r i j d h l = absurd (omega arith)
+rising_far (k ∷ ks) r zero zero d h l = omega arith
+rising_far (k ∷ ks) r zero (suc j) d h l = let g = first_least k.version ks j d r.0 (omega arith) in omega arith
+rising_far (k ∷ ks) r (suc i) zero d h l = absurd (omega arith)
+rising_far (k ∷ ks) r (suc i) (suc j) d h l = rising_far ks r.1 i j d (omega arith) (omega arith)
+
+rising_more : (vs : List ℕ) (v : ℕ) → IsRising vs → All (λ w. w < v) vs → IsRising (vs ++ v ∷ [])
+rising_more [] v r a = (All-nil (λ w. v < w), tt)
+rising_more (u ∷ vs) v r a = (All-push (λ w. u < w) vs v r.0 (All-head (λ w. w < v) u vs a), rising_more vs v r.1 (All-tail (λ w. w < v) u vs a))
+
+versions_below : (ks : List Kept) (v : ℕ) → All (λ p. p.0 < v) (map pair_of ks) → All (λ w. w < v) (versions ks)
+versions_below [] v a = All-nil (λ w. w < v)
+versions_below (k ∷ ks) v a =
+    All-cons (λ w. w < v) k.version (versions ks) (All-head (λ p. p.0 < v) (pair_of k) (map pair_of ks) a) (versions_below ks v (All-tail (λ p. p.0 < v) (pair_of k) (map pair_of ks) a))
+
+rising_push : (ks : List Kept) (k : Kept) → IsRising (versions ks) → All (λ p. p.0 < k.version) (map pair_of ks) → IsRising (versions (ks ++ k ∷ []))
+rising_push ks k r a = subst IsRising (sym (map-append (λ k. k.version) ks (k ∷ []))) (rising_more (versions ks) k.version r (versions_below ks k.version a))
+
+pub rising_pushed : {E : Type 0} (r : Result (Unit {0}) E) (ks ns : List Kept) (k : Kept) → OnOk r (ns ≡ ks ++ k ∷ []) → OnErr r (ns ≡ ks) → IsRising (versions ks) → All (λ p. p.0 < k.version) (map pair_of ks) → IsRising (versions ns)
+rising_pushed (Ok u) ks ns k f g r a = subst (λ l. IsRising (versions l)) (sym f) (rising_push ks k r a)
+rising_pushed (Err m) ks ns k f g r a = subst (λ l. IsRising (versions l)) (sym g) r
+
+-- ---- those from a base on
+pub from_base_is : (b : ℕ) (ks : List Kept) (n : ℕ) → All (λ k. k.version < b) (take n ks) → All (λ k. b ≤ k.version) (drop n ks) → from_base b (map pair_of ks) ≡ map kept_entry (drop n ks)
+from_base_is b [] zero f g = refl
+from_base_is b [] (suc n) f g = refl
+from_base_is b (k ∷ ks) zero f g =
+    put_unless (nat_lt k.version b) (from_base b (map pair_of ks)) (kept_entry k ∷ from_base b (map pair_of ks)) (le-ltb k.version b (All-head (λ k. b ≤ k.version) k ks g))
+    ∙ ap (λ l. kept_entry k ∷ l) (from_base_is b ks zero (All-nil (λ k. k.version < b)) (All-tail (λ k. b ≤ k.version) k ks g))
+from_base_is b (k ∷ ks) (suc n) f g =
+    put_if (nat_lt k.version b) (from_base b (map pair_of ks)) (kept_entry k ∷ from_base b (map pair_of ks)) (lt-ltb k.version b (All-head (λ k. k.version < b) k (take n ks) f))
+    ∙ from_base_is b ks n (All-tail (λ k. k.version < b) k (take n ks) f) g
+
+abbrev first : List ℕ → ℕ
+first [] = 0
+first (v ∷ vs) = v
+
+pub settle_is : (b : ℕ) (ks : List Kept) (n : ℕ) (ns : List Kept) → All (λ k. k.version < b) (take n ks) → All (λ k. b ≤ k.version) (drop n ks) → versions ns ≡ versions (drop n ks)
+    → settle b (map pair_of ks) (map kept_entry ns) ≡ map pair_of (take n ks ++ ns)
+settle_is b [] zero [] f g e = refl
+settle_is b [] (suc n) [] f g e = refl
+settle_is b [] zero (m ∷ ns) f g e = cc
+settle_is b [] (suc n) (m ∷ ns) f g e = cc
+settle_is b (k ∷ ks) zero [] f g e = cc
+settle_is b (k ∷ ks) zero (m ∷ ns) f g e =
+    put_unless (nat_lt k.version b) (pair_of k ∷ settle b (map pair_of ks) (map kept_entry (m ∷ ns))) ((k.version, kept_entry m) ∷ settle b (map pair_of ks) (map kept_entry ns))
+    (le-ltb k.version b (All-head (λ k. b ≤ k.version) k ks g))
+    ∙ (let rest = settle_is b ks zero ns (All-nil (λ k. k.version < b)) (All-tail (λ k. b ≤ k.version) k ks g) (ap tail e) in
+    let same = ap first e in
+    λ i. (sym same i, kept_entry m) ∷ rest i)
+settle_is b (k ∷ ks) (suc n) ns f g e =
+    put_if (nat_lt k.version b) (pair_of k ∷ settle b (map pair_of ks) (map kept_entry ns)) (put_first (pair_of k) (map kept_entry ns) ∷ settle b (map pair_of ks) (tail (map kept_entry ns)))
+    (lt-ltb k.version b (All-head (λ k. k.version < b) k (take n ks) f))
+    ∙ ap (λ l. pair_of k ∷ l) (settle_is b ks n ns (All-tail (λ k. k.version < b) k (take n ks) f) g e)
+
+pub versions_same : (ks : List Kept) (n : ℕ) (ns : List Kept) → versions ns ≡ versions (drop n ks) → versions (take n ks ++ ns) ≡ versions ks
+versions_same ks n ns e =
+    map-append (λ k. k.version) (take n ks) ns ∙ ap (λ l. versions (take n ks) ++ l) e ∙ sym (map-append (λ k. k.version) (take n ks) (drop n ks)) ∙ ap versions (take-append-drop n ks)
+
+-- what holds of all entries holds of those from a base on
+pub all_from_base : {X : Type 0} (P : X → Type 0) (b : ℕ) (qs : List (ℕ × X)) → All (λ q. P q.1) qs → All P (from_base b qs)
+all_from_base P b [] a = All-nil P
+all_from_base P b (q ∷ qs) a =
+    let rest = all_from_base P b qs (All-tail (λ q. P q.1) q qs a) in
+    elim (nat_lt q.0 b) as (λ t. All P (if t then from_base b qs else q.1 ∷ from_base b qs)) [
+      | true ↦ rest
+      | false ↦ All-cons P q.1 (from_base b qs) (All-head (λ q. P q.1) q qs a) rest
+    ]
+
+-- ---- one entry with what is left of it
+abbrev left_of : Kept → Changes → Kept
+left_of k c = record { version = k.version; item = record { origin = k.item.origin; number = k.item.number; changes = c } }
+
+pub entries_set : (ks : List Kept) (n : ℕ) (d : Kept) (c : Changes) → n < length ks → map kept_entry (set ks n (left_of (get_or ks n d) c)) ≡ with_crossed n c (map kept_entry ks)
+entries_set [] n d c h = absurd (omega arith)
+entries_set (k ∷ ks) zero d c h = refl
+entries_set (k ∷ ks) (suc n) d c h = ap (λ l. kept_entry k ∷ l) (entries_set ks n d c (omega arith))
+
+pub versions_set : (ks : List Kept) (n : ℕ) (d : Kept) (c : Changes) → n < length ks → versions (set ks n (left_of (get_or ks n d) c)) ≡ versions ks
+versions_set [] n d c h = absurd (omega arith)
+versions_set (k ∷ ks) zero d c h = refl
+versions_set (k ∷ ks) (suc n) d c h = ap (λ l. k.version ∷ l) (versions_set ks n d c (omega arith))
+
+-- ---- a list that is settled
+module _ (b : ℕ) (ks : List Kept) (n : ℕ) (below : All (λ k. k.version < b) (take n ks)) (above : All (λ k. b ≤ k.version) (drop n ks)) where
+  pub within_rest : (cs : List Crossed) → AllWithin (length (from_base b (map pair_of ks))) cs → AllWithin (length (drop n ks)) cs
+  within_rest cs h = subst (λ m. AllWithin m cs) (ap length (from_base_is b ks n below above) ∙ length-map (drop n ks) kept_entry) h
+
+  pub settled : (ns : List Kept) (cs : List Crossed) → versions ns ≡ versions (drop n ks) → map kept_entry ns ≡ crossed_entries cs (map kept_entry (drop n ks)) → map pair_of (take n ks ++ ns) ≡ settle b (map pair_of ks) (crossed_entries cs (from_base b (map pair_of ks)))
+  settled ns cs e f = sym (settle_is b ks n ns below above e) ∙ ap (settle b (map pair_of ks)) (f ∙ ap (crossed_entries cs) (sym (from_base_is b ks n below above)))
+
+-- the items of a vector of which the end was rewritten
+pub items_after : {Z : Type 0} (v : Vec Kept Z) (ks part : List Kept) (n : ℕ) → ks ≡ v.items → n ≤ length ks → length part ≡ length ks - n → (with_items v (put_mid n (length ks - n) ks part)).items ≡ take n ks ++ part
+items_after v ks part n e h g =
+    let rest = drop_of_length-le (drop n ks) (let l : length (drop n ks) ≤ length ks - n = omega (arith, length-drop n ks) in l) in
+    let whole = ap (λ l. take n ks ++ (part ++ l)) rest ∙ ap (λ l. take n ks ++ l) (append-nil part) in
+    let count = ap length whole ∙ length-append (take n ks) part in
+    let size = ap length e in
+    with_items_is v (put_mid n (length ks - n) ks part) (omega (arith, count, length-take-le n ks h, g, size, v.ok.0)) ∙ whole

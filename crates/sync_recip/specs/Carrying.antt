@@ -1,0 +1,67 @@
+-- A change that was carried over entries, and these as it crossed them.
+use Rattle.std.specs.Prelude.{◌≡◌, ℕ, zero, suc, ◌<◌, List, [], ◌∷◌, Option, None, Some, Result, Err, length}
+use Rattle.sync_data.specs.Payload.{Changes}
+use Rattle.sync_data.specs.declared.instr.Instr.{Instr}
+use Rattle.sync_base.specs.declared.answers.Mismatch.{Mismatch}
+use Rattle.sync_theory.specs.Changesets.{Changeset}
+use Rattle.sync_theory.specs.Reciprocals.{from_base}
+use Rattle.sync_transform.specs.Sets.{made_by}
+use Rattle.sync_recip.specs.declared.carried.Crossed.{Crossed}
+use Rattle.sync_recip.specs.declared.refusal.RecipRefusal.{RecipRefusal}
+use Rattle.sync_recip.specs.declared.refusal.RecipRefusal.TheVariants as refusals
+
+-- the base, the change as carried, and those entries from the base on that changed
+pub record Carrying : Type 0 where
+  pub base : ℕ
+  pub changes : Changes
+  pub crossed : List Crossed
+
+-- ---- the entries as crossed
+
+-- an entry with what is left of it, or as it was
+abbrev pub crossed_entry : Option Changes → Changeset Instr → Changeset Instr
+crossed_entry None e = e
+crossed_entry (Some c) e = made_by e.origin e.number c
+
+-- entries of which that at a place has this left
+abbrev pub with_crossed : ℕ → Changes → List (Changeset Instr) → List (Changeset Instr)
+with_crossed place c [] = []
+with_crossed zero c (e ∷ es) = crossed_entry (Some c) e ∷ es
+with_crossed (suc place) c (e ∷ es) = e ∷ with_crossed place c es
+
+-- entries of which those that changed have what is left of them
+abbrev pub crossed_entries : List Crossed → List (Changeset Instr) → List (Changeset Instr)
+crossed_entries [] es = es
+crossed_entries (c ∷ cs) es = with_crossed c.place c.changes (crossed_entries cs es)
+
+-- each of them has a place below this
+abbrev pub AllWithin : ℕ → List Crossed → Type 0
+AllWithin n [] = Unit {0}
+AllWithin n (c ∷ cs) = (c.place < n) × AllWithin n cs
+
+-- what is noted of an entry at a place: nothing where it stays
+abbrev pub noted : ℕ → Option Changes → List Crossed
+noted place None = []
+noted place (Some c) = record { place = place; changes = c } ∷ []
+
+-- ---- of a list
+
+-- a carried change is one of a list: each entry that changed is an entry of the list
+abbrev pub Fits : Carrying → List (ℕ × Changeset Instr) → Type 0
+Fits c list = AllWithin (length (from_base c.base list)) c.crossed
+
+-- the list's entries from the base on, as the change crossed them
+abbrev pub entries_of : Carrying → List (ℕ × Changeset Instr) → List (Changeset Instr)
+entries_of c list = crossed_entries c.crossed (from_base c.base list)
+
+-- ---- refusals
+
+-- stuck at this place of the change, at some place of the entry that it crosses
+pub record StuckAt {A : Type 0} (r : Result A (ℕ × ℕ × Mismatch)) (place : ℕ) (kind : Mismatch) : Type 0 where
+  pub right : ℕ
+  pub is : r ≡ Err (place, right, kind)
+
+-- a mismatch is that of the crossing; of want of memory nothing is said
+abbrev pub IsStuckBy : {A : Type 0} → RecipRefusal → Result A (ℕ × ℕ × Mismatch) → Type 0
+IsStuckBy (refusals.Mismatch place kind) r = StuckAt r place kind
+IsStuckBy refusals.NoMemory r = Unit {0}

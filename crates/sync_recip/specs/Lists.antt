@@ -1,0 +1,24 @@
+-- A reciprocal list: entries of others with their versions, in the theory's form.
+use Rattle.std.specs.Prelude.{ℕ, ◌<◌, List, [], ◌∷◌, map, All}
+use Rattle.sync_data.specs.declared.entry.Entry.{Entry}
+use Rattle.sync_data.specs.declared.instr.Instr.{Instr}
+use Rattle.sync_theory.specs.Changesets.{Changeset}
+use Rattle.sync_transform.specs.Sets.{made_by}
+use Rattle.sync_recip.specs.declared.kept.Kept.{Kept}
+
+abbrev pub entry_of : Entry → Changeset Instr
+entry_of e = made_by e.origin e.number e.changes
+
+abbrev pub kept_entry : Kept → Changeset Instr
+kept_entry k = entry_of k.item
+
+abbrev pub pair_of : Kept → ℕ × Changeset Instr
+pair_of k = (k.version, kept_entry k)
+
+abbrev pub versions : List Kept → List ℕ
+versions ks = map (λ k. k.version) ks
+
+-- each is below all after it
+abbrev pub IsRising : List ℕ → Type 0
+IsRising [] = Unit {0}
+IsRising (v ∷ vs) = All (λ w. v < w) vs × IsRising vs

@@ -1,0 +1,107 @@
+ghost use Rattle.std.specs.Prelude.{◌≡◌, ◌≢◌, ◌++◌, ◌∷◌, [], ℕ, Ok, OnErr, IfOk, IfErr, OnOk, length, map, All};
+ghost use Rattle.sync_theory.specs.Changesets.{cross_sets as crossed_sets};
+ghost use Rattle.sync_theory.specs.Grid.{carry};
+ghost use Rattle.sync_law.specs.Instrs.{meet};
+ghost use Rattle.sync_index.specs.Touched.{Covers};
+ghost use Rattle.sync_transform.specs.Sets.{made_by};
+ghost use Rattle.sync_recip.specs.Lists.{entry_of, kept_entry};
+ghost use Rattle.sync_recip.specs.Carrying.{AllWithin, crossed_entry, crossed_entries, noted, IsStuckBy};
+
+use super::carried::{Carried, Crossed};
+use super::kept::Kept;
+use super::refusal::RecipRefusal;
+use std::alloc::Global;
+use sync_base::{Changeset, Entry, Ident, NoMemory};
+use sync_index::Index;
+use sync_transform::{cross_sets, stays_apart};
+
+/// A change of a client is carried over entries of others, from the first on. By an index of the change, what it can't
+/// touch is passed over.
+pub(crate) fn carry_over(
+    alloc: Global,
+    index: &Index,
+    kept: &[Kept],
+    own: Ident,
+    base: u32,
+    changes: Changeset,
+) -> Result<Carried, RecipRefusal>
+    requires others { All (λ e. e.origin ≢ own) (map kept_entry kept.now) }
+    requires indexed { Covers index.now changes.instrs }
+    ensures ok { IfOk result (λ c. (number : ℕ) → carry (crossed_sets meet) (made_by own number changes) (map kept_entry kept.now) ≡ Ok (made_by own number c.changes, crossed_entries c.crossed (map kept_entry kept.now))) }
+    ensures base { IfOk result (λ c. c.base ≡ base) }
+    ensures fits { IfOk result (λ c. AllWithin (length (map kept_entry kept.now)) c.crossed) }
+    ensures stuck { IfErr result (λ e. (number : ℕ) → IsStuckBy e (carry (crossed_sets meet) (made_by own number changes) (map kept_entry kept.now))) }
+{
+    let mut left = changes;
+    let mut crossed = Vec::new(alloc);
+    for (place, one) in kept.iter().enumerate() {
+        match cross_one(left, own, &one.item, index) {
+            Err(refusal) => return Err(refusal),
+            Ok((next, right)) => {
+                left = next;
+                let Ok(()) = note(&mut crossed, place, right) else {
+                    return Err(RecipRefusal::NoMemory);
+                };
+            }
+        }
+    }
+    Ok(Carried {
+        base,
+        changes: left,
+        crossed,
+    })
+}
+
+/// What is left of a change as it crosses an entry of another, and what is left of the entry where it may have changed.
+fn cross_one(
+    changes: Changeset,
+    own: Ident,
+    entry: &Entry,
+    index: &Index,
+) -> Result<(Changeset, Option<Changeset>), RecipRefusal>
+    requires other { entry.now.origin ≢ own }
+    requires indexed { Covers index.now changes.instrs }
+    ensures ok { IfOk result (λ p. (number : ℕ) → crossed_sets meet (made_by own number changes) (entry_of entry.now) ≡ Ok (made_by own number p.0, crossed_entry p.1 (entry_of entry.now))) }
+    ensures indexed { IfOk result (λ p. Covers index.now p.0.instrs) }
+    ensures stuck { IfErr result (λ e. (number : ℕ) → IsStuckBy e (crossed_sets meet (made_by own number changes) (entry_of entry.now))) }
+{
+    let is_apart = stays_apart(&entry.changes, index);
+    if is_apart {
+        return Ok((changes, None));
+    }
+    let Ok(right) = entry.changes.copy() else {
+        return Err(RecipRefusal::NoMemory);
+    };
+    match cross_sets(changes, own, right, entry.origin) {
+        Err(stop) => Err(RecipRefusal::Mismatch {
+            place: stop.left_place,
+            kind: stop.kind,
+        }),
+        Ok((left, right)) => Ok((left, Some(right))),
+    }
+}
+
+/// Notes what is left of the entry at a place, where it may have changed.
+fn note(
+    crossed: &mut Vec<Crossed>,
+    place: usize,
+    changes: Option<Changeset>,
+) -> Result<(), NoMemory>
+    ensures { OnOk result (crossed.new.items ≡ crossed.old.items ++ noted place changes) }
+{
+    match changes {
+        None => Ok(()),
+        Some(changes) => keep(crossed, Crossed { place, changes }),
+    }
+}
+
+/// Puts an item at the end of a list.
+pub(crate) fn keep<T: Drop>(list: &mut Vec<T>, item: T) -> Result<(), NoMemory>
+    ensures ok { OnOk result (list.new.items ≡ list.old.items ++ item ∷ []) }
+    ensures unchanged { OnErr result (list.new.items ≡ list.old.items) }
+{
+    match list.push(item) {
+        Ok(()) => Ok(()),
+        Err(_) => Err(NoMemory),
+    }
+}

@@ -1,0 +1,31 @@
+ghost use Rattle.std.specs.Prelude.{◌≡◌, ◌≤◌, ◌<◌, length, take, drop, map, All};
+ghost use Rattle.sync_theory.specs.Reciprocals.{from_base};
+ghost use Rattle.sync_recip.specs.Lists.{versions, pair_of, kept_entry, IsRising};
+
+use sync_base::Entry;
+
+/// An entry and its version.
+#[derive(Drop)]
+pub(crate) struct Kept {
+    pub(crate) version: u32,
+    pub(crate) item: Entry,
+}
+
+/// How many have a version below the base.
+pub(crate) fn count_below(kept: &[Kept], base: u32) -> usize
+    requires { IsRising (versions kept.now) }
+    ensures bound { result ≤ length kept.now }
+    ensures below { All (λ k. k.version < base) (take result kept.now) }
+    ensures above { All (λ k. base ≤ k.version) (drop result kept.now) }
+{
+    kept.partition_point(|kept| kept.version < base)
+}
+
+/// Those from the base on.
+pub(crate) fn kept_from(kept: &[Kept], base: u32) -> &[Kept]
+    requires { IsRising (versions kept.now) }
+    ensures { map kept_entry result.now ≡ from_base base (map pair_of kept.now) }
+{
+    let first = count_below(kept, base);
+    &kept[first..]
+}

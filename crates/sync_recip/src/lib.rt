@@ -1,0 +1,15 @@
+//! A server's reciprocal list for one client: the entries of others with their versions, as the client's changes crossed
+//! them.
+#![tactic(auto)]
+
+mod carried;
+mod carry;
+mod kept;
+mod recip;
+mod refusal;
+#[cfg(test)]
+mod tests;
+
+pub use carried::Carried;
+pub use recip::Recip;
+pub use refusal::RecipRefusal;

@@ -1,0 +1,118 @@
+ghost use Rattle.std.specs.Prelude.{◌≡◌, ◌≢◌, ◌<◌, ◌++◌, ◌∷◌, [], ℕ, Ok, IfOk, IfErr, OnOk, OnErr, length, slice_get, All};
+ghost use Rattle.std.specs.Option.{option_map};
+ghost use Rattle.sync_theory.specs.Changesets.{cross_sets, Changeset as Changes};
+ghost use Rattle.sync_theory.specs.Grid.{carry};
+ghost use Rattle.sync_theory.specs.Reciprocals.{from_base, settle};
+ghost use Rattle.sync_data.specs.declared.instr.Instr.{Instr};
+ghost use Rattle.sync_law.specs.Instrs.{meet};
+ghost use Rattle.sync_transform.specs.Sets.{made_by};
+ghost use Rattle.sync_recip.specs.Lists.{entry_of};
+ghost use Rattle.sync_recip.specs.Carrying.{Fits, entries_of, IsStuckBy};
+
+use super::carried::{Carried, put_crossed};
+use super::carry::{carry_over, keep};
+use super::kept::{Kept, count_below, kept_from};
+use super::refusal::RecipRefusal;
+use std::alloc::Global;
+use std::marker::Model;
+use sync_base::{Changeset, Entry, Ident, NoMemory};
+use sync_index::Index;
+
+/// The entries of others with their versions, which rise, as one client's changes crossed them.
+#[derive(Drop)]
+pub struct Recip {
+    kept: Vec<Kept>,
+}
+
+impl Model for Recip {
+    ghost use Rattle.std.specs.Prelude.{ℕ, List, map};
+    ghost use Rattle.sync_data.specs.declared.instr.Instr.{Instr};
+    ghost use Rattle.sync_theory.specs.Changesets.{Changeset};
+    ghost use Rattle.sync_recip.specs.Lists.{pair_of, versions, IsRising};
+
+    ghost Value = { List (ℕ × Changeset Instr) };
+
+    ghost view = { λ a. map pair_of a.kept.items };
+
+    ghost invariant = { λ a. IsRising (versions a.kept.items) };
+}
+
+impl Recip {
+    /// Nothing. It takes no memory.
+    pub fn new(alloc: Global) -> Recip
+        ensures { result ≡ [] }
+    {
+        Recip {
+            kept: Vec::new(alloc),
+        }
+    }
+
+    /// How many entries there are.
+    pub fn len(&self) -> usize
+        ensures { result ≡ length self.now }
+    {
+        self.kept.len()
+    }
+
+    /// The entry at a place, counted from 0, with its version; none at or past the end. It takes no memory.
+    pub fn get(&self, place: usize) -> Option<(u32, &Entry)>
+        ensures { option_map {U = ℕ × Changes Instr} (λ p. (p.0, entry_of p.1.now)) result ≡ slice_get self.now place }
+    {
+        match self.kept.as_slice().get(place) {
+            Some(kept) => Some((kept.version, &kept.item)),
+            None => None,
+        }
+    }
+
+    /// Adds an entry at the end, whose version is above all others.
+    pub fn push(&mut self, version: u32, entry: Entry) -> Result<(), NoMemory>
+        requires { All (λ pair. pair.0 < version) self.old }
+        ensures ok { OnOk result (self.new ≡ self.old ++ (version, entry_of entry) ∷ []) }
+        ensures unchanged { OnErr result (self.new ≡ self.old) }
+    {
+        let added = Kept {
+            version,
+            item: entry,
+        };
+        keep(&mut self.kept, added)
+    }
+
+    /// A change that the client made at a base, as carried over the entries from the base on, and these as it crossed them.
+    /// The list stays as it is.
+    pub fn carry(
+        &self,
+        alloc: Global,
+        own: Ident,
+        base: u32,
+        changes: Changeset,
+    ) -> Result<Carried, RecipRefusal>
+        requires { All (λ pair. pair.1.origin ≢ own) self.now }
+        ensures ok { IfOk result (λ c. (number : ℕ) → carry (cross_sets meet) (made_by own number changes) (from_base base self.now) ≡ Ok (made_by own number c.changes, entries_of c self.now)) }
+        ensures base { IfOk result (λ c. c.base ≡ base) }
+        ensures fits { IfOk result (λ c. Fits c self.now) }
+        ensures stuck { IfErr result (λ e. (number : ℕ) → IsStuckBy e (carry (cross_sets meet) (made_by own number changes) (from_base base self.now))) }
+    {
+        let Ok(index) = Index::of(alloc, changes.instrs()) else {
+            return Err(RecipRefusal::NoMemory);
+        };
+        let entries = kept_from(self.kept.as_slice(), base);
+        carry_over(alloc, &index, entries, own, base, changes)
+    }
+
+    /// Puts the entries as crossed in place of those from the base on, and hands out the change as carried. It takes no
+    /// memory.
+    pub fn settle(&mut self, carried: Carried) -> Changeset
+        requires { Fits carried self.old }
+        ensures settled { self.new ≡ settle carried.base self.old (entries_of carried self.old) }
+        ensures changes { result ≡ carried.changes }
+    {
+        let Carried {
+            base,
+            changes,
+            crossed,
+        } = carried;
+        let first = count_below(self.kept.as_slice(), base);
+        put_crossed(&mut self.kept[first..], crossed);
+        changes
+    }
+}
