@@ -1,12 +1,12 @@
 -- The loop that takes the entries of a Download.
-use Rattle.std.proofs.Common.{◌≡◌, ℕ, suc, ◌+◌, ◌≤◌, ◌<◌, Bool, true, false, List, [], ◌∷◌, ◌++◌, length, map, drop, get_or, drop-cons, add-one, Option, Some, None, Result, Ok, Err, refl, ap, ap₂, ◌∙◌, sym, subst, arith, le_refl}
+use Rattle.std.proofs.Common.{◌≡◌, ℕ, zero, suc, ◌+◌, ◌-◌, ◌≤◌, ◌<◌, Bool, true, false, List, [], ◌∷◌, ◌++◌, length, map, drop, get_or, drop-cons, add-one, Option, Some, None, Result, Ok, Err, refl, ap, ap₂, ◌∙◌, sym, subst, arith, le_refl}
 use Rattle.std.proofs.Math.ListN.{drop_of_length-le}
 use Rattle.sync_disk.specs.declared.disk.Disk.{Ghosts}
 use Rattle.sync_data.specs.declared.instr.Instr.{Instr}
 use Rattle.sync_base.specs.States.{State}
 use Rattle.sync_messages.specs.Parts.{SentParts}
-use Rattle.sync_model.specs.Clients.{Client as Model, ClientRecord, ClientRefusal, ClientStep, TakenSoFar, client_of, take_entries, took}
-use Rattle.sync_model.specs.Messages.{Sent}
+use Rattle.sync_model.specs.Clients.{Client as Model, ClientRecord, ClientRefusal, ClientStep, TakenSoFar, client_of, take_born, take_entries, took}
+use Rattle.sync_model.specs.Messages.{Message, Sent}
 use Rattle.sync_model.proofs.Loops.{taken_at_first, taken_ends, taken_next, taken_stops}
 use Rattle.sync_exchange.specs.Profile.{the_profile}
 use Rattle.sync_exchange.specs.Seen.{sent_seen}
@@ -15,7 +15,10 @@ use Rattle.sync_client.specs.declared.refusal.ClientRefusal.{ClientRefusal as Co
 use Rattle.sync_client.specs.Clients.{Did, IsClientOf, IsStored}
 use Rattle.sync_client.specs.Refusals.{refusal_seen, IfSeen}
 use Rattle.sync_client.specs.Taking.{SentRefused, SentTaken}
+use Rattle.sync_client.specs.declared.replica.Replica.{Replica}
+use Rattle.sync_client.specs.Keeping.{Keeps}
 use Rattle.sync_client.proofs.Calls.{if_seen_both}
+use Rattle.sync_client.proofs.Taken.{downloading}
 
 -- what is left at an index below the end
 pub left_at : (es : List SentParts) (i : ℕ) (e : SentParts) → i < length es → e ≡ get_or es i e → map sent_seen (drop i es) ≡ sent_seen e ∷ map sent_seen (drop (i + 1) es)
@@ -118,3 +121,15 @@ module _ {D : Type 0} {G : Ghosts D} (content : D → Option (List ℕ)) (images
       let s = l.so_far records k in
       let t = taken_ends the_profile records all s.written (subst (TakenSoFar the_profile records s.written all) is s.taken) in
       subst (λ rs. IsStored content images rs now) t.1 (s.stored h)
+
+pub map_drop : (n : ℕ) (es : List SentParts) → drop n (map sent_seen es) ≡ map sent_seen (drop n es)
+map_drop zero es = refl
+map_drop (suc n) [] = refl
+map_drop (suc n) (e ∷ es) = map_drop n es
+
+-- a Download of this client is the entries behind those that it has
+pub download_is : (records : List ClientRecord) (r : Replica) (ident from first second : ℕ) (es given rest : List SentParts) (id : List ℕ) → Keeps records r → ident ≡ r.ident → from ≤ r.cursor → from ≡ first → second ≡ first → given ≡ es → rest ≡ drop (r.cursor - second) given → (own : ℕ) → ident ≡ own
+    → take_born the_profile (client_of the_profile records) (Message.Download own first (map sent_seen es)) id ≡ take_entries the_profile (client_of the_profile records) (map sent_seen rest)
+download_is records r ident from first second es given rest id k mine behind is again same left own there =
+    downloading records r own first (map sent_seen es) id k (sym there ∙ mine) (subst (λ n. n ≤ r.cursor) is behind)
+    ∙ ap (take_entries the_profile (client_of the_profile records)) (map_drop (r.cursor - first) es ∙ ap (map sent_seen) (ap₂ (λ n xs. drop (r.cursor - n) xs) (sym again) (sym same) ∙ sym left))

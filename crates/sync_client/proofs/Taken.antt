@@ -1,14 +1,14 @@
 -- An entry of a Download, taken by a client of these records.
-use Rattle.std.proofs.Common.{◌≡◌, ℕ, suc, ◌+◌, ◌≤◌, ◌<◌, Bool, true, false, not, ◌&&◌, List, [], ◌∷◌, ◌++◌, length, Option, Some, None, Result, Ok, Err, refl, ap, ◌∙◌, sym, subst, ◌==◌, nat_lt, arith, inl, inr}
-use Rattle.std.proofs.lemmas.Bool.{lt-ltb, eq-eqb}
+use Rattle.std.proofs.Common.{◌≡◌, ℕ, suc, ◌+◌, ◌-◌, ◌≤◌, ◌<◌, bytes_eq, drop, Bool, true, false, not, ◌&&◌, List, [], ◌∷◌, ◌++◌, length, Option, Some, None, Result, Ok, Err, refl, ap, ◌∙◌, sym, subst, ◌==◌, nat_lt, arith, inl, inr}
+use Rattle.std.proofs.lemmas.Bool.{lt-ltb, le-ltb, eq-eqb}
 use Rattle.std.specs.Option.{is_some}
 use Rattle.sync_model.proofs.Own.{if_true, if_false}
 use Rattle.std.specs.Prelude.{◌⊎◌, OnOk, IfErr}
 use Rattle.sync_disk.specs.declared.disk.Disk.{Ghosts}
-use Rattle.sync_model.specs.Clients.{Client as Model, ClientRecord, ClientRefusal, IdentDiffers, Named, after_record, answers, appends, client_of, entry_refusal, take_ident, took}
+use Rattle.sync_model.specs.Clients.{Client as Model, ClientRecord, ClientRefusal, IdentDiffers, Named, after_record, answers, appends, client_of, entry_refusal, take_born, take_entries, take_ident, took}
 use Rattle.sync_model.specs.Files.{client_admits, client_opens}
 use Rattle.sync_model.specs.Limits.{ClientLists}
-use Rattle.sync_model.specs.Messages.{Sent}
+use Rattle.sync_model.specs.Messages.{Message, Sent}
 use Rattle.sync_model.specs.Worlds.{is_there}
 use Rattle.sync_model.proofs.Small.{client_lists}
 use Rattle.sync_data.specs.declared.instr.Instr.{Instr}
@@ -121,3 +121,21 @@ module _ {D : Type 0} {G : Ghosts D} where
   other_ident records c ident k other some =
       did_refuse (take_ident (client_of the_profile records) ident) (IdentDiffers c.replica.ident ident) records c
           (ap (λ m. take_ident m ident) k.kept.stands_for ∙ if_false (c.replica.ident == 0) _ _ (differ c.replica.ident 0 some) ∙ if_false (c.replica.ident == ident) _ _ (differ c.replica.ident ident other)) k
+
+-- the answer is the cursor that the replica keeps
+pub given_ident : (records : List ClientRecord) (r s : Replica) (ident : ℕ) → Keeps records r → r.ident ≡ 0 → s ≡ r → take_ident (client_of the_profile records) ident ≡ appends (Named ident) s.cursor
+given_ident records r s ident k none same = named_is records r ident k none ∙ ap (λ (q : Replica). appends (Named ident) q.cursor) (sym same)
+
+-- ---- messages that are for this client
+pub ident_mine : (records : List ClientRecord) (u id : List ℕ) (ident : ℕ) (m : Message) → m ≡ Message.Ident u ident → bytes_eq u id ≡ true → take_born the_profile (client_of the_profile records) m id ≡ take_ident (client_of the_profile records) ident
+ident_mine records u id ident m is mine = ap (λ x. take_born the_profile (client_of the_profile records) x id) is ∙ if_true (bytes_eq u id) _ _ mine
+
+-- a Download of this client, from at most the cursor on
+pub downloading : (records : List ClientRecord) (r : Replica) (ident from : ℕ) (es : List Sent) (id : List ℕ) → Keeps records r → ident ≡ r.ident → from ≤ r.cursor
+    → take_born the_profile (client_of the_profile records) (Message.Download ident from es) id ≡ take_entries the_profile (client_of the_profile records) (drop (r.cursor - from) es)
+downloading records r ident from es id k mine behind =
+    let own = ap (λ (c : Model Instr State). c.ident) k.stands_for in
+    let cursor = ap (λ (c : Model Instr State). c.cursor) k.stands_for in
+    if_true (ident == (client_of the_profile records).ident) _ _ (eq-eqb _ _ (mine ∙ sym own))
+    ∙ if_false (nat_lt (client_of the_profile records).cursor from) _ _ (ap (λ n. nat_lt n from) cursor ∙ le-ltb r.cursor from behind)
+    ∙ ap (λ n. take_entries the_profile (client_of the_profile records) (drop (n - from) es)) cursor

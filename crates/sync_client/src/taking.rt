@@ -1,6 +1,6 @@
 ghost use Rattle.std.specs.Option.{is_some};
 ghost use Rattle.sync_messages.specs.declared.message.Message.TheVariants as messages;
-ghost use Rattle.std.specs.Prelude.{◌≡◌, ◌⊎◌, ◌↔◌, IsTrue, length, ◌+◌, ◌<◌, ◌≤◌, ◌++◌, ◌∷◌, [], ℕ, List, map, IsErrOf, IfErr, OnOk, OnErr, true, false};
+ghost use Rattle.std.specs.Prelude.{◌≡◌, ◌⊎◌, ◌↔◌, IsTrue, length, drop, ◌+◌, ◌<◌, ◌≤◌, ◌++◌, ◌∷◌, [], ℕ, List, map, IsErrOf, IfErr, OnOk, OnErr, Some, true, false};
 ghost use Rattle.sync_disk.specs.Disk.{Rose};
 ghost use Rattle.sync_model.specs.Clients as model;
 ghost use Rattle.sync_exchange.specs.Profile.{the_profile};
@@ -42,7 +42,8 @@ impl<D: Disk> Client<D> {
     }
 
     fn take_message(&mut self, id: Id, message: &Message) -> Result<u32, ClientRefusal>
-        requires { is_closed self.old ≡ false }
+        requires open_ { is_closed self.old ≡ false }
+        requires born { (replica_of self.old).id ≡ Some id }
         ensures step { (records : List model.ClientRecord) → IsClientOf records self.old → Says (model.take_born the_profile (model.client_of the_profile records) (message_seen message.now) id) records self.new result }
         ensures stored { (records : List model.ClientRecord) → IsClientOf records self.old → IsStored D.content D.images records self.old → Stores D.content D.images (model.take_born the_profile (model.client_of the_profile records) (message_seen message.now) id) records self.new result }
         ensures not_closed { ¬ IsErrOf result ClientRefusal.Closed }
@@ -132,13 +133,7 @@ impl<D: Disk> Client<D> {
             });
         }
         let skipped = (self.replica.cursor - download.from()) as usize;
-        let entries = download.entries();
-        let rest = if skipped < entries.len() {
-            &entries[skipped..]
-        } else {
-            &[]
-        };
-        self.take_all(rest)
+        self.take_all(behind(download.entries(), skipped))
     }
 
     /// Takes entries up to the first that is refused; answers the cursor.
@@ -210,5 +205,16 @@ impl<D: Disk> Client<D> {
             ms: sent.ms(),
             body,
         })
+    }
+}
+
+/// The entries behind so many.
+fn behind(entries: &[Sent], skipped: usize) -> &[Sent]
+    ensures { result.now ≡ drop skipped entries.now }
+{
+    if skipped < entries.len() {
+        &entries[skipped..]
+    } else {
+        &[]
     }
 }
