@@ -3,6 +3,8 @@ pub mod Acting
 pub mod Small
 pub mod Refusing
 pub mod Committing
+pub mod Admitting
 pub mod Calls
 pub mod Taken
 pub mod Downloads
+pub mod Files

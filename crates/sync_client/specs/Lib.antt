@@ -5,3 +5,5 @@ pub mod Transactions
 pub mod Keeping
 pub mod Clients
 pub mod Taking
+pub mod Opening
+pub mod Reading

@@ -22,7 +22,7 @@ use sync_rebase::RebaseRefusal;
 use sync_store::AllRefusal;
 
 /// The changeset of an entry of this version.
-fn changes_of(
+pub(crate) fn changes_of(
     alloc: Global,
     version: u32,
     ms: u64,
@@ -88,7 +88,7 @@ impl Replica {
     }
 
     /// Whether the changeset needs form 2, and the file is in form 1.
-    fn is_beyond(&self, changes: &Changeset) -> bool
+    pub(crate) fn is_beyond(&self, changes: &Changeset) -> bool
         ensures { result ≡ (needs the_profile changes.now.instrs && not self.now.second) }
     {
         any_needs_second(changes.instrs()) && !self.second

@@ -4,6 +4,7 @@
 mod client;
 mod entries;
 mod let_go;
+mod opening;
 mod refusal;
 mod replica;
 mod taking;

@@ -79,7 +79,7 @@ impl Replica {
     }
 
     /// The instructions act on the objects.
-    fn act(&mut self, changes: &Changeset) -> Result<(), ClientRefusal>
+    pub(crate) fn act(&mut self, changes: &Changeset) -> Result<(), ClientRefusal>
         ensures acts { OnOk result (act_all changes.now.instrs self.old.objects ≡ Some self.new.objects) }
         ensures others { OnOk result (self.new ≡ record self.old { objects = self.new.objects }) }
         ensures refused { IfErr result (RefusesEdits self.old self.new changes.now.instrs) }

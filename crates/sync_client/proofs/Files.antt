@@ -1,0 +1,146 @@
+-- Records of a client that are read one after the other.
+use Rattle.std.proofs.Common.{◌≡◌, ℕ, zero, suc, ◌+◌, ◌<◌, ◌≤◌, Bool, true, false, ◌&&◌, List, [], ◌∷◌, ◌++◌, length, map, drop, get_or, drop-cons, Vec, Global, Option, Some, None, Result, Ok, Err, refl, ap, ap₂, ◌∙◌, sym, subst, append-nil, append_assoc, add-one, length-append, if◌then◌else◌}
+use Rattle.std.specs.Option.{option_map}
+use Rattle.std.proofs.Math.ListN.{drop_of_length-le}
+use Rattle.sync_journal.specs.Records.{lists}
+use Rattle.sync_model.specs.Clients.{Client as Model, ClientRecord, Original, after_record, client_of, no_client}
+use Rattle.sync_model.specs.Files.{client_admits, client_opens, client_reads, read_one, read_put}
+use Rattle.sync_model.specs.Limits.{Each, no_more}
+use Rattle.sync_model.proofs.Own.{client_step, if_true, if_false}
+use Rattle.sync_data.specs.declared.instr.Instr.{Instr}
+use Rattle.sync_base.specs.States.{State}
+use Rattle.sync_records.specs.declared.client.ClientRecord.{ClientRecord as CodeRecord}
+use Rattle.sync_records.specs.declared.client.ClientRecord.TheVariants as codes
+use Rattle.sync_records.specs.Reading.{client_forms, record_in}
+use Rattle.sync_records.specs.Spelling.{client_spelling}
+use Rattle.sync_exchange.specs.Profile.{the_profile}
+use Rattle.sync_exchange.specs.Seen.{client_bytes, client_kept, client_seen, read_client}
+use Rattle.sync_client.specs.declared.replica.Replica.{Replica}
+use Rattle.sync_client.specs.Keeping.{Keeps}
+use Rattle.sync_data.specs.declared.memory.NoMemory.{NoMemory}
+use Rattle.sync_client.specs.Opening.{Admits, Admitted, IsEmpty}
+use Rattle.sync_client.specs.Reading.{Next, ReadAll, ReadOn, ReadsOne}
+use Rattle.sync_client.specs.Seen.{seen}
+use Rattle.sync_client.proofs.Calls.{keeps_next}
+
+kept_seen : (r : CodeRecord) → client_kept (client_seen r) ≡ r
+kept_seen (codes.Born id) = refl
+kept_seen (codes.Named ident) = refl
+kept_seen (codes.Made number ms body) = refl
+kept_seen (codes.Took origin number ms body) = refl
+kept_seen codes.Form = refl
+
+-- ---- one record
+pub read_on : (records : List ClientRecord) (r s : Replica) (bytes : List ℕ) (x : CodeRecord) (k : Keeps records r) → record_in client_forms bytes ≡ Some x → bytes ≡ client_spelling x → Admitted k.made r s (client_seen x) → ReadOn records s bytes
+read_on records r s bytes x k read spelled a =
+    let admits : client_admits the_profile (client_of the_profile records) (client_seen x) ≡ true = ap (λ c. client_admits the_profile c (client_seen x)) k.stands_for ∙ a.admitted in
+    record {
+      next = client_seen x;
+      spelled = spelled ∙ ap client_spelling (sym (kept_seen x));
+      goes_on = λ go. ap (λ o. read_one (option_map client_seen o) (client_admits the_profile (client_of the_profile records)) go) read ∙ if_true (client_admits the_profile (client_of the_profile records) (client_seen x)) _ _ admits;
+      keeps = keeps_next records (client_seen x) r s a.then_made k (one (client_admits the_profile (client_of the_profile records) (client_seen x)) admits) a.fits a.after a.count;
+    }
+  where
+    one : (b : Bool) → b ≡ true → (b && true) ≡ true
+    one true e = refl
+    one false e = e
+
+pub read_declined : (records : List ClientRecord) (r : Replica) (bytes : List ℕ) (x : CodeRecord) (k : Keeps records r) → record_in client_forms bytes ≡ Some x → client_admits the_profile (seen k.made r) (client_seen x) ≡ false
+    → (go : ClientRecord → Result (List ClientRecord) ℕ) → Next records bytes go ≡ Err 0
+read_declined records r bytes x k read declines go =
+    ap (λ o. read_one (option_map client_seen o) (client_admits the_profile (client_of the_profile records)) go) read
+    ∙ if_false (client_admits the_profile (client_of the_profile records) (client_seen x)) _ _ (ap (λ c. client_admits the_profile c (client_seen x)) k.stands_for ∙ declines)
+
+pub read_nothing : (records : List ClientRecord) (bytes : List ℕ) → record_in client_forms bytes ≡ None → (go : ClientRecord → Result (List ClientRecord) ℕ) → Next records bytes go ≡ Err 0
+read_nothing records bytes none go = ap (λ o. read_one (option_map client_seen o) (client_admits the_profile (client_of the_profile records)) go) none
+
+-- ---- one after the other
+abbrev pub Read : Type 0
+Read = Result (List ClientRecord) ℕ
+
+abbrev pub read_puts : List ClientRecord → Read → Read
+read_puts [] r = r
+read_puts (x ∷ xs) r = read_put x (read_puts xs r)
+
+puts_more : (xs : List ClientRecord) (x : ClientRecord) (r : Read) → read_puts (xs ++ x ∷ []) r ≡ read_puts xs (read_put x r)
+puts_more [] x r = refl
+puts_more (y ∷ xs) x r = ap (read_put y) (puts_more xs x r)
+
+puts_all : (xs : List ClientRecord) → read_puts xs (Ok []) ≡ Ok xs
+puts_all [] = refl
+puts_all (x ∷ xs) = ap (read_put x) (puts_all xs)
+
+puts_fault : (xs : List ClientRecord) → read_puts xs (Err 0) ≡ Err (length xs)
+puts_fault [] = refl
+puts_fault (x ∷ xs) = ap (read_put x) (puts_fault xs)
+
+pub record ReadSoFar (file : List (List ℕ)) (place : ℕ) (rest : List (List ℕ)) (now : Replica) : Type 0 where
+  pub records : List ClientRecord
+  pub place_is : place ≡ length records
+  pub split : file ≡ map client_bytes records ++ rest
+  pub reads : client_reads the_profile read_client (no_client the_profile) file ≡ read_puts records (client_reads the_profile read_client (client_of the_profile records) rest)
+  pub keeps : Keeps records now
+
+pub reads_first : (file : List (List ℕ)) (r : Replica) → IsEmpty r → ReadSoFar file 0 file r
+reads_first file r e = record {
+  records = [];
+  place_is = refl;
+  split = refl;
+  reads = refl;
+  keeps = record { made = []; count = sym e.count; stands_for = sym e.stands_for; opens = refl; each = no_more };
+}
+
+map_append : (xs : List ClientRecord) (x : ClientRecord) → map client_bytes (xs ++ x ∷ []) ≡ map client_bytes xs ++ client_bytes x ∷ []
+map_append [] x = refl
+map_append (y ∷ xs) x = ap (λ l. client_bytes y ∷ l) (map_append xs x)
+
+pub reads_next : (file : List (List ℕ)) (place : ℕ) (left rest : List (List ℕ)) (bytes : List ℕ) (now next : Replica) (s : ReadSoFar file place left now) → left ≡ bytes ∷ rest → ReadOn s.records next bytes → ReadSoFar file (place + 1) rest next
+reads_next file place left rest bytes now next s is o = record {
+  records = s.records ++ o.next ∷ [];
+  place_is = ap (λ n. n + 1) s.place_is ∙ sym (length-append s.records (o.next ∷ []));
+  split = s.split ∙ ap (λ l. map client_bytes s.records ++ l) (is ∙ ap (λ b. b ∷ rest) o.spelled) ∙ sym (append_assoc (map client_bytes s.records) (client_bytes o.next ∷ []) rest) ∙ ap (λ l. l ++ rest) (sym (map_append s.records o.next));
+  reads = s.reads
+      ∙ ap (λ l. read_puts s.records (client_reads the_profile read_client (client_of the_profile s.records) l)) is
+      ∙ ap (read_puts s.records) (o.goes_on (λ r. client_reads the_profile read_client (after_record the_profile (client_of the_profile s.records) r) rest))
+      ∙ ap (λ c. read_puts s.records (read_put o.next (client_reads the_profile read_client c rest))) (sym (client_step the_profile s.records o.next))
+      ∙ sym (puts_more s.records o.next (client_reads the_profile read_client (client_of the_profile (s.records ++ o.next ∷ [])) rest));
+  keeps = o.keeps;
+}
+
+pub reads_stop : (file : List (List ℕ)) (place : ℕ) (left rest : List (List ℕ)) (bytes : List ℕ) (now : Replica) (s : ReadSoFar file place left now) → left ≡ bytes ∷ rest → ((go : ClientRecord → Read) → Next s.records bytes go ≡ Err 0)
+    → client_reads the_profile read_client (no_client the_profile) file ≡ Err place
+reads_stop file place left rest bytes now s is stop =
+    s.reads ∙ ap (λ l. read_puts s.records (client_reads the_profile read_client (client_of the_profile s.records) l)) is
+    ∙ ap (read_puts s.records) (stop (λ r. client_reads the_profile read_client (after_record the_profile (client_of the_profile s.records) r) rest))
+    ∙ puts_fault s.records ∙ ap (λ n. Err n) (sym s.place_is)
+
+pub reads_end : (file : List (List ℕ)) (place : ℕ) (left : List (List ℕ)) (now : Replica) → ReadSoFar file place left now → left ≡ [] → ReadAll file now
+reads_end file place left now s is = record {
+  records = s.records;
+  reads = s.reads ∙ ap (λ l. read_puts s.records (client_reads the_profile read_client (client_of the_profile s.records) l)) is ∙ puts_all s.records;
+  spelled = sym (s.split ∙ ap (λ l. map client_bytes s.records ++ l) is ∙ append-nil (map client_bytes s.records));
+  keeps = s.keeps;
+}
+
+pub read_says : (records : List ClientRecord) (r s : Replica) (bytes : List ℕ) (x : CodeRecord) (a : Result Bool NoMemory) (k : Keeps records r) → record_in client_forms bytes ≡ Some x → bytes ≡ client_spelling x → Admits k.made r s (client_seen x) a → ReadsOne records s bytes a
+read_says records r s bytes x (Ok true) k read spelled a = read_on records r s bytes x k read spelled a
+read_says records r s bytes x (Ok false) k read spelled a = read_declined records r bytes x k read a
+read_says records r s bytes x (Err e) k read spelled a = tt
+
+-- ---- the bytes of vectors
+abbrev Bytes : Type 0
+Bytes = Vec ℕ Global
+
+pub left_at : (files : List Bytes) (i : ℕ) (v : Bytes) → i < length files → v ≡ get_or files i v → lists (drop i files) ≡ v.items ∷ lists (drop (i + 1) files)
+left_at files i v h is = ap lists (drop-cons files i v h ∙ ap₂ (λ x j. x ∷ drop j files) (sym is) (sym (add-one i)))
+
+pub none_left : (files : List Bytes) (i : ℕ) → length files ≤ i → lists (drop i files) ≡ []
+none_left files i h = ap lists (drop_of_length-le files h)
+
+pub one_read : (records : List ClientRecord) (s : Replica) (bytes given : List ℕ) (a : Result Bool NoMemory) (b : Bool) → given ≡ bytes → a ≡ Ok b → b ≡ true → ReadsOne records s given a → ReadOn records s bytes
+one_read records s bytes given a b same is yes_ says =
+    subst (ReadOn records s) same (subst (ReadsOne records s given) (is ∙ ap (λ (c : Bool). Ok c) yes_) says)
+
+pub one_declined : (records : List ClientRecord) (s : Replica) (bytes given : List ℕ) (a : Result Bool NoMemory) (b : Bool) → given ≡ bytes → a ≡ Ok b → b ≡ false → ReadsOne records s given a → (go : ClientRecord → Read) → Next records bytes go ≡ Err 0
+one_declined records s bytes given a b same is isnt says =
+    subst (λ bs. (go : ClientRecord → Read) → Next records bs go ≡ Err 0) same (subst (ReadsOne records s given) (is ∙ ap (λ (c : Bool). Ok c) isnt) says)
