@@ -7,4 +7,5 @@ pub mod Admitting
 pub mod Calls
 pub mod Taken
 pub mod Downloads
-pub mod Files
+pub mod Records
+pub mod Gates

@@ -7,3 +7,4 @@ pub mod Clients
 pub mod Taking
 pub mod Opening
 pub mod Reading
+pub mod Files

@@ -3,6 +3,7 @@
 
 mod client;
 mod entries;
+mod files;
 mod let_go;
 mod opening;
 mod refusal;

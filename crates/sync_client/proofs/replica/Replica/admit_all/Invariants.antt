@@ -1,6 +1,6 @@
 use Rattle.std.proofs.Common.{drop}
 use Rattle.sync_journal.specs.Records.{lists}
-use Rattle.sync_client.proofs.Files.{ReadSoFar}
+use Rattle.sync_client.proofs.Records.{ReadSoFar}
 use Rattle.sync_client.proofs.replica.Replica.admit_all.Given as goal
 
 abbrev pub invariant-loop-place : goal.invariant-loop-place

@@ -1,4 +1,4 @@
-use Rattle.sync_client.proofs.Files.{read_says}
+use Rattle.sync_client.proofs.Records.{read_says}
 use Rattle.sync_client.proofs.Taken.{lists_of}
 use Rattle.sync_client.proofs.replica.Replica.read.Goals as goal
 
