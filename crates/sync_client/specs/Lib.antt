@@ -8,3 +8,4 @@ pub mod Taking
 pub mod Opening
 pub mod Reading
 pub mod Files
+pub mod Sending

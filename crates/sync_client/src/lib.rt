@@ -8,6 +8,7 @@ mod let_go;
 mod opening;
 mod refusal;
 mod replica;
+mod sending;
 mod taking;
 mod transactions;
 
