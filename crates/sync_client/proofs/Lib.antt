@@ -9,3 +9,4 @@ pub mod Taken
 pub mod Downloads
 pub mod Records
 pub mod Gates
+pub mod Asking
