@@ -20,6 +20,7 @@ break_below (i ∷ is) s n b e = go (break_of s (effect_of i)) e (λ m f. break_
   where
     some_is : {x y : ℕ × Break} → Some x ≡ Some y → x ≡ y
     some_is f = cc
+
     later : (o : Option (ℕ × Break)) → option_map {U = ℕ × Break} (λ (p : ℕ × Break). (suc p.0, p.1)) o ≡ Some (n, b) → ((m : ℕ) → o ≡ Some (m, b) → m < length is) → n < suc (length is)
     later None f rest = cc
     later (Some p) f rest =
@@ -27,6 +28,7 @@ break_below (i ∷ is) s n b e = go (break_of s (effect_of i)) e (λ m f. break_
         let place : suc p.0 ≡ n = ap (λ (q : ℕ × Break). q.0) same in
         let there : p.0 < length is = rest p.0 (ap (λ (k : Break). Some (p.0, k)) (ap (λ (q : ℕ × Break). q.1) same)) in
         omega (arith, place, there)
+
     go : (o : Option Break)
         → ◌≡◌ {A = Option (ℕ × Break)} (elim o [ Some b ↦ Some (0, b) | None ↦ option_map {U = ℕ × Break} (λ p. (suc p.0, p.1)) (break_at is (after s (effect_of i))) ]) (Some (n, b))
         → ((m : ℕ) → break_at is (after s (effect_of i)) ≡ Some (m, b) → m < length is) → n < suc (length is)

@@ -99,10 +99,10 @@ pub commit_keeps : (records : List ClientRecord) (r s : Replica) (ms : ℕ) (edi
     → Keeps (records ++ ClientRecord.Made m.number ms m.body.items ∷ []) s
 commit_keeps records r s ms edits m k some did small =
     keeps_next records (ClientRecord.Made m.number ms m.body.items) r s (k.made ++ next_original r m.number ms edits ∷ []) k
-        (subst (λ d. client_opens the_profile (client_of the_profile records) d.records ≡ true) (commit_is records r s ms edits m k some did) (commit_opens the_profile real_lawful (client_of the_profile records) ms edits))
-        small
-        did.after
-        (length-append k.made (next_original r m.number ms edits ∷ []) ∙ add-one (length k.made) ∙ ap suc k.count ∙ sym did.count)
+    (subst (λ d. client_opens the_profile (client_of the_profile records) d.records ≡ true) (commit_is records r s ms edits m k some did) (commit_opens the_profile real_lawful (client_of the_profile records) ms edits))
+    small
+    did.after
+    (length-append k.made (next_original r m.number ms edits ∷ []) ∙ add-one (length k.made) ∙ ap suc k.count ∙ sym did.count)
 
 module _ {D : Type 0} {G : Ghosts D} where
   pub commit_refused : (records : List ClientRecord) (c n : Client D G) (s : Replica) (ms : ℕ) (edits : List Instr) (why : CodeRefusal) (k : IsClientOf records c) → is_some c.replica.id ≡ true
@@ -110,9 +110,9 @@ module _ {D : Type 0} {G : Ghosts D} where
       → IfSeen (refusal_seen why) (λ w. Did (commit the_profile (client_of the_profile records) ms edits) (Err w) records n)
   commit_refused records c n s ms edits why k some did same =
       if_seen_both (refusal_seen why) (Uncommitted k.kept.made c.replica s ms edits) (λ w. n ≡ record c { replica = s }) (λ w. Did (commit the_profile (client_of the_profile records) ms edits) (Err w) records n)
-          (λ w h g. did_refuse (commit the_profile (client_of the_profile records) ms edits) w records n (committing records c.replica ms edits k.kept some ∙ h.step)
-              (subst (IsClientOf records) (sym (g ∙ ap (λ (r : Replica). record c { replica = r }) h.unchanged)) k))
-          did same
+      (λ w h g. did_refuse (commit the_profile (client_of the_profile records) ms edits) w records n (committing records c.replica ms edits k.kept some ∙ h.step)
+      (subst (IsClientOf records) (sym (g ∙ ap (λ (r : Replica). record c { replica = r }) h.unchanged)) k))
+      did same
 
 -- ---- the form
 pub upgrade_is : (records : List ClientRecord) (r : Replica) → Keeps records r → is_some r.id ≡ true → r.second ≡ false → upgrade (client_of the_profile records) ≡ appends ClientRecord.Form true
@@ -163,6 +163,6 @@ module _ {D : Type 0} {G : Ghosts D} where
       → Says (commit the_profile (client_of the_profile records) ms edits) records n a
   commit_says records r s n ms edits m (Ok number) k some did small is same open_ refused =
       did_append (commit the_profile (client_of the_profile records) ms edits) (ClientRecord.Made m.number ms m.body.items) number records n
-          (commit_is records r s ms edits m k some did ∙ ap (λ (j : ℕ). appends (ClientRecord.Made m.number ms m.body.items) j) (sym is))
-          (subst (Keeps (records ++ ClientRecord.Made m.number ms m.body.items ∷ [])) (sym same) (commit_keeps records r s ms edits m k some did small)) open_
+      (commit_is records r s ms edits m k some did ∙ ap (λ (j : ℕ). appends (ClientRecord.Made m.number ms m.body.items) j) (sym is))
+      (subst (Keeps (records ++ ClientRecord.Made m.number ms m.body.items ∷ [])) (sym same) (commit_keeps records r s ms edits m k some did small)) open_
   commit_says records r s n ms edits m (Err why) k some did small is same open_ refused = unseen why _ refused

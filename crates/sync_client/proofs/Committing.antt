@@ -38,8 +38,8 @@ too_large made r ms is large = record { step = if_true (not (fits_changeset is))
 -- behind the first test
 behind : (made : List (Original Instr)) (r : Replica) (ms : ℕ) (is : List Instr) → AreInstrs is
     → commit_born the_profile (seen made r) ms is ≡ (if length made == 4294967295 then refuse NumbersFull
-      else if needs the_profile is && not r.second then refuse (OldForm (first_need the_profile is))
-      else commit_applied (suc (length made)) (ClientRecord.Made (suc (length made)) ms (spelling is)) (apply_all the_profile is r.objects))
+    else if needs the_profile is && not r.second then refuse (OldForm (first_need the_profile is))
+    else commit_applied (suc (length made)) (ClientRecord.Made (suc (length made)) ms (spelling is)) (apply_all the_profile is r.objects))
 behind made r ms is v = if_false (not (fits_changeset is)) _ _ (ap not (instrs_small is v))
 
 pub numbers_full : (made : List (Original Instr)) (r : Replica) (ms : ℕ) (is : List Instr) → AreInstrs is → length made ≡ r.count → r.count ≡ 4294967295 → Uncommitted made r r ms is NumbersFull
@@ -47,7 +47,7 @@ numbers_full made r ms is v n full = record { step = behind made r ms is v ∙ i
 
 room : (made : List (Original Instr)) (r : Replica) (ms : ℕ) (is : List Instr) → AreInstrs is → length made ≡ r.count → ¬ (r.count ≡ 4294967295)
     → commit_born the_profile (seen made r) ms is ≡ (if needs the_profile is && not r.second then refuse (OldForm (first_need the_profile is))
-      else commit_applied (suc (length made)) (ClientRecord.Made (suc (length made)) ms (spelling is)) (apply_all the_profile is r.objects))
+    else commit_applied (suc (length made)) (ClientRecord.Made (suc (length made)) ms (spelling is)) (apply_all the_profile is r.objects))
 room made r ms is v n some = behind made r ms is v ∙ if_false (length made == 4294967295) _ _ (differ (length made) 4294967295 (λ e. some (sym n ∙ e)))
 
 pub old_form : (made : List (Original Instr)) (r : Replica) (ms : ℕ) (is : List Instr) (why : CodeRefusal) → AreInstrs is → length made ≡ r.count → ¬ (r.count ≡ 4294967295)

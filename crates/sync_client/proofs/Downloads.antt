@@ -85,10 +85,10 @@ module _ {D : Type 0} {G : Ghosts D} (content : D → Option (List ℕ)) (images
   stops faults old now next all rest left e why l is step records k =
       let s = l.so_far records k in
       if_seen_both (refusal_seen why) (SentRefused s.written next e) (λ w. Unit {0}) (λ w. Did (take_entries the_profile (client_of the_profile records) all) (Err w) records next)
-          (λ w h u.
-              let t = taken_stops the_profile records all s.written e rest w (subst (TakenSoFar the_profile records s.written all) is s.taken) h.cause in
-              record { answer_is = t.0; client = subst (λ rs. IsClientOf rs next) t.1 h.client })
-          (step s.written s.client) (all_units (refusal_seen why))
+      (λ w h u.
+      let t = taken_stops the_profile records all s.written e rest w (subst (TakenSoFar the_profile records s.written all) is s.taken) h.cause in
+      record { answer_is = t.0; client = subst (λ rs. IsClientOf rs next) t.1 h.client })
+      (step s.written s.client) (all_units (refusal_seen why))
     where
       all_units : (o : Option ClientRefusal) → IfSeen o (λ w. Unit {0})
       all_units None = tt
@@ -101,10 +101,10 @@ module _ {D : Type 0} {G : Ghosts D} (content : D → Option (List ℕ)) (images
   stops_stored faults old now next all rest left e why l is step stored records k h =
       let s = l.so_far records k in
       if_seen_both (refusal_seen why) (SentRefused s.written next e) (λ w. IsStored content images s.written next) (λ w. IsStored content images (records ++ (take_entries the_profile (client_of the_profile records) all).records) next)
-          (λ w r kept.
-              let t = taken_stops the_profile records all s.written e rest w (subst (TakenSoFar the_profile records s.written all) is s.taken) r.cause in
-              subst (λ rs. IsStored content images rs next) t.1 kept)
-          (step s.written s.client) (stored s.written (s.stored h))
+      (λ w r kept.
+      let t = taken_stops the_profile records all s.written e rest w (subst (TakenSoFar the_profile records s.written all) is s.taken) r.cause in
+      subst (λ rs. IsStored content images rs next) t.1 kept)
+      (step s.written s.client) (stored s.written (s.stored h))
 
   pub ends : (faults : D → ℕ) (old now : Client D G) (all left : List Sent) → LoopSoFar faults old now all left → left ≡ [] → (records : List ClientRecord) → IsClientOf records old → Did (take_entries the_profile (client_of the_profile records) all) (Ok now.replica.cursor) records now
   ends faults old now all left l is records k =

@@ -10,3 +10,4 @@ pub mod Downloads
 pub mod Records
 pub mod Gates
 pub mod Asking
+pub mod Uploads

@@ -87,9 +87,9 @@ head_fine : (us : List (Unsent Instr)) (x : Entry) (e : Sent) → SameEntry x e 
 head_fine [] x e s h = absurd h
 head_fine (u ∷ us) x e s h =
     if_true (is_first u e) _ _ (three _ _ _
-        (eq-eqb _ _ (h.number ∙ s.number))
-        (eq-eqb _ _ (h.ms ∙ s.ms))
-        ((bytes_eq-Decides (spelling u.current) e.body).1 (ap spelling h.instrs ∙ sym s.bytes)))
+    (eq-eqb _ _ (h.number ∙ s.number))
+    (eq-eqb _ _ (h.ms ∙ s.ms))
+    ((bytes_eq-Decides (spelling u.current) e.body).1 (ap spelling h.instrs ∙ sym s.bytes)))
 
 same_list : (is js : List Instr) → AreInstrs is → AreInstrs js → spelling is ≡ spelling js → is ≡ js
 same_list is js v w e = (no_prefix is js [] v w (append-nil (spelling is) ∙ e)).1

@@ -17,9 +17,11 @@ module _ {I S : Type 0} (p : Profile I S) {Fits : S → Type 0} (law : Lawful p 
     where
       ok_is : {x y : List (Changeset I) × Changeset I} → ◌≡◌ {A = Result (List (Changeset I) × Changeset I) (ℕ × Stuck)} (Ok x) (Ok y) → x ≡ y
       ok_is h = cc
+
       put : (x : Changeset I) (r : Result (List (Changeset I) × Changeset I) (ℕ × Stuck)) → rebase_put x r ≡ Ok (qs, f) → (rs : List (Changeset I)) × (r ≡ Ok (rs, f))
       put x (Err m) h = cc
       put x (Ok q) h = let same : ◌≡◌ {A = List (Changeset I) × Changeset I} (x ∷ q.0, q.1) (qs, f) = ok_is h in (q.0, ap (λ (y : Changeset I). Ok (q.0, y)) (ap (λ (z : List (Changeset I) × Changeset I). z.1) same))
+
       go : (r : Result (Changeset I × Changeset I) Stuck) → cross_changesets p a e ≡ r → rebase_one r (λ g. rebase (cross_changesets p) ps g) ≡ Ok (qs, f)
           → ((rs : List (Changeset I)) (g : Changeset I) → is_small p g.instrs ≡ true → rebase (cross_changesets p) ps g ≡ Ok (rs, f) → is_small p f.instrs ≡ true) → is_small p f.instrs ≡ true
       go (Err m) c h rest = cc

@@ -56,10 +56,10 @@ admits records r e k m fine =
     let ident = ap (λ (c : Model Instr State). c.ident) k.stands_for in
     let cursor = ap (λ (c : Model Instr State). c.cursor) k.stands_for in
     both _ true
-        (both _ _ (ap (λ n. not (n == 0)) ident ∙ positive r.ident m.named)
-            (both _ _ (ap (λ n. nat_lt n 4294967295) cursor ∙ lt-ltb r.cursor 4294967295 m.room)
-                (both _ _ (positive e.origin m.origin) (both _ _ (positive e.number m.number) (ap (λ o. not (is_there o)) fine)))))
-        refl
+    (both _ _ (ap (λ n. not (n == 0)) ident ∙ positive r.ident m.named)
+    (both _ _ (ap (λ n. nat_lt n 4294967295) cursor ∙ lt-ltb r.cursor 4294967295 m.room)
+    (both _ _ (positive e.origin m.origin) (both _ _ (positive e.number m.number) (ap (λ o. not (is_there o)) fine)))))
+    refl
 
 pub fine_of : (records : List ClientRecord) (r : Replica) (e : Sent) (o : Option ClientRefusal) (k : Keeps records r) → entry_refusal the_profile (seen k.made r) e ≡ o → entry_refusal the_profile (client_of the_profile records) e ≡ o
 fine_of records r e o k h = ap (λ c. entry_refusal the_profile c e) k.stands_for ∙ h
@@ -74,14 +74,14 @@ module _ {D : Type 0} {G : Ghosts D} where
       → IfSeen (refusal_seen why) (SentRefused records n e)
   sent_refused records c n s e why k did same count =
       if_seen_both (refusal_seen why) (Declines (seen k.kept.made c.replica) (seen k.kept.made s) e) (λ w. n ≡ record c { replica = s }) (SentRefused records n e)
-          (λ w h g. record {
-            cause = fine_of records c.replica e (Some w) k.kept h.cause;
-            client = subst (IsClientOf records) (sym g) (record {
-              kept = record { made = k.kept.made; count = k.kept.count ∙ sym count; stands_for = k.kept.stands_for ∙ sym h.unchanged; opens = k.kept.opens; each = k.kept.each };
-              open_ = k.open_;
-            });
-          })
-          did same
+      (λ w h g. record {
+        cause = fine_of records c.replica e (Some w) k.kept h.cause;
+        client = subst (IsClientOf records) (sym g) (record {
+          kept = record { made = k.kept.made; count = k.kept.count ∙ sym count; stands_for = k.kept.stands_for ∙ sym h.unchanged; opens = k.kept.opens; each = k.kept.each };
+          open_ = k.open_;
+        });
+      })
+      did same
 
   pub sent_says : (records : List ClientRecord) (r s : Replica) (n : Client D G) (e : Sent) (a : Result (Unit {0}) CodeRefusal) (k : Keeps records r) → MayBeTaken r e → TakesIt (seen k.made r) (seen k.made s) e → s.count ≡ r.count
       → n.replica ≡ s → OnOk a (n.closed ≡ false) → IfErr a (λ why. (why ≡ codes.DiskFault) ⊎ (why ≡ codes.NoMemory)) → SentSays records n e a
@@ -101,12 +101,13 @@ named_keeps records r ident k born none named small =
     let id = ap (λ (c : Model Instr State). c.id) k.stands_for in
     let old = ap (λ (c : Model Instr State). c.ident) k.stands_for in
     keeps_next records (Named ident) r (record r { ident = ident }) k.made k
-        (both _ true (both _ _ (ap (λ o. is_there o) id ∙ there r.id born) (both _ _ (eq-eqb _ 0 (old ∙ none)) (positive ident named))) refl)
-        (record { positive = λ e. none_positive ident named e; small = small }) refl k.count
+    (both _ true (both _ _ (ap (λ o. is_there o) id ∙ there r.id born) (both _ _ (eq-eqb _ 0 (old ∙ none)) (positive ident named))) refl)
+    (record { positive = λ e. none_positive ident named e; small = small }) refl k.count
   where
     there : (o : Option (List ℕ)) → is_some o ≡ true → is_there o ≡ true
     there None e = cc
     there (Some id) e = refl
+
     none_positive : (n : ℕ) → 1 ≤ n → n ≡ 0 → ⊥
     none_positive n h e = absurd (omega (arith, h, e))
 
@@ -120,7 +121,7 @@ module _ {D : Type 0} {G : Ghosts D} where
   pub other_ident : (records : List ClientRecord) (c : Client D G) (ident : ℕ) → IsClientOf records c → ¬ (c.replica.ident ≡ ident) → ¬ (c.replica.ident ≡ 0) → Did (take_ident (client_of the_profile records) ident) (Err (IdentDiffers c.replica.ident ident)) records c
   other_ident records c ident k other some =
       did_refuse (take_ident (client_of the_profile records) ident) (IdentDiffers c.replica.ident ident) records c
-          (ap (λ m. take_ident m ident) k.kept.stands_for ∙ if_false (c.replica.ident == 0) _ _ (differ c.replica.ident 0 some) ∙ if_false (c.replica.ident == ident) _ _ (differ c.replica.ident ident other)) k
+      (ap (λ m. take_ident m ident) k.kept.stands_for ∙ if_false (c.replica.ident == 0) _ _ (differ c.replica.ident 0 some) ∙ if_false (c.replica.ident == ident) _ _ (differ c.replica.ident ident other)) k
 
 -- the answer is the cursor that the replica keeps
 pub given_ident : (records : List ClientRecord) (r s : Replica) (ident : ℕ) → Keeps records r → r.ident ≡ 0 → s ≡ r → take_ident (client_of the_profile records) ident ≡ appends (Named ident) s.cursor

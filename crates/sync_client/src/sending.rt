@@ -1,15 +1,26 @@
-ghost use Rattle.std.specs.Prelude.{◌≡◌, ◌↔◌, ◌≤◌, ℕ, List, IsErrOf, true, length, min};
+ghost use Rattle.std.specs.Prelude.{◌≡◌, ◌↔◌, ◌≤◌, ℕ, List, IsErrOf, IfOk, OnOk, ◌++◌, ◌∷◌, [], map, true, length, min};
 ghost use Rattle.sync_journal.specs.Stands.{disk_of};
 ghost use Rattle.sync_model.specs.Clients as model;
 ghost use Rattle.sync_exchange.specs.Profile.{the_profile};
+ghost use Rattle.sync_exchange.specs.Seen.{change_seen};
+ghost use Rattle.sync_messages.specs.Parts.{bytes_of_changes, most_bytes, most_listed};
+ghost use Rattle.sync_client.specs.Sending.{uploaded};
 
 use crate::client::Client;
 use crate::refusal::ClientRefusal;
 use crate::replica::Replica;
-use sync_data::Ident;
+use std::alloc::Global;
+use sync_codec::encode;
+use sync_data::{Blob, Ident, NoMemory};
 use sync_disk::Disk;
-use sync_messages::{Ask, Message};
+use sync_messages::{Ask, Change, Message, Upload};
+use sync_rebase::{PendingList, Unsent};
 use sync_store::Store;
+
+/// The most changes of an Upload, and the most bytes of their bodies together (docs/FORMATS.md, "Messages").
+const MOST_CHANGES: usize = 4_096;
+
+const MOST_BYTES: usize = 16_777_216;
 
 impl<D: Disk> Client<D> {
     ghost use Rattle.sync_client.specs.Clients.{IsClientOf, is_closed, journal_of, replica_of};
@@ -53,6 +64,27 @@ impl<D: Disk> Client<D> {
             Ok(Message::Ask2(ask))
         } else {
             Ok(Message::Ask(ask))
+        }
+    }
+
+    /// The message with the originals of the longest beginning of the unsent changesets that has at most 4,096 of them, whose
+    /// bytes are at most 16,777,216 together. Errors: Closed, NotBorn, NotNamed, NoMemory; none changes anything.
+    pub fn upload(&self) -> Result<Message, ClientRefusal>
+        ensures step { (records : List model.ClientRecord) → IsClientOf records self.now → Sends (model.upload the_profile (model.client_of the_profile records)) result }
+        ensures closed { IsErrOf result ClientRefusal.Closed ↔ (is_closed self.now ≡ true) }
+    {
+        if self.closed {
+            return Err(ClientRefusal::Closed);
+        }
+        if self.replica.id.is_none() {
+            return Err(ClientRefusal::NotBorn);
+        }
+        if self.replica.ident == 0 {
+            return Err(ClientRefusal::NotNamed);
+        }
+        match changes_of(self.alloc, &self.replica.unsent) {
+            Ok(changes) => Ok(Message::Upload(Upload::new(self.replica.ident, changes))),
+            Err(_) => Err(ClientRefusal::NoMemory),
         }
     }
 
@@ -102,5 +134,50 @@ impl Replica {
             Some(unsent) => unsent.base().min(self.cursor),
             None => self.cursor,
         }
+    }
+}
+
+/// The originals that an Upload may bear.
+fn changes_of(alloc: Global, unsent: &PendingList) -> Result<Vec<Change>, NoMemory>
+    ensures few { IfOk result (λ changes. length changes.items ≤ most_listed) }
+    ensures small { IfOk result (λ changes. bytes_of_changes changes.items ≤ most_bytes) }
+    ensures listed { IfOk result (λ changes. map change_seen changes.items ≡ uploaded unsent.now) }
+{
+    let mut changes = Vec::new(alloc);
+    let mut room: usize = MOST_BYTES;
+    for place in 0..unsent.len() {
+        if place == MOST_CHANGES {
+            return Ok(changes);
+        }
+        let Some(item) = unsent.get(place) else {
+            return Ok(changes);
+        };
+        let Ok(body) = encode(alloc, item.original()) else {
+            return Err(NoMemory);
+        };
+        if body.len() > room {
+            return Ok(changes);
+        }
+        room -= body.len();
+        let change = change_of(alloc, item, body.as_slice())?;
+        push(&mut changes, change)?;
+    }
+    Ok(changes)
+}
+
+fn change_of(alloc: Global, item: &Unsent, body: &[u8]) -> Result<Change, NoMemory>
+    requires { length body.now ≤ most_bytes }
+    ensures { IfOk result (λ change. change_seen change ≡ record { number = item.now.original.number; base = item.now.original.base; ms = item.now.original.ms; body = body.now }) }
+{
+    let body = Blob::new(alloc, body)?;
+    Ok(Change::new(item.number(), item.base(), item.original().ms(), body))
+}
+
+fn push<T: Drop>(items: &mut Vec<T>, item: T) -> Result<(), NoMemory>
+    ensures { OnOk result (items.new.items ≡ items.old.items ++ item ∷ []) }
+{
+    match items.push(item) {
+        Ok(()) => Ok(()),
+        Err(_) => Err(NoMemory),
     }
 }

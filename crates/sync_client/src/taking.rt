@@ -8,8 +8,8 @@ ghost use Rattle.sync_exchange.specs.Seen.{message_seen, sent_seen};
 ghost use Rattle.sync_journal.specs.Stands.{disk_of};
 
 use crate::client::Client;
-use crate::refusal::ClientRefusal;
 use crate::let_go::let_go;
+use crate::refusal::ClientRefusal;
 use sync_data::{Blob, Id, Ident};
 use sync_disk::Disk;
 use sync_messages::{Download, Message, Sent};
@@ -81,10 +81,8 @@ impl<D: Disk> Client<D> {
                 }
             }
             Message::Download(download) => self.take_download(download),
-            Message::Bind { uuid: _ }
-            | Message::Upload(_)
-            | Message::Ask(_)
-            | Message::Ask2(_) => Err(ClientRefusal::NotMine),
+            Message::Bind { uuid: _ } | Message::Upload(_) | Message::Ask(_) | Message::Ask2(_) =>
+                Err(ClientRefusal::NotMine),
         }
     }
 

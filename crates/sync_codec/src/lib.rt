@@ -16,6 +16,8 @@ mod values;
 mod writer;
 mod writing;
 
-pub use decoding::{any_needs_second, decode, needs_second, spellings_differ, what_is_spelled_is_read};
+pub use decoding::{
+    any_needs_second, decode, needs_second, spellings_differ, what_is_spelled_is_read,
+};
 pub use encoding::encode;
 pub use refusal::{BadBytes, DecodeRefusal};

@@ -173,9 +173,11 @@ first_break (i ∷ is) s n b w e = go (break_of s (effect_of i)) refl e (λ m e.
   where
     with_effect : apply i s ≡ state_or_code (break_of s (effect_of i)) (after s (effect_of i))
     with_effect = ap (λ c. if c then state_or_code (break_of s (effect_of i)) (after s (effect_of i)) else Err 23) (placed i w.0)
+
     later : (o : Option (ℕ × Break)) → option_map {U = ℕ × Break} (λ (p : ℕ × Break). (suc p.0, p.1)) o ≡ Some (n, b) → (m : ℕ) × (n ≡ suc m) × (o ≡ Some (m, b))
     later None f = cc
     later (Some p) f = let same : ◌≡◌ {A = ℕ × Break} (suc p.0, p.1) (n, b) = some_is f in (p.0, sym (ap (λ (q : ℕ × Break). q.0) same), ap (λ (k : Break). Some (p.0, k)) (ap (λ (q : ℕ × Break). q.1) same))
+
     go : (o : Option Break) → break_of s (effect_of i) ≡ o
         → ◌≡◌ {A = Option (ℕ × Break)} (elim o [ Some b ↦ Some (0, b) | None ↦ option_map {U = ℕ × Break} (λ p. (suc p.0, p.1)) (break_at is (after s (effect_of i))) ]) (Some (n, b))
         → ((m : ℕ) → break_at is (after s (effect_of i)) ≡ Some (m, b) → apply_all the_profile is (after s (effect_of i)) ≡ Err (m, break_code b))

@@ -114,12 +114,12 @@ inserts p l s t v w h g =
     let m = h.fields.1.1 in
     let n = g.fields.1.1 in
     in_size p true s t _ (λ e x. let d = eqb-false s.prior top x in either p (nat_lt s.place t.place || ((s.place == t.place) && not l)) _ _
-        (λ _. two p (Insert (spot s.place (s.prior + 1)) v) (Insert (spot (t.place + 1) (t.prior + 1)) w)
-            (inserted p s (spot s.place (s.prior + 1)) v (gap s.place (s.prior + 1) (omega (arith, i)) (omega (arith, d, m))) h)
-            (inserted p t (spot (t.place + 1) (t.prior + 1)) w (gap (t.place + 1) (t.prior + 1) (omega (arith, j)) (omega (arith, d, n, e))) g))
-        (λ _. two p (Insert (spot (s.place + 1) (s.prior + 1)) v) (Insert (spot t.place (t.prior + 1)) w)
-            (inserted p s (spot (s.place + 1) (s.prior + 1)) v (gap (s.place + 1) (s.prior + 1) (omega (arith, i)) (omega (arith, d, m))) h)
-            (inserted p t (spot t.place (t.prior + 1)) w (gap t.place (t.prior + 1) (omega (arith, j)) (omega (arith, d, n, e))) g)))
+    (λ _. two p (Insert (spot s.place (s.prior + 1)) v) (Insert (spot (t.place + 1) (t.prior + 1)) w)
+    (inserted p s (spot s.place (s.prior + 1)) v (gap s.place (s.prior + 1) (omega (arith, i)) (omega (arith, d, m))) h)
+    (inserted p t (spot (t.place + 1) (t.prior + 1)) w (gap (t.place + 1) (t.prior + 1) (omega (arith, j)) (omega (arith, d, n, e))) g))
+    (λ _. two p (Insert (spot (s.place + 1) (s.prior + 1)) v) (Insert (spot t.place (t.prior + 1)) w)
+    (inserted p s (spot (s.place + 1) (s.prior + 1)) v (gap (s.place + 1) (s.prior + 1) (omega (arith, i)) (omega (arith, d, m))) h)
+    (inserted p t (spot t.place (t.prior + 1)) w (gap t.place (t.prior + 1) (omega (arith, j)) (omega (arith, d, n, e))) g)))
 
 insert_remove : (p : CellPath) (l : Bool) (s t : Spot) (v : Value) → Held p (Insert s v) → Held p (Remove t) → Kept p (rule_of_edits l (Insert s v) (Remove t))
 insert_remove p l s t v h g =
@@ -128,12 +128,12 @@ insert_remove p l s t v h g =
     let m = h.fields.1.1 in
     let n = g.fields.1.1 in
     in_size p true s t _ (λ e x. let d = eqb-false s.prior top x in either p (nat_le s.place t.place) _ _
-        (λ k. let o = leb-true s.place t.place k in two p (Insert (spot s.place (s.prior - 1)) v) (Remove (spot (t.place + 1) (t.prior + 1)))
-            (inserted p s (spot s.place (s.prior - 1)) v (gap s.place (s.prior - 1) (omega (arith, o, j, e)) (omega (arith, m))) h)
-            (removed p t (spot (t.place + 1) (t.prior + 1)) (element (t.place + 1) (t.prior + 1) (omega (arith, j)) (omega (arith, d, n, e))) g))
-        (λ k. let o = leb-false s.place t.place k in two p (Insert (spot (s.place - 1) (s.prior - 1)) v) (Remove (spot t.place (t.prior + 1)))
-            (inserted p s (spot (s.place - 1) (s.prior - 1)) v (gap (s.place - 1) (s.prior - 1) (omega (arith, o, i)) (omega (arith, m))) h)
-            (removed p t (spot t.place (t.prior + 1)) (element t.place (t.prior + 1) (omega (arith, j)) (omega (arith, d, n, e))) g)))
+    (λ k. let o = leb-true s.place t.place k in two p (Insert (spot s.place (s.prior - 1)) v) (Remove (spot (t.place + 1) (t.prior + 1)))
+    (inserted p s (spot s.place (s.prior - 1)) v (gap s.place (s.prior - 1) (omega (arith, o, j, e)) (omega (arith, m))) h)
+    (removed p t (spot (t.place + 1) (t.prior + 1)) (element (t.place + 1) (t.prior + 1) (omega (arith, j)) (omega (arith, d, n, e))) g))
+    (λ k. let o = leb-false s.place t.place k in two p (Insert (spot (s.place - 1) (s.prior - 1)) v) (Remove (spot t.place (t.prior + 1)))
+    (inserted p s (spot (s.place - 1) (s.prior - 1)) v (gap (s.place - 1) (s.prior - 1) (omega (arith, o, i)) (omega (arith, m))) h)
+    (removed p t (spot t.place (t.prior + 1)) (element t.place (t.prior + 1) (omega (arith, j)) (omega (arith, d, n, e))) g)))
 
 remove_insert : (p : CellPath) (l : Bool) (s t : Spot) (w : Value) → Held p (Remove s) → Held p (Insert t w) → Kept p (rule_of_edits l (Remove s) (Insert t w))
 remove_insert p l s t w h g =
@@ -142,28 +142,28 @@ remove_insert p l s t w h g =
     let m = h.fields.1.1 in
     let n = g.fields.1.1 in
     in_size p true s t _ (λ e x. let d = eqb-false s.prior top x in either p (nat_le t.place s.place) _ _
-        (λ k. let o = leb-true t.place s.place k in two p (Remove (spot (s.place + 1) (s.prior + 1))) (Insert (spot t.place (t.prior - 1)) w)
-            (removed p s (spot (s.place + 1) (s.prior + 1)) (element (s.place + 1) (s.prior + 1) (omega (arith, i)) (omega (arith, d, m))) h)
-            (inserted p t (spot t.place (t.prior - 1)) w (gap t.place (t.prior - 1) (omega (arith, o, i, e)) (omega (arith, n))) g))
-        (λ k. let o = leb-false t.place s.place k in two p (Remove (spot s.place (s.prior + 1))) (Insert (spot (t.place - 1) (t.prior - 1)) w)
-            (removed p s (spot s.place (s.prior + 1)) (element s.place (s.prior + 1) (omega (arith, i)) (omega (arith, d, m))) h)
-            (inserted p t (spot (t.place - 1) (t.prior - 1)) w (gap (t.place - 1) (t.prior - 1) (omega (arith, o, j)) (omega (arith, n))) g)))
+    (λ k. let o = leb-true t.place s.place k in two p (Remove (spot (s.place + 1) (s.prior + 1))) (Insert (spot t.place (t.prior - 1)) w)
+    (removed p s (spot (s.place + 1) (s.prior + 1)) (element (s.place + 1) (s.prior + 1) (omega (arith, i)) (omega (arith, d, m))) h)
+    (inserted p t (spot t.place (t.prior - 1)) w (gap t.place (t.prior - 1) (omega (arith, o, i, e)) (omega (arith, n))) g))
+    (λ k. let o = leb-false t.place s.place k in two p (Remove (spot s.place (s.prior + 1))) (Insert (spot (t.place - 1) (t.prior - 1)) w)
+    (removed p s (spot s.place (s.prior + 1)) (element s.place (s.prior + 1) (omega (arith, i)) (omega (arith, d, m))) h)
+    (inserted p t (spot (t.place - 1) (t.prior - 1)) w (gap (t.place - 1) (t.prior - 1) (omega (arith, o, j)) (omega (arith, n))) g)))
 
 insert_replace : (p : CellPath) (l : Bool) (s t : Spot) (v w : Value) → Held p (Insert s v) → Held p (Replace t w) → Kept p (rule_of_edits l (Insert s v) (Replace t w))
 insert_replace p l s t v w h g =
     let j = in_element t g.fields.1 in
     let n = g.fields.1.1 in
     in_size p true s t _ (λ e x. let d = eqb-false s.prior top x in either p (nat_le s.place t.place) _ _
-        (λ k. two p (Insert s v) (Replace (spot (t.place + 1) (t.prior + 1)) w) h (replaced p t (spot (t.place + 1) (t.prior + 1)) w (element (t.place + 1) (t.prior + 1) (omega (arith, j)) (omega (arith, d, n, e))) g))
-        (λ k. two p (Insert s v) (Replace (spot t.place (t.prior + 1)) w) h (replaced p t (spot t.place (t.prior + 1)) w (element t.place (t.prior + 1) (omega (arith, j)) (omega (arith, d, n, e))) g)))
+    (λ k. two p (Insert s v) (Replace (spot (t.place + 1) (t.prior + 1)) w) h (replaced p t (spot (t.place + 1) (t.prior + 1)) w (element (t.place + 1) (t.prior + 1) (omega (arith, j)) (omega (arith, d, n, e))) g))
+    (λ k. two p (Insert s v) (Replace (spot t.place (t.prior + 1)) w) h (replaced p t (spot t.place (t.prior + 1)) w (element t.place (t.prior + 1) (omega (arith, j)) (omega (arith, d, n, e))) g)))
 
 replace_insert : (p : CellPath) (l : Bool) (s t : Spot) (v w : Value) → Held p (Replace s v) → Held p (Insert t w) → Kept p (rule_of_edits l (Replace s v) (Insert t w))
 replace_insert p l s t v w h g =
     let i = in_element s h.fields.1 in
     let m = h.fields.1.1 in
     in_size p true s t _ (λ e x. let d = eqb-false s.prior top x in either p (nat_le t.place s.place) _ _
-        (λ k. two p (Replace (spot (s.place + 1) (s.prior + 1)) v) (Insert t w) (replaced p s (spot (s.place + 1) (s.prior + 1)) v (element (s.place + 1) (s.prior + 1) (omega (arith, i)) (omega (arith, d, m))) h) g)
-        (λ k. two p (Replace (spot s.place (s.prior + 1)) v) (Insert t w) (replaced p s (spot s.place (s.prior + 1)) v (element s.place (s.prior + 1) (omega (arith, i)) (omega (arith, d, m))) h) g))
+    (λ k. two p (Replace (spot (s.place + 1) (s.prior + 1)) v) (Insert t w) (replaced p s (spot (s.place + 1) (s.prior + 1)) v (element (s.place + 1) (s.prior + 1) (omega (arith, i)) (omega (arith, d, m))) h) g)
+    (λ k. two p (Replace (spot s.place (s.prior + 1)) v) (Insert t w) (replaced p s (spot s.place (s.prior + 1)) v (element s.place (s.prior + 1) (omega (arith, i)) (omega (arith, d, m))) h) g))
 
 removes : (p : CellPath) (l : Bool) (s t : Spot) → Held p (Remove s) → Held p (Remove t) → Kept p (rule_of_edits l (Remove s) (Remove t))
 removes p l s t h g =
@@ -172,12 +172,12 @@ removes p l s t h g =
     let m = h.fields.1.1 in
     let n = g.fields.1.1 in
     in_size p false s t _ (λ e x. either p (s.place == t.place) neither _ (λ _. record { all = (tt, tt) }) (λ c. let d = eqb-false s.place t.place c in either p (nat_lt s.place t.place) _ _
-        (λ k. let o = ltb-true s.place t.place k in two p (Remove (spot s.place (s.prior - 1))) (Remove (spot (t.place - 1) (t.prior - 1)))
-            (removed p s (spot s.place (s.prior - 1)) (element s.place (s.prior - 1) (omega (arith, o, j, e)) (omega (arith, m))) h)
-            (removed p t (spot (t.place - 1) (t.prior - 1)) (element (t.place - 1) (t.prior - 1) (omega (arith, o, j)) (omega (arith, n))) g))
-        (λ k. let o = ltb-false s.place t.place k in two p (Remove (spot (s.place - 1) (s.prior - 1))) (Remove (spot t.place (t.prior - 1)))
-            (removed p s (spot (s.place - 1) (s.prior - 1)) (element (s.place - 1) (s.prior - 1) (omega (arith, o, d, i)) (omega (arith, m))) h)
-            (removed p t (spot t.place (t.prior - 1)) (element t.place (t.prior - 1) (omega (arith, o, d, i, e)) (omega (arith, n))) g))))
+    (λ k. let o = ltb-true s.place t.place k in two p (Remove (spot s.place (s.prior - 1))) (Remove (spot (t.place - 1) (t.prior - 1)))
+    (removed p s (spot s.place (s.prior - 1)) (element s.place (s.prior - 1) (omega (arith, o, j, e)) (omega (arith, m))) h)
+    (removed p t (spot (t.place - 1) (t.prior - 1)) (element (t.place - 1) (t.prior - 1) (omega (arith, o, j)) (omega (arith, n))) g))
+    (λ k. let o = ltb-false s.place t.place k in two p (Remove (spot (s.place - 1) (s.prior - 1))) (Remove (spot t.place (t.prior - 1)))
+    (removed p s (spot (s.place - 1) (s.prior - 1)) (element (s.place - 1) (s.prior - 1) (omega (arith, o, d, i)) (omega (arith, m))) h)
+    (removed p t (spot t.place (t.prior - 1)) (element t.place (t.prior - 1) (omega (arith, o, d, i, e)) (omega (arith, n))) g))))
 
 remove_replace : (p : CellPath) (l : Bool) (s t : Spot) (w : Value) → Held p (Remove s) → Held p (Replace t w) → Kept p (rule_of_edits l (Remove s) (Replace t w))
 remove_replace p l s t w h g =
@@ -185,8 +185,8 @@ remove_replace p l s t w h g =
     let j = in_element t g.fields.1 in
     let n = g.fields.1.1 in
     in_size p false s t _ (λ e x. either p (s.place == t.place) (only_left (Remove s)) _ (λ _. record { all = (h, tt) }) (λ c. let d = eqb-false s.place t.place c in either p (nat_lt s.place t.place) _ _
-        (λ k. let o = ltb-true s.place t.place k in two p (Remove s) (Replace (spot (t.place - 1) (t.prior - 1)) w) h (replaced p t (spot (t.place - 1) (t.prior - 1)) w (element (t.place - 1) (t.prior - 1) (omega (arith, o, j)) (omega (arith, n))) g))
-        (λ k. let o = ltb-false s.place t.place k in two p (Remove s) (Replace (spot t.place (t.prior - 1)) w) h (replaced p t (spot t.place (t.prior - 1)) w (element t.place (t.prior - 1) (omega (arith, o, d, i, e)) (omega (arith, n))) g))))
+    (λ k. let o = ltb-true s.place t.place k in two p (Remove s) (Replace (spot (t.place - 1) (t.prior - 1)) w) h (replaced p t (spot (t.place - 1) (t.prior - 1)) w (element (t.place - 1) (t.prior - 1) (omega (arith, o, j)) (omega (arith, n))) g))
+    (λ k. let o = ltb-false s.place t.place k in two p (Remove s) (Replace (spot t.place (t.prior - 1)) w) h (replaced p t (spot t.place (t.prior - 1)) w (element t.place (t.prior - 1) (omega (arith, o, d, i, e)) (omega (arith, n))) g))))
 
 replace_remove : (p : CellPath) (l : Bool) (s t : Spot) (v : Value) → Held p (Replace s v) → Held p (Remove t) → Kept p (rule_of_edits l (Replace s v) (Remove t))
 replace_remove p l s t v h g =
@@ -194,8 +194,8 @@ replace_remove p l s t v h g =
     let j = in_element t g.fields.1 in
     let m = h.fields.1.1 in
     in_size p false s t _ (λ e x. either p (s.place == t.place) (only_right (Remove t)) _ (λ _. record { all = (tt, g) }) (λ c. let d = eqb-false s.place t.place c in either p (nat_lt t.place s.place) _ _
-        (λ k. let o = ltb-true t.place s.place k in two p (Replace (spot (s.place - 1) (s.prior - 1)) v) (Remove t) (replaced p s (spot (s.place - 1) (s.prior - 1)) v (element (s.place - 1) (s.prior - 1) (omega (arith, o, i)) (omega (arith, m))) h) g)
-        (λ k. let o = ltb-false t.place s.place k in two p (Replace (spot s.place (s.prior - 1)) v) (Remove t) (replaced p s (spot s.place (s.prior - 1)) v (element s.place (s.prior - 1) (omega (arith, o, d, j, e)) (omega (arith, m))) h) g)))
+    (λ k. let o = ltb-true t.place s.place k in two p (Replace (spot (s.place - 1) (s.prior - 1)) v) (Remove t) (replaced p s (spot (s.place - 1) (s.prior - 1)) v (element (s.place - 1) (s.prior - 1) (omega (arith, o, i)) (omega (arith, m))) h) g)
+    (λ k. let o = ltb-false t.place s.place k in two p (Replace (spot s.place (s.prior - 1)) v) (Remove t) (replaced p s (spot s.place (s.prior - 1)) v (element s.place (s.prior - 1) (omega (arith, o, d, j, e)) (omega (arith, m))) h) g)))
 
 edits_kept : (p : CellPath) (l : Bool) (e f : Edit) → Held p e → Held p f → Kept p (rule_of_edits l e f)
 edits_kept p l (Set v) (Set w) h g = later p (Set v) (Set w) l h g

@@ -9,6 +9,6 @@ use Rattle.sync_client.proofs.client.Client.born.Goals as goal
 pub returns-clause-step : goal.returns-clause-step
 returns-clause-step g c = λ records before.
     did_append (born (client_of the_profile records) c.args.id) (Born c.args.id) _ records _
-        (born_is records c.args.self.now.replica c.args.id before.kept (sym c.is_some.ensures ∙ c.if-is_some.false))
-        (subst (λ (r : Replica). Keeps (records ++ Born c.args.id ∷ []) (record r { id = Some c.args.id })) (sym c.in-Ok.ensures.replica) (born_keeps records c.args.self.now.replica c.args.id before.kept (sym c.is_some.ensures ∙ c.if-is_some.false)))
-        c.in-Ok.ensures.stays_open
+    (born_is records c.args.self.now.replica c.args.id before.kept (sym c.is_some.ensures ∙ c.if-is_some.false))
+    (subst (λ (r : Replica). Keeps (records ++ Born c.args.id ∷ []) (record r { id = Some c.args.id })) (sym c.in-Ok.ensures.replica) (born_keeps records c.args.self.now.replica c.args.id before.kept (sym c.is_some.ensures ∙ c.if-is_some.false)))
+    c.in-Ok.ensures.stays_open

@@ -17,4 +17,4 @@ returns-in-Err-clause-fault g c = plain_fault c.refused.result c.in-Err.refusal 
 pub returns-clause-step : goal.returns-clause-step
 returns-clause-step g c = λ records before.
     commit_says records c.args.self.now.replica c.make.new.self c.append_made.new.self c.args.ms c.args.edits.items c.in-Ok.made c.append_made.result before.kept (c.is_none.ensures ∙ ap not c.if-is_none.false)
-        (c.in-Ok.ensures.step before.kept.made before.kept.count) c.in-Ok.ensures.number c.append_made.ensures.number c.append_made.ensures.replica c.append_made.ensures.stays_open c.append_made.ensures.refused
+    (c.in-Ok.ensures.step before.kept.made before.kept.count) c.in-Ok.ensures.number c.append_made.ensures.number c.append_made.ensures.replica c.append_made.ensures.stays_open c.append_made.ensures.refused

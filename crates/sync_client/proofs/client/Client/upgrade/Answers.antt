@@ -9,6 +9,6 @@ use Rattle.sync_client.proofs.client.Client.upgrade.Goals as goal
 pub returns-clause-step : goal.returns-clause-step
 returns-clause-step g c = λ records before.
     did_append (upgrade (client_of the_profile records)) ClientRecord.Form true records _
-        (upgrade_is records c.args.self.now.replica before.kept (c.is_none.ensures ∙ ap not c.if-is_none.false) c.if-self-2.false)
-        (subst (λ (r : Replica). Keeps (records ++ ClientRecord.Form ∷ []) (record r { second = true })) (sym c.in-Ok.ensures.replica) (upgrade_keeps records c.args.self.now.replica before.kept (c.is_none.ensures ∙ ap not c.if-is_none.false) c.if-self-2.false))
-        c.in-Ok.ensures.stays_open
+    (upgrade_is records c.args.self.now.replica before.kept (c.is_none.ensures ∙ ap not c.if-is_none.false) c.if-self-2.false)
+    (subst (λ (r : Replica). Keeps (records ++ ClientRecord.Form ∷ []) (record r { second = true })) (sym c.in-Ok.ensures.replica) (upgrade_keeps records c.args.self.now.replica before.kept (c.is_none.ensures ∙ ap not c.if-is_none.false) c.if-self-2.false))
+    c.in-Ok.ensures.stays_open

@@ -6,7 +6,7 @@ use Rattle.sync_client.proofs.replica.Replica.admit_made.Goals as goal
 pub returns : goal.returns
 returns c = λ made count.
     made_admitted made c.args.self.now c.act.new.self _ c.args.number c.args.ms c.args.body.now c.in-Ok.changes c.in-Ok-made.unsent c.in-Ok.ensures.read (sym c.is_beyond.ensures ∙ c.if-is_beyond.false) (c.is_none.ensures ∙ ap not c.if-is_none.false) count c.if-number-self.false (omega (arith, c.ranges.number.fits))
-        c.in-Ok-act.ensures.acts c.in-Ok-act.ensures.others c.in-Ok-made.ensures (ap (λ us. record c.act.new.self { count = c.args.number; unsent = us }) c.in-Ok-push.ensures.ok)
+    c.in-Ok-act.ensures.acts c.in-Ok-act.ensures.others c.in-Ok-made.ensures (ap (λ us. record c.act.new.self { count = c.args.number; unsent = us }) c.in-Ok-push.ensures.ok)
 
 pub returns-in-Err-Break : goal.returns-in-Err-Break
 returns-in-Err-Break c = λ made count.

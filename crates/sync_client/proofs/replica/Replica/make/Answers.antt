@@ -16,14 +16,14 @@ returns-then-self-clause-step c =
 pub returns-in-Err-clause-step : goal.returns-in-Err-clause-step
 returns-in-Err-clause-step c = λ made count.
     subst (λ is. IfSeen (refusal_seen c.in-Err.refusal) (Uncommitted made c.args.self.now c.args.self.now c.args.ms is)) (ap (λ v. v.instrs) c.in-Ok.ensures.ok)
-        (old_form made c.args.self.now c.args.ms c.in-Ok.changes.instrs c.in-Err.refusal c.in-Ok-encode.ensures.are count c.if-self.false c.in-Err.ensures.old c.in-Err.ensures.place)
+    (old_form made c.args.self.now c.args.ms c.in-Ok.changes.instrs c.in-Err.refusal c.in-Ok-encode.ensures.are count c.if-self.false c.in-Err.ensures.old c.in-Err.ensures.place)
 
 pub returns-in-Err-act-clause-step : goal.returns-in-Err-act-clause-step
 returns-in-Err-act-clause-step c = λ made count.
     subst (λ is. IfSeen (refusal_seen c.in-Err-act.refusal) (Uncommitted made c.args.self.now c.act.new.self c.args.ms is)) (ap (λ v. v.instrs) c.in-Ok.ensures.ok)
-        (edits_refused made c.args.self.now c.act.new.self c.args.ms c.in-Ok.changes.instrs c.in-Err-act.refusal c.in-Ok-encode.ensures.are count c.if-self.false c.in-Ok-check_form.ensures.fine c.in-Err-act.ensures.refused)
+    (edits_refused made c.args.self.now c.act.new.self c.args.ms c.in-Ok.changes.instrs c.in-Err-act.refusal c.in-Ok-encode.ensures.are count c.if-self.false c.in-Ok-check_form.ensures.fine c.in-Err-act.ensures.refused)
 
 pub returns-clause-step : goal.returns-clause-step
 returns-clause-step c = λ made count.
     committed_read made c.args.self.now _ c.args.ms c.args.edits.items c.in-Ok.changes _ c.act.new.self.objects c.in-Ok.ensures.ok c.in-Ok-encode.ensures.are count c.if-self.false c.in-Ok-check_form.ensures.fine c.in-Ok-act.ensures.acts (ap (λ q. q.count + 1) c.in-Ok-act.ensures.others) c.in-Ok-encode.ensures.spelled
-        (made_so c.args.self.now c.act.new.self c.in-Ok.changes c.in-Ok-made.unsent c.push.new.self c.args.ms c.args.edits.items c.in-Ok-act.ensures.others c.in-Ok.ensures.ok c.in-Ok-made.ensures c.in-Ok-push.ensures.ok)
+    (made_so c.args.self.now c.act.new.self c.in-Ok.changes c.in-Ok-made.unsent c.push.new.self c.args.ms c.args.edits.items c.in-Ok-act.ensures.others c.in-Ok.ensures.ok c.in-Ok-made.ensures c.in-Ok-push.ensures.ok)
