@@ -1,5 +1,5 @@
 -- What a list of instructions does to the objects, in the words of the model.
-use Rattle.std.proofs.Common.{◌≡◌, ℕ, zero, suc, ◌<◌, Bool, true, false, List, [], ◌∷◌, length, Option, Some, None, Result, Ok, Err, refl, ap, ◌∙◌, sym, arith, subst}
+use Rattle.std.proofs.Common.{◌≡◌, ℕ, suc, ◌<◌, List, [], ◌∷◌, length, Option, Some, None, Result, Ok, Err, refl, ap, ◌∙◌, sym, arith, subst}
 use Rattle.std.specs.Option.{option_map}
 use Rattle.sync_theory.specs.Lists.{and_then, ok_state, run}
 use Rattle.sync_data.specs.declared.instr.Instr.{Instr}

@@ -1,15 +1,13 @@
 -- A transaction that is read from a file.
-use Rattle.std.proofs.Common.{◌≡◌, ℕ, suc, ◌+◌, ◌≤◌, Bool, true, false, not, ◌&&◌, List, [], ◌∷◌, ◌++◌, length, Option, Some, None, Result, Ok, Err, refl, ap, ◌∙◌, sym, subst, ◌==◌, add-one, length-append}
+use Rattle.std.proofs.Common.{◌≡◌, ℕ, suc, ◌+◌, ◌≤◌, Bool, true, false, not, ◌&&◌, List, [], ◌∷◌, ◌++◌, length, Option, Some, None, refl, ap, ◌∙◌, sym, subst, ◌==◌, add-one, length-append}
 use Rattle.std.proofs.lemmas.Bool.{eq-eqb}
 use Rattle.std.specs.Option.{is_some}
 use Rattle.sync_theory.specs.Lists.{ok_state, run}
 use Rattle.sync_data.specs.declared.instr.Instr.{Instr}
 use Rattle.sync_data.specs.Payload.{Changes}
 use Rattle.sync_base.specs.Checks.{act_all}
-use Rattle.sync_base.specs.Codes.{break_code}
-use Rattle.sync_base.specs.States.{State}
 use Rattle.sync_model.specs.Profile.{act, apply_all, needs}
-use Rattle.sync_model.specs.Clients.{Made, Original, Unsent, after_record, as_made, makes, ok_list, state_or}
+use Rattle.sync_model.specs.Clients.{Made, Original, Unsent, as_made, makes, ok_list, state_or}
 use Rattle.sync_model.specs.Files.{client_admits, is_fine, made_acts}
 use Rattle.sync_model.specs.Worlds.{is_there}
 use Rattle.sync_exchange.specs.Profile.{the_profile, unspell}

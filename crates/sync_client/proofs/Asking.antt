@@ -1,14 +1,13 @@
 -- The messages that a client sends.
-use Rattle.std.proofs.Common.{◌≡◌, ℕ, ◌≤◌, min, Bool, true, false, List, [], ◌∷◌, Option, Some, None, Result, Ok, Err, refl, ap, ◌∙◌, sym, subst, ◌==◌, if◌then◌else◌, le_refl, arith}
+use Rattle.std.proofs.Common.{◌≡◌, ℕ, ◌≤◌, min, Bool, true, List, [], ◌∷◌, Ok, ap, ◌∙◌, sym, ◌==◌, if◌then◌else◌, le_refl, arith}
 use Rattle.std.specs.Option.{is_some}
 use Rattle.sync_data.specs.declared.instr.Instr.{Instr}
 use Rattle.sync_base.specs.States.{State}
-use Rattle.sync_model.specs.Bytes.{Uuid}
-use Rattle.sync_model.specs.Clients.{Client as Model, ClientRecord, Unsent, answers, ask, client_of, if_born, no_client, settled_from, NotNamed, refuse}
-use Rattle.sync_model.specs.Messages.{Ask, Ask2, Message}
-use Rattle.sync_model.specs.Limits.{ClientNumbers, Each, IsUnsent, no_more, and_each}
+use Rattle.sync_model.specs.Clients.{Client as Model, ClientRecord, Unsent, answers, ask, client_of, no_client, settled_from, NotNamed, refuse}
+use Rattle.sync_model.specs.Messages.{Ask, Ask2}
+use Rattle.sync_model.specs.Limits.{ClientNumbers, Each, IsUnsent, and_each}
 use Rattle.sync_model.proofs.Limits.{numbers_first, numbers_records}
-use Rattle.sync_model.proofs.Own.{if_true, if_false}
+use Rattle.sync_model.proofs.Own.{if_false}
 use Rattle.sync_exchange.specs.Profile.{the_profile}
 use Rattle.sync_client.specs.declared.replica.Replica.{Replica}
 use Rattle.sync_client.specs.Keeping.{Keeps}

@@ -1,14 +1,14 @@
 -- A call of a client that appends one record, or none.
-use Rattle.std.proofs.Common.{◌≡◌, ℕ, suc, ◌≤◌, Bool, true, false, not, List, [], ◌∷◌, ◌++◌, length, Option, Some, None, Result, Ok, Err, refl, ap, ◌∙◌, sym, subst, append-nil, length-append, add-one, arith, if◌then◌else◌, inl, inr}
+use Rattle.std.proofs.Common.{◌≡◌, ℕ, suc, ◌≤◌, Bool, true, false, List, [], ◌∷◌, ◌++◌, length, Option, Some, None, Result, Ok, Err, refl, ap, ◌∙◌, sym, subst, append-nil, length-append, add-one, if◌then◌else◌, inl, inr}
 use Rattle.std.specs.Prelude.{⊤, ◌⊎◌, ◌↔◌, IfOk, IfErr, OnOk}
 use Rattle.std.specs.Option.{is_some}
 use Rattle.sync_data.specs.declared.instr.Instr.{Instr}
-use Rattle.sync_base.specs.States.{State, IsState}
+use Rattle.sync_base.specs.States.{State}
 use Rattle.sync_disk.specs.declared.disk.Disk.{Ghosts}
 use Rattle.sync_model.specs.Bytes.{Uuid}
-use Rattle.sync_model.specs.Clients.{Born, Client as Model, ClientRecord, ClientRefusal, ClientStep, AlreadyBorn, NotBorn, Original, after_record, appends, answers, refuse, born, born_once, client_of, commit, commit_born, if_born, no_client, upgrade}
+use Rattle.sync_model.specs.Clients.{Born, Client as Model, ClientRecord, ClientRefusal, ClientStep, NotBorn, Original, after_record, appends, answers, refuse, born, born_once, client_of, commit, commit_born, if_born, no_client, upgrade}
 use Rattle.sync_model.specs.Files.{client_opens}
-use Rattle.sync_model.specs.Limits.{Each, no_more, and_each, IsClientRecord}
+use Rattle.sync_model.specs.Limits.{no_more, and_each, IsClientRecord}
 use Rattle.sync_model.proofs.Limits.{each_append}
 use Rattle.sync_model.proofs.Opening.{client_opens_on, born_opens, commit_opens, upgrade_opens}
 use Rattle.sync_model.proofs.Own.{client_step}

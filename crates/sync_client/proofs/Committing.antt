@@ -1,17 +1,15 @@
 -- The model's transaction, from what the code found.
-use Rattle.std.proofs.Common.{◌≡◌, ℕ, suc, ◌+◌, Bool, true, false, not, ◌&&◌, List, [], ◌∷◌, ◌++◌, length, Option, Some, None, Result, Ok, Err, refl, ap, ◌∙◌, sym, subst, ◌==◌, if◌then◌else◌, add-one, eqb-true, nat_le}
+use Rattle.std.proofs.Common.{◌≡◌, ℕ, suc, ◌+◌, Bool, true, false, not, ◌&&◌, List, [], ◌∷◌, ◌++◌, length, Some, Ok, refl, ap, ◌∙◌, sym, subst, ◌==◌, if◌then◌else◌, add-one}
 use Rattle.std.proofs.lemmas.Bool.{eq-eqb}
-use Rattle.std.specs.Prelude.{OnOk, OnErr, IfErr}
 use Rattle.sync_theory.specs.Lists.{ok_state, run}
 use Rattle.sync_data.specs.declared.instr.Instr.{Instr}
 use Rattle.sync_data.specs.Payload.{Changes, IsSmall}
-use Rattle.sync_base.specs.Codes.{break_code}
 use Rattle.sync_base.specs.Checks.{act_all}
 use Rattle.sync_base.specs.States.{State}
 use Rattle.sync_codec.specs.Spelling.{spelling}
 use Rattle.sync_codec.specs.Valid.{AreInstrs}
-use Rattle.sync_model.specs.Profile.{act, apply_all, is_small, needs, first_need}
-use Rattle.sync_model.specs.Clients.{Break, Client, ClientRecord, ClientRefusal, ClientStep, NumbersFull, OldForm, Original, TooLarge, Unsent, after_record, appends, as_made, commit_applied, commit_born, makes, ok_list, refuse, state_or}
+use Rattle.sync_model.specs.Profile.{act, apply_all, needs, first_need}
+use Rattle.sync_model.specs.Clients.{Break, ClientRecord, NumbersFull, OldForm, Original, TooLarge, Unsent, appends, as_made, commit_applied, commit_born, makes, ok_list, refuse, state_or}
 use Rattle.sync_model.proofs.Own.{if_true, if_false}
 use Rattle.sync_exchange.specs.Profile.{fits_changeset, the_profile, unspell}
 use Rattle.sync_exchange.specs.Lemmas.Coded.{all_act, first_break}
@@ -24,7 +22,7 @@ use Rattle.sync_client.specs.declared.transactions.Made.{Made}
 use Rattle.sync_client.specs.Entries.{Breaks}
 use Rattle.sync_client.specs.Refusals.{refusal_seen, IfSeen}
 use Rattle.sync_client.specs.Seen.{seen}
-use Rattle.sync_client.specs.Transactions.{Committed, Commits, RefusesEdits, Uncommitted, next_original}
+use Rattle.sync_client.specs.Transactions.{Committed, RefusesEdits, Uncommitted, next_original}
 use Rattle.sync_client.proofs.Acting.{run_applied}
 use Rattle.sync_client.proofs.Refusing.{differ}
 

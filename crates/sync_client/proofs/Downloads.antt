@@ -1,11 +1,11 @@
 -- The loop that takes the entries of a Download.
-use Rattle.std.proofs.Common.{◌≡◌, ℕ, zero, suc, ◌+◌, ◌-◌, ◌≤◌, ◌<◌, Bool, true, false, List, [], ◌∷◌, ◌++◌, length, map, drop, get_or, drop-cons, add-one, Option, Some, None, Result, Ok, Err, refl, ap, ap₂, ◌∙◌, sym, subst, arith, le_refl}
+use Rattle.std.proofs.Common.{◌≡◌, ℕ, zero, suc, ◌+◌, ◌-◌, ◌≤◌, ◌<◌, false, List, [], ◌∷◌, ◌++◌, length, map, drop, get_or, drop-cons, add-one, Option, Some, None, Ok, Err, refl, ap, ap₂, ◌∙◌, sym, subst, arith, le_refl}
 use Rattle.std.proofs.Math.ListN.{drop_of_length-le}
 use Rattle.sync_disk.specs.declared.disk.Disk.{Ghosts}
 use Rattle.sync_data.specs.declared.instr.Instr.{Instr}
 use Rattle.sync_base.specs.States.{State}
 use Rattle.sync_messages.specs.Parts.{SentParts}
-use Rattle.sync_model.specs.Clients.{Client as Model, ClientRecord, ClientRefusal, ClientStep, TakenSoFar, client_of, take_born, take_entries, took}
+use Rattle.sync_model.specs.Clients.{Client as Model, ClientRecord, ClientRefusal, TakenSoFar, client_of, take_born, take_entries, took}
 use Rattle.sync_model.specs.Messages.{Message, Sent}
 use Rattle.sync_model.proofs.Loops.{taken_at_first, taken_ends, taken_next, taken_stops}
 use Rattle.sync_exchange.specs.Profile.{the_profile}

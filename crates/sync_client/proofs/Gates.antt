@@ -1,5 +1,5 @@
 -- Where the gate of a record stands.
-use Rattle.std.proofs.Common.{◌≡◌, ℕ, zero, suc, ◌+◌, ◌-◌, ◌<◌, ◌≤◌, ◌^◌, min, List, [], ◌∷◌, length, drop, refl, ap, ◌∙◌, sym, subst, arith}
+use Rattle.std.proofs.Common.{◌≡◌, ℕ, zero, suc, ◌+◌, ◌-◌, ◌≤◌, ◌^◌, min, List, [], ◌∷◌, length, refl, ap, ◌∙◌, sym, arith}
 use Rattle.sync_data.specs.Payload.{capped}
 use Rattle.sync_client.specs.Files.{gate_from, gate_of}
 

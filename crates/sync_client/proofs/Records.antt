@@ -1,14 +1,12 @@
 -- Records of a client that are read one after the other.
-use Rattle.std.proofs.Common.{◌≡◌, ℕ, zero, suc, ◌+◌, ◌<◌, ◌≤◌, Bool, true, false, ◌&&◌, List, [], ◌∷◌, ◌++◌, length, map, drop, get_or, drop-cons, Vec, Global, Option, Some, None, Result, Ok, Err, refl, ap, ap₂, ◌∙◌, sym, subst, append-nil, append_assoc, add-one, length-append, if◌then◌else◌}
+use Rattle.std.proofs.Common.{◌≡◌, ℕ, ◌+◌, ◌<◌, ◌≤◌, Bool, true, false, ◌&&◌, List, [], ◌∷◌, ◌++◌, length, map, drop, get_or, drop-cons, Vec, Global, Some, None, Result, Ok, Err, refl, ap, ap₂, ◌∙◌, sym, subst, append-nil, append_assoc, add-one, length-append}
 use Rattle.std.specs.Option.{option_map}
 use Rattle.std.proofs.Math.ListN.{drop_of_length-le}
 use Rattle.sync_journal.specs.Records.{lists}
-use Rattle.sync_model.specs.Clients.{Client as Model, ClientRecord, Original, after_record, client_of, no_client}
-use Rattle.sync_model.specs.Files.{client_admits, client_opens, client_reads, read_one, read_put}
-use Rattle.sync_model.specs.Limits.{Each, no_more}
+use Rattle.sync_model.specs.Clients.{ClientRecord, after_record, client_of, no_client}
+use Rattle.sync_model.specs.Files.{client_admits, client_reads, read_one, read_put}
+use Rattle.sync_model.specs.Limits.{no_more}
 use Rattle.sync_model.proofs.Own.{client_step, if_true, if_false}
-use Rattle.sync_data.specs.declared.instr.Instr.{Instr}
-use Rattle.sync_base.specs.States.{State}
 use Rattle.sync_records.specs.declared.client.ClientRecord.{ClientRecord as CodeRecord}
 use Rattle.sync_records.specs.declared.client.ClientRecord.TheVariants as codes
 use Rattle.sync_records.specs.Reading.{client_forms, record_in}

@@ -2,29 +2,27 @@
 use Rattle.std.proofs.Common.{◌≡◌, ◌≢◌, ℕ, suc, ◌+◌, Bool, true, false, not, ◌&&◌, List, [], ◌∷◌, map, Option, Some, None, Result, Ok, Err, refl, ap, ◌∙◌, sym, subst, bytes_eq, ◌==◌, if◌then◌else◌, add-one, eqb-true}
 use Rattle.std.proofs.lemmas.Bool.{eq-eqb}
 use Rattle.std.proofs.lemmas.Slice.Eq.{bytes_eq-Decides}
-use Rattle.std.specs.List.{AllByRecursion}
-use Rattle.sync_theory.specs.Changesets.{Changeset, cross_sets}
+use Rattle.sync_theory.specs.Changesets.{Changeset}
 use Rattle.sync_theory.specs.Grid.{rebase, tail}
 use Rattle.sync_theory.specs.Lists.{ok_state}
 use Rattle.sync_data.specs.declared.entry.Entry.{Entry}
 use Rattle.sync_data.specs.declared.instr.Instr.{Instr}
 use Rattle.sync_data.specs.Payload.{Changes}
-use Rattle.sync_base.specs.Codes.{break_code, mismatch_code}
+use Rattle.sync_base.specs.Codes.{mismatch_code}
 use Rattle.sync_base.specs.Checks.{act_all}
 use Rattle.sync_base.specs.States.{State}
-use Rattle.sync_law.specs.Instrs.{meet}
 use Rattle.sync_codec.specs.Spelling.{spelling}
 use Rattle.sync_codec.specs.Valid.{AreInstrs}
 use Rattle.sync_codec.specs.Lemmas.Back.{no_prefix}
 use Rattle.std.proofs.lemmas.List.{append-nil}
 use Rattle.sync_model.specs.Messages.{Sent}
-use Rattle.sync_model.specs.Profile.{apply_all, act_changeset, cross_changesets, is_small, needs}
-use Rattle.sync_model.specs.Clients.{BadBody, Client, ClientRefusal, Forked, Mismatch, NotApplicable, OldEntry, Unsent, after_record, applied_refusal, carried_to, changeset_of, crossed, crossed_refusal, entry_refusal, number_at, ok_list, own_refusal, read_refusal, sent_changeset, state_or, took}
-use Rattle.sync_model.specs.Limits.{Each, no_more, and_each, ClientLists}
+use Rattle.sync_model.specs.Profile.{act_changeset, cross_changesets, is_small, needs}
+use Rattle.sync_model.specs.Clients.{BadBody, Client, ClientRefusal, Forked, Mismatch, NotApplicable, OldEntry, Unsent, after_record, applied_refusal, carried_to, changeset_of, crossed, crossed_refusal, entry_refusal, ok_list, own_refusal, read_refusal, sent_changeset, state_or, took}
+use Rattle.sync_model.specs.Limits.{Each, and_each, ClientLists}
 use Rattle.sync_model.proofs.Limits.{each_map}
 use Rattle.sync_model.proofs.Own.{if_true, if_false}
 use Rattle.sync_model.proofs.Small.{SmallSets}
-use Rattle.sync_rebase.specs.Taking.{Crosses, IsHead, StuckAt}
+use Rattle.sync_rebase.specs.Taking.{Crosses, IsHead}
 use Rattle.sync_exchange.specs.Profile.{the_profile, unspell}
 use Rattle.sync_exchange.specs.Lemmas.Coded.{all_act, coded_rebase, first_break, rebase_coded}
 use Rattle.sync_exchange.specs.Lemmas.Lawful.{instrs_small, real_lawful, small_instrs}

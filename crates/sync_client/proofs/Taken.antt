@@ -1,12 +1,12 @@
 -- An entry of a Download, taken by a client of these records.
-use Rattle.std.proofs.Common.{◌≡◌, ℕ, suc, ◌+◌, ◌-◌, ◌≤◌, ◌<◌, bytes_eq, drop, Bool, true, false, not, ◌&&◌, List, [], ◌∷◌, ◌++◌, length, Option, Some, None, Result, Ok, Err, refl, ap, ◌∙◌, sym, subst, ◌==◌, nat_lt, arith, inl, inr}
+use Rattle.std.proofs.Common.{◌≡◌, ℕ, ◌-◌, ◌≤◌, ◌<◌, bytes_eq, drop, Bool, true, false, not, ◌&&◌, List, [], ◌∷◌, ◌++◌, Option, Some, None, Result, Ok, Err, refl, ap, ◌∙◌, sym, subst, ◌==◌, nat_lt, arith}
 use Rattle.std.proofs.lemmas.Bool.{lt-ltb, le-ltb, eq-eqb}
 use Rattle.std.specs.Option.{is_some}
 use Rattle.sync_model.proofs.Own.{if_true, if_false}
 use Rattle.std.specs.Prelude.{◌⊎◌, OnOk, IfErr}
 use Rattle.sync_disk.specs.declared.disk.Disk.{Ghosts}
-use Rattle.sync_model.specs.Clients.{Client as Model, ClientRecord, ClientRefusal, IdentDiffers, Named, after_record, answers, appends, client_of, entry_refusal, take_born, take_entries, take_ident, took}
-use Rattle.sync_model.specs.Files.{client_admits, client_opens}
+use Rattle.sync_model.specs.Clients.{Client as Model, ClientRecord, ClientRefusal, IdentDiffers, Named, answers, appends, client_of, entry_refusal, take_born, take_entries, take_ident, took}
+use Rattle.sync_model.specs.Files.{client_opens}
 use Rattle.sync_model.specs.Limits.{ClientLists}
 use Rattle.sync_model.specs.Messages.{Message, Sent}
 use Rattle.sync_model.specs.Worlds.{is_there}
@@ -20,11 +20,11 @@ use Rattle.sync_client.specs.declared.refusal.ClientRefusal.{ClientRefusal as Co
 use Rattle.sync_client.specs.declared.refusal.ClientRefusal.TheVariants as codes
 use Rattle.sync_client.specs.declared.replica.Replica.{Replica}
 use Rattle.sync_client.specs.Clients.{Did, IsClientOf}
-use Rattle.sync_client.specs.Entries.{Declines, Takes, TakesIt}
+use Rattle.sync_client.specs.Entries.{Declines, TakesIt}
 use Rattle.sync_client.specs.Keeping.{Keeps}
 use Rattle.sync_client.specs.Refusals.{refusal_seen, IfSeen}
 use Rattle.sync_client.specs.Seen.{seen}
-use Rattle.sync_client.specs.Taking.{SentRefused, SentSays, SentTaken}
+use Rattle.sync_client.specs.Taking.{SentRefused, SentSays}
 use Rattle.sync_client.proofs.Calls.{did_none, did_refuse, if_seen_both, keeps_next, unseen}
 use Rattle.sync_client.proofs.Refusing.{differ}
 

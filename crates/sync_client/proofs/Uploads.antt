@@ -1,5 +1,5 @@
 -- The originals that an Upload bears.
-use Rattle.std.proofs.Common.{◌≡◌, ℕ, zero, suc, ◌+◌, ◌-◌, ◌<◌, ◌≤◌, Bool, true, false, List, [], ◌∷◌, ◌++◌, length, map, drop, get_or, drop-cons, add-one, sum_by, Option, Some, None, Result, Ok, Err, refl, ap, ap₂, ◌∙◌, sym, subst, arith, nat_le, append_assoc, append-nil, length-append, if◌then◌else◌, ◌==◌}
+use Rattle.std.proofs.Common.{◌≡◌, ℕ, zero, suc, ◌+◌, ◌-◌, ◌<◌, ◌≤◌, true, List, [], ◌∷◌, ◌++◌, length, map, drop, get_or, drop-cons, add-one, refl, ap, ap₂, ◌∙◌, sym, arith, nat_le, append_assoc, append-nil, length-append, if◌then◌else◌, ◌==◌}
 use Rattle.std.proofs.Math.ListN.{drop_of_length-le}
 use Rattle.std.proofs.lemmas.Bool.{le-leb, lt-leb}
 use Rattle.std.proofs.lemmas.List.Sums.{sum_by-append}
@@ -8,7 +8,7 @@ use Rattle.sync_data.specs.declared.instr.Instr.{Instr}
 use Rattle.sync_base.specs.States.{State}
 use Rattle.sync_codec.specs.Spelling.{spelling}
 use Rattle.sync_messages.specs.Parts.{ChangeParts, bytes_of_changes}
-use Rattle.sync_model.specs.Messages.{Change, Message, Upload}
+use Rattle.sync_model.specs.Messages.{Change, Upload}
 use Rattle.sync_model.specs.Profile.{fitting}
 use Rattle.sync_model.specs.Clients.{Client as Model, ClientRecord, NotNamed, Unsent, answers, change_of, client_of, refuse, to_upload, upload}
 use Rattle.sync_model.proofs.Own.{if_true, if_false}

@@ -1,6 +1,5 @@
 -- What the calls of a client answer, and what they leave.
-use Rattle.std.specs.Prelude.{◌≡◌, ℕ, List, [], ◌∷◌, ◌++◌, length, map, true, false, Bool, Option, Some, None, Result, Ok, Err}
-use Rattle.sync_data.specs.declared.instr.Instr.{Instr}
+use Rattle.std.specs.Prelude.{◌≡◌, ℕ, List, ◌++◌, map, false, Bool, Option, Result, Ok, Err}
 use Rattle.sync_disk.specs.declared.disk.Disk.{Ghosts}
 use Rattle.sync_journal.specs.declared.journal.Journal.{Journal}
 use Rattle.sync_journal.specs.Stands.{Stands}

@@ -1,17 +1,11 @@
 -- A client whose records these are: what it keeps in memory is what they stand for.
-use Rattle.std.specs.Prelude.{◌≡◌, ℕ, List, [], ◌∷◌, ◌++◌, length, map, true, false, Bool, Option, Some, None, Result, Ok, Err}
+use Rattle.std.specs.Prelude.{◌≡◌, List, length, true}
 use Rattle.sync_data.specs.declared.instr.Instr.{Instr}
-use Rattle.sync_disk.specs.declared.disk.Disk.{Ghosts}
-use Rattle.sync_journal.specs.declared.journal.Journal.{Journal}
-use Rattle.sync_journal.specs.Stands.{Stands}
-use Rattle.sync_model.specs.Clients.{Client as Model, ClientRecord, ClientRefusal, ClientStep, Original, client_of, no_client}
+use Rattle.sync_model.specs.Clients.{ClientRecord, Original, client_of, no_client}
 use Rattle.sync_model.specs.Files.{client_opens}
 use Rattle.sync_model.specs.Limits.{Each, IsClientRecord}
 use Rattle.sync_exchange.specs.Profile.{the_profile}
-use Rattle.sync_exchange.specs.Seen.{client_bytes}
-use Rattle.sync_client.specs.declared.refusal.ClientRefusal.{ClientRefusal as CodeRefusal}
 use Rattle.sync_client.specs.declared.replica.Replica.{Replica}
-use Rattle.sync_client.specs.Refusals.{refusal_seen, IfSeen}
 use Rattle.sync_client.specs.Seen.{seen}
 
 -- the replica is what the records stand for, and they are such as a client writes

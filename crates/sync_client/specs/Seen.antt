@@ -1,5 +1,5 @@
 -- A client by what it keeps in memory.
-use Rattle.std.specs.Prelude.{◌≡◌, ℕ, List, ◌++◌, ◌∷◌, [], length, true, Option, Some, None, Result, Ok, Err}
+use Rattle.std.specs.Prelude.{List}
 use Rattle.sync_data.specs.declared.instr.Instr.{Instr}
 use Rattle.sync_base.specs.States.{State}
 use Rattle.sync_model.specs.Clients.{Client, Original}

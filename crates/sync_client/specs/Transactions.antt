@@ -1,8 +1,7 @@
 -- How a client in memory makes a transaction.
-use Rattle.std.specs.Prelude.{◌≡◌, ℕ, suc, List, [], ◌∷◌, ◌++◌, length, Result, Ok, Err}
+use Rattle.std.specs.Prelude.{◌≡◌, ℕ, suc, List, [], ◌∷◌, ◌++◌, Result, Ok, Err}
 use Rattle.sync_data.specs.declared.instr.Instr.{Instr}
-use Rattle.sync_base.specs.States.{State}
-use Rattle.sync_model.specs.Clients.{Client, ClientRecord, ClientRefusal, Original, after_record, appends, commit_born, refuse}
+use Rattle.sync_model.specs.Clients.{ClientRecord, ClientRefusal, Original, after_record, appends, commit_born, refuse}
 use Rattle.sync_exchange.specs.Profile.{the_profile}
 use Rattle.sync_client.specs.declared.refusal.ClientRefusal.{ClientRefusal as CodeRefusal}
 use Rattle.sync_client.specs.declared.refusal.ClientRefusal.TheVariants as codes

@@ -1,5 +1,5 @@
 -- The messages and records of the code as those of the model, one line a kind.
-use Rattle.std.specs.Prelude.{ℕ, List, map, Option, Some, None}
+use Rattle.std.specs.Prelude.{map, Option}
 use Rattle.std.specs.Option.{option_map}
 use Rattle.sync_model.specs.Bytes.{Bytes}
 use Rattle.sync_model.specs.Messages.{Change, Sent, Message}

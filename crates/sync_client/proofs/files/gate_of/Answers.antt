@@ -1,4 +1,4 @@
-use Rattle.std.proofs.Common.{arith, ◌≡◌, ℕ, ◌+◌, ◌-◌, ◌^◌, min, List, length, drop, ap, sym, ◌∙◌}
+use Rattle.std.proofs.Common.{arith, ℕ, ◌+◌, ◌-◌, ◌^◌, min, drop, ap, ◌∙◌}
 use Rattle.sync_journal.specs.Records.{lists}
 use Rattle.sync_client.proofs.Gates.{gate_end, gate_first, gate_here, gate_next}
 use Rattle.sync_client.proofs.Records.{left_at, none_left}

@@ -1,4 +1,4 @@
-use Rattle.std.proofs.Common.{◌≡◌, ℕ, ◌+◌, ◌-◌, ◌≤◌, List, length, ap, sym, subst, ◌∙◌, arith}
+use Rattle.std.proofs.Common.{◌≡◌, ◌-◌, length, ap, sym, subst, ◌∙◌, arith}
 use Rattle.sync_codec.specs.Spelling.{spelling}
 use Rattle.sync_client.proofs.Uploads.{UploadSoFar, change_is, upload_end, upload_first, upload_full, upload_large, upload_next}
 use Rattle.sync_client.proofs.sending.changes_of.Goals as goal

@@ -1,5 +1,5 @@
-use Rattle.std.proofs.Common.{◌≡◌, ◌∙◌, sym}
-use Rattle.sync_client.proofs.Needs.{left_at, none_at_first, none_next, none_at_last, place_here, some_here}
+use Rattle.std.proofs.Common.{◌∙◌, sym}
+use Rattle.sync_client.proofs.Needs.{left_at, none_at_first, none_next, place_here, some_here}
 use Rattle.sync_client.proofs.transactions.first_second.Goals as goal
 
 pub loop-instr-init : goal.loop-instr-init

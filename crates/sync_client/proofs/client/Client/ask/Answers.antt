@@ -1,4 +1,4 @@
-use Rattle.std.proofs.Common.{◌≡◌, ℕ, true, false, not, Ok, ap, sym, subst, ◌∙◌}
+use Rattle.std.proofs.Common.{true, false, not, Ok, ap, sym, ◌∙◌}
 use Rattle.sync_messages.specs.Parts.{AskParts}
 use Rattle.sync_model.specs.Messages.{Ask, Ask2}
 use Rattle.sync_client.proofs.Asking.{ask_answer}

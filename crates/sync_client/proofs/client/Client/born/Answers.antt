@@ -1,4 +1,4 @@
-use Rattle.std.proofs.Common.{◌≡◌, ◌++◌, ◌∷◌, [], Some, ap, sym, subst, ◌∙◌}
+use Rattle.std.proofs.Common.{◌++◌, ◌∷◌, [], Some, sym, subst, ◌∙◌}
 use Rattle.sync_model.specs.Clients.{Born, born, client_of}
 use Rattle.sync_exchange.specs.Profile.{the_profile}
 use Rattle.sync_client.specs.declared.replica.Replica.{Replica}

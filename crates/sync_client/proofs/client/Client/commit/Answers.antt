@@ -1,8 +1,5 @@
-use Rattle.std.proofs.Common.{◌≡◌, ◌⊎◌, ◌++◌, ◌∷◌, [], Some, Ok, not, ap, sym, subst, ◌∙◌}
-use Rattle.sync_model.specs.Clients.{ClientRecord, client_of, commit}
-use Rattle.sync_exchange.specs.Profile.{the_profile}
-use Rattle.sync_client.specs.Keeping.{Keeps}
-use Rattle.sync_client.proofs.Calls.{commit_is, commit_keeps, commit_says, plain_closed, plain_closes, plain_fault}
+use Rattle.std.proofs.Common.{not, ap, ◌∙◌}
+use Rattle.sync_client.proofs.Calls.{commit_says, plain_closed, plain_closes, plain_fault}
 use Rattle.sync_client.proofs.client.Client.commit.Goals as goal
 
 pub returns-in-Err-clause-closed : goal.returns-in-Err-clause-closed

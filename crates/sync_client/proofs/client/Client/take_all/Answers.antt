@@ -1,5 +1,4 @@
-use Rattle.std.proofs.Common.{◌≡◌, ℕ, ◌+◌, ◌≤◌, List, ◌∷◌, length, map, drop, ap, sym, subst, ◌∙◌, arith}
-use Rattle.sync_messages.specs.Parts.{SentParts}
+use Rattle.std.proofs.Common.{◌+◌, ◌≤◌, length, map, drop, ap, sym, subst, arith}
 use Rattle.sync_exchange.specs.Seen.{sent_seen}
 use Rattle.sync_client.proofs.Downloads.{at_first, ends, ends_stored, goes_on, left_at, length_map, none_left, stops, stops_stored}
 use Rattle.sync_client.proofs.client.Client.take_all.Goals as goal

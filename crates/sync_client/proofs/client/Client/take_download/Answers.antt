@@ -1,4 +1,4 @@
-use Rattle.std.proofs.Common.{◌≡◌, ℕ, ◌≤◌, List, ap, sym, subst, ◌∙◌}
+use Rattle.std.proofs.Common.{ℕ, sym, subst}
 use Rattle.sync_model.specs.Clients.{ClientStep}
 use Rattle.sync_client.specs.Clients.{Says, Stores}
 use Rattle.sync_client.proofs.Downloads.{download_is}

@@ -1,10 +1,10 @@
-use Rattle.std.proofs.Common.{◌≡◌, ◌++◌, ◌∷◌, [], ap, sym, subst, ◌∙◌, arith}
-use Rattle.sync_model.specs.Clients.{ClientRecord, Named, client_of, take_ident}
+use Rattle.std.proofs.Common.{◌++◌, ◌∷◌, [], sym, subst, arith}
+use Rattle.sync_model.specs.Clients.{Named, client_of, take_ident}
 use Rattle.sync_exchange.specs.Profile.{the_profile}
 use Rattle.sync_client.specs.declared.replica.Replica.{Replica}
 use Rattle.sync_client.specs.Keeping.{Keeps}
 use Rattle.sync_client.proofs.Calls.{did_append}
-use Rattle.sync_client.proofs.Taken.{named_is, named_keeps, same_ident, other_ident, given_ident}
+use Rattle.sync_client.proofs.Taken.{named_keeps, given_ident}
 use Rattle.sync_client.proofs.client.Client.take_ident.Goals as goal
 
 pub returns-clause-step : goal.returns-clause-step

@@ -1,4 +1,4 @@
-use Rattle.std.proofs.Common.{◌≡◌, ℕ, List, bytes_eq, ap, sym, subst, ◌∙◌}
+use Rattle.std.proofs.Common.{ℕ, List, bytes_eq, ap, sym, subst, ◌∙◌}
 use Rattle.std.specs.Option.{is_some}
 use Rattle.sync_messages.specs.declared.message.Message.{Message as CodeMessage}
 use Rattle.sync_model.specs.Clients.{ClientStep, client_of, take_born, take_ident}

@@ -1,6 +1,5 @@
-use Rattle.std.proofs.Common.{◌≡◌, ℕ, List, ◌≤◌, ap, sym, subst, ◌∙◌}
+use Rattle.std.proofs.Common.{◌≡◌, ◌≤◌, sym, subst}
 use Rattle.sync_model.specs.Messages.{Sent}
-use Rattle.sync_exchange.specs.Profile.{the_profile}
 use Rattle.sync_exchange.specs.Seen.{sent_seen}
 use Rattle.sync_client.specs.Entries.{TakesIt}
 use Rattle.sync_client.specs.Seen.{seen}

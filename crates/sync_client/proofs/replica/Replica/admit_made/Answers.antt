@@ -1,5 +1,4 @@
-use Rattle.std.proofs.Common.{◌≡◌, ◌++◌, ◌∷◌, [], not, ap, sym, ◌∙◌, arith}
-use Rattle.sync_client.specs.declared.replica.Replica.{Replica}
+use Rattle.std.proofs.Common.{not, ap, sym, ◌∙◌, arith}
 use Rattle.sync_client.proofs.Admitting.{made_admitted, made_refused}
 use Rattle.sync_client.proofs.replica.Replica.admit_made.Goals as goal
 

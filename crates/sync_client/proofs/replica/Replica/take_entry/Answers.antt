@@ -1,4 +1,4 @@
-use Rattle.std.proofs.Common.{◌≡◌, refl, sym, ◌∙◌, ap}
+use Rattle.std.proofs.Common.{refl, sym, ◌∙◌}
 use Rattle.sync_data.specs.declared.entry.Entry.{Entry}
 use Rattle.sync_client.proofs.Refusing.{SameEntry, own_answers, other_answers}
 use Rattle.sync_client.proofs.replica.Replica.take_entry.Goals as goal
