@@ -1,0 +1,13 @@
+pub mod Idents
+pub mod Keeps
+pub mod Integrated
+pub mod Others
+pub mod Needs
+pub mod Coded
+pub mod Placed
+pub mod Steps
+pub mod Sending
+pub mod Adding
+pub mod Uploading
+pub mod Records
+pub mod Leaving

@@ -1,0 +1,28 @@
+use Rattle.std.proofs.Common.{sym, subst, OnOk}
+use Rattle.sync_exchange.specs.Profile.{the_profile}
+use Rattle.sync_exchange.specs.Seen.{message_seen}
+use Rattle.sync_model.specs.Parts.{serve_by}
+use Rattle.sync_server.specs.Kept.{parts}
+use Rattle.sync_server.specs.Serving.{Adds, LeavesPrefix}
+use Rattle.sync_server.proofs.Leaving.{untouched}
+use Rattle.sync_server.proofs.server.Server.serve.Goals as goal
+
+pub returns-in-Bind-clause-stored : goal.returns-in-Bind-clause-stored
+returns-in-Bind-clause-stored g c =
+    let D = g.D.Disk in
+    subst (λ m. OnOk c.take_bind.result (Adds D.content D.images (serve_by the_profile (parts c.args.self.now.kept) (message_seen m)).records c.args.self.now c.take_bind.new.self)) (sym c.in-Bind.is) c.take_bind.ensures.stored
+
+pub returns-in-Bind-clause-any_moment : goal.returns-in-Bind-clause-any_moment
+returns-in-Bind-clause-any_moment g c =
+    let D = g.D.Disk in
+    subst (λ m. LeavesPrefix D.content D.images D.moment D.images_since (serve_by the_profile (parts c.args.self.now.kept) (message_seen m)).records c.args.self.now c.take_bind.new.self) (sym c.in-Bind.is) c.take_bind.ensures.any_moment
+
+pub returns-in-Upload-clause-any_moment : goal.returns-in-Upload-clause-any_moment
+returns-in-Upload-clause-any_moment g c =
+    let D = g.D.Disk in
+    subst (λ m. LeavesPrefix D.content D.images D.moment D.images_since (serve_by the_profile (parts c.args.self.now.kept) (message_seen m)).records c.args.self.now c.take_upload.new.self) (sym c.in-Upload.is) c.take_upload.ensures.any_moment
+
+pub returns-in-Ask-clause-any_moment : goal.returns-in-Ask-clause-any_moment
+returns-in-Ask-clause-any_moment g c =
+    let D = g.D.Disk in
+    untouched D.content D.images D.moment D.images_since g.met.D.Disk.only_now (serve_by the_profile (parts c.args.self.now.kept) (message_seen c.args.message.now)).records c.args.self.now c.take_ask.new.self c.take_ask.ensures.journal

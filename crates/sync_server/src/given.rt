@@ -1,0 +1,106 @@
+ghost use Rattle.std.specs.Prelude.{◌≡◌, ◌≤◌, ◌<◌, suc, length, map, OnOk, OnErr, All};
+ghost use Rattle.sync_recip.specs.Lists.{entry_of};
+ghost use Rattle.sync_recip.specs.Carrying.{Fits, entries_of};
+ghost use Rattle.sync_model.specs.Parts.{settled, extended};
+ghost use Rattle.sync_model.specs.Servers.{place_of};
+ghost use Rattle.sync_server.specs.Integrating.{found};
+
+use std::marker::Model;
+use sync_base::{Changeset, Entry, Id, Ident, NoMemory};
+use sync_recip::{Carried, Recip};
+
+/// What a server keeps of an ident: the client's uuid, how many of its changes are integrated, the base of the last
+/// one, and the entries of others as its changes crossed them.
+#[derive(Drop)]
+pub(crate) struct Given {
+    id: Id,
+    count: u32,
+    last: u32,
+    reciprocal: Recip,
+}
+
+impl Model for Given {
+    ghost use Rattle.sync_data.specs.declared.instr.Instr.{Instr};
+    ghost use Rattle.sync_model.specs.Parts.{Given as GivenParts};
+
+    ghost Value = { GivenParts Instr };
+
+    ghost view = { λ a. record { uuid = a.id; count = a.count; last = a.last; reciprocal = a.reciprocal } };
+}
+
+impl Given {
+    /// A client of which no change is integrated.
+    pub(crate) fn new(id: Id, reciprocal: Recip) -> Given
+        ensures { result ≡ record { uuid = id; count = 0; last = 0; reciprocal = reciprocal } }
+    {
+        Given {
+            id,
+            count: 0,
+            last: 0,
+            reciprocal,
+        }
+    }
+
+    /// The client's uuid.
+    pub(crate) fn id(&self) -> &Id
+        ensures { result.now ≡ self.now.uuid }
+    {
+        &self.id
+    }
+
+    /// How many of its changes are integrated.
+    pub(crate) fn count(&self) -> u32
+        ensures { result ≡ self.now.count }
+    {
+        self.count
+    }
+
+    /// The base of the last one.
+    pub(crate) fn last(&self) -> u32
+        ensures { result ≡ self.now.last }
+    {
+        self.last
+    }
+
+    /// The entries of others, as its changes crossed them.
+    pub(crate) fn reciprocal(&self) -> &Recip
+        ensures { result.now ≡ self.now.reciprocal }
+    {
+        &self.reciprocal
+    }
+
+    /// Takes its next change as integrated, and hands it out as carried. It takes no memory.
+    pub(crate) fn settle(&mut self, number: u32, base: u32, carried: Carried) -> Changeset
+        requires next { number ≡ suc self.old.count }
+        requires base { carried.base ≡ base }
+        requires fits { Fits carried self.old.reciprocal }
+        ensures settled { self.new ≡ settled base (entries_of carried self.old.reciprocal) self.old }
+        ensures changes { result ≡ carried.changes }
+    {
+        self.count = number;
+        self.last = base;
+        self.reciprocal.settle(carried)
+    }
+
+    /// Keeps an entry of another, whose version is above all before.
+    pub(crate) fn extend(&mut self, version: u32, entry: Entry) -> Result<(), NoMemory>
+        requires { All (λ pair. pair.0 < version) self.old.reciprocal }
+        ensures ok { OnOk result (self.new ≡ extended version (entry_of entry) self.old) }
+        ensures unchanged { OnErr result (self.new ≡ self.old) }
+    {
+        self.reciprocal.push(version, entry)
+    }
+}
+
+/// The ident of a uuid among these, of which the first has ident 1.
+pub(crate) fn ident_in(idents: &[Given], id: &Id) -> Option<Ident>
+    requires { length idents.now ≤ 4294967295 }
+    ensures { result ≡ found (place_of id.now (map (λ g. g.uuid) idents.now)) }
+{
+    for (place, given) in idents.iter().enumerate() {
+        if *id == *given.id() {
+            return Some(place as u32 + 1);
+        }
+    }
+    None
+}

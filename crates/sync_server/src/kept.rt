@@ -1,0 +1,93 @@
+ghost use Rattle.std.specs.Prelude.{◌≡◌, Some, length, IfOk, OnOk};
+ghost use Rattle.sync_data.specs.declared.instr.Instr.{Instr};
+ghost use Rattle.sync_exchange.specs.Profile.{the_profile};
+ghost use Rattle.sync_exchange.specs.Seen.{change_seen};
+ghost use Rattle.sync_model.specs.Parts.{Given as GivenParts, at_ident, merge_by};
+ghost use Rattle.sync_server.specs.Merging.{IsFresh, Merges, Prepares};
+
+use crate::history::History;
+use crate::merging::{Prepared, admit, apply, carry, read};
+use crate::refusal::ChangeRefusal;
+use crate::version::needs_second;
+use std::alloc::Global;
+use sync_base::{Ident, NoMemory};
+use sync_messages::Change;
+use sync_store::Store;
+
+/// What a server keeps in memory.
+#[derive(Drop)]
+pub(crate) struct Kept {
+    pub(crate) history: History,
+    pub(crate) objects: Store,
+}
+
+impl Kept {
+    ghost use Rattle.sync_server.specs.Kept.{parts, no_parts};
+
+    /// What is kept of no records.
+    pub(crate) fn new(alloc: Global) -> Result<Kept, NoMemory>
+        ensures { IfOk result (λ made. parts made ≡ no_parts) }
+    {
+        Ok(Kept {
+            history: History::new(alloc),
+            objects: Store::new(alloc)?,
+        })
+    }
+
+    /// The next change of an ident, ready to act.
+    fn prepare(
+        &self,
+        alloc: Global,
+        ident: Ident,
+        change: &Change,
+    ) -> Result<Prepared, ChangeRefusal>
+        requires { IsFresh ident (change_seen change.now) self.now.history.idents }
+        ensures { (g : GivenParts Instr) → at_ident ident self.now.history.idents ≡ Some g → Prepares result (parts self.now) ident g (change_seen change.now) (merge_by the_profile (parts self.now) ident g (change_seen change.now)) }
+    {
+        let Some(given) = self.history.at(ident) else {
+            unreachable!()
+        };
+        match admit(given, self.history.len(), change) {
+            Ok(()) => {}
+            Err(why) => return Err(ChangeRefusal::Refused(why)),
+        }
+        let changes = match read(alloc, change) {
+            Ok(changes) => changes,
+            Err(refusal) => return Err(refusal),
+        };
+        let second = needs_second(changes.instrs());
+        match carry(alloc, ident, given, change.base(), changes) {
+            Ok(carried) => Ok(Prepared { carried, second }),
+            Err(refusal) => Err(refusal),
+        }
+    }
+
+    /// Merges the next change of an ident, and answers whether a Form stands before its Entry in the journal.
+    pub(crate) fn merge(
+        &mut self,
+        alloc: Global,
+        ident: Ident,
+        change: &Change,
+    ) -> Result<bool, ChangeRefusal>
+        requires { IsFresh ident (change_seen change.now) self.old.history.idents }
+        ensures given { OnOk result (length self.new.history.idents ≡ length self.old.history.idents) }
+        ensures merged { (g : GivenParts Instr) → at_ident ident self.old.history.idents ≡ Some g → Merges result (merge_by the_profile (parts self.old) ident g (change_seen change.now)) ident (change_seen change.now) (parts self.old) (parts self.new) }
+    {
+        let Prepared { carried, second } = match self.prepare(alloc, ident, change) {
+            Ok(prepared) => prepared,
+            Err(refusal) => return Err(refusal),
+        };
+        match apply(&mut self.objects, carried.changes()) {
+            Ok(()) => {}
+            Err(refusal) => return Err(refusal),
+        }
+        let form = second & !self.history.second();
+        match self
+            .history
+            .integrate(ident, change.number(), change.base(), second, carried)
+        {
+            Ok(()) => Ok(form),
+            Err(NoMemory) => Err(ChangeRefusal::NoMemory),
+        }
+    }
+}

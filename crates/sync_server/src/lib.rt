@@ -1,0 +1,16 @@
+//! A server: its journal, and what it keeps in memory of the history, the objects and the clients.
+#![tactic(auto)]
+
+mod asking;
+mod extending;
+mod given;
+mod history;
+mod kept;
+mod lists;
+mod merging;
+mod refusal;
+mod server;
+mod version;
+
+pub use refusal::ServerRefusal;
+pub use server::Server;
