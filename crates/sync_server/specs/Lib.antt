@@ -6,3 +6,5 @@ pub mod Merging
 pub mod Kept
 pub mod Sending
 pub mod Serving
+pub mod Opening
+pub mod Files

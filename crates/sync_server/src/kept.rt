@@ -1,6 +1,7 @@
-ghost use Rattle.std.specs.Prelude.{◌≡◌, Some, length, IfOk, OnOk};
+ghost use Rattle.std.specs.Prelude.{◌≡◌, ◌&&◌, not, Some, length, IfOk, OnOk};
 ghost use Rattle.sync_data.specs.declared.instr.Instr.{Instr};
-ghost use Rattle.sync_exchange.specs.Profile.{the_profile};
+ghost use Rattle.sync_exchange.specs.Profile.{the_profile, unspell};
+ghost use Rattle.sync_model.specs.Files.{is_second};
 ghost use Rattle.sync_exchange.specs.Seen.{change_seen};
 ghost use Rattle.sync_model.specs.Parts.{Given as GivenParts, at_ident, merge_by};
 ghost use Rattle.sync_server.specs.Merging.{IsFresh, Merges, Prepares};
@@ -42,7 +43,8 @@ impl Kept {
         change: &Change,
     ) -> Result<Prepared, ChangeRefusal>
         requires { IsFresh ident (change_seen change.now) self.now.history.idents }
-        ensures { (g : GivenParts Instr) → at_ident ident self.now.history.idents ≡ Some g → Prepares result (parts self.now) ident g (change_seen change.now) (merge_by the_profile (parts self.now) ident g (change_seen change.now)) }
+        ensures second { IfOk result (λ p. p.second ≡ is_second the_profile (unspell change.now.body)) }
+        ensures prepared { (g : GivenParts Instr) → at_ident ident self.now.history.idents ≡ Some g → Prepares result (parts self.now) ident g (change_seen change.now) (merge_by the_profile (parts self.now) ident g (change_seen change.now)) }
     {
         let Some(given) = self.history.at(ident) else {
             unreachable!()
@@ -71,6 +73,7 @@ impl Kept {
     ) -> Result<bool, ChangeRefusal>
         requires { IsFresh ident (change_seen change.now) self.old.history.idents }
         ensures given { OnOk result (length self.new.history.idents ≡ length self.old.history.idents) }
+        ensures form { IfOk result (λ form. form ≡ (is_second the_profile (unspell change.now.body) && not self.old.history.second)) }
         ensures merged { (g : GivenParts Instr) → at_ident ident self.old.history.idents ≡ Some g → Merges result (merge_by the_profile (parts self.old) ident g (change_seen change.now)) ident (change_seen change.now) (parts self.old) (parts self.new) }
     {
         let Prepared { carried, second } = match self.prepare(alloc, ident, change) {

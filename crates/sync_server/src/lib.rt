@@ -3,11 +3,13 @@
 
 mod asking;
 mod extending;
+mod files;
 mod given;
 mod history;
 mod kept;
 mod lists;
 mod merging;
+mod opening;
 mod refusal;
 mod server;
 mod version;

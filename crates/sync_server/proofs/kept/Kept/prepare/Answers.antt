@@ -10,8 +10,8 @@ use Rattle.sync_server.proofs.Keeps.{the_same}
 use Rattle.sync_server.proofs.Steps.{ready, not_ready}
 use Rattle.sync_server.proofs.kept.Kept.prepare.Goals as goal
 
-pub returns-in-Ok-carry : goal.returns-in-Ok-carry
-returns-in-Ok-carry c = λ g is.
+pub returns-in-Ok-carry-clause-prepared : goal.returns-in-Ok-carry-clause-prepared
+returns-in-Ok-carry-clause-prepared c = λ g is.
     let h = change_seen c.args.change.now in
     let kept = parts c.args.self.now in
     let found = c.in-Some.given.now in
@@ -24,8 +24,8 @@ returns-in-Ok-carry c = λ g is.
     let second = c.needs_second-second.ensures ∙ ap (λ l. needs the_profile l) c.instrs.ensures.listed in
     ready kept c.args.ident found g h v same numbers c.in-Ok-read.ensures carried c.needs_second-second.result (subst (λ b. Carries (Ok carried) c.args.ident h.number v b found.reciprocal) c.base.ensures (c.in-Ok-carry.ensures h.number)) second (length c.args.self.now.history.entries) c.in-Some.ensures.others above (omega (arith, c.len.ensures, c.len.type_inv))
 
-pub returns-in-Err-carry : goal.returns-in-Err-carry
-returns-in-Err-carry c = λ g is.
+pub returns-in-Err-carry-clause-prepared : goal.returns-in-Err-carry-clause-prepared
+returns-in-Err-carry-clause-prepared c = λ g is.
     let h = change_seen c.args.change.now in
     let kept = parts c.args.self.now in
     let found = c.in-Some.given.now in

@@ -1,0 +1,48 @@
+-- How a file of a server is opened.
+use Rattle.std.specs.Prelude.{◌≡◌, ◌⊎◌, ℕ, zero, suc, ◌+◌, List, [], ◌∷◌, length, Option, Ok, Err}
+use Rattle.sync_disk.specs.declared.disk.Disk.{Ghosts}
+use Rattle.sync_data.specs.Payload.{capped}
+use Rattle.sync_journal.specs.Records.{records_of}
+use Rattle.sync_journal.specs.Records.Reading.{Good, BadAt}
+use Rattle.sync_model.specs.Servers.{ServerRecord, no_server}
+use Rattle.sync_model.specs.Files.{server_reads}
+use Rattle.sync_exchange.specs.Profile.{the_profile}
+use Rattle.sync_exchange.specs.Seen.{read_server}
+use Rattle.sync_server.specs.declared.server.Server.{Server}
+use Rattle.sync_server.specs.Serving.{IsServerOf, IsStored}
+
+-- the place of a gate behind so many records, from one place on
+abbrev pub gate_from : ℕ → List (List ℕ) → ℕ → ℕ
+gate_from place [] number = place
+gate_from place (r ∷ rs) zero = place
+gate_from place (r ∷ rs) (suc number) = gate_from (place + 5 + length r) rs number
+
+-- and in a file
+abbrev pub gate_of : List (List ℕ) → ℕ → ℕ
+gate_of file number = gate_from 8 file number
+
+-- the record of some number isn't one that a server would have written there, and its gate stands at this place
+pub record BadRecordAt (file : List (List ℕ)) (place : ℕ) : Type 0 where
+  pub number : ℕ
+  pub reads : server_reads the_profile read_server no_server file ≡ Err number
+  pub gate : place ≡ capped (gate_of file number)
+
+-- such a record stands in these bytes
+pub record BadRecordIn (bytes : List ℕ) (place : ℕ) : Type 0 where
+  pub file : List (List ℕ)
+  pub holds : records_of bytes ≡ Good file
+  pub bad : BadRecordAt file place
+
+-- the bytes are no journal, or a record in them isn't one that a server would have written there
+abbrev pub BadPlace : List ℕ → ℕ → Type 0
+BadPlace bytes place = (records_of bytes ≡ BadAt place) ⊎ BadRecordIn bytes place
+
+module _ {D : Type 0} {G : Ghosts D} where
+  -- the server of the records for which the bytes stand
+  pub record Opened (content : D → Option (List ℕ)) (images : D → List ℕ → Type 0) (bytes : List ℕ) (s : Server D G) : Type 0 where
+    pub file : List (List ℕ)
+    pub holds : records_of bytes ≡ Good file
+    pub records : List ServerRecord
+    pub reads : server_reads the_profile read_server no_server file ≡ Ok records
+    pub server : IsServerOf records s
+    pub stored : IsStored content images records s
