@@ -12,6 +12,8 @@ mod merging;
 mod opening;
 mod refusal;
 mod server;
+#[cfg(test)]
+mod tests;
 mod version;
 
 pub use refusal::ServerRefusal;

@@ -287,7 +287,7 @@ impl<D: Disk> Server<D> {
         }
     }
 
-    /// Takes a message, and answers the reply (docs/EXCHANGE.md). What it answers is on the disk. `Closed` comes exactly
+    /// Takes a message, and answers the reply (docs/GUARANTEES.md, "Nodes"). What it answers is on the disk. `Closed` comes exactly
     /// after an earlier `DiskFault` or `NoMemory`.
     pub fn take(&mut self, message: Message) -> Result<Message, ServerRefusal>
         // It answers as a server that reads its records, and keeps what they stand for.

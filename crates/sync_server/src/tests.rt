@@ -1,0 +1,198 @@
+use super::*;
+use std::alloc::Global;
+use std::process::Abort;
+use std::test::Fail;
+use sync_disk::MemoryDisk;
+use sync_messages::{message_bytes, message_of};
+
+fn open(alloc: Global, disk: MemoryDisk) -> Result<Server<MemoryDisk>, Fail> {
+    match Server::open(alloc, disk) {
+        Ok(server) => Ok(server),
+        Err(_) => Err("no server's disk".into()),
+    }
+}
+
+// What the server replies to a message, both by their bytes.
+fn replies(
+    rt: &impl Abort,
+    alloc: Global,
+    server: &mut Server<MemoryDisk>,
+    bytes: &[u8],
+    want: &[u8],
+) -> Result<(), Fail> {
+    let message = message_of(alloc, bytes).map_err(|_| "no message")?;
+    match server.take(message) {
+        Ok(reply) => {
+            let reply = message_bytes(alloc, &reply)?;
+            assert_eq!(rt; reply.as_slice(), want, "{bytes:?}");
+            Ok(())
+        }
+        Err(_) => Err("no reply".into()),
+    }
+}
+
+// The first bytes of a Bind, and of an Ident, of the uuid of 16 bytes 0a.
+const BIND: &[u8] = b"\x01\x0a\x0a\x0a\x0a\x0a\x0a\x0a\x0a\x0a\x0a\x0a\x0a\x0a\x0a\x0a\x0a";
+
+const GIVEN: &[u8] = b"\x02\x0a\x0a\x0a\x0a\x0a\x0a\x0a\x0a\x0a\x0a\x0a\x0a\x0a\x0a\x0a\x0a\x01";
+
+const BIND_OTHER: &[u8] = b"\x01\x0b\x0b\x0b\x0b\x0b\x0b\x0b\x0b\x0b\x0b\x0b\x0b\x0b\x0b\x0b\x0b";
+
+const GIVEN_OTHER: &[u8] =
+    b"\x02\x0b\x0b\x0b\x0b\x0b\x0b\x0b\x0b\x0b\x0b\x0b\x0b\x0b\x0b\x0b\x0b\x02";
+
+// Client 1 uploads the table `t`, and client 2 the table `u`, both at base 0.
+const UPLOAD: &[u8] = b"\x03\x01\x01\x01\0\x05\x08\x01\x01\x01t\x01\x01\0\0";
+
+const UPLOAD_OTHER: &[u8] = b"\x03\x02\x01\x01\0\x06\x08\x01\x01\x01u\x01\x01\0\x01";
+
+// A server with two clients, each of which has one entry.
+fn served(rt: &impl Abort, alloc: Global) -> Result<Server<MemoryDisk>, Fail> {
+    let mut server = open(alloc, MemoryDisk::new(alloc)?)?;
+    let table: [(&[u8], &[u8]); 4] = [
+        (BIND, GIVEN),
+        (BIND_OTHER, GIVEN_OTHER),
+        (UPLOAD, b"\x07\x01\x01"),
+        (UPLOAD_OTHER, b"\x07\x02\x01"),
+    ];
+    for (bytes, want) in table {
+        replies(rt, alloc, &mut server, bytes, want)?;
+    }
+    Ok(server)
+}
+
+// What is said again, and what the clients ask for. None of it changes the server.
+fn says_again(rt: &impl Abort, alloc: Global, server: &mut Server<MemoryDisk>) -> Result<(), Fail> {
+    let table: [(&[u8], &[u8]); 8] = [
+        (BIND, GIVEN),
+        (BIND_OTHER, GIVEN_OTHER),
+        (UPLOAD, b"\x07\x01\x01"),
+        (UPLOAD_OTHER, b"\x07\x02\x01"),
+        (b"\x03\x01\0", b"\x07\x01\x01"),
+        (
+            b"\x04\x02\0\0",
+            b"\x05\x02\0\x02\x01\x01\x05\x08\x01\x01\x01t\x01\x01\0\0\x02\x01\x06\x08\x01\x01\x01u\x01\x01\0\x01",
+        ),
+        (
+            b"\x04\x01\x01\x01",
+            b"\x05\x01\x01\x01\x02\x01\x06\x08\x01\x01\x01u\x01\x01\0\x01",
+        ),
+        (b"\x08\x01\x02\x01", b"\x05\x01\x02\0"),
+    ];
+    for (bytes, want) in table {
+        replies(rt, alloc, server, bytes, want)?;
+    }
+    assert_eq!(rt; server.len(), 2);
+    Ok(())
+}
+
+#[test]
+fn two_clients_exchange_their_changes(rt: HostRuntime) -> Result<(), Fail> {
+    let alloc = rt.alloc();
+    let mut server = served(&rt, alloc)?;
+    says_again(&rt, alloc, &mut server)?;
+    let mut server = open(alloc, server.into_disk())?;
+    assert_eq!(rt; server.ident_of(&[11; 16]), Some(2));
+    assert_eq!(rt; server.ident_of(&[12; 16]), None);
+    says_again(&rt, alloc, &mut server)
+}
+
+#[test]
+fn refusals_change_nothing(rt: HostRuntime) -> Result<(), Fail> {
+    let table: [(&[u8], &[u8]); 14] = [
+        // No such ident: two were given.
+        (b"\x04\x09\0\0", b"\x06\x09\0\x3c\x02"),
+        (b"\x03\x09\0", b"\x06\x09\0\x3c\x02"),
+        // The next number of client 1 is 2.
+        (b"\x03\x01\x01\x03\0\0\x03\x01\0\0", b"\x06\x01\x03\x3d\x02"),
+        // The history has two entries.
+        (b"\x04\x01\x03\0", b"\x06\x01\0\x3f\x02"),
+        (
+            b"\x03\x01\x01\x02\x03\0\x03\x01\0\0",
+            b"\x06\x01\x02\x3f\x02",
+        ),
+        // The bytes end; the version is 3; a byte is left.
+        (b"\x03\x01\x01\x02\0\0\0", b"\x06\x01\x02\x28\0"),
+        (b"\x03\x01\x01\x02\0\0\x03\x03\0\0", b"\x06\x01\x02\x29\0"),
+        (
+            b"\x03\x01\x01\x02\0\0\x04\x01\0\0\0",
+            b"\x06\x01\x02\x34\x03",
+        ),
+        // The table `t` has another kind of keys.
+        (
+            b"\x03\x02\x01\x02\0\0\x08\x01\x01\x01t\x01\x01\0\x01",
+            b"\x06\x02\x02\x01\0",
+        ),
+        // The table is there; there is none such.
+        (
+            b"\x03\x01\x01\x02\x02\0\x08\x01\x01\x01t\x01\x01\0\0",
+            b"\x06\x01\x02\x0a\0",
+        ),
+        (
+            b"\x03\x01\x01\x02\x02\0\x09\x01\x01\x01v\x01\x03\0\0\x02",
+            b"\x06\x01\x02\x0b\0",
+        ),
+        // Messages that no client sends.
+        (GIVEN, b"\x06\x01\0\x42\0"),
+        (b"\x07\x02\x01", b"\x06\x02\0\x42\0"),
+        (b"\x06\x02\x01\x01\x01", b"\x06\x02\0\x42\0"),
+    ];
+    let alloc = rt.alloc();
+    let mut server = served(&rt, alloc)?;
+    for (bytes, want) in table {
+        replies(&rt, alloc, &mut server, bytes, want)?;
+        says_again(&rt, alloc, &mut server)?;
+    }
+    Ok(())
+}
+
+#[test]
+fn a_base_may_not_go_back(rt: HostRuntime) -> Result<(), Fail> {
+    let alloc = rt.alloc();
+    let mut server = served(&rt, alloc)?;
+    let table: [(&[u8], &[u8]); 3] = [
+        // Number 2 at base 2 and number 3 at base 1, in one Upload: the first is kept.
+        (
+            b"\x03\x01\x02\x02\x02\0\x03\x01\0\0\x03\x01\0\x03\x01\0\0",
+            b"\x06\x01\x03\x3e\x02",
+        ),
+        (b"\x03\x01\0", b"\x07\x01\x02"),
+        (
+            b"\x04\x01\x02\x02",
+            b"\x05\x01\x02\x01\x01\x02\0\x03\x01\0\0",
+        ),
+    ];
+    for (bytes, want) in table {
+        replies(&rt, alloc, &mut server, bytes, want)?;
+    }
+    Ok(())
+}
+
+// Whether recording a client fails where the disk's call of that number does.
+fn closes(rt: &impl Abort, alloc: Global, call: u64) -> Result<bool, Fail> {
+    let mut disk = MemoryDisk::new(alloc)?;
+    disk.fail_at(call)?;
+    let Ok(mut server) = Server::open(alloc, disk) else {
+        return Ok(false);
+    };
+    let bind = message_of(alloc, BIND).map_err(|_| "no message")?;
+    if server.take(bind).is_ok() {
+        return Ok(false);
+    }
+    let ask = message_of(alloc, b"\x04\x01\0\0").map_err(|_| "no message")?;
+    assert_eq!(rt; server.take(ask).err(), Some(ServerRefusal::Closed));
+    Ok(true)
+}
+
+#[test]
+fn a_fault_closes_the_server(rt: HostRuntime) -> Result<(), Fail> {
+    let mut closed: u32 = 0;
+    for call in 1..=20 {
+        if closes(&rt, rt.alloc(), call)? {
+            closed = closed.saturating_add(1);
+        }
+    }
+    // A record takes four strokes.
+    assert_eq!(rt; closed, 4);
+    Ok(())
+}
