@@ -1,31 +1,25 @@
 -- Records of a server that are read one after the other.
-use Rattle.std.proofs.Common.{◌≡◌, ◌≢◌, ℕ, zero, suc, ◌+◌, ◌-◌, ◌≤◌, ◌<◌, Bool, true, false, not, ◌&&◌, List, [], ◌∷◌, ◌++◌, length, map, Option, Some, None, Result, Ok, Err, refl, ap, ◌∙◌, sym, subst, arith, ◌==◌, eqb-true, if◌then◌else◌}
+use Rattle.std.proofs.Common.{◌≡◌, ℕ, zero, suc, ◌-◌, ◌≤◌, Bool, true, false, not, ◌&&◌, List, [], ◌∷◌, length, map, Option, Some, None, Result, Ok, Err, refl, ap, ◌∙◌, sym, subst, arith, ◌==◌, eqb-true}
 use Rattle.std.proofs.lemmas.Bool.{eq-eqb}
-use Rattle.std.specs.Option.{is_some, option_copied}
+use Rattle.std.specs.Option.{is_some}
 use Rattle.sync_data.specs.declared.instr.Instr.{Instr}
-use Rattle.sync_data.specs.declared.memory.NoMemory.{NoMemory}
 use Rattle.sync_base.specs.States.{State}
 use Rattle.sync_model.specs.Bytes.{Uuid}
 use Rattle.sync_model.specs.Files.{is_fine, is_second, server_admits, server_opens}
 use Rattle.sync_model.specs.Messages.{Bind, Change, Ident}
-use Rattle.sync_model.specs.Parts.{Given, Merged, Parts, Served, at_ident, bound, given_of, idents_of, merge_by, merged_of, parts_of, serve_by, served_of}
-use Rattle.sync_model.specs.Servers.{Entry, Form, Server, ServerRecord, ServerRefusal, after_all, count, is_given, merge, no_server, place_of, serve, server_of}
+use Rattle.sync_model.specs.Parts.{Given, Merged, Parts, Served, at_ident, bound, given_of, idents_of, merge_by, merged_of, parts_of, serve_by}
+use Rattle.sync_model.specs.Servers.{Entry, Form, Server, ServerRecord, ServerRefusal, after_all, count, is_given, merge, no_server, place_of, server_of}
 use Rattle.sync_model.proofs.Holding.{server_append}
 use Rattle.sync_model.proofs.Opening.{new_opens, serve_opens, server_opens_on}
-use Rattle.sync_model.proofs.Own.{if_true, if_false}
+use Rattle.sync_model.proofs.Own.{if_false}
 use Rattle.sync_model.proofs.Parts.{parts_given, parts_merge, parts_not_given, parts_serve}
 use Rattle.sync_exchange.specs.Profile.{the_profile, unspell}
 use Rattle.sync_exchange.specs.Lemmas.Lawful.{real_lawful}
-use Rattle.sync_server.specs.History.{HistoryParts, newly_given}
 use Rattle.sync_server.specs.Integrating.{found}
 use Rattle.sync_server.specs.Kept.{parts}
 use Rattle.sync_server.specs.Merging.{Merges, records_of}
 use Rattle.sync_server.specs.Opening.{Admits, Admitted, Keeps}
-use Rattle.sync_server.specs.Refusals.{refusal_seen}
 use Rattle.sync_server.specs.declared.kept.Kept.{Kept}
-use Rattle.sync_server.specs.declared.refusal.ChangeRefusal.{ChangeRefusal}
-use Rattle.sync_server.specs.declared.refusal.ChangeRefusal.TheVariants.{Refused, NoMemory as WantsMemory}
-use Rattle.sync_server.specs.declared.refusal.Refusal.{Refusal}
 
 abbrev Known : Type 0
 Known = Server Instr

@@ -1,5 +1,5 @@
 -- Idents and the places of their uuids.
-use Rattle.std.proofs.Common.{◌≡◌, ℕ, zero, suc, ◌+◌, ◌-◌, ◌<◌, ◌≤◌, ◌==◌, Bool, true, false, List, [], ◌∷◌, length, get_or, map, drop, Option, Some, None, if◌then◌else◌, refl, sym, ap, ◌∙◌, subst, arith, add-one, drop-cons}
+use Rattle.std.proofs.Common.{◌≡◌, ℕ, zero, suc, ◌+◌, ◌-◌, ◌<◌, true, false, List, [], ◌∷◌, length, get_or, map, drop, Some, None, if◌then◌else◌, refl, sym, ap, ◌∙◌, subst, arith, add-one, drop-cons}
 use Rattle.std.specs.Prelude.{bytes_eq, slice_get}
 use Rattle.sync_data.specs.declared.instr.Instr.{Instr}
 use Rattle.sync_model.specs.Bytes.{Uuid}

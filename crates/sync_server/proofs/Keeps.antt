@@ -1,17 +1,16 @@
 -- What a server keeps of its history stays right.
-use Rattle.std.proofs.Common.{◌≡◌, ◌≢◌, ℕ, zero, suc, ◌+◌, ◌-◌, ◌<◌, ◌≤◌, ◌==◌, Bool, true, false, List, [], ◌∷◌, ◌++◌, length, get_or, set, map, drop, All, Result, Ok, Err, IfOk, OnOk, OnErr, Option, Some, None, IfSome, is_some, if◌then◌else◌, nat_lt, refl, sym, ap, ◌∙◌, subst, arith, length-append, length-set}
+use Rattle.std.proofs.Common.{◌≡◌, ℕ, zero, suc, ◌+◌, ◌-◌, ◌<◌, ◌≤◌, ◌==◌, Bool, true, false, List, [], ◌∷◌, ◌++◌, length, get_or, set, map, drop, All, Result, Ok, Err, IfOk, OnOk, OnErr, Option, Some, None, IfSome, is_some, if◌then◌else◌, nat_lt, refl, sym, subst, arith, length-append, length-set}
 use Rattle.std.proofs.lemmas.Bool.{eqb-false, ltb-true}
-use Rattle.std.proofs.lemmas.List.Elements.{All-nil, All-cons, All-head, All-tail, All-push, All-append}
+use Rattle.std.proofs.lemmas.List.Elements.{All-nil, All-cons, All-head, All-tail, All-push}
 use Rattle.sync_data.specs.declared.entry.Entry.{Entry}
 use Rattle.sync_data.specs.declared.instr.Instr.{Instr}
 use Rattle.sync_recip.specs.Lists.{entry_of}
 use Rattle.sync_theory.specs.Changesets.{Changeset}
-use Rattle.sync_theory.specs.Grid.{tail}
-use Rattle.sync_theory.specs.Reciprocals.{from_base, put_first, settle}
+use Rattle.sync_theory.specs.Reciprocals.{from_base, settle}
 use Rattle.sync_exchange.specs.Profile.{fits_changeset}
 use Rattle.sync_model.specs.Parts.{Given, extended, with_versions}
-use Rattle.sync_server.specs.History.{HistoryParts, IsHistory, IsEntry, IsOther, IsReciprocal, AreGiven}
-use Rattle.sync_server.specs.Extending.{extended_at, first_extended}
+use Rattle.sync_server.specs.History.{IsHistory, IsEntry, IsOther, IsReciprocal, AreGiven}
+use Rattle.sync_server.specs.Extending.{first_extended}
 
 -- ---- what holds of all holds of each
 all_to : {X : Type 0} (P Q : X → Type 0) (xs : List X) → ((x : X) → P x → Q x) → All P xs → All Q xs

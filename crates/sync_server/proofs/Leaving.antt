@@ -1,12 +1,12 @@
 -- What a crash leaves of records that are added one after the other.
-use Rattle.std.proofs.Common.{◌≡◌, ℕ, zero, suc, ◌+◌, ◌≤◌, Bool, true, false, List, [], ◌∷◌, ◌++◌, Option, length, map, take, refl, sym, ap, ◌∙◌, subst, arith, append_assoc, append-nil, length-append}
+use Rattle.std.proofs.Common.{◌≡◌, ℕ, suc, ◌+◌, List, [], ◌∷◌, ◌++◌, Option, length, map, take, refl, sym, ap, ◌∙◌, subst, arith, append_assoc, length-append}
 use Rattle.std.proofs.lemmas.List.{map-append, take-append-le}
 use Rattle.sync_disk.specs.declared.disk.Disk.{Ghosts}
 use Rattle.sync_disk.specs.Disk.{LeavesOnly}
 use Rattle.sync_disk.proofs.Moments.{and_then, weaker}
 use Rattle.sync_journal.specs.Records.{StandsForPrefix}
 use Rattle.sync_journal.specs.Records.Reading.{Good}
-use Rattle.sync_journal.specs.Stands.{Stands, disk_of}
+use Rattle.sync_journal.specs.Stands.{disk_of}
 use Rattle.sync_journal.proofs.Steps.{at_rest}
 use Rattle.sync_model.specs.Servers.{ServerRecord}
 use Rattle.sync_records.specs.declared.server.ServerRecord.{ServerRecord as CodeRecord}

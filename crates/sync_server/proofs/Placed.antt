@@ -1,6 +1,6 @@
 -- Instructions within the limits act as the model has them act, break by break.
-use Rattle.std.proofs.Common.{◌≡◌, ℕ, zero, suc, ◌<◌, Bool, true, false, not, List, [], ◌∷◌, length, Option, None, Some, Result, Ok, Err, refl, sym, ap, ◌∙◌, subst, arith, if◌then◌else◌, nat_lt, nat_le}
-use Rattle.std.proofs.lemmas.Bool.{ltb-true, ltb-false, le-leb}
+use Rattle.std.proofs.Common.{◌≡◌, ℕ, suc, ◌<◌, Bool, true, false, not, List, [], ◌∷◌, length, Option, None, Some, Result, Ok, Err, refl, ap, subst, arith, if◌then◌else◌, nat_lt, nat_le}
+use Rattle.std.proofs.lemmas.Bool.{ltb-false, le-leb}
 use Rattle.std.specs.Option.{option_and_then, option_map}
 use Rattle.std.specs.List.{AllByRecursion}
 use Rattle.sync_data.specs.declared.instr.Instr.{Instr}

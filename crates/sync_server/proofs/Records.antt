@@ -1,5 +1,5 @@
 -- What a server does by what it keeps is what one does that reads its records.
-use Rattle.std.proofs.Common.{◌≡◌, ℕ, Bool, true, false, List, [], ◌∷◌, ◌++◌, Option, map, refl, sym, ap, ◌∙◌, subst}
+use Rattle.std.proofs.Common.{◌≡◌, ℕ, false, List, ◌++◌, Option, map, sym, ap, ◌∙◌, subst}
 use Rattle.std.proofs.lemmas.List.{map-append}
 use Rattle.sync_data.specs.declared.instr.Instr.{Instr}
 use Rattle.sync_base.specs.States.{State}
@@ -9,13 +9,13 @@ use Rattle.sync_journal.specs.Records.{StandsForPrefix}
 use Rattle.sync_journal.specs.Stands.{Stands, disk_of}
 use Rattle.sync_model.specs.Messages.{Message}
 use Rattle.sync_model.specs.Parts.{Served, parts_of, serve_by, served_of}
-use Rattle.sync_model.specs.Servers.{ServerRecord, ServerStep, no_server, server_of, after_all, serve}
+use Rattle.sync_model.specs.Servers.{ServerRecord, no_server, server_of, serve}
 use Rattle.sync_model.proofs.Holding.{server_append}
 use Rattle.sync_model.proofs.Opening.{server_opens_on, serve_opens}
 use Rattle.sync_model.proofs.Parts.{parts_serve}
 use Rattle.sync_exchange.specs.Profile.{the_profile}
 use Rattle.sync_exchange.specs.Lemmas.Lawful.{real_lawful}
-use Rattle.sync_exchange.specs.Seen.{message_seen, server_bytes}
+use Rattle.sync_exchange.specs.Seen.{server_bytes}
 use Rattle.sync_messages.specs.declared.message.Message.{Message as CodeMessage}
 use Rattle.sync_server.specs.Kept.{parts}
 use Rattle.sync_server.specs.Serving.{Adds, Did, IsServed, IsServerOf, IsStored, LeavesPrefix}

@@ -1,5 +1,5 @@
 -- The longest beginning of a history that a message may bear, entry by entry.
-use Rattle.std.proofs.Common.{◌≡◌, ℕ, zero, suc, ◌+◌, ◌-◌, ◌<◌, ◌≤◌, Bool, true, false, not, ◌&&◌, List, [], ◌∷◌, ◌++◌, length, map, get_or, drop, Option, None, Some, if◌then◌else◌, nat_le, refl, sym, ap, ◌∙◌, subst, arith, add-one, append_assoc, append-nil, length-append, drop-cons, zero-add}
+use Rattle.std.proofs.Common.{◌≡◌, ℕ, zero, suc, ◌+◌, ◌-◌, ◌<◌, ◌≤◌, Bool, true, false, not, ◌&&◌, List, [], ◌∷◌, ◌++◌, length, map, get_or, drop, Option, None, Some, if◌then◌else◌, nat_le, refl, sym, ap, ◌∙◌, subst, arith, add-one, append_assoc, length-append, drop-cons, zero-add}
 use Rattle.std.specs.List.{sum_by}
 use Rattle.std.proofs.lemmas.List.{map-append}
 use Rattle.std.proofs.lemmas.List.Sums.{sum_by-append}

@@ -1,5 +1,5 @@
 -- The loop over the changes of an Upload.
-use Rattle.std.proofs.Common.{◌≡◌, ℕ, zero, suc, ◌+◌, ◌-◌, ◌<◌, ◌≤◌, Bool, true, false, List, [], ◌∷◌, ◌++◌, length, map, drop, get_or, Option, Some, None, Result, Ok, Err, nat_le, is_some, if◌then◌else◌, inl, inr, refl, sym, ap, ◌∙◌, subst, arith, add-one, drop-cons, append-nil, append_assoc}
+use Rattle.std.proofs.Common.{◌≡◌, ℕ, zero, suc, ◌+◌, ◌<◌, ◌≤◌, Bool, true, false, List, [], ◌∷◌, ◌++◌, length, map, drop, get_or, Option, Some, None, Result, Ok, Err, nat_le, is_some, if◌then◌else◌, inl, inr, refl, sym, ap, ◌∙◌, subst, arith, add-one, drop-cons, append-nil, append_assoc}
 use Rattle.std.proofs.Math.ListN.{drop_of_length-le}
 use Rattle.sync_data.specs.declared.instr.Instr.{Instr}
 use Rattle.sync_base.specs.States.{State}
@@ -7,7 +7,7 @@ use Rattle.sync_disk.specs.declared.disk.Disk.{Ghosts}
 use Rattle.sync_messages.specs.Parts.{ChangeParts}
 use Rattle.sync_model.specs.Messages.{Change, Message}
 use Rattle.sync_model.specs.Parts.{Given, Merged, Parts, Served, at_ident, merged_by, merge_by, upload_by, ServedByPartsSoFar}
-use Rattle.sync_model.specs.Servers.{ServerRecord, ServerRefusal, code_of, at_place}
+use Rattle.sync_model.specs.Servers.{ServerRecord, ServerRefusal}
 use Rattle.sync_model.specs.Worlds.{at}
 use Rattle.sync_model.proofs.Loops.{by_parts_begins, by_parts_skips, by_parts_merges, by_parts_refuses, by_parts_ends}
 use Rattle.sync_exchange.specs.Profile.{the_profile}

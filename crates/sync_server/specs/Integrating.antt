@@ -1,5 +1,5 @@
 -- What is asked of a change that an ident makes next.
-use Rattle.std.specs.Prelude.{◌≡◌, ◌≤◌, ℕ, zero, suc, true, List, All, Option, None, Some}
+use Rattle.std.specs.Prelude.{◌≡◌, ℕ, zero, suc, true, List, All, Option, None, Some}
 use Rattle.sync_data.specs.declared.instr.Instr.{Instr}
 use Rattle.sync_recip.specs.Carrying.{Carrying, Fits, entries_of}
 use Rattle.sync_exchange.specs.Profile.{fits_changeset}

@@ -1,5 +1,4 @@
 -- The refusals of the code as those of the model, one line a kind.
-use Rattle.std.specs.Prelude.{ℕ}
 use Rattle.sync_base.specs.Codes.{break_code, mismatch_code}
 use Rattle.sync_model.specs.Servers.{ServerRefusal}
 use Rattle.sync_server.specs.declared.refusal.Refusal.{Refusal}

@@ -8,7 +8,7 @@ use Rattle.sync_disk.specs.Disk.{LeavesOnly}
 use Rattle.sync_journal.specs.Records.{StandsForPrefix}
 use Rattle.sync_journal.specs.Stands.{Stands, disk_of}
 use Rattle.sync_model.specs.Files.{server_opens}
-use Rattle.sync_model.specs.Messages.{Change, Message}
+use Rattle.sync_model.specs.Messages.{Change}
 use Rattle.sync_model.specs.Parts.{Given, Merged, Parts, Served, ServedByPartsSoFar, merge_by, parts_of}
 use Rattle.sync_model.specs.Servers.{ServerRecord, ServerRefusal, ServerStep, no_server, server_of}
 use Rattle.sync_exchange.specs.Profile.{the_profile}

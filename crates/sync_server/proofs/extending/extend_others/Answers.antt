@@ -1,4 +1,4 @@
-use Rattle.std.proofs.Common.{◌≡◌, ℕ, ◌+◌, ◌<◌, length, get_or, set, All, sym, ap, ◌∙◌, subst, arith}
+use Rattle.std.proofs.Common.{◌<◌, get_or, All, sym, ap, ◌∙◌, subst, arith}
 use Rattle.sync_recip.specs.Lists.{entry_of}
 use Rattle.sync_server.proofs.Others.{next_is, next_other, next_own}
 use Rattle.sync_server.proofs.extending.extend_others.Goals as goal

@@ -1,4 +1,4 @@
-use Rattle.std.proofs.Common.{◌≡◌, length}
+use Rattle.std.proofs.Common.{◌≡◌}
 use Rattle.sync_recip.specs.Lists.{entry_of}
 use Rattle.sync_server.specs.Extending.{first_extended}
 use Rattle.sync_server.proofs.extending.extend_others.Given as goal

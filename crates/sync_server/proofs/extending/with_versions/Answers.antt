@@ -1,4 +1,4 @@
-use Rattle.std.proofs.Common.{◌<◌, ◌≤◌, length, arith}
+use Rattle.std.proofs.Common.{arith}
 use Rattle.sync_server.proofs.Others.{versions_before, versions_more}
 use Rattle.sync_server.proofs.extending.with_versions.Goals as goal
 

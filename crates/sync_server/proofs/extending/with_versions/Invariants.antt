@@ -1,4 +1,4 @@
-use Rattle.std.proofs.Common.{◌≡◌, length, map, take}
+use Rattle.std.proofs.Common.{◌≡◌, map, take}
 use Rattle.sync_recip.specs.Lists.{entry_of}
 use Rattle.sync_model.specs.Parts.{with_versions}
 use Rattle.sync_server.proofs.extending.with_versions.Given as goal

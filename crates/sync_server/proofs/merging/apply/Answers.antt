@@ -1,4 +1,4 @@
-use Rattle.std.proofs.Common.{◌≡◌, ◌<◌, ◌≤◌, Ok, Err, refl, sym, ap, ◌∙◌, subst, arith}
+use Rattle.std.proofs.Common.{Err, refl, subst, arith}
 use Rattle.sync_base.specs.Codes.{break_code}
 use Rattle.sync_store.specs.Applying.{AppliesAll}
 use Rattle.sync_exchange.specs.Lemmas.Lawful.{fitting_small}

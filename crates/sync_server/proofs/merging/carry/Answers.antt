@@ -1,4 +1,4 @@
-use Rattle.std.proofs.Common.{◌≡◌, ℕ, Ok, Err, refl, ap, ◌∙◌, subst}
+use Rattle.std.proofs.Common.{refl, subst}
 use Rattle.sync_base.specs.Codes.{mismatch_code}
 use Rattle.sync_transform.specs.Sets.{made_by}
 use Rattle.sync_recip.specs.Carrying.{IsStuckBy}

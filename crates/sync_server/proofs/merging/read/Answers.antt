@@ -1,4 +1,4 @@
-use Rattle.std.proofs.Common.{◌≡◌, Ok, Err, refl, sym, ap, ◌∙◌, subst}
+use Rattle.std.proofs.Common.{sym, ap, ◌∙◌, subst}
 use Rattle.sync_codec.specs.Decoding.{Refuses, bad_bytes, instrs_in}
 use Rattle.sync_model.specs.Servers.{BadBytes}
 use Rattle.sync_exchange.specs.Profile.{unspell}

@@ -1,6 +1,6 @@
-use Rattle.std.proofs.Common.{◌≡◌, ◌-◌, Option, IfSome, is_some, length, get_or, map, nat_lt, sym, ap, ◌∙◌, subst}
+use Rattle.std.proofs.Common.{length, map, sym, ap, subst}
 use Rattle.sync_recip.specs.Lists.{entry_of}
-use Rattle.sync_server.specs.History.{HistoryParts, IsReciprocal, AreGiven}
+use Rattle.sync_server.specs.History.{HistoryParts, AreGiven}
 use Rattle.sync_server.proofs.Keeps.{others_at}
 use Rattle.sync_server.proofs.history.History.at.Goals as goal
 

@@ -1,4 +1,4 @@
-use Rattle.std.proofs.Common.{◌≡◌, ◌<◌, ◌++◌, ◌∷◌, [], length, map, sym, ap, ◌∙◌, subst, arith}
+use Rattle.std.proofs.Common.{◌<◌, length, map, sym, ap, ◌∙◌, subst}
 use Rattle.sync_recip.specs.Lists.{entry_of}
 use Rattle.sync_model.specs.Parts.{with_versions}
 use Rattle.sync_server.specs.History.{HistoryParts}

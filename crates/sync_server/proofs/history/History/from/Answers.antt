@@ -1,4 +1,4 @@
-use Rattle.std.proofs.Common.{◌≡◌, length, map, drop, get_or, All, sym, ap, ◌∙◌, subst}
+use Rattle.std.proofs.Common.{length, map, drop, All, sym, ap, ◌∙◌, subst}
 use Rattle.std.proofs.lemmas.List.{take_rest}
 use Rattle.sync_recip.specs.Lists.{entry_of}
 use Rattle.sync_server.specs.History.{IsEntry}

@@ -1,14 +1,14 @@
-use Rattle.std.proofs.Common.{◌≡◌, ◌-◌, ◌<◌, ◌∷◌, length, map, set, get_or, Some, All, refl, sym, ap, ◌∙◌, subst, arith, length-set}
+use Rattle.std.proofs.Common.{◌≡◌, ◌-◌, ◌<◌, length, get_or, All, sym, ap, ◌∙◌, subst, arith, length-set}
 use Rattle.std.proofs.lemmas.List.{with_items_is}
 use Rattle.std.specs.Vec.{with_item}
 use Rattle.sync_transform.specs.Sets.{made_by}
 use Rattle.sync_recip.specs.Carrying.{entries_of}
 use Rattle.sync_recip.specs.Lists.{entry_of}
-use Rattle.sync_model.specs.Parts.{Given, at_ident, settled}
+use Rattle.sync_model.specs.Parts.{at_ident, settled}
 use Rattle.sync_server.specs.History.{HistoryParts, with_entry}
 use Rattle.sync_server.specs.Extending.{first_extended}
-use Rattle.sync_server.proofs.Idents.{IsAt, is_at}
-use Rattle.sync_server.proofs.Keeps.{whatever, on_ok, the_first, the_same}
+use Rattle.sync_server.proofs.Idents.{is_at}
+use Rattle.sync_server.proofs.Keeps.{on_ok, the_first, the_same}
 use Rattle.sync_server.proofs.Integrated as made
 use Rattle.sync_server.proofs.history.History.integrate.Goals as goal
 

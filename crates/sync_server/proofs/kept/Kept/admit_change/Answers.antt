@@ -1,7 +1,7 @@
-use Rattle.std.proofs.Common.{◌≡◌, ◌-◌, ◌≤◌, Err, sym, ap, ◌∙◌, subst}
+use Rattle.std.proofs.Common.{◌-◌, ◌≤◌, Err, sym, ap, ◌∙◌, subst}
 use Rattle.sync_exchange.specs.Profile.{the_profile}
 use Rattle.sync_exchange.specs.Seen.{change_seen}
-use Rattle.sync_model.specs.Parts.{at_ident, merge_by}
+use Rattle.sync_model.specs.Parts.{merge_by}
 use Rattle.sync_server.specs.Kept.{parts}
 use Rattle.sync_server.specs.Merging.{Merges}
 use Rattle.sync_server.specs.Refusals.{refusal_seen}

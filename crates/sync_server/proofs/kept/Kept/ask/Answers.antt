@@ -1,4 +1,4 @@
-use Rattle.std.proofs.Common.{◌≡◌, ◌≤◌, Bool, true, false, length, drop, sym, ap, ◌∙◌, subst, arith}
+use Rattle.std.proofs.Common.{◌≤◌, length, drop, sym, ap, ◌∙◌, arith}
 use Rattle.sync_model.specs.Parts.{at_ident}
 use Rattle.sync_server.specs.Sending.{downloads, starts_second}
 use Rattle.sync_server.proofs.Sending.{asked, copied_some, first_refused}

@@ -5,7 +5,7 @@ use Rattle.sync_model.specs.Parts.{merge_by}
 use Rattle.sync_server.specs.Kept.{parts}
 use Rattle.sync_server.specs.History.{HistoryParts}
 use Rattle.sync_server.proofs.Adding.{idents_length}
-use Rattle.sync_server.proofs.Steps.{merged, broke, next_of}
+use Rattle.sync_server.proofs.Steps.{next_of}
 use Rattle.sync_server.proofs.kept.Kept.merge.Goals as goal
 
 pub apply-requires : goal.apply-requires

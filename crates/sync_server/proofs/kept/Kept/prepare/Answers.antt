@@ -1,4 +1,4 @@
-use Rattle.std.proofs.Common.{◌≡◌, ◌<◌, ◌≤◌, Ok, Err, None, Some, List, length, refl, sym, ap, ◌∙◌, subst, arith}
+use Rattle.std.proofs.Common.{◌≡◌, ◌<◌, Ok, Err, None, length, sym, ap, ◌∙◌, subst, arith}
 use Rattle.sync_model.specs.Profile.{needs}
 use Rattle.sync_exchange.specs.Profile.{the_profile}
 use Rattle.sync_data.specs.declared.instr.Instr.{Instr}

@@ -1,4 +1,4 @@
-use Rattle.std.proofs.Common.{◌≡◌, ◌∷◌, [], true, false, sym, ap, ◌∙◌, subst}
+use Rattle.std.proofs.Common.{◌∷◌, [], sym, ap, subst}
 use Rattle.sync_exchange.specs.Seen.{change_seen}
 use Rattle.sync_model.specs.Servers.{ServerRecord}
 use Rattle.sync_server.specs.Merging.{records_of}

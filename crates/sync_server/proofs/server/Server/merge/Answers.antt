@@ -1,4 +1,4 @@
-use Rattle.std.proofs.Common.{◌≡◌, Err, length, sym, ap, ◌∙◌, subst}
+use Rattle.std.proofs.Common.{Err, length, sym, ap, subst}
 use Rattle.sync_data.specs.declared.instr.Instr.{Instr}
 use Rattle.sync_base.specs.States.{State}
 use Rattle.sync_exchange.specs.Profile.{the_profile}

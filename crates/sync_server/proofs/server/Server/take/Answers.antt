@@ -1,4 +1,3 @@
-use Rattle.std.proofs.Common.{◌≡◌, false}
 use Rattle.sync_exchange.specs.Seen.{message_seen}
 use Rattle.sync_server.proofs.Keeps.{on_ok, on_both}
 use Rattle.sync_server.proofs.Records.{did, leaves, stores}

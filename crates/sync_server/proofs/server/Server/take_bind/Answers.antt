@@ -1,4 +1,4 @@
-use Rattle.std.proofs.Common.{◌≡◌, ◌∷◌, [], map, sym, ap, ◌∙◌, subst}
+use Rattle.std.proofs.Common.{map, sym, ◌∙◌, subst}
 use Rattle.sync_exchange.specs.Profile.{the_profile}
 use Rattle.sync_model.specs.Servers.{place_of}
 use Rattle.sync_server.specs.Kept.{parts}

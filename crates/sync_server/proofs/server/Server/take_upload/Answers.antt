@@ -1,18 +1,17 @@
-use Rattle.std.proofs.Common.{◌≡◌, ◌≤◌, ◌<◌, ◌+◌, ◌∷◌, [], Ok, Some, None, List, Option, length, map, drop, IfOk, refl, sym, ap, ◌∙◌, subst, arith}
+use Rattle.std.proofs.Common.{◌+◌, map, drop, refl, ap, ◌∙◌, subst, arith}
 use Rattle.sync_data.specs.declared.instr.Instr.{Instr}
 use Rattle.sync_base.specs.States.{State}
 use Rattle.sync_exchange.specs.Profile.{the_profile}
 use Rattle.sync_exchange.specs.Seen.{change_seen}
-use Rattle.sync_model.specs.Messages.{Change, Message}
+use Rattle.sync_model.specs.Messages.{Message}
 use Rattle.sync_model.specs.Parts.{Served, at_ident, upload_by}
-use Rattle.sync_model.specs.Servers.{ServerRecord}
 use Rattle.sync_messages.specs.declared.message.Message.TheVariants as CodeMessage
 use Rattle.sync_server.specs.Kept.{parts}
 use Rattle.sync_server.specs.Refusals.{refusal_seen}
 use Rattle.sync_server.specs.Sending.{refusal_message}
-use Rattle.sync_server.specs.Serving.{Adds, LeavesPrefix, IsServed, IsTaken, UploadedSoFar, change_records}
+use Rattle.sync_server.specs.Serving.{Adds, LeavesPrefix, IsServed, IsTaken, UploadedSoFar}
 use Rattle.sync_server.proofs.Sending.{copied_some}
-use Rattle.sync_server.proofs.Uploading.{Answered, at_given, begins, ends, fails, goes_on, left_at, none_left, some_within, stops}
+use Rattle.sync_server.proofs.Uploading.{at_given, begins, ends, fails, goes_on, left_at, none_left, some_within, stops}
 use Rattle.sync_server.proofs.server.Server.take_upload.Goals as goal
 
 pub loop-change-init : goal.loop-change-init
