@@ -154,7 +154,7 @@ module _ (leaves : Leaves) where
       ∙ more ∙ ap Good (append_assoc records (next ∷ []) (take (standing leaves (length first)) others))
       ∙ ap (λ (n : ℕ). Good (records ++ take n (next ∷ others))) (sym (four_more leaves (length first)))
 
-length-strokes : (end : ℕ) (next : List (List ℕ)) → length (strokes_of_all end next) ≡ 4 * length next
+pub length-strokes : (end : ℕ) (next : List (List ℕ)) → length (strokes_of_all end next) ≡ 4 * length next
 length-strokes end [] = refl
 length-strokes end (next ∷ others) = omega (arith, length-strokes (end + 5 + length next) others)
 
