@@ -8,6 +8,5 @@ pub mod Calls
 pub mod Taken
 pub mod Downloads
 pub mod Records
-pub mod Gates
 pub mod Asking
 pub mod Uploads

@@ -1,12 +1,17 @@
 -- What the calls of a client answer, and what they leave.
 use Rattle.std.specs.Prelude.{◌≡◌, ℕ, List, ◌++◌, map, false, Bool, Option, Result, Ok, Err}
 use Rattle.sync_disk.specs.declared.disk.Disk.{Ghosts}
+use Rattle.sync_disk.specs.Disk.{LeavesOnly}
+use Rattle.sync_disk.specs.Strokes.{Stroke}
 use Rattle.sync_journal.specs.declared.journal.Journal.{Journal}
-use Rattle.sync_journal.specs.Stands.{Stands}
+use Rattle.sync_journal.specs.Records.{StandsForPrefix}
+use Rattle.sync_journal.specs.Several.{Asks, AsksSome}
+use Rattle.sync_journal.specs.Stands.{Stands, disk_of}
 use Rattle.sync_model.specs.Clients.{ClientRecord, ClientRefusal, ClientStep}
 use Rattle.sync_exchange.specs.Seen.{client_bytes}
 use Rattle.sync_client.specs.declared.client.Client.{Client}
 use Rattle.sync_client.specs.declared.refusal.ClientRefusal.{ClientRefusal as CodeRefusal}
+use Rattle.sync_client.specs.declared.refusal.ClientRefusal.TheVariants as codes
 use Rattle.sync_client.specs.declared.replica.Replica.{Replica}
 use Rattle.sync_client.specs.Keeping.{Keeps}
 use Rattle.sync_client.specs.Refusals.{refusal_seen, IfSeen}
@@ -44,3 +49,16 @@ module _ {D : Type 0} {G : Ghosts D} where
   abbrev pub Stores : {A B : Type 0} → (content : D → Option (List ℕ)) (images : D → List ℕ → Type 0) → ClientStep A → List ClientRecord → Client D G → Result B CodeRefusal → Type 0
   Stores content images did records new (Ok a) = IsStored content images (records ++ did.records) new
   Stores content images did records new (Err why) = IfSeen (refusal_seen why) (λ w. IsStored content images (records ++ did.records) new)
+
+  -- a crash at any moment of a call leaves what the journal held and some of these records, from the first on
+  abbrev pub LeavesPrefix : (content : D → Option (List ℕ)) (images : D → List ℕ → Type 0) (moment : D → ℕ) (images_since : D → ℕ → List ℕ → Type 0) → List ClientRecord → Client D G → Client D G → Type 0
+  LeavesPrefix content images moment images_since next old new = (rs : List (List ℕ)) → Stands content images rs old.journal → LeavesOnly moment images_since (disk_of old.journal) (disk_of new.journal) (StandsForPrefix rs (map client_bytes next))
+
+  -- A call asked the disk for the appends of the step's records: for all of them, or for some up to a fault. After want of
+  -- memory nothing is said.
+  abbrev pub Asked : {A B : Type 0} → (D → List Stroke) → ClientStep A → Client D G → Client D G → Result B CodeRefusal → Type 0
+  Asked strokes did old new (Ok a) = Asks strokes (map client_bytes did.records) old.journal new.journal
+  Asked strokes did old new (Err codes.DiskFault) = AsksSome strokes (map client_bytes did.records) old.journal new.journal
+  Asked strokes did old new (Err codes.NoMemory) = Unit {0}
+  Asked strokes did old new (Err codes.Closed) = Unit {0}
+  Asked strokes did old new (Err why) = Asks strokes (map client_bytes did.records) old.journal new.journal

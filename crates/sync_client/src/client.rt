@@ -1,9 +1,11 @@
-ghost use Rattle.std.specs.Prelude.{◌≡◌, ◌↔◌, ◌⊎◌, ◌≤◌, ◌++◌, ◌∷◌, [], ℕ, List, map, IsErrOf, IfErr, IfOk, OnOk, OnErr, true, false};
-ghost use Rattle.sync_disk.specs.Disk.{Rose};
+ghost use Rattle.std.specs.Prelude.{◌≡◌, ◌↔◌, ◌⊎◌, ◌≤◌, ◌++◌, ◌∷◌, [], ℕ, List, length, map, Some, IsErrOf, IfErr, IfOk, OnOk, OnErr, true, false};
+ghost use Rattle.sync_disk.specs.Disk.{LeavesOnly, Rose, SameDisk, Told};
+ghost use Rattle.sync_disk.specs.Faults.{armed, disarmed, has_stopped};
 ghost use Rattle.sync_model.specs.Clients as model;
 ghost use Rattle.sync_exchange.specs.Profile.{the_profile};
 ghost use Rattle.sync_exchange.specs.Seen.{client_bytes, client_seen};
-ghost use Rattle.sync_journal.specs.Stands.{disk_of};
+ghost use Rattle.sync_journal.specs.Records.{StandsForPrefix};
+ghost use Rattle.sync_journal.specs.Stands.{Stands, disk_of};
 ghost use Rattle.sync_client.specs.Refusals.{refusal_seen, IfSeen};
 
 use crate::refusal::ClientRefusal;
@@ -11,7 +13,7 @@ use crate::replica::Replica;
 use crate::transactions::Made;
 use std::alloc::Global;
 use sync_data::{Blob, Id, Instr};
-use sync_disk::Disk;
+use sync_disk::{Disk, Leaves, MemoryDisk};
 use sync_journal::{Journal, JournalRefusal};
 use sync_records::ClientRecord;
 
@@ -26,15 +28,20 @@ pub struct Client<D: Disk> {
 }
 
 impl<D: Disk> Client<D> {
-    ghost use Rattle.sync_client.specs.Clients.{IsClientOf, IsStored, Says, Stores, is_closed, journal_of, replica_of};
+    ghost use Rattle.sync_client.specs.Clients.{Asked, IsClientOf, IsStored, LeavesPrefix, Says, Stores, is_closed, journal_of, replica_of};
 
     /// Records the client's uuid. Errors: Closed, AlreadyBorn, DiskFault, NoMemory.
     pub fn born(&mut self, id: Id) -> Result<(), ClientRefusal>
         ensures step { (records : List model.ClientRecord) → IsClientOf records self.old → Says (model.born (model.client_of the_profile records) id) records self.new result }
         ensures stored { (records : List model.ClientRecord) → IsClientOf records self.old → IsStored D.content D.images records self.old → Stores D.content D.images (model.born (model.client_of the_profile records) id) records self.new result }
+        ensures any_moment { (records : List model.ClientRecord) → IsClientOf records self.old → IsStored D.content D.images records self.old
+            → LeavesOnly D.moment D.images_since (disk_of (journal_of self.old)) (disk_of (journal_of self.new)) (StandsForPrefix (map client_bytes records) (map client_bytes (model.born (model.client_of the_profile records) id).records)) }
+        ensures strokes { (records : List model.ClientRecord) → IsClientOf records self.old → IsStored D.content D.images records self.old → Asked D.strokes (model.born (model.client_of the_profile records) id) self.old self.new result }
         ensures closed { IsErrOf result ClientRefusal.Closed ↔ (is_closed self.old ≡ true) }
         ensures closes { IsErrOf result ClientRefusal.DiskFault ⊎ IsErrOf result ClientRefusal.NoMemory → is_closed self.new ≡ true }
         ensures fault { IsErrOf result ClientRefusal.DiskFault → Rose (D.faults (disk_of (journal_of self.old))) (D.faults (disk_of (journal_of self.new))) }
+        ensures origin { D.origin (disk_of (journal_of self.new)) ≡ D.origin (disk_of (journal_of self.old)) }
+        ensures told { Told (D.content (disk_of (journal_of self.old))) (λ b. (c : List ℕ) × (D.content (disk_of (journal_of self.new)) ≡ Some c)) }
     {
         if self.closed {
             return Err(ClientRefusal::Closed);
@@ -56,9 +63,14 @@ impl<D: Disk> Client<D> {
     pub fn commit(&mut self, ms: u64, edits: Vec<Instr>) -> Result<u32, ClientRefusal>
         ensures step { (records : List model.ClientRecord) → IsClientOf records self.old → Says (model.commit the_profile (model.client_of the_profile records) ms edits.items) records self.new result }
         ensures stored { (records : List model.ClientRecord) → IsClientOf records self.old → IsStored D.content D.images records self.old → Stores D.content D.images (model.commit the_profile (model.client_of the_profile records) ms edits.items) records self.new result }
+        ensures any_moment { (records : List model.ClientRecord) → IsClientOf records self.old → IsStored D.content D.images records self.old
+            → LeavesOnly D.moment D.images_since (disk_of (journal_of self.old)) (disk_of (journal_of self.new)) (StandsForPrefix (map client_bytes records) (map client_bytes (model.commit the_profile (model.client_of the_profile records) ms edits.items).records)) }
+        ensures strokes { (records : List model.ClientRecord) → IsClientOf records self.old → IsStored D.content D.images records self.old → Asked D.strokes (model.commit the_profile (model.client_of the_profile records) ms edits.items) self.old self.new result }
         ensures closed { IsErrOf result ClientRefusal.Closed ↔ (is_closed self.old ≡ true) }
         ensures closes { IsErrOf result ClientRefusal.DiskFault ⊎ IsErrOf result ClientRefusal.NoMemory → is_closed self.new ≡ true }
         ensures fault { IsErrOf result ClientRefusal.DiskFault → Rose (D.faults (disk_of (journal_of self.old))) (D.faults (disk_of (journal_of self.new))) }
+        ensures origin { D.origin (disk_of (journal_of self.new)) ≡ D.origin (disk_of (journal_of self.old)) }
+        ensures told { Told (D.content (disk_of (journal_of self.old))) (λ b. (c : List ℕ) × (D.content (disk_of (journal_of self.new)) ≡ Some c)) }
     {
         if self.closed {
             return Err(ClientRefusal::Closed);
@@ -77,12 +89,16 @@ impl<D: Disk> Client<D> {
     fn append_made(&mut self, ms: u64, made: Made) -> Result<u32, ClientRefusal>
         requires { is_closed self.old ≡ false }
         ensures stored { (records : List model.ClientRecord) → IsStored D.content D.images records self.old → OnOk result (IsStored D.content D.images (records ++ model.Made made.number ms made.body.items ∷ []) self.new) }
+        ensures any_moment { LeavesPrefix D.content D.images D.moment D.images_since (model.Made made.number ms made.body.items ∷ []) self.old self.new }
+        ensures strokes { Told (D.content (disk_of (journal_of self.old))) (λ b. Asked D.strokes (model.appends (model.Made made.number ms made.body.items) made.number) self.old self.new result) }
         ensures number { IfOk result (λ number. number ≡ made.number) }
         ensures replica { replica_of self.new ≡ replica_of self.old }
         ensures stays_open { OnOk result (is_closed self.new ≡ false) }
         ensures closes { OnErr result (is_closed self.new ≡ true) }
         ensures refused { IfErr result (λ why. (why ≡ ClientRefusal.DiskFault) ⊎ (why ≡ ClientRefusal.NoMemory)) }
         ensures fault { IsErrOf result ClientRefusal.DiskFault → Rose (D.faults (disk_of (journal_of self.old))) (D.faults (disk_of (journal_of self.new))) }
+        ensures origin { D.origin (disk_of (journal_of self.new)) ≡ D.origin (disk_of (journal_of self.old)) }
+        ensures told { Told (D.content (disk_of (journal_of self.old))) (λ b. (c : List ℕ) × (D.content (disk_of (journal_of self.new)) ≡ Some c)) }
     {
         let Ok(body) = Blob::new(self.alloc, made.body.as_slice()) else {
             self.closed = true;
@@ -100,9 +116,14 @@ impl<D: Disk> Client<D> {
     pub fn upgrade(&mut self) -> Result<bool, ClientRefusal>
         ensures step { (records : List model.ClientRecord) → IsClientOf records self.old → Says (model.upgrade (model.client_of the_profile records)) records self.new result }
         ensures stored { (records : List model.ClientRecord) → IsClientOf records self.old → IsStored D.content D.images records self.old → Stores D.content D.images (model.upgrade (model.client_of the_profile records)) records self.new result }
+        ensures any_moment { (records : List model.ClientRecord) → IsClientOf records self.old → IsStored D.content D.images records self.old
+            → LeavesOnly D.moment D.images_since (disk_of (journal_of self.old)) (disk_of (journal_of self.new)) (StandsForPrefix (map client_bytes records) (map client_bytes (model.upgrade (model.client_of the_profile records)).records)) }
+        ensures strokes { (records : List model.ClientRecord) → IsClientOf records self.old → IsStored D.content D.images records self.old → Asked D.strokes (model.upgrade (model.client_of the_profile records)) self.old self.new result }
         ensures closed { IsErrOf result ClientRefusal.Closed ↔ (is_closed self.old ≡ true) }
         ensures closes { IsErrOf result ClientRefusal.DiskFault ⊎ IsErrOf result ClientRefusal.NoMemory → is_closed self.new ≡ true }
         ensures fault { IsErrOf result ClientRefusal.DiskFault → Rose (D.faults (disk_of (journal_of self.old))) (D.faults (disk_of (journal_of self.new))) }
+        ensures origin { D.origin (disk_of (journal_of self.new)) ≡ D.origin (disk_of (journal_of self.old)) }
+        ensures told { Told (D.content (disk_of (journal_of self.old))) (λ b. (c : List ℕ) × (D.content (disk_of (journal_of self.new)) ≡ Some c)) }
     {
         if self.closed {
             return Err(ClientRefusal::Closed);
@@ -135,17 +156,21 @@ impl<D: Disk> Client<D> {
     }
 
     /// Adds a record to the journal. It closes the client where that fails.
-    pub(crate) fn append(&mut self, record: &ClientRecord) -> Result<(), ClientRefusal>
+    pub(crate) fn append(&mut self, added: &ClientRecord) -> Result<(), ClientRefusal>
         requires { is_closed self.old ≡ false }
-        ensures stored { (records : List model.ClientRecord) → IsStored D.content D.images records self.old → OnOk result (IsStored D.content D.images (records ++ client_seen record.now ∷ []) self.new) }
+        ensures stored { (records : List model.ClientRecord) → IsStored D.content D.images records self.old → OnOk result (IsStored D.content D.images (records ++ client_seen added.now ∷ []) self.new) }
+        ensures any_moment { LeavesPrefix D.content D.images D.moment D.images_since (client_seen added.now ∷ []) self.old self.new }
+        ensures strokes { Told (D.content (disk_of (journal_of self.old))) (λ b. Asked D.strokes (model.appends (client_seen added.now) tt) self.old self.new result) }
         ensures replica { replica_of self.new ≡ replica_of self.old }
         ensures stays_open { OnOk result (is_closed self.new ≡ false) }
         ensures closes { IsErrOf result ClientRefusal.DiskFault ⊎ IsErrOf result ClientRefusal.NoMemory → is_closed self.new ≡ true }
         ensures refused { IfErr result (λ why. (why ≡ ClientRefusal.DiskFault) ⊎ (why ≡ ClientRefusal.NoMemory)) }
         ensures later { D.faults (disk_of (journal_of self.old)) ≤ D.faults (disk_of (journal_of self.new)) }
         ensures fault { IsErrOf result ClientRefusal.DiskFault → Rose (D.faults (disk_of (journal_of self.old))) (D.faults (disk_of (journal_of self.new))) }
+        ensures origin { D.origin (disk_of (journal_of self.new)) ≡ D.origin (disk_of (journal_of self.old)) }
+        ensures told { Told (D.content (disk_of (journal_of self.old))) (λ b. (c : List ℕ) × (D.content (disk_of (journal_of self.new)) ≡ Some c)) }
     {
-        let Ok(bytes) = record.record_bytes(self.alloc) else {
+        let Ok(bytes) = added.record_bytes(self.alloc) else {
             self.closed = true;
             return Err(ClientRefusal::NoMemory);
         };
@@ -160,5 +185,41 @@ impl<D: Disk> Client<D> {
                 Err(ClientRefusal::NoMemory)
             }
         }
+    }
+}
+
+impl Client<MemoryDisk> {
+    ghost use Rattle.sync_client.specs.Clients.{is_closed, journal_of, replica_of};
+
+    /// Arms the disk that it holds, and changes nothing else.
+    pub fn arm(&mut self, at: u32, leaves: Leaves)
+        requires { 1 ≤ at }
+        ensures origin { ⟦<MemoryDisk as Disk>⟧.origin (disk_of (journal_of self.new)) ≡ armed at leaves (⟦<MemoryDisk as Disk>⟧.origin (disk_of (journal_of self.old))) (length (⟦<MemoryDisk as Disk>⟧.strokes (disk_of (journal_of self.old)))) }
+        ensures same { SameDisk ⟦<MemoryDisk as Disk>⟧.content ⟦<MemoryDisk as Disk>⟧.strokes ⟦<MemoryDisk as Disk>⟧.images ⟦<MemoryDisk as Disk>⟧.faults ⟦<MemoryDisk as Disk>⟧.failing (disk_of (journal_of self.old)) (disk_of (journal_of self.new)) }
+        ensures closed { is_closed self.new ≡ is_closed self.old }
+        ensures replica { replica_of self.new ≡ replica_of self.old }
+        ensures stands { (records : List (List ℕ)) → Stands ⟦<MemoryDisk as Disk>⟧.content ⟦<MemoryDisk as Disk>⟧.images records (journal_of self.old)
+            → Stands ⟦<MemoryDisk as Disk>⟧.content ⟦<MemoryDisk as Disk>⟧.images records (journal_of self.new) }
+    {
+        self.journal.arm(at, leaves);
+    }
+
+    /// Disarms the disk that it holds, and changes nothing else.
+    pub fn disarm(&mut self)
+        ensures origin { ⟦<MemoryDisk as Disk>⟧.origin (disk_of (journal_of self.new)) ≡ disarmed (⟦<MemoryDisk as Disk>⟧.origin (disk_of (journal_of self.old))) (length (⟦<MemoryDisk as Disk>⟧.strokes (disk_of (journal_of self.old)))) }
+        ensures same { SameDisk ⟦<MemoryDisk as Disk>⟧.content ⟦<MemoryDisk as Disk>⟧.strokes ⟦<MemoryDisk as Disk>⟧.images ⟦<MemoryDisk as Disk>⟧.faults ⟦<MemoryDisk as Disk>⟧.failing (disk_of (journal_of self.old)) (disk_of (journal_of self.new)) }
+        ensures closed { is_closed self.new ≡ is_closed self.old }
+        ensures replica { replica_of self.new ≡ replica_of self.old }
+        ensures stands { (records : List (List ℕ)) → Stands ⟦<MemoryDisk as Disk>⟧.content ⟦<MemoryDisk as Disk>⟧.images records (journal_of self.old)
+            → Stands ⟦<MemoryDisk as Disk>⟧.content ⟦<MemoryDisk as Disk>⟧.images records (journal_of self.new) }
+    {
+        self.journal.disarm();
+    }
+
+    /// Whether the disk that it holds has stopped.
+    pub fn stopped(&self) -> bool
+        ensures { result ≡ has_stopped (⟦<MemoryDisk as Disk>⟧.origin (disk_of (journal_of self.now))).stop (length (⟦<MemoryDisk as Disk>⟧.strokes (disk_of (journal_of self.now)))) }
+    {
+        self.journal.stopped()
     }
 }

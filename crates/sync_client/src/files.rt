@@ -1,9 +1,10 @@
-ghost use Rattle.std.specs.Prelude.{◌≡◌, ◌≤◌, ℕ, IfOk, IfErr, false};
-ghost use Rattle.sync_data.specs.Payload.{capped};
-ghost use Rattle.sync_disk.specs.Disk.{Rose, Told};
-ghost use Rattle.sync_journal.specs.Records.{lists};
+ghost use Rattle.std.specs.Prelude.{◌≡◌, ◌≤◌, ℕ, List, IfOk, IfErr, Some, false};
+ghost use Rattle.sync_disk.specs.Disk.{LeavesOnly, Rose, Told};
+ghost use Rattle.sync_disk.specs.Faults.{IsSound};
+ghost use Rattle.sync_journal.specs.Records.{lists, records_of};
+ghost use Rattle.sync_journal.specs.Records.Reading.{Good, BadAt};
 ghost use Rattle.sync_journal.specs.Stands.{disk_of};
-ghost use Rattle.sync_client.specs.Files.{gate_of, BadRecordAt};
+ghost use Rattle.sync_client.specs.Files.{BadRecordAt};
 ghost use Rattle.sync_client.specs.Reading.{ReadAll};
 
 use crate::client::Client;
@@ -11,7 +12,7 @@ use crate::opening::ReadRefusal;
 use crate::replica::Replica;
 use std::alloc::Global;
 use sync_disk::Disk;
-use sync_journal::{Journal, OpenCause, OpenRefusal};
+use sync_journal::{Journal, OpenCause, OpenRefusal, gate_of};
 
 impl<D: Disk> Client<D> {
     ghost use Rattle.sync_client.specs.Clients.{is_closed, journal_of, replica_of};
@@ -22,9 +23,22 @@ impl<D: Disk> Client<D> {
     pub fn open(alloc: Global, disk: D) -> Result<Client<D>, OpenRefusal<D>>
         ensures opened { Told (D.content disk) (λ b. IfOk result (Opened D.content D.images b)) }
         ensures bad { Told (D.content disk) (λ b. IfErr result (λ e. (place : ℕ) → e.cause ≡ OpenCause.BadFile place → BadPlace b place)) }
+        ensures kept { Told (D.content disk) (λ b. IfErr result (λ e. (place : ℕ) → e.cause ≡ OpenCause.BadFile place → records_of b ≡ BadAt place → D.content e.disk ≡ Some b)) }
+        ensures same { Told (D.content disk) (λ b. IfErr result (λ e. (place : ℕ) → e.cause ≡ OpenCause.BadFile place → (c : List ℕ) × (D.content e.disk ≡ Some c) × (records_of c ≡ records_of b))) }
+
+        // Where each crash before would have left the same records, each crash since its start leaves them.
+        ensures any_moment { (records : List (List ℕ)) → Told (D.content disk) (λ b. ((c : List ℕ) → D.images disk c → records_of c ≡ Good records)
+            → IfOk result (λ client. LeavesOnly D.moment D.images_since disk (disk_of (journal_of client)) (λ c. records_of c ≡ Good records))) }
+        ensures any_moment_err { (records : List (List ℕ)) → Told (D.content disk) (λ b. ((c : List ℕ) → D.images disk c → records_of c ≡ Good records)
+            → IfErr result (λ e. LeavesOnly D.moment D.images_since disk e.disk (λ c. records_of c ≡ Good records))) }
+
+        // The disk: what no call changes, and the cause of a fault.
+        ensures origin { IfOk result (λ c. D.origin (disk_of (journal_of c)) ≡ D.origin disk) }
+        ensures origin_err { IfErr result (λ e. D.origin e.disk ≡ D.origin disk) }
         ensures later { IfOk result (λ c. D.faults disk ≤ D.faults (disk_of (journal_of c))) }
         ensures later_err { IfErr result (λ e. D.faults disk ≤ D.faults e.disk) }
         ensures fault { IfErr result (λ e. e.cause ≡ OpenCause.DiskFault → Rose (D.faults disk) (D.faults e.disk)) }
+        ensures sound { Told (D.content disk) (λ b. IsSound (D.origin disk) → IfErr result (λ e. e.cause ≡ OpenCause.DiskFault → ⊥)) }
     {
         match Journal::open(alloc, disk) {
             Ok((journal, records)) => Client::read_from(alloc, journal, records),
@@ -47,7 +61,7 @@ impl<D: Disk> Client<D> {
     {
         let mut replica = match Replica::new(alloc) {
             Ok(replica) => replica,
-            Err(_) => return Err(refused(journal, OpenCause::NoMemory)),
+            Err(_) => return Err(journal.refuse(OpenCause::NoMemory)),
         };
         match replica.admit_all(alloc, records.as_slice()) {
             Ok(()) => Ok(Client {
@@ -56,35 +70,11 @@ impl<D: Disk> Client<D> {
                 replica,
                 closed: false,
             }),
-            Err(ReadRefusal::NoMemory) => Err(refused(journal, OpenCause::NoMemory)),
+            Err(ReadRefusal::NoMemory) => Err(journal.refuse(OpenCause::NoMemory)),
             Err(ReadRefusal::BadRecord { place }) => {
                 let place = gate_of(records.as_slice(), place);
-                Err(refused(journal, OpenCause::BadFile { place }))
+                Err(journal.refuse(OpenCause::BadFile { place }))
             }
         }
     }
-}
-
-fn refused<D: Disk>(journal: Journal<D>, cause: OpenCause) -> OpenRefusal<D>
-    ensures cause { result.cause ≡ cause }
-    ensures disk { result.disk ≡ disk_of journal }
-{
-    OpenRefusal {
-        cause,
-        disk: journal.into_disk(),
-    }
-}
-
-/// The place of the gate of the record of that number, counted from 0, or 2^64 - 1 where it would be above.
-fn gate_of(records: &[Vec<u8>], number: usize) -> u64
-    ensures { result ≡ capped (gate_of (lists records.now) number) }
-{
-    let mut place: u64 = 8;
-    for index in 0..records.len() {
-        if index == number {
-            return place;
-        }
-        place = place.saturating_add(5 + records[index].len() as u64);
-    }
-    place
 }

@@ -52,10 +52,10 @@ impl Replica {
     }
 
     /// Whether a client would have written the record after those before it; then it stands for it too.
-    pub(crate) fn admit(&mut self, alloc: Global, record: &ClientRecord) -> Result<bool, NoMemory>
-        ensures { (made : List (Original Instr)) → length made ≡ self.old.count → ClientLists the_profile (seen made self.old) → Admits made self.old self.new (client_seen record.now) result }
+    pub(crate) fn admit(&mut self, alloc: Global, added: &ClientRecord) -> Result<bool, NoMemory>
+        ensures { (made : List (Original Instr)) → length made ≡ self.old.count → ClientLists the_profile (seen made self.old) → Admits made self.old self.new (client_seen added.now) result }
     {
-        match record {
+        match added {
             ClientRecord::Born { id } => {
                 if self.id.is_some() {
                     return Ok(false);
@@ -179,9 +179,9 @@ impl Replica {
         ensures { (records : List model.ClientRecord) → Keeps records self.old → ReadsOne records self.new bytes.now result }
     {
         match ClientRecord::record_of(alloc, bytes) {
-            Ok(record) => {
-                let admitted = self.admit(alloc, &record);
-                let_go(record);
+            Ok(found) => {
+                let admitted = self.admit(alloc, &found);
+                let_go(found);
                 admitted
             }
             Err(RecordRefusal::BadRecord) => Ok(false),

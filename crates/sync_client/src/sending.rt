@@ -110,10 +110,10 @@ impl<D: Disk> Client<D> {
     }
 
     /// How many changesets are unsent.
-    pub fn unsent(&self) -> usize
+    pub fn unsent(&self) -> u32
         ensures { (records : List model.ClientRecord) → IsClientOf records self.now → result ≡ length (model.client_of the_profile records).unsent }
     {
-        self.replica.unsent.len()
+        self.replica.unsent.len().min(u32::MAX as usize) as u32
     }
 
     /// The disk, handed back.

@@ -1,6 +1,7 @@
 use Rattle.std.proofs.Common.{◌+◌, drop}
 use Rattle.sync_journal.specs.Records.{lists}
-use Rattle.sync_client.proofs.Records.{left_at, none_left, one_declined, one_read, reads_end, reads_first, reads_next, reads_stop}
+use Rattle.sync_journal.proofs.Gates.{left_at, none_left}
+use Rattle.sync_client.proofs.Records.{one_declined, one_read, reads_end, reads_first, reads_next, reads_stop}
 use Rattle.sync_client.proofs.replica.Replica.admit_all.Goals as goal
 
 pub loop-place-init : goal.loop-place-init
