@@ -10,3 +10,6 @@ pub mod Downloads
 pub mod Records
 pub mod Asking
 pub mod Uploads
+pub mod Leaving
+pub mod Strokes
+pub mod OneEntry

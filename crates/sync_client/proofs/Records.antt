@@ -28,6 +28,9 @@ kept_seen (codes.Made number ms body) = refl
 kept_seen (codes.Took origin number ms body) = refl
 kept_seen codes.Form = refl
 
+pub bytes_back : (r : CodeRecord) → client_spelling r ≡ client_bytes (client_seen r)
+bytes_back r = ap client_spelling (sym (kept_seen r))
+
 -- ---- one record
 pub read_on : (records : List ClientRecord) (r s : Replica) (bytes : List ℕ) (x : CodeRecord) (k : Keeps records r) → record_in client_forms bytes ≡ Some x → bytes ≡ client_spelling x → Admitted k.made r s (client_seen x) → ReadOn records s bytes
 read_on records r s bytes x k read spelled a =

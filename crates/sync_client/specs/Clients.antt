@@ -1,5 +1,6 @@
 -- What the calls of a client answer, and what they leave.
-use Rattle.std.specs.Prelude.{◌≡◌, ℕ, List, ◌++◌, map, false, Bool, Option, Result, Ok, Err}
+use Rattle.std.specs.Prelude.{◌≡◌, ℕ, List, ◌++◌, map, false, Bool, Option, None, Some, Result, Ok, Err}
+use Rattle.std.specs.Result.{result_err}
 use Rattle.sync_disk.specs.declared.disk.Disk.{Ghosts}
 use Rattle.sync_disk.specs.Disk.{LeavesOnly}
 use Rattle.sync_disk.specs.Strokes.{Stroke}
@@ -54,11 +55,15 @@ module _ {D : Type 0} {G : Ghosts D} where
   abbrev pub LeavesPrefix : (content : D → Option (List ℕ)) (images : D → List ℕ → Type 0) (moment : D → ℕ) (images_since : D → ℕ → List ℕ → Type 0) → List ClientRecord → Client D G → Client D G → Type 0
   LeavesPrefix content images moment images_since next old new = (rs : List (List ℕ)) → Stands content images rs old.journal → LeavesOnly moment images_since (disk_of old.journal) (disk_of new.journal) (StandsForPrefix rs (map client_bytes next))
 
-  -- A call asked the disk for the appends of the step's records: for all of them, or for some up to a fault. After want of
-  -- memory nothing is said.
+  -- the disk was asked for the appends of these records: for all of them, or for some up to a fault; after want of memory
+  -- nothing is said
+  abbrev pub AskedFor : (D → List Stroke) → List ClientRecord → Journal D G → Journal D G → Option CodeRefusal → Type 0
+  AskedFor strokes next old new None = Asks strokes (map client_bytes next) old new
+  AskedFor strokes next old new (Some codes.DiskFault) = AsksSome strokes (map client_bytes next) old new
+  AskedFor strokes next old new (Some codes.NoMemory) = Unit {0}
+  AskedFor strokes next old new (Some codes.Closed) = Unit {0}
+  AskedFor strokes next old new (Some why) = Asks strokes (map client_bytes next) old new
+
+  -- a call did so for its step's records
   abbrev pub Asked : {A B : Type 0} → (D → List Stroke) → ClientStep A → Client D G → Client D G → Result B CodeRefusal → Type 0
-  Asked strokes did old new (Ok a) = Asks strokes (map client_bytes did.records) old.journal new.journal
-  Asked strokes did old new (Err codes.DiskFault) = AsksSome strokes (map client_bytes did.records) old.journal new.journal
-  Asked strokes did old new (Err codes.NoMemory) = Unit {0}
-  Asked strokes did old new (Err codes.Closed) = Unit {0}
-  Asked strokes did old new (Err why) = Asks strokes (map client_bytes did.records) old.journal new.journal
+  Asked strokes did old new result = AskedFor strokes did.records old.journal new.journal (result_err result)

@@ -1,4 +1,5 @@
 ghost use Rattle.std.specs.Prelude.{◌≡◌, ◌↔◌, ◌⊎◌, ◌≤◌, ◌++◌, ◌∷◌, [], ℕ, List, length, map, Some, IsErrOf, IfErr, IfOk, OnOk, OnErr, true, false};
+ghost use Rattle.std.specs.Result.{result_err};
 ghost use Rattle.sync_disk.specs.Disk.{LeavesOnly, Rose, SameDisk, Told};
 ghost use Rattle.sync_disk.specs.Faults.{armed, disarmed, has_stopped};
 ghost use Rattle.sync_model.specs.Clients as model;
@@ -28,7 +29,7 @@ pub struct Client<D: Disk> {
 }
 
 impl<D: Disk> Client<D> {
-    ghost use Rattle.sync_client.specs.Clients.{Asked, IsClientOf, IsStored, LeavesPrefix, Says, Stores, is_closed, journal_of, replica_of};
+    ghost use Rattle.sync_client.specs.Clients.{Asked, AskedFor, IsClientOf, IsStored, LeavesPrefix, Says, Stores, is_closed, journal_of, replica_of};
 
     /// Records the client's uuid. Errors: Closed, AlreadyBorn, DiskFault, NoMemory.
     pub fn born(&mut self, id: Id) -> Result<(), ClientRefusal>
@@ -90,7 +91,7 @@ impl<D: Disk> Client<D> {
         requires { is_closed self.old ≡ false }
         ensures stored { (records : List model.ClientRecord) → IsStored D.content D.images records self.old → OnOk result (IsStored D.content D.images (records ++ model.Made made.number ms made.body.items ∷ []) self.new) }
         ensures any_moment { LeavesPrefix D.content D.images D.moment D.images_since (model.Made made.number ms made.body.items ∷ []) self.old self.new }
-        ensures strokes { Told (D.content (disk_of (journal_of self.old))) (λ b. Asked D.strokes (model.appends (model.Made made.number ms made.body.items) made.number) self.old self.new result) }
+        ensures strokes { Told (D.content (disk_of (journal_of self.old))) (λ b. AskedFor D.strokes (model.Made made.number ms made.body.items ∷ []) (journal_of self.old) (journal_of self.new) (result_err result)) }
         ensures number { IfOk result (λ number. number ≡ made.number) }
         ensures replica { replica_of self.new ≡ replica_of self.old }
         ensures stays_open { OnOk result (is_closed self.new ≡ false) }
@@ -160,7 +161,7 @@ impl<D: Disk> Client<D> {
         requires { is_closed self.old ≡ false }
         ensures stored { (records : List model.ClientRecord) → IsStored D.content D.images records self.old → OnOk result (IsStored D.content D.images (records ++ client_seen added.now ∷ []) self.new) }
         ensures any_moment { LeavesPrefix D.content D.images D.moment D.images_since (client_seen added.now ∷ []) self.old self.new }
-        ensures strokes { Told (D.content (disk_of (journal_of self.old))) (λ b. Asked D.strokes (model.appends (client_seen added.now) tt) self.old self.new result) }
+        ensures strokes { Told (D.content (disk_of (journal_of self.old))) (λ b. AskedFor D.strokes (client_seen added.now ∷ []) (journal_of self.old) (journal_of self.new) (result_err result)) }
         ensures replica { replica_of self.new ≡ replica_of self.old }
         ensures stays_open { OnOk result (is_closed self.new ≡ false) }
         ensures closes { IsErrOf result ClientRefusal.DiskFault ⊎ IsErrOf result ClientRefusal.NoMemory → is_closed self.new ≡ true }

@@ -1,4 +1,5 @@
 ghost use Rattle.std.specs.Option.{is_some};
+ghost use Rattle.std.specs.Result.{result_err};
 ghost use Rattle.sync_messages.specs.declared.message.Message.TheVariants as messages;
 ghost use Rattle.std.specs.Prelude.{◌≡◌, ◌⊎◌, ◌↔◌, IsTrue, length, drop, ◌+◌, ◌<◌, ◌≤◌, ◌++◌, ◌∷◌, [], ℕ, List, map, IsErrOf, IfErr, OnOk, OnErr, Some, true, false};
 ghost use Rattle.sync_disk.specs.Disk.{LeavesOnly, Rose, Told};
@@ -17,7 +18,7 @@ use sync_messages::{Download, Message, Sent};
 use sync_records::{ClientRecord, Named};
 
 impl<D: Disk> Client<D> {
-    ghost use Rattle.sync_client.specs.Clients.{Asked, IsClientOf, IsStored, LeavesPrefix, Says, Stores, is_closed, journal_of, replica_of};
+    ghost use Rattle.sync_client.specs.Clients.{Asked, AskedFor, IsClientOf, IsStored, LeavesPrefix, Says, Stores, is_closed, journal_of, replica_of};
     ghost use Rattle.sync_client.specs.Taking.{SentSays, SentStores};
 
     /// Takes a message; answers the cursor. An Ident, where the client has none; a Download from at most the cursor on, whose
@@ -218,7 +219,7 @@ impl<D: Disk> Client<D> {
         requires { is_closed self.old ≡ false }
         ensures stored { (records : List model.ClientRecord) → IsStored D.content D.images records self.old → OnOk result (IsStored D.content D.images (records ++ model.took (sent_seen sent.now) ∷ []) self.new) }
         ensures any_moment { LeavesPrefix D.content D.images D.moment D.images_since (model.took (sent_seen sent.now) ∷ []) self.old self.new }
-        ensures strokes { Told (D.content (disk_of (journal_of self.old))) (λ b. Asked D.strokes (model.appends (model.took (sent_seen sent.now)) tt) self.old self.new result) }
+        ensures strokes { Told (D.content (disk_of (journal_of self.old))) (λ b. AskedFor D.strokes (model.took (sent_seen sent.now) ∷ []) (journal_of self.old) (journal_of self.new) (result_err result)) }
         ensures replica { replica_of self.new ≡ replica_of self.old }
         ensures stays_open { OnOk result (is_closed self.new ≡ false) }
         ensures closes { OnErr result (is_closed self.new ≡ true) }
