@@ -13,4 +13,3 @@ pub mod Records
 pub mod Leaving
 pub mod Admitting
 pub mod Reading
-pub mod Gates
