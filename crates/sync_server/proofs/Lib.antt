@@ -11,5 +11,6 @@ pub mod Adding
 pub mod Uploading
 pub mod Records
 pub mod Leaving
+pub mod Strokes
 pub mod Admitting
 pub mod Reading
