@@ -172,4 +172,4 @@ module _ {D : Type 0} {G : Ghosts D} (content : D → Option (List ℕ)) (images
       let m = so.told b is in
       let whole = up_to old now all rest h g there so in
       subst (λ l. Asked {B = B} strokes l old new (Err why)) (sym whole.1)
-      (asked_part strokes A B (so.records ++ change_records (parts now.kept) c g h) whole.0 old new why (asked_more {B = A} strokes so.records (change_records (parts now.kept) c g h) old now new (Err why) (so.asked b is) (asked m.0 m.1)))
+      (asked_part strokes A B (so.records ++ change_records (parts now.kept) c g h) whole.0 old new why (asked_more strokes {B = A} so.records (change_records (parts now.kept) c g h) old now new (Err why) (so.asked b is) (asked m.0 m.1)))
