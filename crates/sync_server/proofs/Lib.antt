@@ -11,6 +11,6 @@ pub mod Adding
 pub mod Uploading
 pub mod Records
 pub mod Leaving
+pub mod Strokes
 pub mod Admitting
 pub mod Reading
-pub mod Gates

@@ -118,12 +118,6 @@ read_says records r s bytes x (Err e) k read spelled a = tt
 abbrev Bytes : Type 0
 Bytes = Vec ℕ Global
 
-pub left_at : (files : List Bytes) (i : ℕ) (v : Bytes) → i < length files → v ≡ get_or files i v → lists (drop i files) ≡ v.items ∷ lists (drop (i + 1) files)
-left_at files i v h is = ap lists (drop-cons files i v h ∙ ap₂ (λ x j. x ∷ drop j files) (sym is) (sym (add-one i)))
-
-pub none_left : (files : List Bytes) (i : ℕ) → length files ≤ i → lists (drop i files) ≡ []
-none_left files i h = ap lists (drop_of_length-le files h)
-
 pub one_read : (records : List ServerRecord) (s : Kept) (bytes given : List ℕ) (a : Result Bool NoMemory) (b : Bool) → given ≡ bytes → a ≡ Ok b → b ≡ true → ReadsOne records s given a → ReadOn records s bytes
 one_read records s bytes given a b same is yes_ says =
     subst (ReadOn records s) same (subst (ReadsOne records s given) (is ∙ ap (λ (c : Bool). Ok c) yes_) says)

@@ -1,7 +1,7 @@
 -- How a file of a server is opened.
-use Rattle.std.specs.Prelude.{◌≡◌, ◌⊎◌, ℕ, zero, suc, ◌+◌, List, [], ◌∷◌, length, Option, Ok, Err}
+use Rattle.std.specs.Prelude.{◌≡◌, ◌⊎◌, ℕ, List, Option, Ok, Err}
 use Rattle.sync_disk.specs.declared.disk.Disk.{Ghosts}
-use Rattle.sync_data.specs.Payload.{capped}
+use Rattle.sync_journal.specs.Gates.{gate_of, told}
 use Rattle.sync_journal.specs.Records.{records_of}
 use Rattle.sync_journal.specs.Records.Reading.{Good, BadAt}
 use Rattle.sync_model.specs.Servers.{ServerRecord, no_server}
@@ -11,21 +11,11 @@ use Rattle.sync_exchange.specs.Seen.{read_server}
 use Rattle.sync_server.specs.declared.server.Server.{Server}
 use Rattle.sync_server.specs.Serving.{IsServerOf, IsStored}
 
--- the place of a gate behind so many records, from one place on
-abbrev pub gate_from : ℕ → List (List ℕ) → ℕ → ℕ
-gate_from place [] number = place
-gate_from place (r ∷ rs) zero = place
-gate_from place (r ∷ rs) (suc number) = gate_from (place + 5 + length r) rs number
-
--- and in a file
-abbrev pub gate_of : List (List ℕ) → ℕ → ℕ
-gate_of file number = gate_from 8 file number
-
 -- the record of some number isn't one that a server would have written there, and its gate stands at this place
 pub record BadRecordAt (file : List (List ℕ)) (place : ℕ) : Type 0 where
   pub number : ℕ
   pub reads : server_reads the_profile read_server no_server file ≡ Err number
-  pub gate : place ≡ capped (gate_of file number)
+  pub gate : place ≡ told (gate_of file number)
 
 -- such a record stands in these bytes
 pub record BadRecordIn (bytes : List ℕ) (place : ℕ) : Type 0 where

@@ -4,8 +4,10 @@ use Rattle.sync_data.specs.declared.instr.Instr.{Instr}
 use Rattle.sync_base.specs.States.{State}
 use Rattle.sync_disk.specs.declared.disk.Disk.{Ghosts}
 use Rattle.sync_journal.specs.declared.journal.Journal.{Journal}
-use Rattle.sync_disk.specs.Disk.{LeavesOnly}
+use Rattle.sync_disk.specs.Disk.{LeavesOnly, Told}
+use Rattle.sync_disk.specs.Strokes.{Stroke}
 use Rattle.sync_journal.specs.Records.{StandsForPrefix}
+use Rattle.sync_journal.specs.Several.{Asks, AsksSome}
 use Rattle.sync_journal.specs.Stands.{Stands, disk_of}
 use Rattle.sync_model.specs.Files.{server_opens}
 use Rattle.sync_model.specs.Messages.{Change}
@@ -18,6 +20,8 @@ use Rattle.sync_server.specs.Kept.{parts}
 use Rattle.sync_server.specs.Refusals.{refusal_seen}
 use Rattle.sync_server.specs.declared.kept.Kept.{Kept}
 use Rattle.sync_server.specs.declared.refusal.Refusal.{Refusal}
+use Rattle.sync_server.specs.declared.refusal.ServerRefusal.{ServerRefusal as CodeRefusal}
+use Rattle.sync_server.specs.declared.refusal.ServerRefusal.TheVariants as causes
 use Rattle.sync_server.specs.declared.server.Server.{Server}
 
 -- ---- by what is kept
@@ -65,6 +69,14 @@ module _ {D : Type 0} {G : Ghosts D} where
   abbrev pub LeavesPrefix : (content : D → Option (List ℕ)) (images : D → List ℕ → Type 0) (moment : D → ℕ) (images_since : D → ℕ → List ℕ → Type 0) → List ServerRecord → Server D G → Server D G → Type 0
   LeavesPrefix content images moment images_since next old new = (rs : List (List ℕ)) → Stands content images rs old.journal → LeavesOnly moment images_since (disk_of old.journal) (disk_of new.journal) (StandsForPrefix rs (map server_bytes next))
 
+  -- A call that answers asked the disk for the appends of these records and for nothing else; one that ends at a fault, for the first
+  -- of them up to the stroke that failed. Of want of memory nothing is said.
+  abbrev pub Asked : {B : Type 0} → (D → List Stroke) → List ServerRecord → Server D G → Server D G → Result B CodeRefusal → Type 0
+  Asked strokes next old new (Ok b) = Asks strokes (map server_bytes next) old.journal new.journal
+  Asked strokes next old new (Err causes.DiskFault) = AsksSome strokes (map server_bytes next) old.journal new.journal
+  Asked strokes next old new (Err causes.NoMemory) = Unit {0}
+  Asked strokes next old new (Err causes.Closed) = Unit {0}
+
   -- an open server of these records
   pub record IsServerOf (records : List ServerRecord) (s : Server D G) : Type 0 where
     pub opens : server_opens the_profile no_server records ≡ true
@@ -83,8 +95,10 @@ module _ {D : Type 0} {G : Ghosts D} where
 -- ---- the loop over the changes of an Upload
 module _ {D : Type 0} {G : Ghosts D} where
   -- these records were added, the parts are these, and these changes are left
-  pub record UploadedSoFar (content : D → Option (List ℕ)) (images : D → List ℕ → Type 0) (moment : D → ℕ) (images_since : D → ℕ → List ℕ → Type 0) (c : ℕ) (old now : Server D G) (all rest : List Change) : Type 0 where
+  pub record UploadedSoFar (content : D → Option (List ℕ)) (images : D → List ℕ → Type 0) (moment : D → ℕ) (images_since : D → ℕ → List ℕ → Type 0) (strokes : D → List Stroke) (c : ℕ) (old now : Server D G) (all rest : List Change) : Type 0 where
     pub records : List ServerRecord
     pub so_far : ServedByPartsSoFar the_profile c (parts old.kept) (parts now.kept) records all rest
     pub added : Adds content images records old now
     pub leaves : LeavesPrefix content images moment images_since records old now
+    pub told : Told (content (disk_of old.journal)) (λ b. (bytes : List ℕ) × (content (disk_of now.journal) ≡ Some bytes))
+    pub asked : Told (content (disk_of old.journal)) (λ b. Asks strokes (map server_bytes records) old.journal now.journal)

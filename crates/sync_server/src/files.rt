@@ -1,9 +1,10 @@
-ghost use Rattle.std.specs.Prelude.{◌≡◌, ◌≤◌, ℕ, IfOk, IfErr, false};
-ghost use Rattle.sync_data.specs.Payload.{capped};
-ghost use Rattle.sync_disk.specs.Disk.{Rose, Told};
-ghost use Rattle.sync_journal.specs.Records.{lists};
+ghost use Rattle.std.specs.Prelude.{◌≡◌, ◌≤◌, ℕ, List, IfOk, IfErr, false};
+ghost use Rattle.sync_disk.specs.Disk.{LeavesOnly, Rose, Told};
+ghost use Rattle.sync_disk.specs.Faults.{IsSound};
+ghost use Rattle.sync_journal.specs.Records.{lists, records_of};
+ghost use Rattle.sync_journal.specs.Records.Reading.{Good};
 ghost use Rattle.sync_journal.specs.Stands.{disk_of};
-ghost use Rattle.sync_server.specs.Files.{gate_of, BadRecordAt};
+ghost use Rattle.sync_server.specs.Files.{BadRecordAt};
 ghost use Rattle.sync_server.specs.Opening.{ReadAll};
 
 use crate::kept::Kept;
@@ -11,7 +12,7 @@ use crate::opening::ReadRefusal;
 use crate::server::Server;
 use std::alloc::Global;
 use sync_disk::Disk;
-use sync_journal::{Journal, OpenCause, OpenRefusal};
+use sync_journal::{Journal, OpenCause, OpenRefusal, gate_of};
 
 impl<D: Disk> Server<D> {
     ghost use Rattle.sync_server.specs.Serving.{is_closed, journal_of, kept_of};
@@ -22,9 +23,20 @@ impl<D: Disk> Server<D> {
     pub fn open(alloc: Global, disk: D) -> Result<Server<D>, OpenRefusal<D>>
         ensures opened { Told (D.content disk) (λ b. IfOk result (Opened D.content D.images b)) }
         ensures bad { Told (D.content disk) (λ b. IfErr result (λ e. (place : ℕ) → e.cause ≡ OpenCause.BadFile place → BadPlace b place)) }
+
+        // Where each crash before would have left the same records, each crash since its start leaves them.
+        ensures any_moment { (records : List (List ℕ)) → Told (D.content disk) (λ b. ((c : List ℕ) → D.images disk c → records_of c ≡ Good records)
+            → IfOk result (λ s. LeavesOnly D.moment D.images_since disk (disk_of (journal_of s)) (λ c. records_of c ≡ Good records))) }
+        ensures any_moment_err { (records : List (List ℕ)) → Told (D.content disk) (λ b. ((c : List ℕ) → D.images disk c → records_of c ≡ Good records)
+            → IfErr result (λ e. LeavesOnly D.moment D.images_since disk e.disk (λ c. records_of c ≡ Good records))) }
+
+        // The disk: what no call changes, and the cause of a fault.
+        ensures origin { IfOk result (λ s. D.origin (disk_of (journal_of s)) ≡ D.origin disk) }
+        ensures origin_err { IfErr result (λ e. D.origin e.disk ≡ D.origin disk) }
         ensures later { IfOk result (λ s. D.faults disk ≤ D.faults (disk_of (journal_of s))) }
         ensures later_err { IfErr result (λ e. D.faults disk ≤ D.faults e.disk) }
         ensures fault { IfErr result (λ e. e.cause ≡ OpenCause.DiskFault → Rose (D.faults disk) (D.faults e.disk)) }
+        ensures sound { Told (D.content disk) (λ b. IsSound (D.origin disk) → IfErr result (λ e. e.cause ≡ OpenCause.DiskFault → ⊥)) }
     {
         match Journal::open(alloc, disk) {
             Ok((journal, files)) => Server::read_from(alloc, journal, files),
@@ -47,7 +59,7 @@ impl<D: Disk> Server<D> {
     {
         let mut kept = match Kept::new(alloc) {
             Ok(kept) => kept,
-            Err(_) => return Err(refused(journal, OpenCause::NoMemory)),
+            Err(_) => return Err(journal.refuse(OpenCause::NoMemory)),
         };
         match kept.admit_all(alloc, files.as_slice()) {
             Ok(()) => Ok(Server {
@@ -56,35 +68,11 @@ impl<D: Disk> Server<D> {
                 kept,
                 closed: false,
             }),
-            Err(ReadRefusal::NoMemory) => Err(refused(journal, OpenCause::NoMemory)),
+            Err(ReadRefusal::NoMemory) => Err(journal.refuse(OpenCause::NoMemory)),
             Err(ReadRefusal::BadRecord { place }) => {
                 let place = gate_of(files.as_slice(), place);
-                Err(refused(journal, OpenCause::BadFile { place }))
+                Err(journal.refuse(OpenCause::BadFile { place }))
             }
         }
     }
-}
-
-fn refused<D: Disk>(journal: Journal<D>, cause: OpenCause) -> OpenRefusal<D>
-    ensures cause { result.cause ≡ cause }
-    ensures disk { result.disk ≡ disk_of journal }
-{
-    OpenRefusal {
-        cause,
-        disk: journal.into_disk(),
-    }
-}
-
-/// The place of the gate of the record of that number, counted from 0, or 2^64 - 1 where it would be above.
-fn gate_of(records: &[Vec<u8>], number: usize) -> u64
-    ensures { result ≡ capped (gate_of (lists records.now) number) }
-{
-    let mut place: u64 = 8;
-    for index in 0..records.len() {
-        if index == number {
-            return place;
-        }
-        place = place.saturating_add(5 + records[index].len() as u64);
-    }
-    place
 }

@@ -1,11 +1,12 @@
 ghost use Rattle.std.specs.Prelude.{◌≡◌, ◌↔◌, ◌⊎◌, ◌≤◌, ◌++◌, ◌∷◌, [], ℕ, List, map, length, slice_get, false, true, Some, IsErrOf, IfErr, IfOk, OnOk, OnErr};
 ghost use Rattle.std.specs.Option.{option_map};
 ghost use Rattle.sync_data.specs.declared.instr.Instr.{Instr};
-ghost use Rattle.sync_disk.specs.Disk.{LeavesOnly, Rose, SameDisk};
+ghost use Rattle.sync_disk.specs.Disk.{LeavesOnly, Rose, SameDisk, Told};
 ghost use Rattle.sync_disk.specs.Faults.{armed, disarmed, has_stopped};
 ghost use Rattle.sync_journal.specs.Records.{StandsForPrefix};
 ghost use Rattle.sync_journal.specs.Stands.{Stands, disk_of};
 ghost use Rattle.sync_model.specs.Servers as model;
+ghost use Rattle.sync_model.specs.Worlds.{at};
 ghost use Rattle.sync_model.specs.Parts.{Given as GivenParts, ask_by, at_ident, bind_by, merge_by, serve_by, upload_by};
 ghost use Rattle.sync_exchange.specs.Profile.{the_profile};
 ghost use Rattle.sync_exchange.specs.Seen.{change_seen, message_seen, server_bytes, server_seen};
@@ -53,7 +54,7 @@ fn entry_record(alloc: Global, ident: Ident, change: &Change) -> Result<ServerRe
 
 impl<D: Disk> Server<D> {
     ghost use Rattle.sync_server.specs.Kept.{parts};
-    ghost use Rattle.sync_server.specs.Serving.{Adds, Did, IsMerged, IsServed, IsServerOf, IsStored, IsTaken, LeavesPrefix, change_records, is_closed, journal_of, kept_of, merged_records};
+    ghost use Rattle.sync_server.specs.Serving.{Adds, Asked, Did, IsMerged, IsServed, IsServerOf, IsStored, IsTaken, LeavesPrefix, change_records, is_closed, journal_of, kept_of, merged_records};
 
     /// Adds a record to the journal. It closes the server where that fails.
     fn append(&mut self, added: &ServerRecord) -> Result<(), ServerRefusal>
@@ -64,6 +65,9 @@ impl<D: Disk> Server<D> {
         ensures stays_open { OnOk result (is_closed self.new ≡ false) }
         ensures closes { OnErr result (is_closed self.new ≡ true) }
         ensures refused { IsErrOf result ServerRefusal.Closed → ⊥ }
+        ensures strokes { Told (D.content (disk_of (journal_of self.old))) (λ b. Asked D.strokes (server_seen added.now ∷ []) self.old self.new result) }
+        ensures origin { D.origin (disk_of (journal_of self.new)) ≡ D.origin (disk_of (journal_of self.old)) }
+        ensures told { Told (D.content (disk_of (journal_of self.old))) (λ b. (c : List ℕ) × (D.content (disk_of (journal_of self.new)) ≡ Some c)) }
         ensures later { D.faults (disk_of (journal_of self.old)) ≤ D.faults (disk_of (journal_of self.new)) }
         ensures fault { IsErrOf result ServerRefusal.DiskFault → Rose (D.faults (disk_of (journal_of self.old))) (D.faults (disk_of (journal_of self.new))) }
     {
@@ -98,6 +102,9 @@ impl<D: Disk> Server<D> {
         ensures stays_open { OnOk result (is_closed self.new ≡ false) }
         ensures closes { OnErr result (is_closed self.new ≡ true) }
         ensures refused { IsErrOf result ServerRefusal.Closed → ⊥ }
+        ensures strokes { Told (D.content (disk_of (journal_of self.old))) (λ b. Asked D.strokes (records_of form ident (change_seen change.now)) self.old self.new result) }
+        ensures origin { D.origin (disk_of (journal_of self.new)) ≡ D.origin (disk_of (journal_of self.old)) }
+        ensures told { Told (D.content (disk_of (journal_of self.old))) (λ b. (c : List ℕ) × (D.content (disk_of (journal_of self.new)) ≡ Some c)) }
         ensures later { D.faults (disk_of (journal_of self.old)) ≤ D.faults (disk_of (journal_of self.new)) }
         ensures fault { IsErrOf result ServerRefusal.DiskFault → Rose (D.faults (disk_of (journal_of self.old))) (D.faults (disk_of (journal_of self.new))) }
     {
@@ -127,6 +134,9 @@ impl<D: Disk> Server<D> {
         ensures stays_open { OnOk result (is_closed self.new ≡ false) }
         ensures closes { OnErr result (is_closed self.new ≡ true) }
         ensures refused { IsErrOf result ServerRefusal.Closed → ⊥ }
+        ensures strokes { (g : GivenParts Instr) → at_ident ident (kept_of self.old).history.idents ≡ Some g → Told (D.content (disk_of (journal_of self.old))) (λ b. Asked D.strokes (merged_records (merge_by the_profile (parts (kept_of self.old)) ident g (change_seen change.now))) self.old self.new result) }
+        ensures origin { D.origin (disk_of (journal_of self.new)) ≡ D.origin (disk_of (journal_of self.old)) }
+        ensures told { Told (D.content (disk_of (journal_of self.old))) (λ b. (c : List ℕ) × (D.content (disk_of (journal_of self.new)) ≡ Some c)) }
         ensures later { D.faults (disk_of (journal_of self.old)) ≤ D.faults (disk_of (journal_of self.new)) }
         ensures fault { IsErrOf result ServerRefusal.DiskFault → Rose (D.faults (disk_of (journal_of self.old))) (D.faults (disk_of (journal_of self.new))) }
     {
@@ -170,6 +180,9 @@ impl<D: Disk> Server<D> {
         ensures stays_open { OnOk result (is_closed self.new ≡ false) }
         ensures closes { OnErr result (is_closed self.new ≡ true) }
         ensures refused { IsErrOf result ServerRefusal.Closed → ⊥ }
+        ensures strokes { (g : GivenParts Instr) → at_ident ident (kept_of self.old).history.idents ≡ Some g → Told (D.content (disk_of (journal_of self.old))) (λ b. Asked D.strokes (change_records (parts (kept_of self.old)) ident g (change_seen change.now)) self.old self.new result) }
+        ensures origin { D.origin (disk_of (journal_of self.new)) ≡ D.origin (disk_of (journal_of self.old)) }
+        ensures told { Told (D.content (disk_of (journal_of self.old))) (λ b. (c : List ℕ) × (D.content (disk_of (journal_of self.new)) ≡ Some c)) }
         ensures later { D.faults (disk_of (journal_of self.old)) ≤ D.faults (disk_of (journal_of self.new)) }
         ensures fault { IsErrOf result ServerRefusal.DiskFault → Rose (D.faults (disk_of (journal_of self.old))) (D.faults (disk_of (journal_of self.new))) }
     {
@@ -191,6 +204,9 @@ impl<D: Disk> Server<D> {
         ensures stays_open { OnOk result (is_closed self.new ≡ false) }
         ensures closes { OnErr result (is_closed self.new ≡ true) }
         ensures refused { IsErrOf result ServerRefusal.Closed → ⊥ }
+        ensures strokes { Told (D.content (disk_of (journal_of self.old))) (λ b. Asked D.strokes (upload_by the_profile (parts (kept_of self.old)) upload.now.ident (at_ident upload.now.ident (kept_of self.old).history.idents) (map change_seen upload.now.changes)).records self.old self.new result) }
+        ensures origin { D.origin (disk_of (journal_of self.new)) ≡ D.origin (disk_of (journal_of self.old)) }
+        ensures told { Told (D.content (disk_of (journal_of self.old))) (λ b. (c : List ℕ) × (D.content (disk_of (journal_of self.new)) ≡ Some c)) }
         ensures later { D.faults (disk_of (journal_of self.old)) ≤ D.faults (disk_of (journal_of self.new)) }
         ensures fault { IsErrOf result ServerRefusal.DiskFault → Rose (D.faults (disk_of (journal_of self.old))) (D.faults (disk_of (journal_of self.new))) }
     {
@@ -219,6 +235,9 @@ impl<D: Disk> Server<D> {
         ensures stays_open { OnOk result (is_closed self.new ≡ false) }
         ensures closes { OnErr result (is_closed self.new ≡ true) }
         ensures refused { IsErrOf result ServerRefusal.Closed → ⊥ }
+        ensures strokes { Told (D.content (disk_of (journal_of self.old))) (λ b. Asked D.strokes (bind_by the_profile (parts (kept_of self.old)) uuid (model.place_of uuid (map (λ g. g.uuid) (kept_of self.old).history.idents))).records self.old self.new result) }
+        ensures origin { D.origin (disk_of (journal_of self.new)) ≡ D.origin (disk_of (journal_of self.old)) }
+        ensures told { Told (D.content (disk_of (journal_of self.old))) (λ b. (c : List ℕ) × (D.content (disk_of (journal_of self.new)) ≡ Some c)) }
         ensures later { D.faults (disk_of (journal_of self.old)) ≤ D.faults (disk_of (journal_of self.new)) }
         ensures fault { IsErrOf result ServerRefusal.DiskFault → Rose (D.faults (disk_of (journal_of self.old))) (D.faults (disk_of (journal_of self.new))) }
     {
@@ -251,6 +270,7 @@ impl<D: Disk> Server<D> {
         ensures stays_open { OnOk result (is_closed self.new ≡ false) }
         ensures closes { OnErr result (is_closed self.new ≡ true) }
         ensures refused { IsErrOf result ServerRefusal.Closed → ⊥ }
+        ensures strokes { Asked D.strokes [] self.old self.new result }
         ensures later { D.faults (disk_of (journal_of self.old)) ≤ D.faults (disk_of (journal_of self.new)) }
         ensures fault { IsErrOf result ServerRefusal.DiskFault → Rose (D.faults (disk_of (journal_of self.old))) (D.faults (disk_of (journal_of self.new))) }
     {
@@ -272,6 +292,9 @@ impl<D: Disk> Server<D> {
         ensures stays_open { OnOk result (is_closed self.new ≡ false) }
         ensures closes { OnErr result (is_closed self.new ≡ true) }
         ensures refused { IsErrOf result ServerRefusal.Closed → ⊥ }
+        ensures strokes { Told (D.content (disk_of (journal_of self.old))) (λ b. Asked D.strokes (serve_by the_profile (parts (kept_of self.old)) (message_seen message.now)).records self.old self.new result) }
+        ensures origin { D.origin (disk_of (journal_of self.new)) ≡ D.origin (disk_of (journal_of self.old)) }
+        ensures told { Told (D.content (disk_of (journal_of self.old))) (λ b. (c : List ℕ) × (D.content (disk_of (journal_of self.new)) ≡ Some c)) }
         ensures later { D.faults (disk_of (journal_of self.old)) ≤ D.faults (disk_of (journal_of self.new)) }
         ensures fault { IsErrOf result ServerRefusal.DiskFault → Rose (D.faults (disk_of (journal_of self.old))) (D.faults (disk_of (journal_of self.new))) }
     {
@@ -298,6 +321,14 @@ impl<D: Disk> Server<D> {
         // A crash at any moment of the call leaves the old records and some of the new ones, from the first on.
         ensures any_moment { (records : List model.ServerRecord) → IsServerOf records self.old → IsStored D.content D.images records self.old
             → LeavesOnly D.moment D.images_since (disk_of (journal_of self.old)) (disk_of (journal_of self.new)) (StandsForPrefix (map server_bytes records) (map server_bytes (model.serve the_profile (model.server_of the_profile records) (message_seen message)).records)) }
+        // At an answer the disk was asked for the appends of the new records and for nothing else, at a fault for the first of them, up to
+        // the stroke that failed.
+        ensures strokes { (records : List model.ServerRecord) → IsServerOf records self.old → IsStored D.content D.images records self.old
+            → Asked D.strokes (model.serve the_profile (model.server_of the_profile records) (message_seen message)).records self.old self.new result }
+        // What no call of the disk changes.
+        ensures origin { D.origin (disk_of (journal_of self.new)) ≡ D.origin (disk_of (journal_of self.old)) }
+        ensures told { Told (D.content (disk_of (journal_of self.old))) (λ b. (c : List ℕ) × (D.content (disk_of (journal_of self.new)) ≡ Some c)) }
+        // The refusals and their causes.
         ensures closed { IsErrOf result ServerRefusal.Closed ↔ (is_closed self.old ≡ true) }
         ensures closes { OnErr result (is_closed self.new ≡ true) }
         ensures fault { IsErrOf result ServerRefusal.DiskFault → Rose (D.faults (disk_of (journal_of self.old))) (D.faults (disk_of (journal_of self.new))) }
@@ -310,28 +341,33 @@ impl<D: Disk> Server<D> {
 
     /// The objects. Once the server is closed they may be any.
     pub fn objects(&self) -> &Store
-        ensures { result.now ≡ (kept_of self.now).objects }
+        ensures state { (records : List model.ServerRecord) → IsServerOf records self.now → result.now ≡ model.server_objects the_profile (model.server_of the_profile records) }
+        ensures kept { result.now ≡ (kept_of self.now).objects }
     {
         &self.kept.objects
     }
 
     /// How many entries the history has.
     pub fn len(&self) -> u32
-        ensures { result ≡ length (kept_of self.now).history.entries }
+        ensures count { (records : List model.ServerRecord) → IsServerOf records self.now → result ≡ length (model.server_of the_profile records).log }
+        ensures kept { result ≡ length (kept_of self.now).history.entries }
     {
         self.kept.history.len()
     }
 
     /// The entry of a version; none from the length on.
     pub fn entry(&self, version: u32) -> Option<&Entry>
-        ensures { option_map (λ e. entry_of e.now) result ≡ slice_get (kept_of self.now).history.entries version }
+        ensures is { (records : List model.ServerRecord) → IsServerOf records self.now
+            → option_map (λ e. entry_of e.now) result ≡ at (model.entries_from the_profile (model.server_of the_profile records).log (length (model.server_of the_profile records).log) 0) version }
+        ensures kept { option_map (λ e. entry_of e.now) result ≡ slice_get (kept_of self.now).history.entries version }
     {
         self.kept.history.entry(version)
     }
 
     /// The ident of a uuid; none where no Bind with it was recorded.
     pub fn ident_of(&self, id: &Id) -> Option<Ident>
-        ensures { result ≡ found (model.place_of id.now (map (λ g. g.uuid) (kept_of self.now).history.idents)) }
+        ensures given { (records : List model.ServerRecord) → IsServerOf records self.now → result ≡ found (model.place_of id.now (model.server_of the_profile records).ids) }
+        ensures kept { result ≡ found (model.place_of id.now (map (λ g. g.uuid) (kept_of self.now).history.idents)) }
     {
         self.kept.history.ident_of(id)
     }

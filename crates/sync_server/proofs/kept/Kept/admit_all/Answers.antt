@@ -1,6 +1,7 @@
 use Rattle.std.proofs.Common.{◌+◌, drop}
 use Rattle.sync_journal.specs.Records.{lists}
-use Rattle.sync_server.proofs.Reading.{left_at, none_left, one_declined, one_read, reads_end, reads_first, reads_next, reads_stop}
+use Rattle.sync_journal.proofs.Gates.{left_at, none_left}
+use Rattle.sync_server.proofs.Reading.{one_declined, one_read, reads_end, reads_first, reads_next, reads_stop}
 use Rattle.sync_server.proofs.kept.Kept.admit_all.Goals as goal
 
 pub loop-place-init : goal.loop-place-init

@@ -1,4 +1,5 @@
-use Rattle.std.proofs.Common.{sym, subst, OnOk}
+use Rattle.std.proofs.Common.{◌≡◌, ℕ, List, Some, sym, subst, OnOk}
+use Rattle.sync_journal.specs.Stands.{disk_of}
 use Rattle.sync_exchange.specs.Profile.{the_profile}
 use Rattle.sync_exchange.specs.Seen.{message_seen}
 use Rattle.sync_model.specs.Parts.{serve_by}
@@ -26,3 +27,8 @@ pub returns-in-Ask-clause-any_moment : goal.returns-in-Ask-clause-any_moment
 returns-in-Ask-clause-any_moment g c =
     let D = g.D.Disk in
     untouched D.content D.images D.moment D.images_since g.met.D.Disk.only_now (serve_by the_profile (parts c.args.self.now.kept) (message_seen c.args.message.now)).records c.args.self.now c.take_ask.new.self c.take_ask.ensures.journal
+
+pub returns-in-Ask2-clause-told : goal.returns-in-Ask2-clause-told
+returns-in-Ask2-clause-told g c = λ b told.
+    let D = g.D.Disk in
+    subst (λ j. (bytes : List ℕ) × (D.content (disk_of j) ≡ Some bytes)) (sym c.take_ask-in-Ask2.ensures.journal) (b, told)

@@ -1,6 +1,6 @@
 use Rattle.sync_exchange.specs.Seen.{message_seen}
 use Rattle.sync_server.proofs.Keeps.{on_ok, on_both}
-use Rattle.sync_server.proofs.Records.{did, leaves, stores}
+use Rattle.sync_server.proofs.Records.{asks, did, leaves, stores}
 use Rattle.sync_server.proofs.server.Server.take.Goals as goal
 
 pub returns-clause-step : goal.returns-clause-step
@@ -17,3 +17,8 @@ pub returns-clause-any_moment : goal.returns-clause-any_moment
 returns-clause-any_moment g c = λ records is stands.
     let D = g.D.Disk in
     leaves records (message_seen c.args.message) c.args.self.now c.serve.new.self is D.content D.images D.moment D.images_since c.serve.ensures.any_moment stands
+
+pub returns-clause-strokes : goal.returns-clause-strokes
+returns-clause-strokes g c = λ records is stands.
+    let D = g.D.Disk in
+    asks records (message_seen c.args.message) c.args.self.now c.serve.new.self is D.content D.images D.strokes c.serve.result c.serve.ensures.strokes stands

@@ -1,7 +1,0 @@
-use Rattle.std.proofs.Common.{drop}
-use Rattle.sync_journal.specs.Records.{lists}
-use Rattle.sync_server.proofs.Gates.{GateSoFar}
-use Rattle.sync_server.proofs.files.gate_of.Given as goal
-
-abbrev pub invariant-loop-index : goal.invariant-loop-index
-invariant-loop-index l = GateSoFar (lists l.records) l.number l.place l.index (lists (drop l.index l.records))
