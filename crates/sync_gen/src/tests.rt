@@ -318,6 +318,8 @@ fn eight_clients(rt: HostRuntime) {
     }
     let id = [0, 0, 0, 0, 0, 0, 0x40, 0, 0x80, 0, 0, 0, 0, 0, 0, 3];
     assert_eq!(rt; client_id(3), id);
+    let turn = Gen::new(1).turn(1);
+    assert!(rt; client_name(turn.client).text() == "c7");
 }
 
 #[test]
