@@ -1,0 +1,4 @@
+pub mod Clients
+pub mod Draws
+pub mod Edits
+pub mod Turns
