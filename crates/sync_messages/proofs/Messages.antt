@@ -14,7 +14,7 @@ use Rattle.sync_messages.specs.Reading.{Gives, refused_of, refused_in, forms, me
 use Rattle.sync_messages.specs.Whole.{IsMessage}
 use Rattle.sync_messages.proofs.Formats.{FitsGiven, given_is, given_fits, FitsUpload, upload_is, upload_fits, FitsAsk, ask_is, ask_fits, FitsDownload, download_is, download_fits, FitsStored, stored_is, stored_fits}
 
-abbrev FitsMessage : Message → Type 0
+abbrev pub FitsMessage : Message → Type 0
 FitsMessage (Bind uuid) = length uuid ≡ 16
 FitsMessage (Ident given) = FitsGiven given
 FitsMessage (Upload upload) = FitsUpload upload
@@ -83,6 +83,11 @@ pub is_found : (bytes : List ℕ) (r : Result Message MessageRefusal) → IsByte
 unfolding message_in
 is_found bytes (Ok m) fits given = (all_takes messages_are bytes m fits given).0
 is_found bytes (Err refusal) fits given = tt
+
+pub is_whole : (bytes : List ℕ) (r : Result Message MessageRefusal) → IsBytes bytes → Gives (λ m. m) r (message_in bytes) → IfOk r FitsMessage
+unfolding message_in
+is_whole bytes (Ok m) fits given = (all_takes messages_are bytes m fits given).1
+is_whole bytes (Err refusal) fits given = tt
 
 pub is_read : (bytes : List ℕ) (m : Message) → IsMessage m → bytes ≡ message_spelling m → message_in bytes ≡ Some m
 unfolding message_in

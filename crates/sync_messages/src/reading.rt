@@ -300,6 +300,8 @@ pub fn message_of(alloc: Global, bytes: &[u8]) -> Result<Message, MessageRefusal
     ensures only { (message : Message) → IsMessage message → bytes.now ≡ message_spelling message → Gives (λ m. m) result (Some message) }
     // What is read, unless memory runs out.
     ensures exact { Gives (λ m. m) result (message_in bytes.now) }
+    // What is read keeps the limits of messages.
+    ensures is { IfOk result IsMessage }
 {
     all_of(alloc, bytes)
 }
