@@ -65,10 +65,10 @@ few_crossed : (c : Model Instr State) (r : Result (List (Changeset Instr) × Cha
 few_crossed c (Ok q) h = let few = few_carried c.unsent q.0 in omega (arith, h, few)
 few_crossed c (Err f) h = h
 
-few_taken : (c : Model Instr State) (e : Changeset Instr) (own : Bool) (r : Result (List (Changeset Instr) × Changeset Instr) (ℕ × Stuck)) → length c.unsent ≤ length c.made
+few_taken : (c : Model Instr State) (own : Bool) (r : Result (List (Changeset Instr) × Changeset Instr) (ℕ × Stuck)) → length c.unsent ≤ length c.made
     → length (if own then record c { cursor = suc c.cursor; unsent = tail c.unsent } else crossed the_profile c r).unsent ≤ length (if own then record c { cursor = suc c.cursor; unsent = tail c.unsent } else crossed the_profile c r).made
-few_taken c e true r h = let few = few_left c.unsent in omega (arith, h, few)
-few_taken c e false r h = few_crossed c r h
+few_taken c true r h = let few = few_left c.unsent in omega (arith, h, few)
+few_taken c false r h = few_crossed c r h
 
 few_after : (c : Model Instr State) (next : ClientRecord) → length c.unsent ≤ length c.made → length (after_record the_profile c next).unsent ≤ length (after_record the_profile c next).made
 few_after c (ClientRecord.Born id) h = h
@@ -79,7 +79,7 @@ few_after c (ClientRecord.Made number ms body) h =
     let made = length-append c.made (o ∷ []) in
     omega (arith, h, unsent, made)
 few_after c (ClientRecord.Took origin number ms body) h =
-    few_taken c _ (origin == c.ident) (rebase (cross_changesets the_profile) (map (changeset_of c.ident) c.unsent) (record { origin = origin; number = number; ms = ms; instrs = ok_list (unspell body) })) h
+    few_taken c (origin == c.ident) (rebase (cross_changesets the_profile) (map (changeset_of c.ident) c.unsent) (record { origin = origin; number = number; ms = ms; instrs = ok_list (unspell body) })) h
 few_after c ClientRecord.Form h = h
 
 few_unsent : (records : List ClientRecord) (c : Model Instr State) → length c.unsent ≤ length c.made → length (after_records the_profile c records).unsent ≤ length (after_records the_profile c records).made

@@ -51,9 +51,6 @@ module _ {D : Type 0} {G : Ghosts D} (strokes : D → List Stroke) where
   pub one_asked : {A B : Type 0} (did : ClientStep A) (next : ClientRecord) (a : A) (old new : Client D G) (r : Result B CodeRefusal) → did ≡ appends next a → AskedFor strokes (next ∷ []) old.journal new.journal (result_err r) → Asked strokes did old new r
   one_asked did next a old new r is asked = subst (λ (rs : List ClientRecord). AskedFor strokes rs old.journal new.journal (result_err r)) (sym (ap (λ d. d.records) is)) asked
 
-  pub appended_asked : (next : ClientRecord) (bytes : List ℕ) (old new : Journal D G) → bytes ≡ client_bytes next → length bytes ≤ longest → new.end ≡ old.end + 5 + length bytes → AllDone (strokes_of old.end bytes) (strokes old.disk) (strokes new.disk) → Asks strokes (client_bytes next ∷ []) old new
-  appended_asked next bytes old new is fits place all = subst (λ (b : List ℕ). Asks strokes (b ∷ []) old new) is (asks_one bytes old.end new.end (strokes old.disk) (strokes new.disk) fits place all)
-
   pub cut_asked : (next : ClientRecord) (bytes : List ℕ) (old new : Journal D G) → bytes ≡ client_bytes next → length bytes ≤ longest → CutByFault (strokes_of old.end bytes) (strokes old.disk) (strokes new.disk) → AsksSome strokes (client_bytes next ∷ []) old new
   cut_asked next bytes old new is fits cut = subst (λ (b : List ℕ). AsksSome strokes (b ∷ []) old new) is (part_one bytes old.end (strokes old.disk) (strokes new.disk) fits cut)
 

@@ -4,7 +4,9 @@ use Rattle.sync_messages.specs.declared.message.Message.{Message as CodeMessage}
 use Rattle.sync_model.specs.Clients.{ClientStep, client_of, take_born, take_ident}
 use Rattle.sync_exchange.specs.Profile.{the_profile}
 use Rattle.sync_exchange.specs.Seen.{message_seen}
-use Rattle.sync_client.specs.Clients.{Says, Stores}
+use Rattle.sync_client.specs.Clients.{Asked, Says, Stores}
+use Rattle.sync_journal.specs.Stands.{disk_of}
+use Rattle.sync_client.proofs.Leaving.{Leaves}
 use Rattle.sync_client.proofs.Taken.{ident_mine}
 use Rattle.sync_client.proofs.client.Client.take_message.Goals as goal
 
@@ -23,3 +25,13 @@ pub returns-in-Download-clause-stored : goal.returns-in-Download-clause-stored
 returns-in-Download-clause-stored g c = λ records before kept.
     subst (λ (m : CodeMessage). Stores g.D.Disk.content g.D.Disk.images (take_born the_profile (client_of the_profile records) (message_seen m) c.args.id) records c.take_download.new.self c.take_download.result) (sym c.in-Download.is)
     (c.take_download.ensures.stored records before kept c.args.id)
+
+pub returns-in-Download-clause-any_moment : goal.returns-in-Download-clause-any_moment
+returns-in-Download-clause-any_moment g c = λ records before kept.
+    subst (λ (m : CodeMessage). Leaves g.D.Disk.moment g.D.Disk.images_since records (take_born the_profile (client_of the_profile records) (message_seen m) c.args.id).records (disk_of c.args.self.now.journal) (disk_of c.take_download.new.self.journal)) (sym c.in-Download.is)
+    (c.take_download.ensures.any_moment records before kept c.args.id)
+
+pub returns-in-Download-clause-strokes : goal.returns-in-Download-clause-strokes
+returns-in-Download-clause-strokes g c = λ records before kept.
+    subst (λ (m : CodeMessage). Asked g.D.Disk.strokes (take_born the_profile (client_of the_profile records) (message_seen m) c.args.id) c.args.self.now c.take_download.new.self c.take_download.result) (sym c.in-Download.is)
+    (c.take_download.ensures.strokes records before kept c.args.id)
