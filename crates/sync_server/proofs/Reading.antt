@@ -1,9 +1,7 @@
 -- Records of a server's file that are read one after the other.
-use Rattle.std.proofs.Common.{◌≡◌, ℕ, ◌+◌, ◌<◌, ◌≤◌, Bool, true, false, List, [], ◌∷◌, ◌++◌, length, map, drop, get_or, drop-cons, Vec, Global, Some, None, Result, Ok, Err, refl, ap, ap₂, ◌∙◌, sym, subst, append-nil, append_assoc, add-one, length-append}
+use Rattle.std.proofs.Common.{◌≡◌, ℕ, ◌+◌, Bool, true, false, List, [], ◌∷◌, ◌++◌, length, map, Vec, Global, Some, None, Result, Ok, Err, refl, ap, ◌∙◌, sym, subst, append-nil, append_assoc, length-append}
 use Rattle.std.specs.Option.{option_map}
-use Rattle.std.proofs.Math.ListN.{drop_of_length-le}
 use Rattle.sync_data.specs.declared.memory.NoMemory.{NoMemory}
-use Rattle.sync_journal.specs.Records.{lists}
 use Rattle.sync_model.specs.Files.{read_one, read_put, server_admits, server_reads}
 use Rattle.sync_model.specs.Servers.{ServerRecord, after_server, no_server, server_of}
 use Rattle.sync_model.proofs.Holding.{server_append}

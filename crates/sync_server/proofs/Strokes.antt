@@ -1,16 +1,14 @@
 -- What a call asks of the disk, by its parts.
-use Rattle.std.proofs.Common.{◌≡◌, ℕ, ◌+◌, ◌<◌, ◌≤◌, ◌↔◌, Bool, true, false, List, [], ◌∷◌, ◌++◌, Option, Some, length, map, Result, Ok, Err, IsErrOf, refl, sym, subst, arith}
+use Rattle.std.proofs.Common.{◌≡◌, ℕ, ◌<◌, ◌≤◌, ◌↔◌, Bool, true, false, List, [], ◌++◌, Option, Some, map, Result, Ok, Err, IsErrOf, refl, sym, subst, arith}
 use Rattle.std.proofs.lemmas.List.{map-append}
 use Rattle.sync_disk.specs.declared.disk.Disk.{Ghosts}
 use Rattle.sync_disk.specs.Disk.{Told}
-use Rattle.sync_disk.specs.Strokes.{Stroke, AllDone, CutByFault}
-use Rattle.sync_journal.specs.declared.journal.Journal.{Journal}
+use Rattle.sync_disk.specs.Strokes.{Stroke}
 use Rattle.sync_journal.specs.declared.journal.JournalRefusal.{JournalRefusal}
-use Rattle.sync_journal.specs.Journal.{strokes_of}
 use Rattle.sync_journal.specs.Records.{longest}
 use Rattle.sync_journal.specs.Several.{Asks, AsksSome}
-use Rattle.sync_journal.specs.Stands.{disk_of, end_of, is_closed}
-use Rattle.sync_journal.proofs.Stops.{asks_none, asks_one, asks_both, part_one, part_before, part_later}
+use Rattle.sync_journal.specs.Stands.{disk_of, end_of}
+use Rattle.sync_journal.proofs.Stops.{asks_none, asks_both, part_before, part_later}
 use Rattle.sync_model.specs.Servers.{ServerRecord}
 use Rattle.sync_exchange.specs.Seen.{server_bytes}
 use Rattle.sync_server.specs.Serving.{Asked}
@@ -56,9 +54,3 @@ module _ {D : Type 0} {G : Ghosts D} (strokes : D → List Stroke) where
       (part_before (map server_bytes a) (map server_bytes b) (end_of old.journal) (strokes (disk_of old.journal)) (strokes (disk_of new.journal)) first)
   asked_part A B a b old new causes.NoMemory first = tt
   asked_part A B a b old new causes.Closed first = tt
-
-  -- the same failure of another call
-  pub asked_same : (A B : Type 0) (a : List ServerRecord) (old new : Server D G) (why : ServerRefusal) → Asked {B = A} strokes a old new (Err why) → Asked {B = B} strokes a old new (Err why)
-  asked_same A B a old new causes.DiskFault first = first
-  asked_same A B a old new causes.NoMemory first = tt
-  asked_same A B a old new causes.Closed first = tt

@@ -96,7 +96,8 @@ module _ {D : Type 0} {G : Ghosts D} (content : D → Option (List ℕ)) (images
         so_far = subst (λ l. ServedByPartsSoFar the_profile c (parts old.kept) (parts new.kept) l all rest) (sym (ap (λ l. so.records ++ l) (skipped (nat_le h.number g.count) (merged_records (merge_by the_profile (parts now.kept) c g h)) t.0) ∙ append-nil so.records))
             (subst (λ k. ServedByPartsSoFar the_profile c (parts old.kept) k so.records all rest) (sym t.1) (by_parts_skips the_profile c h g there so.so_far t.0));
         added = adds_more content images so.records (change_records (parts now.kept) c g h) old now new so.added added;
-        leaves = both content images moment images_since so.records (change_records (parts now.kept) c g h) old now new so.added so.leaves leaves;        told = told_both (content (disk_of old.journal)) (content (disk_of now.journal)) (content (disk_of new.journal)) so.told told;
+        leaves = both content images moment images_since so.records (change_records (parts now.kept) c g h) old now new so.added so.leaves leaves;
+        told = told_both (content (disk_of old.journal)) (content (disk_of now.journal)) (content (disk_of new.journal)) so.told told;
         asked = λ b is. let m = so.told b is in asks_more strokes so.records (change_records (parts now.kept) c g h) old now new (so.asked b is) (asked m.0 m.1);
       }
   goes_on old now new all rest h g there so (inr t) added leaves told asked =
@@ -105,7 +106,8 @@ module _ {D : Type 0} {G : Ghosts D} (content : D → Option (List ℕ)) (images
         so_far = subst (λ l. ServedByPartsSoFar the_profile c (parts old.kept) (parts new.kept) l all rest) (sym (ap (λ l. so.records ++ l) (looked (nat_le h.number g.count) (merged_records (merge_by the_profile (parts now.kept) c g h)) t.0 ∙ ap merged_records t.1.1)))
             (subst (λ k. ServedByPartsSoFar the_profile c (parts old.kept) k (so.records ++ t.1.0.records) all rest) (sym t.1.2) (by_parts_merges the_profile c h g there so.so_far t.1.0 t.0 t.1.1));
         added = adds_more content images so.records (change_records (parts now.kept) c g h) old now new so.added added;
-        leaves = both content images moment images_since so.records (change_records (parts now.kept) c g h) old now new so.added so.leaves leaves;        told = told_both (content (disk_of old.journal)) (content (disk_of now.journal)) (content (disk_of new.journal)) so.told told;
+        leaves = both content images moment images_since so.records (change_records (parts now.kept) c g h) old now new so.added so.leaves leaves;
+        told = told_both (content (disk_of old.journal)) (content (disk_of now.journal)) (content (disk_of new.journal)) so.told told;
         asked = λ b is. let m = so.told b is in asks_more strokes so.records (change_records (parts now.kept) c g h) old now new (so.asked b is) (asked m.0 m.1);
       }
 
@@ -147,13 +149,12 @@ module _ {D : Type 0} {G : Ghosts D} (content : D → Option (List ℕ)) (images
   up_to : (old now : Server D G) (all rest : List Change) (h : Change) (g : Given Instr) → at_ident c now.kept.history.idents ≡ Some g → (so : UploadedSoFar content images moment images_since strokes c old now all (h ∷ rest))
       → (more : List ServerRecord) × ((upload_by the_profile (parts old.kept) c (at_ident c old.kept.history.idents) all).records ≡ (so.records ++ change_records (parts now.kept) c g h) ++ more)
   up_to old now all rest h g there so =
-      let more = begins_with (parts now.kept) c g h rest in
-      (
+      let more = begins_with (parts now.kept) c g h rest in (
         more.0,
         ap (λ s. s.records) so.so_far.same
-        ∙ ap (λ o. so.records ++ (upload_by the_profile (parts now.kept) c o (h ∷ rest)).records) there
-        ∙ ap (λ l. so.records ++ l) more.1
-        ∙ sym (append_assoc so.records (change_records (parts now.kept) c g h) more.0)
+            ∙ ap (λ o. so.records ++ (upload_by the_profile (parts now.kept) c o (h ∷ rest)).records) there
+            ∙ ap (λ l. so.records ++ l) more.1
+            ∙ sym (append_assoc so.records (change_records (parts now.kept) c g h) more.0),
       )
 
   -- a call that ends at a change leaves some of the records of all changes

@@ -234,7 +234,8 @@ fn an_old_client_is_told_of_version_2(rt: HostRuntime) -> Result<(), Fail> {
 }
 
 // Client 1 uploads three changes, each with a table.
-const UPLOAD_THREE: &[u8] = b"\x03\x01\x03\x01\0\x05\x08\x01\x01\x01t\x01\x01\0\0\x02\0\x05\x08\x01\x01\x01u\x01\x01\0\0\x03\0\x05\x08\x01\x01\x01v\x01\x01\0\0";
+const UPLOAD_THREE: &[u8] =
+    b"\x03\x01\x03\x01\0\x05\x08\x01\x01\x01t\x01\x01\0\0\x02\0\x05\x08\x01\x01\x01u\x01\x01\0\0\x03\0\x05\x08\x01\x01\x01v\x01\x01\0\0";
 
 // A server with one client, whose disk stops at the stroke of that number, counted from 0.
 fn armed(

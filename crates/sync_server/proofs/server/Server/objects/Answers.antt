@@ -1,4 +1,3 @@
-use Rattle.std.proofs.Common.{◌∙◌}
 use Rattle.sync_server.proofs.Records.{objects_are}
 use Rattle.sync_server.proofs.server.Server.objects.Goals as goal
 
