@@ -11,7 +11,7 @@ use crate::refusal::ClientRefusal;
 use crate::replica::Replica;
 use std::alloc::Global;
 use sync_codec::encode;
-use sync_data::{Blob, Ident, NoMemory};
+use sync_data::{Blob, Id, Ident, NoMemory};
 use sync_disk::Disk;
 use sync_messages::{Ask, Change, Message, Upload};
 use sync_rebase::{PendingList, Unsent};
@@ -100,6 +100,14 @@ impl<D: Disk> Client<D> {
         ensures { (records : List model.ClientRecord) → IsClientOf records self.now → result ≡ (model.client_of the_profile records).cursor }
     {
         self.replica.cursor
+    }
+
+    /// The client's uuid; none where it isn't born.
+    pub fn id(&self) -> Option<Id>
+        ensures kept { result ≡ (replica_of self.now).id }
+        ensures is { (records : List model.ClientRecord) → IsClientOf records self.now → result ≡ (model.client_of the_profile records).id }
+    {
+        self.replica.id
     }
 
     /// The client's ident, or 0 where it has none.
