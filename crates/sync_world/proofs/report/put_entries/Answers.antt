@@ -10,6 +10,6 @@ pub loop-version-preserved : goal.loop-version-preserved
 loop-version-preserved g c =
     let all = (kept_of c.args.server.now).history.entries in
     elim c.match-entry.branch [
-      | in-Some+in_ok-put_entry w ↦ one_put all c.loop-version.version (entry_of w.in-Some.entry.now) c.loop-version.out.items c.match-entry.out.items (c.args.out.now.items ++ entries_text 0 all) (sym w.in-Some.ensures) (ap (λ o. o.items) w.out-is ∙ w.in_ok-put_entry.ensures) c.loop-version.invariant
-      | in_default w ↦ absurd (no_gap all c.loop-version.version (sym w.in_default.ensures) (let t = c.loop-version-test.true in let e = c.len-version-end.ensures in omega (arith, t, e)))
+      | in-Some+in_ok-put_entry w ↦ one_put all c.loop-version.version (entry_of w.in-Some.entry.now) c.loop-version.out.items c.match-entry.out.items (c.args.out.now.items ++ entries_text 0 all) (sym w.in-Some.ensures.kept) (ap (λ o. o.items) w.out-is ∙ w.in_ok-put_entry.ensures) c.loop-version.invariant
+      | in_default w ↦ absurd (no_gap all c.loop-version.version (sym w.in_default.ensures.kept) (let t = c.loop-version-test.true in let e = c.len-version-end.ensures.kept in omega (arith, t, e)))
     ]
