@@ -1,2 +1,16 @@
 pub mod Entries
 pub mod Pieces
+pub mod Stops
+pub mod Calls
+pub mod Back
+pub mod Fits
+pub mod Opening
+pub mod Arming
+pub mod Spelled
+pub mod Moves
+pub mod Happening
+pub mod Serving
+pub mod Messaging
+pub mod Ids
+pub mod Joining
+pub mod Lines

@@ -1,11 +1,24 @@
-//! What an exchange prints: the words of an outcome, and the report.
+//! An exchange of clients with one server: what each event makes of it, and what is printed.
 #![tactic(auto)]
 
+mod deliveries;
+mod disks;
+mod edits;
+#[cfg(test)]
+mod exchanges;
+mod hub;
+mod laws;
+mod messages;
+mod node;
 mod report;
+mod sends;
+mod stop;
+mod stopping;
 #[cfg(test)]
 mod tests;
 mod text;
 mod words;
+mod world;
 
 pub use report::{put_client, put_server, put_standing};
 pub use text::{put, put_name, put_number, put_numbers, put_said};
@@ -13,3 +26,4 @@ pub use words::{
     Fixed, client_words, declined_words, fixed_words, made_words, message_words, reply_words,
     took_words,
 };
+pub use world::World;

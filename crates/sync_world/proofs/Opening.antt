@@ -1,0 +1,44 @@
+-- A node that is opened over a file of its records.
+use Rattle.std.proofs.Common.{◌≡◌, ℕ, List, [], Result, Ok, map, refl, sym, ◌∙◌, ap, subst}
+use Rattle.sync_disk.specs.declared.disk.Disk.{Ghosts}
+use Rattle.sync_journal.specs.Records as records
+use Rattle.sync_journal.specs.Records.{Reading, records_of}
+use Rattle.sync_journal.specs.Records.Reading.{Good}
+use Rattle.sync_model.specs.Clients.{ClientRecord, no_client}
+use Rattle.sync_model.specs.Files.{client_reads, server_reads}
+use Rattle.sync_model.specs.Servers.{ServerRecord, no_server}
+use Rattle.sync_exchange.specs.Profile.{the_profile}
+use Rattle.sync_exchange.specs.Seen.{client_bytes, read_client, read_server, server_bytes}
+use Rattle.sync_client.specs.Clients as clients
+use Rattle.sync_client.specs.Files as client_files
+use Rattle.sync_client.specs.declared.client.Client.{Client}
+use Rattle.sync_server.specs.Serving as servers
+use Rattle.sync_server.specs.Files as server_files
+use Rattle.sync_server.specs.declared.server.Server.{Server}
+use Rattle.sync_world.specs.Nodes.{ReadsBack, ServerReadsBack}
+
+one_file : (a b : List (List ℕ)) → Good a ≡ Good b → a ≡ b
+one_file a b e = cc
+
+one_list : {R : Type 0} (a b : List R) → ◌≡◌ {A = Result (List R) ℕ} (Ok a) (Ok b) → a ≡ b
+one_list a b e = cc
+
+module _ {D : Type 0} {G : Ghosts D} (b : List ℕ) where
+  pub opened_client : (records : List ClientRecord) (c : Client D G) → client_files.Opened G.content G.images b c → records_of b ≡ Good (map client_bytes records) → ReadsBack records
+      → clients.IsClientOf records c × clients.IsStored G.content G.images records c
+  opened_client records c o holds back =
+      let file : o.file ≡ map client_bytes records = one_file o.file (map client_bytes records) (sym o.holds ∙ holds) in
+      let same : o.records ≡ records = one_list o.records records (sym o.reads ∙ ap (client_reads the_profile read_client (no_client the_profile)) file ∙ back) in
+      (subst (λ rs. clients.IsClientOf rs c) same o.client, subst (λ rs. clients.IsStored G.content G.images rs c) same o.stored)
+
+  pub opened_server : (records : List ServerRecord) (s : Server D G) → server_files.Opened G.content G.images b s → records_of b ≡ Good (map server_bytes records) → ServerReadsBack records
+      → servers.IsServerOf records s × servers.IsStored G.content G.images records s
+  opened_server records s o holds back =
+      let file : o.file ≡ map server_bytes records = one_file o.file (map server_bytes records) (sym o.holds ∙ holds) in
+      let same : o.records ≡ records = one_list o.records records (sym o.reads ∙ ap (server_reads the_profile read_server no_server) file ∙ back) in
+      (subst (λ rs. servers.IsServerOf rs s) same o.server, subst (λ rs. servers.IsStored G.content G.images rs s) same o.stored)
+
+-- an empty file has none
+pub no_records : records_of [] ≡ Good []
+unfolding records.records_of
+no_records = refl

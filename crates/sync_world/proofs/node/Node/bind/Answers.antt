@@ -1,0 +1,8 @@
+use Rattle.std.proofs.Common.{length}
+use Rattle.sync_journal.specs.Stands.{disk_of}
+use Rattle.sync_client.specs.Clients.{journal_of}
+use Rattle.sync_world.proofs.Arming.{not_stopped}
+use Rattle.sync_world.proofs.node.Node.bind.Goals as goal
+
+pub returns-clause-client : goal.returns-clause-client
+returns-clause-client c records s h = c.disarm.ensures.client records h.client h.stored h.armed.listed (not_stopped s _ _ h.armed)

@@ -1,0 +1,108 @@
+-- Which world of the model an exchange is.
+use Rattle.std.specs.Prelude.{◌≡◌, ℕ, Bool, false, if◌then◌else◌, List, [], ◌∷◌, map, bytes_eq, Option, None, Some, Result, Ok, Err, IfOk, Vec}
+use Rattle.std.specs.List.{list_any}
+use Rattle.std.specs.declared.alloc.Global.{Global}
+use Rattle.sync_data.specs.declared.memory.NoMemory.{NoMemory}
+use Rattle.sync_journal.specs.Records.{lists}
+use Rattle.sync_model.specs.Bytes.{Name}
+use Rattle.sync_model.specs.Limits.{Each}
+use Rattle.sync_model.specs.Worlds.{IsReached, Node, Outcome, Stop, Words, World, has_name, is_node, seek, server_name}
+use Rattle.sync_exchange.specs.Profile.{the_profile}
+use Rattle.sync_client.specs.Refusals.{refusal_seen, IfSeen}
+use Rattle.sync_world.specs.Messages.{AreSpelled}
+use Rattle.sync_world.specs.Nodes.{FitsClient, FitsServer, HoldsClient, HoldsServer}
+use Rattle.sync_world.specs.Words.{words_text}
+use Rattle.sync_client.specs.Clients.{IsClientOf, IsStored, replica_of}
+use Rattle.sync_client.specs.declared.client.Client.{Client}
+use Rattle.sync_server.specs.Serving.{kept_of}
+use Rattle.sync_server.specs.declared.server.Server.{Server}
+use Rattle.sync_disk.specs.declared.disk.Disk.{Ghosts}
+use Rattle.sync_disk.specs.declared.memory.MemoryDisk.{MemoryDisk}
+use Rattle.sync_world.specs.declared.node.Called.{Called}
+use Rattle.sync_world.specs.declared.node.Called.TheVariants as called
+use Rattle.sync_world.specs.declared.node.Node.{Node as CodeNode}
+use Rattle.sync_world.specs.declared.world.World.{World as CodeWorld}
+
+-- a client of the exchange
+pub record HoldsNode (n : Node) (s : Option Stop) (node : CodeNode) : Type 0 where
+  pub name : node.name ≡ n.name
+  pub client : HoldsClient n.records s node.stop node.client
+
+-- two lists, each two elements of which are so
+abbrev pub AreBoth : {A B : Type 0} → (A → B → Type 0) → List A → List B → Type 0
+AreBoth R [] [] = Unit {0}
+AreBoth R [] (b ∷ bs) = ⊥
+AreBoth R (a ∷ as_) [] = ⊥
+AreBoth R (a ∷ as_) (b ∷ bs) = R a b × AreBoth R as_ bs
+
+-- each client of the exchange
+abbrev pub HoldsEach : (Name → Option Stop) → List Node → List CodeNode → Type 0
+HoldsEach stops ns cs = AreBoth (λ n c. HoldsNode n (stops n.name) c) ns cs
+
+-- this is the client's name
+abbrev pub named : Name → CodeNode → Bool
+named name c = bytes_eq name c.name
+
+-- its uuid, as the code keeps it
+abbrev pub id_of : CodeNode → Option (List ℕ)
+id_of node = (replica_of node.client).id
+
+-- the uuids to which a server gave idents, in their order
+abbrev pub given_ids : {G : Ghosts MemoryDisk} → Server MemoryDisk G → List (List ℕ)
+given_ids s = map (λ g. g.uuid) (kept_of s).history.idents
+
+-- they differ, and none is the server's
+abbrev pub AreNames : List Name → Type 0
+AreNames [] = Unit {0}
+AreNames (name ∷ names) = (bytes_eq name server_name ≡ false) × (list_any (bytes_eq name) names ≡ false) × AreNames names
+
+-- ---- the world
+-- its nodes, messages and uuids are these
+pub record Stands (w : World) (self : CodeWorld) : Type 0 where
+  pub server : HoldsServer w.server (w.stops server_name) self.hub.stop self.hub.server
+  pub clients : HoldsEach w.stops w.clients self.clients.items
+  pub named : AreNames (map (λ n. n.name) w.clients)
+  pub server_fits : Each FitsServer w.server
+  pub clients_fit : Each (λ n. Each FitsClient n.records) w.clients
+  pub messages : AreSpelled w.messages (lists self.messages.items)
+  pub injected : self.injected.items ≡ w.injected
+  -- only nodes are armed
+  pub unarmed : (name : Name) → is_node w name ≡ false → w.stops name ≡ None
+
+-- and events make it of the empty world
+pub record Holds (w : World) (self : CodeWorld) : Type 0 where
+  pub reached : IsReached the_profile w
+  pub stands : Stands w self
+
+-- the text of these words, unless memory ran out
+abbrev pub IsText : Words → Result (Vec ℕ Global) NoMemory → Type 0
+IsText words result = IfOk result (λ text. text.items ≡ words_text words)
+
+-- an event is answered by its words, and the world is that after it, unless memory ran out
+abbrev pub Happens : Outcome → Result (Vec ℕ Global) NoMemory → CodeWorld → Type 0
+Happens o (Ok text) new = (text.items ≡ words_text o.words) × Holds o.world new
+Happens o (Err e) new = Unit {0}
+
+-- what is said of a call
+abbrev pub SaysCalled : {A : Type 0} → (A → Words) → Called A → Result (Vec ℕ Global) NoMemory → Type 0
+SaysCalled say (called.Answered a) result = IsText (say a) result
+SaysCalled say (called.Declined why) result = IfSeen (refusal_seen why) (λ w. IsText (Words.Declined w) result)
+SaysCalled say called.Stopped result = IsText Words.Stopped result
+
+-- of a file that is brought to form 2
+abbrev pub upgrade_said : Bool → Words
+upgrade_said b = if b then Words.Upgraded else Words.Current
+
+-- the client of a call of the exchange
+abbrev pub Found : World → Name → Option ℕ → Type 0
+Found w name None = seek (has_name name) w.clients ≡ None
+Found w name (Some place) = (n : Node) × (seek (has_name name) w.clients ≡ Some (place, n))
+
+
+-- the client that is lent, and which it is
+pub record IsClient {G : Ghosts MemoryDisk} (w : World) (name : Name) (c : Client MemoryDisk G) : Type 0 where
+  pub place : ℕ
+  pub node : Node
+  pub sought : seek (has_name name) w.clients ≡ Some (place, node)
+  pub client : IsClientOf node.records c
+  pub stored : IsStored G.content G.images node.records c
