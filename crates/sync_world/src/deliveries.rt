@@ -1,4 +1,4 @@
-ghost use Rattle.std.specs.Prelude.{◌≡◌, bytes_eq, false, map};
+ghost use Rattle.std.specs.Prelude.{◌≡◌, bytes_eq, false, OnOk};
 ghost use Rattle.std.specs.List.{list_any};
 ghost use Rattle.sync_model.specs.Worlds as model;
 ghost use Rattle.sync_exchange.specs.Profile.{the_profile};
@@ -114,6 +114,19 @@ impl World {
         }
     }
 
+    /// Keeps the uuid that an injected Bind names.
+    fn note(&mut self, message: &Message) -> Result<(), NoMemory>
+        ensures { (w : model.World) → Stands w self.old → OnOk result (Stands (model.named_by w (message_seen message.now)) self.new) }
+    {
+        if let Message::Bind { uuid } = message {
+            match self.injected.push(*uuid) {
+                Ok(()) => {}
+                Err(_) => return Err(NoMemory),
+            }
+        }
+        Ok(())
+    }
+
     /// Any bytes come to the server.
     pub(crate) fn inject(&mut self, bytes: &Blob) -> Result<Vec<u8>, NoMemory>
         ensures { (w : model.World) → Holds w self.old → Happens (model.happens the_profile w (model.Injects (message_read bytes.now))) result self.new }
@@ -127,11 +140,9 @@ impl World {
         if self.names_own(&message) {
             return fixed_words(self.alloc, Fixed::OwnIdent);
         }
-        if let Message::Bind { uuid } = &message {
-            match self.injected.push(*uuid) {
-                Ok(()) => {}
-                Err(_) => return Err(NoMemory),
-            }
+        match self.note(&message) {
+            Ok(()) => {}
+            Err(NoMemory) => return Err(NoMemory),
         }
         self.serve(message)
     }

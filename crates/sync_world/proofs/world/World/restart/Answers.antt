@@ -2,7 +2,7 @@ use Rattle.std.proofs.Common.{Bool, true, if◌then◌else◌, refl, sym, ◌∙
 use Rattle.std.specs.Vec.{with_item}
 use Rattle.sync_model.specs.Worlds.{NoNode, Opened, has_name, is_node, says}
 use Rattle.sync_model.proofs.Lists.{seek_found}
-use Rattle.sync_world.specs.Holding.{Happens}
+use Rattle.sync_world.specs.Holding.{Happens, HoldsNode}
 use Rattle.sync_world.specs.declared.world.World.{World}
 use Rattle.sync_world.proofs.Happening.{again, is_one, said_all}
 use Rattle.sync_world.proofs.Moves.{each_at, held_at}
@@ -18,7 +18,7 @@ returns-in-Ok c w h =
     let held = held_at w.stops w.clients old.clients.items place f.0 c.index_mut.result.now h.stands.clients here c.index_mut.ensures.value c.in-Some.ensures.within in
     let self : World = record { alloc = old.alloc; hub = old.hub; clients = with_item old.clients place c.restart.new.self; messages = old.messages; injected = old.injected } in
     let back = c.worlds_read_back.ensures.client w place f.0 h.reached here (each_at w.clients place f.0 h.stands.clients_fit here) in
-    let one = record { name = c.in-Ok.ensures.name ∙ held.name; client = c.in-Ok.ensures.client f.0.records (w.stops f.0.name) held.client back } in
+    let one : HoldsNode f.0 (w.stops f.0.name) c.restart.new.self = record { name = c.in-Ok.ensures.name ∙ held.name; client = c.in-Ok.ensures.client f.0.records (w.stops f.0.name) held.client back } in
     subst (λ (b : Bool). Happens (says w (if b then Opened else NoNode)) c.fixed_words-in-Ok.result self) (sym (is_one w name (place, f.0) f.1))
     (said_all w Opened c.fixed_words-in-Ok.result self c.fixed_words-in-Ok.ensures
         (record { reached = h.reached; stands = again w old h.stands place f.0 here self c.restart.new.self (record { clients = refl; hub = refl; messages = refl; injected = refl }) one }))
