@@ -52,7 +52,7 @@ module _ (w : World) (old : CodeWorld) (h : Stands w old) (did : ServerStep) (fi
   replied None reply result new done clients injected kept text reached =
       subst (λ a. IsReached the_profile (record (server_moved w did.records) { messages = w.messages ++ a ∷ [] }) → Happens (says (record (server_moved w did.records) { messages = w.messages ++ a ∷ [] }) (Words.Replied (suc (length w.messages)) a)) result new) (sym done.said)
       (λ r. said_all (record (server_moved w did.records) { messages = w.messages ++ message_seen reply ∷ [] }) (Words.Replied (suc (length w.messages)) (message_seen reply)) result new text
-          (record { reached = r; stands = served did.records (w.messages ++ message_seen reply ∷ []) new clients injected done.server fit kept }))
+      (record { reached = r; stands = served did.records (w.messages ++ message_seen reply ∷ []) new clients injected done.server fit kept }))
       reached
   replied (Some rs) reply result new done clients injected kept text reached = absurd done.said
 

@@ -84,8 +84,8 @@ module _ {D R : Type 0} (G : Ghosts D) (tell : StopsTell G) (bytes : R → List 
         take (standing s) next,
         stops_within s next (omega (arith, p.0, many, counted)),
         ap (λ (o : Origin). records_of (left_by o.leaves (state o.start (G.strokes new)))) same
-        ∙ p.1
-        ∙ ap (λ (n : ℕ). Good (map bytes records ++ take n (map bytes next))) (standing_seen (G.origin old).leaves s armed.leaves)
-        ∙ ap (λ (l : List (List ℕ)). Good (map bytes records ++ l)) (sym (map_take bytes (standing s) next))
-        ∙ ap Good (sym (map-append bytes records (take (standing s) next))),
+            ∙ p.1
+            ∙ ap (λ (n : ℕ). Good (map bytes records ++ take n (map bytes next))) (standing_seen (G.origin old).leaves s armed.leaves)
+            ∙ ap (λ (l : List (List ℕ)). Good (map bytes records ++ l)) (sym (map_take bytes (standing s) next))
+            ∙ ap Good (sym (map-append bytes records (take (standing s) next))),
       )

@@ -98,7 +98,6 @@ abbrev pub Found : World → Name → Option ℕ → Type 0
 Found w name None = seek (has_name name) w.clients ≡ None
 Found w name (Some place) = (n : Node) × (seek (has_name name) w.clients ≡ Some (place, n))
 
-
 -- the client that is lent, and which it is
 pub record IsClient {G : Ghosts MemoryDisk} (w : World) (name : Name) (c : Client MemoryDisk G) : Type 0 where
   pub place : ℕ

@@ -224,11 +224,7 @@ impl Node {
     }
 
     /// A message is taken.
-    pub(crate) fn take(
-        &mut self,
-        alloc: Global,
-        message: Message,
-    ) -> Result<Called<u32>, NoMemory>
+    pub(crate) fn take(&mut self, alloc: Global, message: Message) -> Result<Called<u32>, NoMemory>
         ensures ends { (records : List model.ClientRecord) (s : Option ModelStop) → HoldsClient records s self.old.stop self.old.client
             → StandReads records (stopped s (model.take the_profile (model.client_of the_profile records) (message_seen message)).records)
             → Ends (model.take the_profile (model.client_of the_profile records) (message_seen message)) records (stopped s (model.take the_profile (model.client_of the_profile records) (message_seen message)).records) result self.new }

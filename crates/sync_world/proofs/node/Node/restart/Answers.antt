@@ -15,7 +15,7 @@ returns-in-Some-clause-client c records s h back =
     let told = ap (λ (d : MemoryDisk). ghosts.content d) same ∙ before.stored.settled.told in
     let e = c.in_ok-self.ensures in
     let open_ = opened_client records c.in_ok-self.field-0 (ghosts.origin c.in_ok-disk.disk) (e.client records _ told before.stored.settled.reads back) (e.stored records _ told before.stored.settled.reads back) e.origin
-        (ap (λ (d : MemoryDisk). (ghosts.origin d).stop) same ∙ before.armed.stop) (ap (λ (d : MemoryDisk). (ghosts.origin d).listed) same ∙ before.armed.listed) in
+    (ap (λ (d : MemoryDisk). (ghosts.origin d).stop) same ∙ before.armed.stop) (ap (λ (d : MemoryDisk). (ghosts.origin d).listed) same ∙ before.armed.listed) in
     let is : Some (stop_seen c.in-Some.stop) ≡ s = sym (ap (λ o. option_map stop_seen o) c.in-Some.is) ∙ h.kept_is in
     subst (λ (x : Option Stop). HoldsClient records x c.arm.new.self.stop c.arm.new.self.client) is (c.arm.ensures.client records None open_)
 
@@ -26,6 +26,6 @@ returns-in-None-clause-client c records s h back =
     let told = ap (λ (d : MemoryDisk). ghosts.content d) same ∙ before.stored.settled.told in
     let e = c.in_ok-self.ensures in
     let open_ = opened_client records c.in_ok-self.field-0 (ghosts.origin c.in_ok-disk.disk) (e.client records _ told before.stored.settled.reads back) (e.stored records _ told before.stored.settled.reads back) e.origin
-        (ap (λ (d : MemoryDisk). (ghosts.origin d).stop) same ∙ before.armed.stop) (ap (λ (d : MemoryDisk). (ghosts.origin d).listed) same ∙ before.armed.listed) in
+    (ap (λ (d : MemoryDisk). (ghosts.origin d).stop) same ∙ before.armed.stop) (ap (λ (d : MemoryDisk). (ghosts.origin d).listed) same ∙ before.armed.listed) in
     let is : None ≡ s = sym (ap (λ o. option_map stop_seen o) c.in-None.is) ∙ h.kept_is in
     subst (λ (x : Option Stop). HoldsClient records x None c.in_ok-self.field-0) is open_

@@ -26,4 +26,4 @@ returns c w h =
     let after = subst (λ (b : Bool). IsReached the_profile (if b then says (record w { stops = arm name (Some s) w.stops }) Armed else says w NoNode).world) node (c.worlds_read_back.ensures.steps w (Stops name c.args.at (leaves_seen c.args.leaves)) h.reached) in
     subst (λ (b : Bool). Happens (if b then says (record w { stops = arm name (Some s) w.stops }) Armed else says w NoNode) c.fixed_words-2.result self) (sym node)
     (said_all (record w { stops = arm name (Some s) w.stops }) Armed c.fixed_words-2.result self c.fixed_words-2.ensures
-        (record { reached = after; stands = client_armed w old h.stands place f.0 sought.here self c.arm.new.self (record { clients = refl; hub = refl; messages = refl; injected = refl }) name (Some s) (bytes_same name f.0.name sought.passes) one }))
+    (record { reached = after; stands = client_armed w old h.stands place f.0 sought.here self c.arm.new.self (record { clients = refl; hub = refl; messages = refl; injected = refl }) name (Some s) (bytes_same name f.0.name sought.passes) one }))

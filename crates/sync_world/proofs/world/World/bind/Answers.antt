@@ -21,4 +21,4 @@ returns c w h =
     let reached = called_one w name bind message_words place f.0 f.1 (λ o. IsReached the_profile o.world) (c.worlds_read_back.ensures.steps w (Binds name) h.reached) in
     one_called w name bind message_words place f.0 f.1 (λ o. Happens o c.sent.result c.sent.new.self)
     (sends w c.args.self.now h.stands place f.0 here (bind (client_of the_profile f.0.records)) (bind_quiet (client_of the_profile f.0.records)) held.client.armed.counted _ c.sent.new.self c.bind-sent.new.self c.bind-sent.result c.sent.result
-        (record { clients = refl; hub = refl; messages = refl; injected = refl }) (e.name ∙ held.name) (e.client f.0.records (w.stops f.0.name) held.client) (e.sends f.0.records (w.stops f.0.name) held.client) c.sent.ensures reached)
+    (record { clients = refl; hub = refl; messages = refl; injected = refl }) (e.name ∙ held.name) (e.client f.0.records (w.stops f.0.name) held.client) (e.sends f.0.records (w.stops f.0.name) held.client) c.sent.ensures reached)

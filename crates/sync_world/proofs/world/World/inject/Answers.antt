@@ -15,7 +15,7 @@ returns c w h =
     let is = sym (ap message_read c.bytes.ensures) ∙ it.0 in
     let other = sym (c.names_own.ensures w h.stands) ∙ c.if-names_own.false in
     let reached = subst (λ (b : Bool). IsReached the_profile (if b then says w OwnIdent else server_called the_profile (named_by w m) m).world) other
-        (subst (λ (o : Option Message). IsReached the_profile (injects the_profile w o).world) is (c.worlds_read_back.ensures.steps w (Injects (message_read c.args.bytes.now)) h.reached)) in
+    (subst (λ (o : Option Message). IsReached the_profile (injects the_profile w o).world) is (c.worlds_read_back.ensures.steps w (Injects (message_read c.args.bytes.now)) h.reached)) in
     subst (λ (o : Option Message). Happens (injects the_profile w o) c.serve.result c.serve.new.self) (sym is)
     (subst (λ (b : Bool). Happens (if b then says w OwnIdent else server_called the_profile (named_by w m) m) c.serve.result c.serve.new.self) (sym other)
-        (c.serve.ensures (named_by w m) (c.in-Ok.ensures w h.stands) it.1 reached))
+    (c.serve.ensures (named_by w m) (c.in-Ok.ensures w h.stands) it.1 reached))

@@ -24,9 +24,9 @@ returns-in-Ok c w h =
     let unknown : is_there (seek (has_id the_profile id) w.clients) ≡ false = sym (c.has_id.ensures w h.stands) ∙ c.if-has_id.false in
     let unnamed : is_there (seek (λ u. bytes_eq id u) w.injected) ≡ false = sym (c.has_injected.ensures w h.stands) ∙ c.if-has_injected.false in
     let is : joins the_profile w name id ≡ says v (Joined name) =
-        ap (λ (b : Bool). if b then says w NameTaken else (if is_there (seek (has_id the_profile id) w.clients) || is_there (seek (λ u. bytes_eq id u) w.injected) then says w UuidTaken else says v (Joined name))) free
-        ∙ ap (λ (b : Bool). if b || is_there (seek (λ u. bytes_eq id u) w.injected) then says w UuidTaken else says v (Joined name)) unknown
-        ∙ ap (λ (b : Bool). if b then says w UuidTaken else says v (Joined name)) unnamed in
+    ap (λ (b : Bool). if b then says w NameTaken else (if is_there (seek (has_id the_profile id) w.clients) || is_there (seek (λ u. bytes_eq id u) w.injected) then says w UuidTaken else says v (Joined name))) free
+    ∙ ap (λ (b : Bool). if b || is_there (seek (λ u. bytes_eq id u) w.injected) then says w UuidTaken else says v (Joined name)) unknown
+    ∙ ap (λ (b : Bool). if b then says w UuidTaken else says v (Joined name)) unnamed in
     let new = new_name w name free in
     let client = subst (λ (s : Option Stop). HoldsClient (Born id ∷ []) s c.in_ok-node.node.stop c.in_ok-node.node.client) (sym (h.stands.unarmed name free)) c.in_ok-node.ensures.client in
     let self : World = record { alloc = c.args.self.now.alloc; hub = c.args.self.now.hub; clients = c.push.new.self; messages = c.args.self.now.messages; injected = c.args.self.now.injected } in

@@ -21,4 +21,4 @@ returns-in-Ok c w h =
     let one : HoldsNode f.0 (w.stops f.0.name) c.restart.new.self = record { name = c.in-Ok.ensures.name ∙ held.name; client = c.in-Ok.ensures.client f.0.records (w.stops f.0.name) held.client back } in
     subst (λ (b : Bool). Happens (says w (if b then Opened else NoNode)) c.fixed_words-in-Ok.result self) (sym (is_one w name (place, f.0) f.1))
     (said_all w Opened c.fixed_words-in-Ok.result self c.fixed_words-in-Ok.ensures
-        (record { reached = h.reached; stands = again w old h.stands place f.0 here self c.restart.new.self (record { clients = refl; hub = refl; messages = refl; injected = refl }) one }))
+    (record { reached = h.reached; stands = again w old h.stands place f.0 here self c.restart.new.self (record { clients = refl; hub = refl; messages = refl; injected = refl }) one }))

@@ -16,5 +16,5 @@ returns-in-Ok c w h =
     let here = (seek_found (has_name name) w.clients (place, f.0) f.1).here in
     let held = held_at w.stops w.clients c.args.self.now.clients.items place f.0 c.index_mut.result.now h.stands.clients here c.index_mut.ensures.value c.in-Some.ensures.within in
     call_happens w c.args.self.now h name (λ k. upgrade k) upgrade_words upgrade_said (λ v a. refl) (λ v why. refl) (λ k. upgrade_fits k)
-        (c.worlds_read_back.ensures.steps w (Upgrades name) h.reached) c.worlds_read_back.ensures.client place f.0 f.1 c.in-Ok.called c.upgraded.result _ c.upgrade.new.self
-        (record { clients = refl; hub = refl; messages = refl; injected = refl }) (c.in-Ok.ensures.name ∙ held.name) (λ reads. c.in-Ok.ensures.ends f.0.records (w.stops f.0.name) held.client reads) c.upgraded.ensures
+    (c.worlds_read_back.ensures.steps w (Upgrades name) h.reached) c.worlds_read_back.ensures.client place f.0 f.1 c.in-Ok.called c.upgraded.result _ c.upgrade.new.self
+    (record { clients = refl; hub = refl; messages = refl; injected = refl }) (c.in-Ok.ensures.name ∙ held.name) (λ reads. c.in-Ok.ensures.ends f.0.records (w.stops f.0.name) held.client reads) c.upgraded.ensures

@@ -21,4 +21,4 @@ returns c w h =
     let reached = called_one w name (upload the_profile) message_words place f.0 f.1 (λ o. IsReached the_profile o.world) (c.worlds_read_back.ensures.steps w (Uploads name) h.reached) in
     one_called w name (upload the_profile) message_words place f.0 f.1 (λ o. Happens o c.sent.result c.sent.new.self)
     (sends w c.args.self.now h.stands place f.0 here ((upload the_profile) (client_of the_profile f.0.records)) (upload_quiet (client_of the_profile f.0.records)) held.client.armed.counted _ c.sent.new.self c.upload-sent.new.self c.upload-sent.result c.sent.result
-        (record { clients = refl; hub = refl; messages = refl; injected = refl }) (e.name ∙ held.name) (e.client f.0.records (w.stops f.0.name) held.client) (e.sends f.0.records (w.stops f.0.name) held.client) c.sent.ensures reached)
+    (record { clients = refl; hub = refl; messages = refl; injected = refl }) (e.name ∙ held.name) (e.client f.0.records (w.stops f.0.name) held.client) (e.sends f.0.records (w.stops f.0.name) held.client) c.sent.ensures reached)
