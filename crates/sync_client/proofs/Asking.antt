@@ -1,5 +1,5 @@
 -- The messages that a client sends, and what it tells of itself.
-use Rattle.std.proofs.Common.{◌≡◌, ℕ, suc, ◌≤◌, min, Bool, true, false, List, [], ◌∷◌, ◌++◌, length, length-append, map, Result, Ok, Err, ap, ◌∙◌, sym, ◌==◌, if◌then◌else◌, le_refl, arith}
+use Rattle.std.proofs.Common.{◌≡◌, ℕ, suc, ◌≤◌, min, Bool, true, false, List, [], ◌∷◌, length, length-append, map, Result, Ok, Err, ap, ◌∙◌, sym, ◌==◌, if◌then◌else◌, le_refl, arith}
 use Rattle.std.specs.Option.{is_some}
 use Rattle.sync_data.specs.declared.instr.Instr.{Instr}
 use Rattle.sync_base.specs.States.{State}

@@ -1,8 +1,6 @@
 -- Records of a client that are read one after the other.
-use Rattle.std.proofs.Common.{◌≡◌, ℕ, ◌+◌, ◌<◌, ◌≤◌, Bool, true, false, ◌&&◌, List, [], ◌∷◌, ◌++◌, length, map, drop, get_or, drop-cons, Vec, Global, Some, None, Result, Ok, Err, refl, ap, ap₂, ◌∙◌, sym, subst, append-nil, append_assoc, add-one, length-append}
+use Rattle.std.proofs.Common.{◌≡◌, ℕ, ◌+◌, Bool, true, false, ◌&&◌, List, [], ◌∷◌, ◌++◌, length, map, Some, None, Result, Ok, Err, refl, ap, ◌∙◌, sym, subst, append-nil, append_assoc, length-append}
 use Rattle.std.specs.Option.{option_map}
-use Rattle.std.proofs.Math.ListN.{drop_of_length-le}
-use Rattle.sync_journal.specs.Records.{lists}
 use Rattle.sync_model.specs.Clients.{ClientRecord, after_record, client_of, no_client}
 use Rattle.sync_model.specs.Files.{client_admits, client_reads, read_one, read_put}
 use Rattle.sync_model.specs.Limits.{no_more}

@@ -1,19 +1,19 @@
 -- What the calls of a client ask of the disk.
-use Rattle.std.proofs.Common.{◌≡◌, ℕ, ◌+◌, ◌≤◌, ◌<◌, Bool, true, false, List, [], ◌∷◌, ◌++◌, length, map, Option, Some, None, Result, Ok, Err, refl, sym, ap, ◌∙◌, subst, arith, inl, inr, append_assoc, append-nil}
+use Rattle.std.proofs.Common.{◌≡◌, ℕ, ◌≤◌, ◌<◌, Bool, true, false, List, [], ◌∷◌, ◌++◌, length, map, Some, Result, Err, refl, sym, ap, ◌∙◌, subst, inl, inr, append-nil}
 use Rattle.std.specs.Prelude.{◌↔◌, IsErrOf}
 use Rattle.std.specs.Result.{result_err}
 use Rattle.std.proofs.lemmas.Bool.{cases_lt}
 use Rattle.std.proofs.lemmas.List.{map-append}
 use Rattle.sync_disk.specs.declared.disk.Disk.{Ghosts}
-use Rattle.sync_disk.specs.Strokes.{Stroke, AllDone, CutByFault}
+use Rattle.sync_disk.specs.Strokes.{Stroke, CutByFault}
 use Rattle.sync_journal.specs.Journal.{strokes_of}
 use Rattle.sync_journal.specs.Records.{longest}
 use Rattle.sync_journal.specs.Several.{Asks, AsksSome}
 use Rattle.sync_journal.specs.declared.journal.Journal.{Journal}
 use Rattle.sync_journal.specs.declared.journal.JournalRefusal.{JournalRefusal}
 use Rattle.sync_journal.specs.declared.journal.JournalRefusal.TheVariants as journals
-use Rattle.sync_journal.proofs.Stops.{asks_none, asks_one, asks_both, part_one, part_before, part_later}
-use Rattle.sync_model.specs.Clients.{ClientRecord, ClientRefusal, ClientStep, appends}
+use Rattle.sync_journal.proofs.Stops.{asks_none, asks_both, part_one, part_before, part_later}
+use Rattle.sync_model.specs.Clients.{ClientRecord, ClientStep, appends}
 use Rattle.sync_exchange.specs.Seen.{client_bytes}
 use Rattle.sync_client.specs.Clients.{Asked, AskedFor}
 use Rattle.sync_client.specs.Refusals.{refusal_seen, IfSeen, IsPlain}
