@@ -1,15 +1,13 @@
 -- A node whose disk is armed, or no longer.
-use Rattle.std.proofs.Common.{◌≡◌, ℕ, ◌+◌, ◌-◌, ◌≤◌, Bool, false, nat_lt, if◌then◌else◌, List, length, map, Option, None, Some, IfSome, refl, sym, ◌∙◌, ap, subst, arith}
+use Rattle.std.proofs.Common.{◌≡◌, ℕ, ◌+◌, ◌-◌, ◌≤◌, Bool, false, nat_lt, if◌then◌else◌, List, length, Option, None, Some, refl, sym, ◌∙◌, ap, subst, arith}
 use Rattle.std.proofs.lemmas.Bool.Decides.{nat_tests}
 use Rattle.sync_disk.specs.Faults.{armed, disarmed, has_stopped}
 use Rattle.sync_disk.specs.Origin.{Origin}
-use Rattle.sync_disk.specs.Strokes.{Stroke}
 use Rattle.sync_disk.specs.declared.disk.Disk.{Ghosts}
 use Rattle.sync_journal.specs.Stands.{disk_of}
 use Rattle.sync_model.specs.Clients.{ClientRecord}
 use Rattle.sync_model.specs.Servers.{ServerRecord}
-use Rattle.sync_model.specs.Worlds.{Leaves, Stop}
-use Rattle.sync_exchange.specs.Profile.{the_profile}
+use Rattle.sync_model.specs.Worlds.{Stop}
 use Rattle.sync_client.specs.Clients as clients
 use Rattle.sync_client.specs.Keeping.{Keeps}
 use Rattle.sync_client.specs.declared.client.Client.{Client}
@@ -17,7 +15,7 @@ use Rattle.sync_server.specs.Kept.{parts}
 use Rattle.sync_server.specs.Serving as servers
 use Rattle.sync_server.specs.declared.server.Server.{Server}
 use Rattle.sync_world.specs.Events.{leaves_seen}
-use Rattle.sync_world.specs.Nodes.{HoldsClient, HoldsServer, IsArmed, stop_after, stop_seen}
+use Rattle.sync_world.specs.Nodes.{HoldsClient, HoldsServer, IsArmed, stop_seen}
 use Rattle.sync_world.specs.declared.stop.Stop.{Stop as CodeStop}
 
 -- an armed disk that hasn't come to its stop

@@ -1,10 +1,9 @@
 -- Records are read back from their bytes.
-use Rattle.std.proofs.Common.{◌≡◌, ◌≢◌, ℕ, zero, suc, ◌<◌, ◌≤◌, ◌^◌, List, [], ◌∷◌, Some, refl, ap, ◌∙◌, arith, lit<}
+use Rattle.std.proofs.Common.{◌≡◌, ◌≢◌, ℕ, zero, suc, ◌<◌, ◌≤◌, ◌^◌, List, [], ◌∷◌, Some, refl, ap, ◌∙◌, arith}
 use Rattle.std.specs.Option.{option_map}
 use Rattle.sync_model.specs.Clients.{ClientRecord}
 use Rattle.sync_model.specs.Limits.{Each, no_more, and_each, IsClientRecord, IsServerRecord}
 use Rattle.sync_model.specs.Servers.{ServerRecord}
-use Rattle.sync_records.specs.Reading.{client_forms, record_in, server_forms}
 use Rattle.sync_records.specs.Limits as records
 use Rattle.sync_records.proofs.Records.{client_read, server_read}
 use Rattle.sync_exchange.specs.Profile.{the_profile}

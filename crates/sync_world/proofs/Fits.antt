@@ -1,5 +1,5 @@
 -- Times and uuids of the records that calls append.
-use Rattle.std.proofs.Common.{All, ◌≡◌, ℕ, suc, ◌<◌, ◌^◌, ◌-◌, Bool, true, false, not, ◌&&◌, nat_lt, nat_le, ◌==◌, if◌then◌else◌, List, [], ◌∷◌, ◌++◌, drop, length, map, Option, None, Some, Result, Ok, Err, bytes_eq}
+use Rattle.std.proofs.Common.{◌≡◌, ℕ, suc, ◌<◌, ◌^◌, ◌-◌, Bool, true, false, not, ◌&&◌, nat_lt, nat_le, ◌==◌, if◌then◌else◌, List, [], ◌∷◌, ◌++◌, drop, length, map, Option, None, Some, Result, Ok, Err, bytes_eq}
 use Rattle.std.specs.List.{AllByRecursion}
 use Rattle.std.proofs.lemmas.List.Elements.{recursion_from_All}
 use Rattle.sync_data.specs.declared.instr.Instr.{Instr}
@@ -10,11 +10,11 @@ use Rattle.sync_messages.specs.declared.message.Message.{Message as CodeMessage}
 use Rattle.sync_messages.specs.declared.message.Message.TheVariants as messages
 use Rattle.sync_theory.specs.Changesets.{Changeset}
 use Rattle.sync_model.specs.Bytes.{Uuid}
-use Rattle.sync_model.specs.Profile.{apply_all, first_need, is_small, needs, Stuck}
+use Rattle.sync_model.specs.Profile.{apply_all, first_need, needs, Stuck}
 use Rattle.sync_model.specs.Messages.{Change, Sent, Message, Bind, Ident, Upload, Ask, Download, Refused, Stored, Ask2}
 use Rattle.sync_model.specs.Limits.{Each, no_more, and_each}
-use Rattle.sync_model.specs.Clients.{Client, ClientRecord, ClientRefusal, ClientStep, Born, Named, Made, Took, Form, AlreadyBorn, TooLarge, NumbersFull, OldForm, NotMine, IdentDiffers, Gap, WasRefused, after_record, answers, appends, commit, commit_applied, commit_born, entry_refusal, if_born, refuse, take as take_message, take_born, take_entries, take_ident, take_one, took, upgrade}
-use Rattle.sync_model.specs.Servers.{Server, ServerRecord, ServerRefusal, ServerStep, NumberGap, BaseBack, AheadOfHistory, HistoryFull, NoSuchIdent, IdentsFull, after_all, carried_change, count, download, download_first, first_form, is_given, last_base, merge, merge_applied, merge_carried, merge_read, merged, new_records, place_of, refuses, replies, serve, serve_bind, serve_changes, server_objects, NeedsForm2, if_there, entries_from}
+use Rattle.sync_model.specs.Clients.{Client, ClientRecord, ClientRefusal, ClientStep, Named, Made, Form, TooLarge, NumbersFull, OldForm, NotMine, IdentDiffers, Gap, WasRefused, after_record, answers, appends, commit, commit_applied, commit_born, entry_refusal, if_born, refuse, take as take_message, take_born, take_entries, take_ident, take_one, took, upgrade}
+use Rattle.sync_model.specs.Servers.{Server, ServerRecord, ServerRefusal, ServerStep, NumberGap, BaseBack, AheadOfHistory, HistoryFull, NoSuchIdent, IdentsFull, after_all, carried_change, count, download, download_first, first_form, is_given, last_base, merge, merge_applied, merge_carried, merge_read, merged, new_records, place_of, refuses, replies, serve, serve_changes, server_objects, NeedsForm2, if_there, entries_from}
 use Rattle.sync_theory.specs.Logs.{of_origin}
 use Rattle.sync_model.proofs.Limits.{each_append, each_drop}
 use Rattle.sync_exchange.specs.Profile.{the_profile}

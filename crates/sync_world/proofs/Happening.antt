@@ -1,5 +1,5 @@
 -- What events make of an exchange.
-use Rattle.std.proofs.Common.{◌≡◌, ℕ, zero, suc, Bool, true, false, ◌||◌, if◌then◌else◌, List, [], ◌∷◌, ◌++◌, map, take, slice_set, Option, None, Some, IfSome, Result, Ok, Err, Vec, Global, refl, sym, ◌∙◌, ap, subst}
+use Rattle.std.proofs.Common.{◌≡◌, ℕ, zero, suc, Bool, true, false, ◌||◌, List, [], ◌∷◌, ◌++◌, map, slice_set, Option, None, Some, Result, Ok, Err, Vec, Global, refl, sym, ◌∙◌, ap, subst}
 use Rattle.std.specs.Prelude.{IfOk, bytes_eq}
 use Rattle.sync_data.specs.declared.memory.NoMemory.{NoMemory}
 use Rattle.sync_data.specs.declared.instr.Instr.{Instr}
@@ -8,8 +8,7 @@ use Rattle.sync_journal.specs.Records.{lists}
 use Rattle.sync_model.specs.Bytes.{Name}
 use Rattle.sync_model.specs.Clients.{Client, ClientRecord, ClientRefusal, ClientStep, client_of}
 use Rattle.sync_model.specs.Limits.{Each}
-use Rattle.sync_model.specs.Messages.{Message}
-use Rattle.sync_model.specs.Worlds.{Event, IsReached, Node, Outcome, Stop, Words, World, arm, at, client_called, client_calls, client_ends, client_moved, happens, has_name, is_node, is_there, put, says, seek, server_name, stopped}
+use Rattle.sync_model.specs.Worlds.{IsReached, Node, Outcome, Stop, Words, World, arm, at, client_called, client_calls, client_ends, client_moved, has_name, is_node, is_there, put, says, seek, server_name, stopped}
 use Rattle.sync_model.proofs.Limits.{each_append, each_take}
 use Rattle.sync_model.proofs.Lists.{at_put, map_put, seek_found}
 use Rattle.sync_model.proofs.Holding.{cut_by}
@@ -17,14 +16,14 @@ use Rattle.sync_exchange.specs.Profile.{the_profile}
 use Rattle.sync_client.specs.Refusals.{refusal_seen, IfSeen}
 use Rattle.sync_client.specs.declared.refusal.ClientRefusal.{ClientRefusal as CodeRefusal}
 use Rattle.sync_world.specs.Calls.{CallEnds, IsCalled, left}
-use Rattle.sync_world.specs.Holding.{AreBoth, AreNames, Found, Happens, Holds, HoldsEach, HoldsNode, IsText, SaysCalled, Stands}
+use Rattle.sync_world.specs.Holding.{AreBoth, AreNames, Happens, Holds, HoldsEach, HoldsNode, IsText, SaysCalled, Stands}
 use Rattle.sync_world.specs.Messages.{AreSpelled}
 use Rattle.sync_world.specs.Nodes.{FitsClient, HoldsClient, HoldsServer, ReadsBack, StandReads}
 use Rattle.sync_world.specs.declared.node.Called.{Called}
 use Rattle.sync_world.specs.declared.node.Called.TheVariants as called
 use Rattle.sync_world.specs.declared.node.Node.{Node as CodeNode}
 use Rattle.sync_world.specs.declared.world.World.{World as CodeWorld}
-use Rattle.sync_world.proofs.Moves.{armed_other, each_at, each_put, held_at, held_put, name_differs, new_name, not_server, other_way, same_nodes}
+use Rattle.sync_world.proofs.Moves.{armed_other, each_at, each_put, held_put, name_differs, new_name, not_server, other_way, same_nodes}
 
 -- these words, and this world
 pub said : (v : World) (x : Words) (result : Result (Vec ℕ Global) NoMemory) (new : CodeWorld) → IsText x result → (IfOk result (λ text. Holds v new)) → Happens (says v x) result new

@@ -1,6 +1,5 @@
 -- Uuids of clients, and those that were injected.
 use Rattle.std.proofs.Common.{◌≡◌, ℕ, zero, suc, Bool, true, false, ◌||◌, ◌&&◌, not, ◌==◌, if◌then◌else◌, List, [], ◌∷◌, Option, None, Some, refl, sym, ◌∙◌, ap, arith}
-use Rattle.std.specs.Prelude.{bytes_eq}
 use Rattle.std.specs.List.{list_any}
 use Rattle.sync_model.specs.Bytes.{Name, Uuid}
 use Rattle.sync_model.specs.Clients.{client_of}

@@ -1,5 +1,5 @@
 -- A client comes in.
-use Rattle.std.proofs.Common.{◌≡◌, Bool, false, ◌||◌, List, [], ◌∷◌, ◌++◌, ap, ◌∙◌}
+use Rattle.std.proofs.Common.{◌≡◌, Bool, false, ◌||◌, [], ◌∷◌, ◌++◌, ap, ◌∙◌}
 use Rattle.std.specs.Prelude.{bytes_eq}
 use Rattle.sync_model.specs.Bytes.{Name}
 use Rattle.sync_model.specs.Worlds.{Node, World, has_name, is_node, is_there, seek, server_name}

@@ -1,23 +1,20 @@
 -- What the server's reply makes of an exchange.
-use Rattle.std.proofs.Common.{◌≡◌, ℕ, suc, List, [], ◌∷◌, ◌++◌, length, map, take, Option, None, Some, Result, Ok, Err, Vec, Global, refl, sym, ◌∙◌, ap, subst}
-use Rattle.std.specs.Prelude.{OnOk}
+use Rattle.std.proofs.Common.{◌≡◌, ℕ, suc, List, [], ◌∷◌, ◌++◌, length, Option, None, Some, Result, Vec, Global, refl, sym, ◌∙◌, ap, subst}
 use Rattle.sync_data.specs.declared.memory.NoMemory.{NoMemory}
 use Rattle.sync_journal.specs.Records.{lists}
 use Rattle.sync_messages.specs.declared.message.Message.{Message as CodeMessage}
 use Rattle.sync_model.specs.Limits.{Each}
 use Rattle.sync_model.specs.Messages.{Message}
-use Rattle.sync_model.specs.Servers.{ServerRecord, ServerStep, serve, server_of}
-use Rattle.sync_model.specs.Worlds.{IsReached, Outcome, Stop, Words, World, arm, at, says, server_called, server_ends, server_moved, server_name, stopped}
-use Rattle.sync_model.proofs.Bytes.{bytes_true}
+use Rattle.sync_model.specs.Servers.{ServerRecord, ServerStep}
+use Rattle.sync_model.specs.Worlds.{IsReached, Stop, Words, World, arm, says, server_ends, server_moved, server_name, stopped}
 use Rattle.sync_model.proofs.Limits.{each_append, each_take}
 use Rattle.sync_model.proofs.Holding.{cut_by}
 use Rattle.sync_exchange.specs.Profile.{the_profile}
 use Rattle.sync_exchange.specs.Seen.{message_seen}
-use Rattle.sync_world.specs.Calls.{left}
 use Rattle.sync_world.specs.Holding.{Happens, Holds, IsText, Stands}
 use Rattle.sync_world.specs.Messages.{AreSpelled}
 use Rattle.sync_world.specs.Nodes.{FitsServer, HoldsServer, ServerReadsBack, ServerStandReads}
-use Rattle.sync_world.specs.Serves.{IsServed, ServeDone}
+use Rattle.sync_world.specs.Serves.{ServeDone}
 use Rattle.sync_world.specs.declared.world.World.{World as CodeWorld}
 use Rattle.sync_world.proofs.Happening.{said_all}
 use Rattle.sync_world.proofs.Moves.{armed_here, holds_others, new_name, not_server}

@@ -1,8 +1,7 @@
 -- Messages that are kept as their bytes.
-use Rattle.std.proofs.Common.{◌≡◌, ℕ, zero, suc, ◌-◌, ◌<◌, ◌≤◌, List, [], ◌∷◌, ◌++◌, length, map, get_or, Option, None, Some, Vec, Global, refl, sym, ◌∙◌, ap, subst, arith}
+use Rattle.std.proofs.Common.{◌≡◌, ℕ, zero, suc, ◌-◌, ◌<◌, ◌≤◌, List, [], ◌∷◌, ◌++◌, length, get_or, None, Some, Vec, Global, refl, sym, ◌∙◌, ap, subst, arith}
 use Rattle.std.specs.Option.{option_map}
 use Rattle.sync_journal.specs.Records.{lists}
-use Rattle.sync_messages.specs.Reading.{message_in}
 use Rattle.sync_messages.proofs.Messages.{is_read}
 use Rattle.sync_model.specs.Messages.{Message}
 use Rattle.sync_model.specs.Worlds.{World, at, message_at}

@@ -1,5 +1,5 @@
 -- A call that would append records, over a disk that may be armed.
-use Rattle.std.proofs.Common.{◌≡◌, inl, inr, ℕ, zero, suc, ◌+◌, ◌-◌, ◌*◌, ◌/◌, ◌%◌, ◌<◌, ◌≤◌, Bool, true, false, nat_le, nat_lt, ◌&&◌, if◌then◌else◌, List, [], ◌∷◌, ◌++◌, length, take, map, Option, None, Some, IfSome, refl, sym, ◌∙◌, ap, subst, arith}
+use Rattle.std.proofs.Common.{◌≡◌, ℕ, zero, suc, ◌+◌, ◌-◌, ◌*◌, ◌/◌, ◌%◌, ◌<◌, ◌≤◌, Bool, true, false, nat_le, nat_lt, ◌&&◌, if◌then◌else◌, List, [], ◌∷◌, ◌++◌, length, take, map, Option, None, Some, refl, sym, ◌∙◌, ap, arith}
 use Rattle.std.proofs.lemmas.Bool.Decides.{nat_tests}
 use Rattle.std.proofs.lemmas.List.{length-map, map-append}
 use Rattle.sync_disk.specs.Disk.{Told}
@@ -15,9 +15,9 @@ use Rattle.sync_journal.specs.Records.{records_of}
 use Rattle.sync_journal.specs.Records.Reading.{Good}
 use Rattle.sync_journal.specs.Several.{AsksAll, AsksPart}
 use Rattle.sync_journal.specs.Stopping as journal
-use Rattle.sync_model.specs.Worlds.{Leaves, Stop, is_keep, standing, stopped}
+use Rattle.sync_model.specs.Worlds.{Stop, is_keep, standing, stopped}
 use Rattle.sync_world.specs.Events.{leaves_seen}
-use Rattle.sync_world.specs.Nodes.{IsArmed, stop_after}
+use Rattle.sync_world.specs.Nodes.{IsArmed}
 
 -- the rule for a stop, as the journal has it
 pub record StopsTell {D : Type 0} (G : Ghosts D) : Type 0 where

@@ -1,5 +1,5 @@
 -- What a call of a node comes to, where its disk may stop in it.
-use Rattle.std.specs.Prelude.{◌≡◌, ◌++◌, ℕ, Bool, true, false, List, length, map, Option, None, Some, Result, Ok, Err}
+use Rattle.std.specs.Prelude.{◌≡◌, ◌++◌, Bool, true, false, List, length, map, Option, None, Some, Result, Ok, Err}
 use Rattle.sync_data.specs.declared.memory.NoMemory.{NoMemory}
 use Rattle.sync_disk.specs.Faults.{has_stopped}
 use Rattle.sync_disk.specs.Images.{state}

@@ -1,5 +1,5 @@
 -- The disks of an exchange.
-use Rattle.std.specs.Prelude.{◌≡◌, ℕ, List, [], Option, Some, None}
+use Rattle.std.specs.Prelude.{◌≡◌, [], Some, None}
 use Rattle.sync_disk.specs.Disk.{Only}
 use Rattle.sync_disk.specs.declared.disk.Disk.{Ghosts}
 

@@ -1,4 +1,4 @@
-use Rattle.std.proofs.Common.{◌≡◌, ◌-◌, List, sym, ◌∙◌, ap, subst, arith}
+use Rattle.std.proofs.Common.{◌-◌, sym, ◌∙◌, ap, subst, arith}
 use Rattle.sync_world.specs.Messages.{Reads, message_read}
 use Rattle.sync_world.proofs.Spelled.{none_at, numbered_at, reads_it, spelled_at}
 use Rattle.sync_world.proofs.messages.find.Goals as goal

@@ -1,6 +1,5 @@
-use Rattle.std.proofs.Common.{◌≡◌, Option, Some, None, map, sym, ◌∙◌, ap, subst}
+use Rattle.std.proofs.Common.{◌≡◌, Option, Some, None, sym, ◌∙◌, ap, subst}
 use Rattle.std.specs.Option.{option_map}
-use Rattle.sync_disk.specs.Origin.{Origin}
 use Rattle.sync_disk.specs.contracts.memory.MemoryDiskDisk.TheImpl.{ghosts}
 use Rattle.sync_disk.specs.declared.memory.MemoryDisk.{MemoryDisk}
 use Rattle.sync_model.specs.Worlds.{Stop}

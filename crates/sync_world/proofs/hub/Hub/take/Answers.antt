@@ -1,4 +1,4 @@
-use Rattle.std.proofs.Common.{◌≡◌, List, Option, Some, None, Err, ◌++◌, sym, ◌∙◌, ap, subst}
+use Rattle.std.proofs.Common.{List, Option, Some, None, Err, ◌++◌, sym, ◌∙◌, ap, subst}
 use Rattle.sync_disk.specs.Origin.{Origin}
 use Rattle.sync_disk.specs.contracts.memory.MemoryDiskDisk.TheImpl.{ghosts}
 use Rattle.sync_journal.specs.Stands.{disk_of}

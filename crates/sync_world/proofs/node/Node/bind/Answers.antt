@@ -1,6 +1,3 @@
-use Rattle.std.proofs.Common.{length}
-use Rattle.sync_journal.specs.Stands.{disk_of}
-use Rattle.sync_client.specs.Clients.{journal_of}
 use Rattle.sync_world.proofs.Arming.{not_stopped}
 use Rattle.sync_world.proofs.node.Node.bind.Goals as goal
 

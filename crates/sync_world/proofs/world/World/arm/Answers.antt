@@ -1,6 +1,6 @@
-use Rattle.std.proofs.Common.{Bool, true, if◌then◌else◌, Some, refl, sym, ◌∙◌, subst}
+use Rattle.std.proofs.Common.{Bool, if◌then◌else◌, Some, refl, sym, ◌∙◌, subst}
 use Rattle.std.specs.Vec.{with_item}
-use Rattle.sync_model.specs.Worlds.{Armed, IsReached, NoNode, Stop, Stops, arm, has_name, is_node, says}
+use Rattle.sync_model.specs.Worlds.{Armed, IsReached, NoNode, Stop, Stops, arm, has_name, says}
 use Rattle.sync_model.proofs.Bytes.{bytes_same}
 use Rattle.sync_model.proofs.Lists.{seek_found}
 use Rattle.sync_exchange.specs.Profile.{the_profile}

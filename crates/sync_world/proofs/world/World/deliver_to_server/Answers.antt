@@ -1,4 +1,4 @@
-use Rattle.std.proofs.Common.{Option, Some, sym, ◌∙◌, subst}
+use Rattle.std.proofs.Common.{Option, sym, ◌∙◌, subst}
 use Rattle.sync_journal.specs.Records.{lists}
 use Rattle.sync_messages.specs.declared.message.Message.{Message as CodeMessage}
 use Rattle.sync_model.specs.Messages.{Message}

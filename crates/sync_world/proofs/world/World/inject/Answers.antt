@@ -1,4 +1,4 @@
-use Rattle.std.proofs.Common.{Bool, Option, Some, if◌then◌else◌, sym, ◌∙◌, ap, subst}
+use Rattle.std.proofs.Common.{Bool, Option, if◌then◌else◌, sym, ◌∙◌, ap, subst}
 use Rattle.sync_messages.specs.declared.message.Message.{Message as CodeMessage}
 use Rattle.sync_model.specs.Messages.{Message}
 use Rattle.sync_model.specs.Worlds.{Injects, IsReached, OwnIdent, injects, named_by, says, server_called}

@@ -1,4 +1,4 @@
-use Rattle.std.proofs.Common.{◌≡◌, ℕ, List, Option, None, Some, refl, subst}
+use Rattle.std.proofs.Common.{ℕ, Option, refl, subst}
 use Rattle.sync_messages.specs.declared.message.Message.{Message}
 use Rattle.sync_model.specs.Servers.{serve, server_of}
 use Rattle.sync_model.specs.Worlds.{Replied, server_name, stopped}
