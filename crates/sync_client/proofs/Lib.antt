@@ -13,3 +13,4 @@ pub mod Uploads
 pub mod Leaving
 pub mod Strokes
 pub mod OneEntry
+pub mod BadFiles

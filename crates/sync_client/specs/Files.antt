@@ -1,5 +1,5 @@
 -- How a file of a client is opened.
-use Rattle.std.specs.Prelude.{◌≡◌, ◌⊎◌, ℕ, List, Option, Ok, Err}
+use Rattle.std.specs.Prelude.{◌≡◌, ◌⊎◌, ℕ, List, map, Option, Ok, Err}
 use Rattle.sync_disk.specs.declared.disk.Disk.{Ghosts}
 use Rattle.sync_journal.specs.Gates.{gate_of, told}
 use Rattle.sync_journal.specs.Records.{records_of}
@@ -7,7 +7,7 @@ use Rattle.sync_journal.specs.Records.Reading.{Good, BadAt}
 use Rattle.sync_model.specs.Clients.{ClientRecord, no_client}
 use Rattle.sync_model.specs.Files.{client_reads}
 use Rattle.sync_exchange.specs.Profile.{the_profile}
-use Rattle.sync_exchange.specs.Seen.{read_client}
+use Rattle.sync_exchange.specs.Seen.{client_bytes, read_client}
 use Rattle.sync_client.specs.declared.client.Client.{Client}
 use Rattle.sync_client.specs.Clients.{IsClientOf, IsStored}
 
@@ -34,5 +34,6 @@ module _ {D : Type 0} {G : Ghosts D} where
     pub holds : records_of bytes ≡ Good file
     pub records : List ClientRecord
     pub reads : client_reads the_profile read_client (no_client the_profile) file ≡ Ok records
+    pub spelled : map client_bytes records ≡ file
     pub client : IsClientOf records c
     pub stored : IsStored content images records c

@@ -40,6 +40,7 @@ impl<D: Disk> Client<D> {
         ensures strokes { (records : List model.ClientRecord) → IsClientOf records self.old → IsStored D.content D.images records self.old → Asked D.strokes (model.born (model.client_of the_profile records) id) self.old self.new result }
         ensures closed { IsErrOf result ClientRefusal.Closed ↔ (is_closed self.old ≡ true) }
         ensures closes { IsErrOf result ClientRefusal.DiskFault ⊎ IsErrOf result ClientRefusal.NoMemory → is_closed self.new ≡ true }
+        ensures later { D.faults (disk_of (journal_of self.old)) ≤ D.faults (disk_of (journal_of self.new)) }
         ensures fault { IsErrOf result ClientRefusal.DiskFault → Rose (D.faults (disk_of (journal_of self.old))) (D.faults (disk_of (journal_of self.new))) }
         ensures origin { D.origin (disk_of (journal_of self.new)) ≡ D.origin (disk_of (journal_of self.old)) }
         ensures told { Told (D.content (disk_of (journal_of self.old))) (λ b. (c : List ℕ) × (D.content (disk_of (journal_of self.new)) ≡ Some c)) }
@@ -69,6 +70,7 @@ impl<D: Disk> Client<D> {
         ensures strokes { (records : List model.ClientRecord) → IsClientOf records self.old → IsStored D.content D.images records self.old → Asked D.strokes (model.commit the_profile (model.client_of the_profile records) ms edits.items) self.old self.new result }
         ensures closed { IsErrOf result ClientRefusal.Closed ↔ (is_closed self.old ≡ true) }
         ensures closes { IsErrOf result ClientRefusal.DiskFault ⊎ IsErrOf result ClientRefusal.NoMemory → is_closed self.new ≡ true }
+        ensures later { D.faults (disk_of (journal_of self.old)) ≤ D.faults (disk_of (journal_of self.new)) }
         ensures fault { IsErrOf result ClientRefusal.DiskFault → Rose (D.faults (disk_of (journal_of self.old))) (D.faults (disk_of (journal_of self.new))) }
         ensures origin { D.origin (disk_of (journal_of self.new)) ≡ D.origin (disk_of (journal_of self.old)) }
         ensures told { Told (D.content (disk_of (journal_of self.old))) (λ b. (c : List ℕ) × (D.content (disk_of (journal_of self.new)) ≡ Some c)) }
@@ -97,6 +99,7 @@ impl<D: Disk> Client<D> {
         ensures stays_open { OnOk result (is_closed self.new ≡ false) }
         ensures closes { OnErr result (is_closed self.new ≡ true) }
         ensures refused { IfErr result (λ why. (why ≡ ClientRefusal.DiskFault) ⊎ (why ≡ ClientRefusal.NoMemory)) }
+        ensures later { D.faults (disk_of (journal_of self.old)) ≤ D.faults (disk_of (journal_of self.new)) }
         ensures fault { IsErrOf result ClientRefusal.DiskFault → Rose (D.faults (disk_of (journal_of self.old))) (D.faults (disk_of (journal_of self.new))) }
         ensures origin { D.origin (disk_of (journal_of self.new)) ≡ D.origin (disk_of (journal_of self.old)) }
         ensures told { Told (D.content (disk_of (journal_of self.old))) (λ b. (c : List ℕ) × (D.content (disk_of (journal_of self.new)) ≡ Some c)) }
@@ -122,6 +125,7 @@ impl<D: Disk> Client<D> {
         ensures strokes { (records : List model.ClientRecord) → IsClientOf records self.old → IsStored D.content D.images records self.old → Asked D.strokes (model.upgrade (model.client_of the_profile records)) self.old self.new result }
         ensures closed { IsErrOf result ClientRefusal.Closed ↔ (is_closed self.old ≡ true) }
         ensures closes { IsErrOf result ClientRefusal.DiskFault ⊎ IsErrOf result ClientRefusal.NoMemory → is_closed self.new ≡ true }
+        ensures later { D.faults (disk_of (journal_of self.old)) ≤ D.faults (disk_of (journal_of self.new)) }
         ensures fault { IsErrOf result ClientRefusal.DiskFault → Rose (D.faults (disk_of (journal_of self.old))) (D.faults (disk_of (journal_of self.new))) }
         ensures origin { D.origin (disk_of (journal_of self.new)) ≡ D.origin (disk_of (journal_of self.old)) }
         ensures told { Told (D.content (disk_of (journal_of self.old))) (λ b. (c : List ℕ) × (D.content (disk_of (journal_of self.new)) ≡ Some c)) }

@@ -2,7 +2,7 @@ ghost use Rattle.std.specs.Prelude.{◌≡◌, ◌≤◌, ℕ, List, IfOk, IfErr
 ghost use Rattle.sync_disk.specs.Disk.{LeavesOnly, Rose, Told};
 ghost use Rattle.sync_disk.specs.Faults.{IsSound};
 ghost use Rattle.sync_journal.specs.Records.{lists, records_of};
-ghost use Rattle.sync_journal.specs.Records.Reading.{Good, BadAt};
+ghost use Rattle.sync_journal.specs.Records.Reading.{Good};
 ghost use Rattle.sync_journal.specs.Stands.{disk_of};
 ghost use Rattle.sync_client.specs.Files.{BadRecordAt};
 ghost use Rattle.sync_client.specs.Reading.{ReadAll};
@@ -23,8 +23,7 @@ impl<D: Disk> Client<D> {
     pub fn open(alloc: Global, disk: D) -> Result<Client<D>, OpenRefusal<D>>
         ensures opened { Told (D.content disk) (λ b. IfOk result (Opened D.content D.images b)) }
         ensures bad { Told (D.content disk) (λ b. IfErr result (λ e. (place : ℕ) → e.cause ≡ OpenCause.BadFile place → BadPlace b place)) }
-        ensures kept { Told (D.content disk) (λ b. IfErr result (λ e. (place : ℕ) → e.cause ≡ OpenCause.BadFile place → records_of b ≡ BadAt place → D.content e.disk ≡ Some b)) }
-        ensures same { Told (D.content disk) (λ b. IfErr result (λ e. (place : ℕ) → e.cause ≡ OpenCause.BadFile place → (c : List ℕ) × (D.content e.disk ≡ Some c) × (records_of c ≡ records_of b))) }
+        ensures kept { Told (D.content disk) (λ b. IfErr result (λ e. (place : ℕ) → e.cause ≡ OpenCause.BadFile place → D.content e.disk ≡ Some b)) }
 
         // Where each crash before would have left the same records, each crash since its start leaves them.
         ensures any_moment { (records : List (List ℕ)) → Told (D.content disk) (λ b. ((c : List ℕ) → D.images disk c → records_of c ≡ Good records)

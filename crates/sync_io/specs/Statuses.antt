@@ -13,4 +13,3 @@ exit_of statuses.DiskFault = 5
 exit_of (statuses.BadFile place) = 6
 exit_of statuses.NoMemory = 7
 exit_of statuses.InputTooLong = 8
-exit_of (statuses.Unbuilt line) = 9

@@ -22,8 +22,6 @@ pub enum Status {
     NoMemory,
     /// 2^32 bytes were read without an end.
     InputTooLong,
-    /// The line of this number, counted from 1, has a form that isn't built yet.
-    Unbuilt { line: u32 },
 }
 
 impl Status {
@@ -41,7 +39,6 @@ impl Status {
             Status::BadFile { .. } => 6,
             Status::NoMemory => 7,
             Status::InputTooLong => 8,
-            Status::Unbuilt { .. } => 9,
         }
     }
 }

@@ -103,7 +103,6 @@ fn exit_numbers(rt: HostRuntime) {
         (Status::BadFile { place: 7 }, 6),
         (Status::NoMemory, 7),
         (Status::InputTooLong, 8),
-        (Status::Unbuilt { line: 7 }, 9),
     ];
     for (status, exit) in table {
         assert_eq!(rt; status.exit(), exit);

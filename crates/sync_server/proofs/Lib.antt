@@ -14,3 +14,4 @@ pub mod Leaving
 pub mod Strokes
 pub mod Admitting
 pub mod Reading
+pub mod BadFiles

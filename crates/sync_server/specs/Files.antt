@@ -1,5 +1,5 @@
 -- How a file of a server is opened.
-use Rattle.std.specs.Prelude.{◌≡◌, ◌⊎◌, ℕ, List, Option, Ok, Err}
+use Rattle.std.specs.Prelude.{◌≡◌, ◌⊎◌, ℕ, List, map, Option, Ok, Err}
 use Rattle.sync_disk.specs.declared.disk.Disk.{Ghosts}
 use Rattle.sync_journal.specs.Gates.{gate_of, told}
 use Rattle.sync_journal.specs.Records.{records_of}
@@ -7,7 +7,7 @@ use Rattle.sync_journal.specs.Records.Reading.{Good, BadAt}
 use Rattle.sync_model.specs.Servers.{ServerRecord, no_server}
 use Rattle.sync_model.specs.Files.{server_reads}
 use Rattle.sync_exchange.specs.Profile.{the_profile}
-use Rattle.sync_exchange.specs.Seen.{read_server}
+use Rattle.sync_exchange.specs.Seen.{read_server, server_bytes}
 use Rattle.sync_server.specs.declared.server.Server.{Server}
 use Rattle.sync_server.specs.Serving.{IsServerOf, IsStored}
 
@@ -34,5 +34,6 @@ module _ {D : Type 0} {G : Ghosts D} where
     pub holds : records_of bytes ≡ Good file
     pub records : List ServerRecord
     pub reads : server_reads the_profile read_server no_server file ≡ Ok records
+    pub spelled : map server_bytes records ≡ file
     pub server : IsServerOf records s
     pub stored : IsStored content images records s

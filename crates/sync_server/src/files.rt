@@ -1,4 +1,4 @@
-ghost use Rattle.std.specs.Prelude.{◌≡◌, ◌≤◌, ℕ, List, IfOk, IfErr, false};
+ghost use Rattle.std.specs.Prelude.{◌≡◌, ◌≤◌, ℕ, List, IfOk, IfErr, Some, false};
 ghost use Rattle.sync_disk.specs.Disk.{LeavesOnly, Rose, Told};
 ghost use Rattle.sync_disk.specs.Faults.{IsSound};
 ghost use Rattle.sync_journal.specs.Records.{lists, records_of};
@@ -23,6 +23,7 @@ impl<D: Disk> Server<D> {
     pub fn open(alloc: Global, disk: D) -> Result<Server<D>, OpenRefusal<D>>
         ensures opened { Told (D.content disk) (λ b. IfOk result (Opened D.content D.images b)) }
         ensures bad { Told (D.content disk) (λ b. IfErr result (λ e. (place : ℕ) → e.cause ≡ OpenCause.BadFile place → BadPlace b place)) }
+        ensures kept { Told (D.content disk) (λ b. IfErr result (λ e. (place : ℕ) → e.cause ≡ OpenCause.BadFile place → D.content e.disk ≡ Some b)) }
 
         // Where each crash before would have left the same records, each crash since its start leaves them.
         ensures any_moment { (records : List (List ℕ)) → Told (D.content disk) (λ b. ((c : List ℕ) → D.images disk c → records_of c ≡ Good records)

@@ -331,6 +331,7 @@ impl<D: Disk> Server<D> {
         // The refusals and their causes.
         ensures closed { IsErrOf result ServerRefusal.Closed ↔ (is_closed self.old ≡ true) }
         ensures closes { OnErr result (is_closed self.new ≡ true) }
+        ensures later { D.faults (disk_of (journal_of self.old)) ≤ D.faults (disk_of (journal_of self.new)) }
         ensures fault { IsErrOf result ServerRefusal.DiskFault → Rose (D.faults (disk_of (journal_of self.old))) (D.faults (disk_of (journal_of self.new))) }
     {
         if self.closed {
