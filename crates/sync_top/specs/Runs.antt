@@ -1,5 +1,5 @@
--- A run over the lines of an input: what is written, and how the run ends.
-use Rattle.std.specs.Prelude.{◌≡◌, ℕ, ◌+◌, ◌==◌, ◌<◌, Bool, Vec, None, Some, true, false, ◌||◌, if◌then◌else◌, List, [], ◌++◌, length, Option, IfSome, Result, Ok, Err}
+-- A run over the lines of an input: what is written, how the run ends, and what it leaves.
+use Rattle.std.specs.Prelude.{◌≡◌, ℕ, zero, suc, ◌+◌, ◌==◌, ◌<◌, Bool, Vec, None, Some, true, false, ◌||◌, if◌then◌else◌, List, [], ◌++◌, length, Option, IfSome, Result, Ok, Err}
 use Rattle.std.specs.List.{list_all}
 use Rattle.std.specs.Bool.{MatchBool}
 use Rattle.std.specs.Option.{option_map}
@@ -19,44 +19,53 @@ use Rattle.sync_top.specs.declared.command.LineEnd.TheVariants as line_ends
 abbrev pub is_blank : List ℕ → Bool
 is_blank line = list_all (λ b. (b == 32) || (b == 9) || (b == 13)) line
 
-pub record Ran : Type 0 where
+-- what a command that is in some state does
+pub record Ran (C : Type 0) : Type 0 where
   pub written : List ℕ
   pub status : Status
-
-abbrev pub ended : List ℕ → Status → Ran
-ended text status = record { written = text; status = status }
-
-abbrev pub onto : List ℕ → Ran → Ran
-onto text ran = record { written = text ++ ran.written; status = ran.status }
+  pub left : C
 
 -- how a run ends at the line of this number
 abbrev pub status_at : ℕ → LineEnd → Status
 status_at number line_ends.BadLine = statuses.BadInput number
-status_at number line_ends.Unbuilt = statuses.Unbuilt number
 status_at number line_ends.NoMemory = statuses.NoMemory
 
 module _ {C : Type 0} where
-  -- an answer goes before what the command answers to the rest
-  abbrev pub answered : ℕ → Result (List ℕ × C) LineEnd → (C → Ran) → Ran
-  answered number (Ok answer) rest = onto answer.0 (rest answer.1)
-  answered number (Err end) rest = ended [] (status_at number end)
+  abbrev pub ended : List ℕ → Status → C → Ran C
+  ended text status command = record { written = text; status = status; left = command }
 
+  abbrev pub onto : List ℕ → Ran C → Ran C
+  onto text ran = record { written = text ++ ran.written; status = ran.status; left = ran.left }
+
+  -- an answer goes before what the command answers to the rest
+  abbrev pub answered : ℕ → C → Result (List ℕ × C) LineEnd → (C → Ran C) → Ran C
+  answered number command (Ok answer) rest = onto answer.0 (rest answer.1)
+  answered number command (Err end) rest = ended [] (status_at number end) command
+
+-- A command answers each line that isn't blank, and reports in the end.
 module _ {C : Type 0} (answers : C → ℕ → List ℕ → Result (List ℕ × C) LineEnd) where
   -- a blank line is answered by nothing
   abbrev pub answer_to : C → ℕ → List ℕ → Result (List ℕ × C) LineEnd
   answer_to command number line = if is_blank line then Ok ([], command) else answers command number line
 
--- A command answers each line that isn't blank, and reports in the end.
+  -- The first lines, so many, are answered by that text, and the command then stands there, before the rest.
+  abbrev pub Passes : ℕ → Reading → C → List ℕ → C → Reading → Type 0
+  Passes zero reading command text next rest = (text ≡ []) × (next ≡ command) × (rest ≡ reading)
+  Passes (suc count) reading command text next rest =
+      (line : List ℕ) × (before : List ℕ) × (here : C) × (more : List ℕ)
+      × Passes count reading command before here (Gives line rest)
+      × (answer_to here (count + 1) line ≡ Ok (more, next)) × (text ≡ before ++ more)
+
 module _ {C : Type 0} (answers : C → ℕ → List ℕ → Result (List ℕ × C) LineEnd) (report : C → List ℕ) where
   -- where so many lines were read before
-  abbrev pub run_from : ℕ → Reading → C → Ran
-  run_from before (Ends AtEnd) command = ended (report command) statuses.Done
-  run_from before (Ends AtLongLine) command = ended [] (statuses.BadInput (before + 1))
-  run_from before (Ends AtLimit) command = ended [] statuses.InputTooLong
-  run_from before (Gives line rest) command = answered (before + 1) (answer_to answers command (before + 1) line) (run_from (before + 1) rest)
+  abbrev pub run_from : ℕ → Reading → C → Ran C
+  run_from before (Ends AtEnd) command = ended (report command) statuses.Done command
+  run_from before (Ends AtLongLine) command = ended [] (statuses.BadInput (before + 1)) command
+  run_from before (Ends AtLimit) command = ended [] statuses.InputTooLong command
+  run_from before (Gives line rest) command = answered (before + 1) command (answer_to answers command (before + 1) line) (run_from (before + 1) rest)
 
   -- of a source that tells its bytes
-  abbrev pub runs : ℕ → Option Reading → C → Option Ran
+  abbrev pub runs : ℕ → Option Reading → C → Option (Ran C)
   runs before readings command = option_map (λ reading. run_from before reading command) readings
 
 -- ---- what a run that may be cut short does of it
@@ -69,25 +78,75 @@ is_fault statuses.NoMemory = true
 is_fault status = false
 
 -- The status is the run's, and what was written too. After a fault and after want of memory a part of it was written, from its front.
-abbrev pub Follows : Status → Ran → Option (List ℕ) → Option (List ℕ) → Type 0
+abbrev pub Follows : {C : Type 0} → Status → Ran C → Option (List ℕ) → Option (List ℕ) → Type 0
 Follows status ran old new = MatchBool (is_fault status) (TookSome ran.written old new) ((status ≡ ran.status) × Took ran.written old new)
 
-abbrev pub FollowsTold : Status → Option Ran → Option (List ℕ) → Option (List ℕ) → Type 0
+abbrev pub FollowsTold : {C : Type 0} → Status → Option (Ran C) → Option (List ℕ) → Option (List ℕ) → Type 0
 FollowsTold status meant old new = IfSome meant (λ ran. Follows status ran old new)
+
+-- ---- what a run leaves
+module _ {C : Type 0} (report : C → List ℕ) where
+  -- the report stands behind all lines
+  abbrev pub report_at : Reading → C → List ℕ
+  report_at (Ends AtEnd) command = report command
+  report_at (Ends ending) command = []
+  report_at (Gives line rest) command = []
+
+module _ {C : Type 0} (answers : C → ℕ → List ℕ → Result (List ℕ × C) LineEnd) (report : C → List ℕ) (holds : C → Type 0) where
+  -- A fault cut the run short: some lines from the front were answered, and what was written is a part of these answers, from
+  -- its front, and of the report where these are all lines.
+  pub record IsCut (reading : Reading) (command : C) (old new : Option (List ℕ)) : Type 0 where
+    pub lines : ℕ
+    pub text : List ℕ
+    pub next : C
+    pub rest : Reading
+    pub passes : Passes answers lines reading command text next rest
+    pub written : TookSome (text ++ report_at report rest next) old new
+    pub left : holds next
+
+  -- nothing is said after want of memory
+  abbrev pub LeavesOf : Status → Reading → C → Option (List ℕ) → Option (List ℕ) → Type 0
+  LeavesOf statuses.NoMemory reading command old new = Unit {0}
+  LeavesOf statuses.ReadFault reading command old new = IsCut reading command old new
+  LeavesOf statuses.WriteFault reading command old new = IsCut reading command old new
+  LeavesOf statuses.DiskFault reading command old new = IsCut reading command old new
+  LeavesOf status reading command old new = holds (run_from answers report 0 reading command).left
+
+  -- of a source that tells its bytes
+  abbrev pub Leaves : Status → Option Reading → C → Option (List ℕ) → Option (List ℕ) → Type 0
+  Leaves status readings command old new = IfSome readings (λ reading. LeavesOf status reading command old new)
+
+  -- both
+  pub record HasRun (status : Status) (readings : Option Reading) (command : C) (old new : Option (List ℕ)) : Type 0 where
+    pub follows : FollowsTold status (runs answers report 0 readings command) old new
+    pub leaves : Leaves status readings command old new
 
 -- ---- the parts of the loop
 -- a line was answered
-abbrev pub Answered : {C : Type 0} → Result (List ℕ × C) LineEnd → C → Option (List ℕ) → Option (List ℕ) → Type 0
-Answered {C} answer command old new = (text : List ℕ) × (answer ≡ Ok (text, command)) × Took text old new
+abbrev pub Answered : {C : Type 0} → Result (List ℕ × C) LineEnd → (C → Type 0) → Option (List ℕ) → Option (List ℕ) → Type 0
+Answered {C} answer holds old new = (text : List ℕ) × (next : C) × (answer ≡ Ok (text, next)) × Took text old new × holds next
 
--- the run ends at a line, whatever follows
-abbrev pub EndsAt : {C : Type 0} → Status → ℕ → Result (List ℕ × C) LineEnd → Option (List ℕ) → Option (List ℕ) → Type 0
-EndsAt {C} status number answer old new = (rest : C → Ran) → Follows status (answered number answer rest) old new
+-- what an answer writes
+abbrev pub text_of : {C : Type 0} → Result (List ℕ × C) LineEnd → List ℕ
+text_of (Ok answer) = answer.0
+text_of (Err end) = []
+
+-- the run ends at the line of this number: it is none, its answer is written in part, or memory ran out
+abbrev pub EndsAt : {C : Type 0} → Status → ℕ → C → Result (List ℕ × C) LineEnd → (C → Type 0) → Option (List ℕ) → Option (List ℕ) → Type 0
+EndsAt (statuses.BadInput number) n command answer holds old new = (number ≡ n) × (answer ≡ Err line_ends.BadLine) × (new ≡ old) × holds command
+EndsAt {C} statuses.WriteFault n command answer holds old new = (text : List ℕ) × (next : C) × (answer ≡ Ok (text, next)) × TookSome text old new × holds next
+EndsAt statuses.NoMemory n command answer holds old new = TookSome (text_of answer) old new
+EndsAt status n command answer holds old new = ⊥
 
 -- the status of a refused write
 abbrev pub write_status : SinkRefusal → Status
 write_status sinks.Failed = statuses.WriteFault
 write_status sinks.NoMemory = statuses.NoMemory
+
+-- the status of a run behind which the last flush was refused
+abbrev pub flush_status : Status → SinkRefusal → Status
+flush_status statuses.NoMemory refusal = statuses.NoMemory
+flush_status status refusal = write_status refusal
 
 -- the status where a reader refuses the line of this number
 abbrev pub read_status : ℕ → ReadRefusal → Status
@@ -123,9 +182,21 @@ EndsReading statuses.ReadFault number old = Unit {0}
 EndsReading statuses.NoMemory number old = Unit {0}
 EndsReading status number old = ⊥
 
--- All lines were answered: what is left to be written is the report.
-abbrev pub AnsweredAll : Option Ran → List ℕ → Option (List ℕ) → Option (List ℕ) → Type 0
-AnsweredAll meant report old new = (text : List ℕ) × IfSome meant (λ ran. ran ≡ onto text (ended report statuses.Done)) × Took text old new
+-- the same of a source that may not tell its bytes
+abbrev pub Went : {C : Type 0} → (C → ℕ → List ℕ → Result (List ℕ × C) LineEnd) → ℕ → Option Reading → C → List ℕ → C → Option Reading → Type 0
+Went answers count None command text next new = new ≡ None
+Went answers count (Some reading) command text next new = (rest : Reading) × (new ≡ Some rest) × Passes answers count reading command text next rest
+
+-- all of them: what is left to be written is the report
+pub record AnsweredAll {C : Type 0} (answers : C → ℕ → List ℕ → Result (List ℕ × C) LineEnd) (holds : C → Type 0) (readings : Option Reading) (command : C) (old new : Option (List ℕ)) : Type 0 where
+  pub lines : ℕ
+  pub text : List ℕ
+  pub next : C
+  pub rest : Option Reading
+  pub went : Went answers lines readings command text next rest
+  pub at_end : IfSome rest (λ reading. reading ≡ Ends AtEnd)
+  pub took : Took text old new
+  pub left : holds next
 
 -- a report that is written ends a run well, by a fault of its write, or for want of memory
 abbrev pub IsReportStatus : Status → Type 0

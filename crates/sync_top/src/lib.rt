@@ -1,21 +1,26 @@
 //! The top call: one run of the program, from its words and input to its output and status.
 #![tactic(auto)]
 
-mod client;
 mod command;
-mod form;
+mod counts;
+mod files;
+mod generated;
+mod job;
+mod laws;
 mod lines;
-mod outcome;
+mod plan;
 mod program;
+mod progress;
 mod replay;
-mod text;
+mod summary;
 
-pub use client::Client;
 pub use command::{Command, LineEnd};
+pub use generated::generate;
+pub use job::{FileCommand, Job, MOST_TURNS, job_of};
 pub use lines::run_lines;
-pub use outcome::Outcome;
 pub use program::run;
-pub use replay::Replay;
 
+#[cfg(test)]
+mod generated_tests;
 #[cfg(test)]
 mod tests;

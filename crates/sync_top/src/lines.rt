@@ -3,7 +3,7 @@ ghost use Rattle.sync_io.specs.Faults.{HasRisen};
 ghost use Rattle.sync_io.specs.Devices.{Took};
 ghost use Rattle.sync_io.specs.Input.{max_input};
 ghost use Rattle.sync_io.specs.Readers.{readings, readings_of};
-ghost use Rattle.sync_top.specs.Runs.{Follows, ended, IsReportStatus, answer_to, AnsweredAll, Read, CountsRead, EndsReading, is_blank, runs, FollowsTold, Answered, EndsAt, IsLineStatus, IsReadStatus, IsRunStatus, read_status, write_status};
+ghost use Rattle.sync_top.specs.Runs.{Follows, HasRun, ended, flush_status, IsReportStatus, answer_to, AnsweredAll, Read, CountsRead, EndsReading, is_blank, Answered, EndsAt, IsLineStatus, IsReadStatus, IsRunStatus, read_status, write_status};
 
 use super::command::{Command, LineEnd};
 use std::alloc::Global;
@@ -49,16 +49,17 @@ fn read_status(before: u64, refusal: ReadRefusal) -> Status
 
 /// Answers the line of this number, and writes the answer.
 fn answer_line<K: Sink, C: Command>(
+    alloc: Global,
     sink: &mut K,
     command: &mut C,
     number: u64,
     line: &[u8],
 ) -> Result<(), Status>
     requires { 0 < length line.now → number < 4294967296 }
-    ensures ok { OnOk result (Answered (answer_to C.answers command.old number line.now) command.new
-        (K.taken sink.old) (K.taken sink.new)) }
-    ensures err { IfErr result (λ status. EndsAt status number (answer_to C.answers command.old number line.now)
-        (K.taken sink.old) (K.taken sink.new)) }
+    ensures ok { (s : C.State) → C.holds s command.old
+        → OnOk result (Answered (answer_to C.answers s number line.now) (λ t. C.holds t command.new) (K.taken sink.old) (K.taken sink.new)) }
+    ensures err { (s : C.State) → C.holds s command.old
+        → IfErr result (λ status. EndsAt status number s (answer_to C.answers s number line.now) (λ t. C.holds t command.new) (K.taken sink.old) (K.taken sink.new)) }
     ensures faults { K.faults sink.old ≤ K.faults sink.new }
     ensures cause { result ≡ Err Status.WriteFault → HasRisen (K.faults sink.old) (K.faults sink.new) }
     ensures only { IfErr result IsLineStatus }
@@ -66,28 +67,28 @@ fn answer_line<K: Sink, C: Command>(
     if is_blank(line) {
         return Ok(());
     }
-    answer_filled(sink, command, number as u32, line)
+    answer_filled(alloc, sink, command, number as u32, line)
 }
 
 /// The same for a line that isn't blank.
 fn answer_filled<K: Sink, C: Command>(
+    alloc: Global,
     sink: &mut K,
     command: &mut C,
     number: u32,
     line: &[u8],
 ) -> Result<(), Status>
-    ensures ok { OnOk result (Answered (C.answers command.old number line.now) command.new
-        (K.taken sink.old) (K.taken sink.new)) }
-    ensures err { IfErr result (λ status. EndsAt status number (C.answers command.old number line.now)
-        (K.taken sink.old) (K.taken sink.new)) }
+    ensures ok { (s : C.State) → C.holds s command.old
+        → OnOk result (Answered (C.answers s number line.now) (λ t. C.holds t command.new) (K.taken sink.old) (K.taken sink.new)) }
+    ensures err { (s : C.State) → C.holds s command.old
+        → IfErr result (λ status. EndsAt status number s (C.answers s number line.now) (λ t. C.holds t command.new) (K.taken sink.old) (K.taken sink.new)) }
     ensures faults { K.faults sink.old ≤ K.faults sink.new }
     ensures cause { result ≡ Err Status.WriteFault → HasRisen (K.faults sink.old) (K.faults sink.new) }
     ensures only { IfErr result IsLineStatus }
 {
-    let text = match command.answer(number, line) {
+    let text = match command.answer(alloc, number, line) {
         Ok(text) => text,
         Err(LineEnd::BadLine) => return Err(Status::BadInput { place: number }),
-        Err(LineEnd::Unbuilt) => return Err(Status::Unbuilt { line: number }),
         Err(LineEnd::NoMemory) => return Err(Status::NoMemory),
     };
     match write_all(sink, &text) {
@@ -121,6 +122,7 @@ fn next_line<S: Source>(
 
 /// Answers the lines up to the end of the input.
 fn answer_lines<S: Source, K: Sink, C: Command>(
+    alloc: Global,
     reader: &mut LineReader,
     source: &mut S,
     sink: &mut K,
@@ -128,10 +130,10 @@ fn answer_lines<S: Source, K: Sink, C: Command>(
 ) -> Result<(), Status>
     requires fresh { reader.old.refused ≡ None }
     requires first { reader.old.lines ≡ 0 }
-    ensures ok { OnOk result (AnsweredAll (runs C.answers C.report 0 (readings_of reader.old (S.left source.old)) command.old)
-        (C.report command.new) (K.taken sink.old) (K.taken sink.new)) }
-    ensures err { IfErr result (λ status. FollowsTold status (runs C.answers C.report 0 (readings_of reader.old (S.left source.old)) command.old)
-        (K.taken sink.old) (K.taken sink.new)) }
+    ensures ok { (s : C.State) → C.holds s command.old
+        → OnOk result (AnsweredAll C.answers (λ t. C.holds t command.new) (readings_of reader.old (S.left source.old)) s (K.taken sink.old) (K.taken sink.new)) }
+    ensures err { (s : C.State) → C.holds s command.old
+        → IfErr result (λ status. HasRun C.answers C.report (λ t. C.holds t command.new) status (readings_of reader.old (S.left source.old)) s (K.taken sink.old) (K.taken sink.new)) }
     ensures source_faults { S.faults source.old ≤ S.faults source.new }
     ensures sink_faults { K.faults sink.old ≤ K.faults sink.new }
     ensures read_cause { result ≡ Err Status.ReadFault → HasRisen (S.faults source.old) (S.faults source.new) }
@@ -146,41 +148,17 @@ fn answer_lines<S: Source, K: Sink, C: Command>(
             Err(status) => return Err(status),
         };
         number += 1;
-        match answer_line(sink, command, number, &line) {
+        match answer_line(alloc, sink, command, number, &line) {
             Ok(()) => {}
             Err(status) => return Err(status),
         }
     }
 }
 
-/// Answers all lines, and then writes the report.
-fn answer_all<S: Source, K: Sink, C: Command>(
-    alloc: Global,
-    source: &mut S,
-    sink: &mut K,
-    command: &mut C,
-) -> Status
-    ensures follows { FollowsTold result (runs C.answers C.report 0 (readings 0 [] (S.left source.old)) command.old)
-        (K.taken sink.old) (K.taken sink.new) }
-    ensures source_faults { S.faults source.old ≤ S.faults source.new }
-    ensures sink_faults { K.faults sink.old ≤ K.faults sink.new }
-    ensures read_cause { result ≡ Status.ReadFault → HasRisen (S.faults source.old) (S.faults source.new) }
-    ensures write_cause { result ≡ Status.WriteFault → HasRisen (K.faults sink.old) (K.faults sink.new) }
-    ensures only { IsRunStatus result }
-{
-    let mut reader = match LineReader::new(alloc) {
-        Ok(reader) => reader,
-        Err(_) => return Status::NoMemory,
-    };
-    match answer_lines(&mut reader, source, sink, command) {
-        Ok(()) => write_report(sink, command),
-        Err(status) => status,
-    }
-}
-
 /// Writes the report of a command.
 fn write_report<K: Sink, C: Command>(sink: &mut K, command: &C) -> Status
-    ensures follows { Follows result (ended (C.report command.now) Status.Done) (K.taken sink.old) (K.taken sink.new) }
+    ensures follows { (s : C.State) → C.holds s command.now
+        → Follows result (ended (C.report s) Status.Done s) (K.taken sink.old) (K.taken sink.new) }
     ensures faults { K.faults sink.old ≤ K.faults sink.new }
     ensures cause { result ≡ Status.WriteFault → HasRisen (K.faults sink.old) (K.faults sink.new) }
     ensures only { IsReportStatus result }
@@ -195,6 +173,41 @@ fn write_report<K: Sink, C: Command>(sink: &mut K, command: &C) -> Status
     }
 }
 
+/// Answers all lines, and then writes the report.
+fn answer_all<S: Source, K: Sink, C: Command>(
+    alloc: Global,
+    source: &mut S,
+    sink: &mut K,
+    command: &mut C,
+) -> Status
+    ensures run { (s : C.State) → C.holds s command.old
+        → HasRun C.answers C.report (λ t. C.holds t command.new) result (readings 0 [] (S.left source.old)) s (K.taken sink.old) (K.taken sink.new) }
+    ensures source_faults { S.faults source.old ≤ S.faults source.new }
+    ensures sink_faults { K.faults sink.old ≤ K.faults sink.new }
+    ensures read_cause { result ≡ Status.ReadFault → HasRisen (S.faults source.old) (S.faults source.new) }
+    ensures write_cause { result ≡ Status.WriteFault → HasRisen (K.faults sink.old) (K.faults sink.new) }
+    ensures only { IsRunStatus result }
+{
+    let mut reader = match LineReader::new(alloc) {
+        Ok(reader) => reader,
+        Err(_) => return Status::NoMemory,
+    };
+    match answer_lines(alloc, &mut reader, source, sink, command) {
+        Ok(()) => write_report(sink, command),
+        Err(status) => status,
+    }
+}
+
+/// The status of a run behind which the last flush was refused: after want of memory nothing is said of what is left.
+fn flush_status(status: Status, refusal: SinkRefusal) -> Status
+    ensures { result ≡ flush_status status refusal }
+{
+    match status {
+        Status::NoMemory => Status::NoMemory,
+        _ => write_status(refusal),
+    }
+}
+
 /// Runs a command over the lines of a source: the answers are written, and at the end of the input
 /// the report, and the sink is flushed.
 pub fn run_lines<S: Source, K: Sink, C: Command>(
@@ -203,8 +216,8 @@ pub fn run_lines<S: Source, K: Sink, C: Command>(
     sink: &mut K,
     command: &mut C,
 ) -> Status
-    ensures follows { FollowsTold result (runs C.answers C.report 0 (readings 0 [] (S.left source.old)) command.old)
-        (K.taken sink.old) (K.taken sink.new) }
+    ensures run { (s : C.State) → C.holds s command.old
+        → HasRun C.answers C.report (λ t. C.holds t command.new) result (readings 0 [] (S.left source.old)) s (K.taken sink.old) (K.taken sink.new) }
     ensures source_faults { S.faults source.old ≤ S.faults source.new }
     ensures sink_faults { K.faults sink.old ≤ K.faults sink.new }
     ensures read_cause { result ≡ Status.ReadFault → HasRisen (S.faults source.old) (S.faults source.new) }
@@ -214,6 +227,6 @@ pub fn run_lines<S: Source, K: Sink, C: Command>(
     let status = answer_all(alloc, source, sink, command);
     match sink.flush() {
         Ok(()) => status,
-        Err(refusal) => write_status(refusal),
+        Err(refusal) => flush_status(status, refusal),
     }
 }

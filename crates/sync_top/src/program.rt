@@ -1,56 +1,158 @@
-ghost use Rattle.std.specs.Prelude.{◌≡◌, ◌≢◌, ◌≤◌, ◌↔◌, [], true, false, map, string_bytes};
+ghost use Rattle.std.specs.Prelude.{◌≡◌, ◌≢◌, ◌≤◌, ◌↔◌, ℕ, List, [], IfSome, map, string_bytes};
+ghost use Rattle.sync_disk.specs.Disk.{Rose, Told};
 ghost use Rattle.sync_io.specs.Faults.{HasRisen};
 ghost use Rattle.sync_io.specs.Readers.{readings};
-ghost use Rattle.sync_top.specs.Runs.{runs, FollowsTold, IsRunStatus, IsDoneOrNoMemory};
-ghost use Rattle.sync_top.specs.Exchange.{answers, report, is_replay, IsValidInput};
+ghost use Rattle.sync_io.specs.Reading.{Reading};
+ghost use Rattle.sync_model.specs.Worlds as model;
+ghost use Rattle.sync_world.specs.Holding.{Holds};
+ghost use Rattle.sync_top.specs.Commands.{Does, IsFileFor, IsInputFor};
+ghost use Rattle.sync_top.specs.Exchange.{IsValidInput, answers, events_of, report};
+ghost use Rattle.sync_top.specs.Generated.{events_of as drawn_events, world_by};
+ghost use Rattle.sync_top.specs.Jobs.{AsksFor, most_turns};
+ghost use Rattle.sync_top.specs.Playing.{Writes};
+ghost use Rattle.sync_top.specs.Runs.{FollowsTold, IsDoneOrNoMemory, Leaves, Passes, run_from, runs};
+ghost use Rattle.sync_top.specs.Statuses.{IsJobStatus};
+ghost use Rattle.sync_top.specs.Summaries.{summary_of};
+ghost use Rattle.sync_top.specs.Synced.{IsSynced, first};
 
+use super::files::run_file;
+use super::generated::generate;
+use super::job::{FileCommand, Job, job_of};
+use super::laws::exchanges_hold;
 use super::lines::run_lines;
-use super::replay::Replay;
 use std::alloc::Global;
+use sync_disk::Disk;
 use sync_io::{Sink, Source, Status};
+use sync_world::World;
 
-fn is_replay(words: &[String]) -> bool
-    ensures { result ≡ is_replay (map string_bytes words.now) }
+/// Runs a job: what `run` does of the words that ask for it.
+fn run_job<S: Source, K: Sink, D: Disk>(
+    alloc: Global,
+    job: Job,
+    source: &mut S,
+    sink: &mut K,
+    disk: &mut D,
+    world: &mut World,
+) -> Status
+    requires fresh { Holds model.empty_world world.old }
+    requires turns { (seed count : ℕ) → job ≡ Job.Generate seed count → count ≤ most_turns }
+    ensures replay { job ≡ Job.Replay
+        → FollowsTold result (runs answers report 0 (readings 0 [] (S.left source.old)) model.empty_world) (K.taken sink.old) (K.taken sink.new) }
+    ensures world { job ≡ Job.Replay
+        → Leaves answers report (λ w. Holds w world.new) result (readings 0 [] (S.left source.old)) model.empty_world (K.taken sink.old) (K.taken sink.new) }
+    ensures headline { job ≡ Job.Replay
+        → IfSome (readings 0 [] (S.left source.old)) (λ reading. IsSynced (events_of reading) (run_from answers report 0 reading model.empty_world).left) }
+    ensures headline_after_faults { job ≡ Job.Replay
+        → IfSome (readings 0 [] (S.left source.old)) (λ reading. (lines : ℕ) (text : List ℕ) (w : model.World) (rest : Reading) → Passes answers lines reading model.empty_world text w rest → IsSynced (events_of (first lines reading)) w) }
+    ensures generated { (seed count : ℕ) → job ≡ Job.Generate seed count
+        → Writes (summary_of seed count) result (K.taken sink.old) (K.taken sink.new) }
+    ensures generates { (seed count : ℕ) → job ≡ Job.Generate seed count → result ≢ Status.NoMemory
+        → Holds (world_by model.empty_world (drawn_events seed count)) world.new }
+    ensures file { (command : FileCommand) → job ≡ Job.File command
+        → Does D.content D.images D.moment D.images_since command (S.left source.old) result disk.old disk.new (K.taken sink.old) (K.taken sink.new) }
+    ensures disk_aside { job ≡ Job.Replay → disk.new ≡ disk.old }
+    ensures all_aside { (seed count : ℕ) → job ≡ Job.Generate seed count → (source.new ≡ source.old) × (disk.new ≡ disk.old) }
+    ensures world_aside { (command : FileCommand) → job ≡ Job.File command → world.new ≡ world.old }
+    ensures source_faults { S.faults source.old ≤ S.faults source.new }
+    ensures sink_faults { K.faults sink.old ≤ K.faults sink.new }
+    ensures disk_faults { D.faults disk.old ≤ D.faults disk.new }
+    ensures read_cause { result ≡ Status.ReadFault → HasRisen (S.faults source.old) (S.faults source.new) }
+    ensures write_cause { result ≡ Status.WriteFault → HasRisen (K.faults sink.old) (K.faults sink.new) }
+    ensures disk_cause { result ≡ Status.DiskFault → Rose (D.faults disk.old) (D.faults disk.new) }
+    ensures only { IsJobStatus job result }
+    ensures complete { job ≡ Job.Replay → IsValidInput (S.left source.old)
+        → (HasRisen (S.faults source.old) (S.faults source.new) → ⊥)
+        → (HasRisen (K.faults sink.old) (K.faults sink.new) → ⊥) → IsDoneOrNoMemory result }
+    ensures complete_generate { (seed count : ℕ) → job ≡ Job.Generate seed count
+        → (HasRisen (K.faults sink.old) (K.faults sink.new) → ⊥) → IsDoneOrNoMemory result }
+    ensures complete_file { (command : FileCommand) → job ≡ Job.File command
+        → Told (D.content disk.old) (λ b. IsFileFor command b → IsInputFor command (S.left source.old)
+        → (HasRisen (S.faults source.old) (S.faults source.new) → ⊥)
+        → (HasRisen (K.faults sink.old) (K.faults sink.new) → ⊥)
+        → (Rose (D.faults disk.old) (D.faults disk.new) → ⊥) → IsDoneOrNoMemory result) }
 {
-    match words {
-        [word] => word.as_str() == "replay",
-        _ => false,
+    match job {
+        Job::Replay => {
+            exchanges_hold();
+            run_lines(alloc, source, sink, world)
+        }
+        Job::Generate { seed, count } => generate(alloc, seed, count, sink, world),
+        Job::File { command } => run_file(alloc, command, source, sink, disk),
     }
 }
 
-/// One run of the program: its words, its input and its output. `replay` reads event lines, writes
-/// one outcome line for each, and at the end of the input the report (docs/FORMATS.md).
-pub fn run<S: Source, K: Sink>(
+/// One run of the program: its words, its input, its output, the disk of the file that it names, and the exchange in which it
+/// runs, which is as `World::new` made it (docs/FORMATS.md, "Commands").
+pub fn run<S: Source, K: Sink, D: Disk>(
     alloc: Global,
     words: &[String],
     source: &mut S,
     sink: &mut K,
+    disk: &mut D,
+    world: &mut World,
 ) -> Status
-    // Words that are no command: nothing is read or written.
-    ensures words { (result ≡ Status.BadWords) ↔ (is_replay (map string_bytes words.now) ≡ false) }
-    ensures untouched { result ≡ Status.BadWords → (source.new ≡ source.old) × (sink.new ≡ sink.old) }
+    requires { Holds model.empty_world world.old }
+
+    // Words that are no command: nothing is read, written or done.
+    ensures words { (result ≡ Status.BadWords) ↔ ((job : Job) → AsksFor job (map string_bytes words.now) → ⊥) }
+    ensures untouched { result ≡ Status.BadWords → (source.new ≡ source.old) × (sink.new ≡ sink.old) × (disk.new ≡ disk.old) × (world.new ≡ world.old) }
 
     // What is written, and the status, are the replay's of the bytes. After a fault and after want
     // of memory what was written is a part of it, from its front.
-    ensures replay { is_replay (map string_bytes words.now) ≡ true
-        → FollowsTold result (runs answers report 0 (readings 0 [] (S.left source.old)) []) (K.taken sink.old) (K.taken sink.new) }
+    ensures replay { AsksFor Job.Replay (map string_bytes words.now)
+        → FollowsTold result (runs answers report 0 (readings 0 [] (S.left source.old)) model.empty_world) (K.taken sink.old) (K.taken sink.new) }
+
+    // The exchange that is left is the replay's after all events that were read. After a fault it is that after the events of
+    // some lines from the front, and only answers to these were written. Nothing is said after want of memory.
+    ensures world { AsksFor Job.Replay (map string_bytes words.now)
+        → Leaves answers report (λ w. Holds w world.new) result (readings 0 [] (S.left source.old)) model.empty_world (K.taken sink.old) (K.taken sink.new) }
+
+    // The headline holds of it.
+    ensures headline { AsksFor Job.Replay (map string_bytes words.now)
+        → IfSome (readings 0 [] (S.left source.old)) (λ reading. IsSynced (events_of reading) (run_from answers report 0 reading model.empty_world).left) }
+    ensures headline_after_faults { AsksFor Job.Replay (map string_bytes words.now)
+        → IfSome (readings 0 [] (S.left source.old)) (λ reading. (lines : ℕ) (text : List ℕ) (w : model.World) (rest : Reading) → Passes answers lines reading model.empty_world text w rest → IsSynced (events_of (first lines reading)) w) }
+
+    // What is written of a generated exchange is the summary of the events that follow from the seed, and the exchange that is
+    // left is that after all of them.
+    ensures generated { (seed count : ℕ) → AsksFor (Job.Generate seed count) (map string_bytes words.now)
+        → Writes (summary_of seed count) result (K.taken sink.old) (K.taken sink.new) }
+    ensures generates { (seed count : ℕ) → AsksFor (Job.Generate seed count) (map string_bytes words.now) → result ≢ Status.NoMemory
+        → Holds (world_by model.empty_world (drawn_events seed count)) world.new }
+
+    // A command over a file does what is written of it.
+    ensures file { (command : FileCommand) → AsksFor (Job.File command) (map string_bytes words.now)
+        → Does D.content D.images D.moment D.images_since command (S.left source.old) result disk.old disk.new (K.taken sink.old) (K.taken sink.new) }
+
+    // What isn't the command's stays as it was.
+    ensures disk_aside { AsksFor Job.Replay (map string_bytes words.now) → disk.new ≡ disk.old }
+    ensures all_aside { (seed count : ℕ) → AsksFor (Job.Generate seed count) (map string_bytes words.now) → (source.new ≡ source.old) × (disk.new ≡ disk.old) }
+    ensures world_aside { (command : FileCommand) → AsksFor (Job.File command) (map string_bytes words.now) → world.new ≡ world.old }
 
     // Each fault has its cause.
     ensures source_faults { S.faults source.old ≤ S.faults source.new }
     ensures sink_faults { K.faults sink.old ≤ K.faults sink.new }
+    ensures disk_faults { D.faults disk.old ≤ D.faults disk.new }
     ensures read_cause { result ≡ Status.ReadFault → HasRisen (S.faults source.old) (S.faults source.new) }
     ensures write_cause { result ≡ Status.WriteFault → HasRisen (K.faults sink.old) (K.faults sink.new) }
-    ensures only { result ≢ Status.BadWords → IsRunStatus result }
+    ensures disk_cause { result ≡ Status.DiskFault → Rose (D.faults disk.old) (D.faults disk.new) }
+    ensures only { (job : Job) → AsksFor job (map string_bytes words.now) → IsJobStatus job result }
 
-    // Where every line is a form that is built, or blank, and no count of faults rose, the run is
+    // Where every line or frame is valid, the file is a journal of the command's node, and no count of faults rose, the run is
     // done, or memory ran out.
-    ensures complete { is_replay (map string_bytes words.now) ≡ true → IsValidInput (S.left source.old)
+    ensures complete { AsksFor Job.Replay (map string_bytes words.now) → IsValidInput (S.left source.old)
         → (HasRisen (S.faults source.old) (S.faults source.new) → ⊥)
         → (HasRisen (K.faults sink.old) (K.faults sink.new) → ⊥) → IsDoneOrNoMemory result }
+    ensures complete_generate { (seed count : ℕ) → AsksFor (Job.Generate seed count) (map string_bytes words.now)
+        → (HasRisen (K.faults sink.old) (K.faults sink.new) → ⊥) → IsDoneOrNoMemory result }
+    ensures complete_file { (command : FileCommand) → AsksFor (Job.File command) (map string_bytes words.now)
+        → Told (D.content disk.old) (λ b. IsFileFor command b → IsInputFor command (S.left source.old)
+        → (HasRisen (S.faults source.old) (S.faults source.new) → ⊥)
+        → (HasRisen (K.faults sink.old) (K.faults sink.new) → ⊥)
+        → (Rose (D.faults disk.old) (D.faults disk.new) → ⊥) → IsDoneOrNoMemory result) }
 {
-    if !is_replay(words) {
-        return Status::BadWords;
+    match job_of(words) {
+        Some(job) => run_job(alloc, job, source, sink, disk, world),
+        None => Status::BadWords,
     }
-    let mut replay = Replay::new(alloc);
-    run_lines(alloc, source, sink, &mut replay)
 }

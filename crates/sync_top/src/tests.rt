@@ -1,7 +1,11 @@
+mod injections;
+
 use super::*;
-use std::alloc::{AllocError, Global};
+use std::alloc::Global;
 use std::test::Fail;
+use sync_disk::MemoryDisk;
 use sync_io::{MemorySink, MemorySource, Status};
+use sync_world::World;
 
 const CLIENT: &str =
     "{\"event\":\"client\",\"name\":\"A\",\"uuid\":\"00000000-0000-4000-8000-000000000001\"}";
@@ -12,7 +16,7 @@ const EDIT: &str =
 const REPORT: &str =
     "server 0\nclient \"A\" 0 0 1\n{\"key\":\"Int\",\"table\":\"t\"}\n{\"column\":\"f\",\"kind\":\"Int\",\"nullable\":false,\"shape\":\"One\",\"table\":\"t\"}\n{\"cells\":{\"f\":3},\"key\":1,\"table\":\"t\"}\n";
 
-fn words(alloc: Global, all: &[&str]) -> Result<Vec<String>, AllocError> {
+fn words(alloc: Global, all: &[&str]) -> Result<Vec<String>, Fail> {
     let mut words = Vec::new(alloc);
     for word in all {
         words.push(String::from_str(alloc, word)?)?;
@@ -26,18 +30,20 @@ fn replayed(
     input: &[u8],
     reads: &[u64],
     writes: &[u64],
-) -> Result<(Status, Vec<u8>), AllocError> {
+) -> Result<(Status, Vec<u8>), Fail> {
     let words = words(alloc, &["replay"])?;
     let mut source = MemorySource::new(
         Vec::from_slice(alloc, input)?,
         Vec::from_slice(alloc, reads)?,
     );
     let mut sink = MemorySink::new(alloc, Vec::from_slice(alloc, writes)?);
-    let status = run(alloc, &words, &mut source, &mut sink);
+    let mut world = World::new(alloc).map_err(|_| "no memory")?;
+    let mut disk = MemoryDisk::new(alloc).map_err(|_| "no memory")?;
+    let status = run(alloc, &words, &mut source, &mut sink, &mut disk, &mut world);
     Ok((status, Vec::from_slice(alloc, sink.bytes())?))
 }
 
-fn joined(alloc: Global, parts: &[&str]) -> Result<Vec<u8>, AllocError> {
+fn joined(alloc: Global, parts: &[&str]) -> Result<Vec<u8>, Fail> {
     let mut all = Vec::new(alloc);
     for part in parts {
         all.extend_from_slice(part.as_bytes())?;
@@ -73,7 +79,16 @@ fn words_that_are_no_command(rt: HostRuntime) -> Result<(), Fail> {
     for all in table {
         let mut source = MemorySource::new(joined(alloc, &[CLIENT])?, Vec::new(alloc));
         let mut sink = MemorySink::new(alloc, Vec::new(alloc));
-        let status = run(alloc, &words(alloc, all)?, &mut source, &mut sink);
+        let mut world = World::new(alloc).map_err(|_| "no memory")?;
+        let mut disk = MemoryDisk::new(alloc).map_err(|_| "no memory")?;
+        let status = run(
+            alloc,
+            &words(alloc, all)?,
+            &mut source,
+            &mut sink,
+            &mut disk,
+            &mut world,
+        );
         assert_eq!(rt; status, Status::BadWords);
         assert!(rt; sink.bytes().is_empty());
     }
@@ -84,8 +99,7 @@ fn words_that_are_no_command(rt: HostRuntime) -> Result<(), Fail> {
 fn inputs_good_and_bad(rt: HostRuntime) -> Result<(), Fail> {
     let alloc = rt.alloc();
     let done = "1 client \"A\"\nserver 0\nclient \"A\" 0 0 0\n";
-    let bind = "{\"event\":\"bind\",\"client\":\"A\"}\n";
-    let table: [(&[&str], Status, &str); 15] = [
+    let table: [(&[&str], Status, &str); 14] = [
         // no last line feed; CR before it; blank lines of spaces, tabs and CR, which are counted
         (&[CLIENT], Status::Done, done),
         (&[CLIENT, "\r\n"], Status::Done, done),
@@ -133,12 +147,6 @@ fn inputs_good_and_bad(rt: HostRuntime) -> Result<(), Fail> {
             Status::BadInput { place: 1 },
             "",
         ),
-        // forms that aren't built yet
-        (
-            &[CLIENT, "\n", bind],
-            Status::Unbuilt { line: 2 },
-            "1 client \"A\"\n",
-        ),
     ];
     for (parts, want, output) in table {
         let (status, written) = replayed(alloc, &joined(alloc, parts)?, &[], &[])?;
@@ -152,7 +160,7 @@ fn inputs_good_and_bad(rt: HostRuntime) -> Result<(), Fail> {
 }
 
 /// An edit line of client A with these edits.
-fn edit(alloc: Global, edits: &str) -> Result<Vec<u8>, AllocError> {
+fn edit(alloc: Global, edits: &str) -> Result<Vec<u8>, Fail> {
     joined(
         alloc,
         &[
@@ -208,16 +216,9 @@ fn refused_events_change_nothing(rt: HostRuntime) -> Result<(), Fail> {
 }
 
 #[test]
-fn names_uuids_nodes_and_sizes(rt: HostRuntime) -> Result<(), Fail> {
+fn names_uuids_and_nodes(rt: HostRuntime) -> Result<(), Fail> {
     let alloc = rt.alloc();
-    let mut many = joined(
-        alloc,
-        &["{\"op\":\"CreateObject\",\"table\":\"t\",\"key\":1}"],
-    )?;
-    for _ in 0..65_536 {
-        many.extend_from_slice(b",{\"op\":\"CreateObject\",\"table\":\"t\",\"key\":1}")?;
-    }
-    let mut input = joined(
+    let input = joined(
         alloc,
         &[
             "{\"event\":\"client\",\"name\":\"server\",\"uuid\":\"00000000-0000-4000-8000-000000000001\"}\n",
@@ -230,15 +231,36 @@ fn names_uuids_nodes_and_sizes(rt: HostRuntime) -> Result<(), Fail> {
             "{\"event\":\"edit\",\"client\":\"C\",\"ms\":1,\"edits\":[]}\n",
             "{\"event\":\"edit\",\"client\":\"B\",\"ms\":1,\"edits\":[]}\n",
             "{\"event\":\"edit\",\"client\":\"server\",\"ms\":1,\"edits\":[]}\n",
-            "{\"event\":\"edit\",\"client\":\"A\",\"ms\":1,\"edits\":[",
         ],
     )?;
-    input.extend_from_slice(&many)?;
-    input.extend_from_slice(b"]}\n")?;
     let (status, output) = replayed(alloc, &input, &[], &[])?;
     assert_eq!(rt; status, Status::Done);
     let want =
-        "1 refused NameTaken\n2 client \"A\"\n3 refused NameTaken\n4 refused UuidTaken\n5 client \"B\"\n6 refused NoNode\n7 made 1\n8 refused NoNode\n9 refused TooLarge\nserver 0\nclient \"A\" 0 0 0\nclient \"B\" 0 0 1\n";
+        "1 refused NameTaken\n2 client \"A\"\n3 refused NameTaken\n4 refused UuidTaken\n5 client \"B\"\n6 refused NoNode\n7 made 1\n8 refused NoNode\nserver 0\nclient \"A\" 0 0 0\nclient \"B\" 0 0 1\n";
+    assert!(rt; output.as_slice() == want.as_bytes());
+    Ok(())
+}
+
+#[test]
+fn a_transaction_of_too_many_instructions(rt: HostRuntime) -> Result<(), Fail> {
+    let alloc = rt.alloc();
+    let creation = "{\"op\":\"CreateObject\",\"table\":\"t\",\"key\":1}";
+    let mut input = joined(
+        alloc,
+        &[
+            CLIENT,
+            "\n{\"event\":\"edit\",\"client\":\"A\",\"ms\":1,\"edits\":[",
+            creation,
+        ],
+    )?;
+    for _ in 0..65_536 {
+        input.extend_from_slice(b",")?;
+        input.extend_from_slice(creation.as_bytes())?;
+    }
+    input.extend_from_slice(b"]}\n")?;
+    let (status, output) = replayed(alloc, &input, &[], &[])?;
+    assert_eq!(rt; status, Status::Done);
+    let want = "1 client \"A\"\n2 refused TooLarge\nserver 0\nclient \"A\" 0 0 0\n";
     assert!(rt; output.as_slice() == want.as_bytes());
     Ok(())
 }

@@ -1,16 +1,16 @@
 use Rattle.std.proofs.Common.{◌≡◌, ◌-◌, ◌≤◌, List, ℕ, None}
-use Rattle.std.specs.Option.{option_map}
 use Rattle.sync_io.specs.Devices.{Took}
 use Rattle.sync_io.specs.Input.{max_input}
 use Rattle.sync_io.specs.Readers.{readings_of}
-use Rattle.sync_top.specs.Runs.{runs, onto}
+use Rattle.sync_top.specs.Runs.{Went}
 use Rattle.sync_top.proofs.lines.answer_lines.Given as goal
 
 abbrev pub invariant-lines : goal.invariant-lines
 invariant-lines g l = record {
-  text : (text : List ℕ) × Took text (g.K.Sink.taken l.initial.sink) (g.K.Sink.taken l.sink)
-      × (runs g.C.Command.answers g.C.Command.report 0 (readings_of l.initial.reader (g.S.Source.left l.initial.source)) l.initial.command
-      ≡ option_map (onto text) (runs g.C.Command.answers g.C.Command.report l.number (readings_of l.reader (g.S.Source.left l.source)) l.command));
+  stands : (s : g.C.Command.State) → g.C.Command.holds s l.initial.command
+      → (text : List ℕ) × (next : g.C.Command.State) × Took text (g.K.Sink.taken l.initial.sink) (g.K.Sink.taken l.sink)
+      × Went g.C.Command.answers l.number (readings_of l.initial.reader (g.S.Source.left l.initial.source)) s text next (readings_of l.reader (g.S.Source.left l.source))
+      × g.C.Command.holds next l.command;
   counted : l.number ≡ l.reader.lines;
   fresh : l.reader.refused ≡ None;
   source_faults : g.S.Source.faults l.initial.source ≤ g.S.Source.faults l.source;

@@ -1,16 +1,81 @@
-use Rattle.std.proofs.Common.{List, [], subst}
-use Rattle.sync_io.specs.Readers.{readings}
-use Rattle.sync_top.specs.declared.client.Client.{Client}
-use Rattle.sync_top.specs.Exchange.{answers, report}
-use Rattle.sync_top.specs.Runs.{runs, FollowsTold}
-use Rattle.sync_top.proofs.Validity.{complete}
+use Rattle.std.proofs.Common.{◌≡◌, ap, List, map, None, Some, refl, string_bytes, sym, ◌∙◌}
+use Rattle.sync_top.specs.declared.job.Job.TheVariants as jobs
+use Rattle.sync_top.proofs.Asked.{asked_is, few_turns, is_asked, none_asked, not_bad_words}
 use Rattle.sync_top.proofs.program.run.Goals as goal
 
-pub returns-clause-complete : goal.returns-clause-complete
-returns-clause-complete g c =
-    let left = g.S.Source.left c.args.source.now in
-    let old = g.K.Sink.taken c.args.sink.now in
-    let new = g.K.Sink.taken c.run_lines.new.sink in
-    let follows = subst (λ (cs : List Client). FollowsTold c.run_lines.result (runs answers report 0 (readings 0 [] left) cs) old new) c.new-replay.ensures c.run_lines.ensures.follows in
-    λ words valid read write. complete c.run_lines.result left old new follows valid c.run_lines.ensures.only
-    (λ e. read (c.run_lines.ensures.read_cause e)) (λ e. write (c.run_lines.ensures.write_cause e))
+pub run_job-requires-clause-turns : goal.run_job-requires-clause-turns
+run_job-requires-clause-turns g c = few_turns (Some c.in-Some.job) (map string_bytes c.args.words.now) c.in-Some.ensures c.in-Some.job refl
+
+pub returns-in-Some-clause-words : goal.returns-in-Some-clause-words
+returns-in-Some-clause-words g c =
+    let asked = is_asked (Some c.in-Some.job) (map string_bytes c.args.words.now) c.in-Some.ensures c.in-Some.job refl in
+    (λ bad. absurd (not_bad_words c.in-Some.job c.run_job.result c.run_job.ensures.only bad), λ none. absurd (none c.in-Some.job asked))
+
+pub returns-in-Some-clause-replay : goal.returns-in-Some-clause-replay
+returns-in-Some-clause-replay g c = λ asks. c.run_job.ensures.replay (asked_is (Some c.in-Some.job) (map string_bytes c.args.words.now) c.in-Some.ensures c.in-Some.job jobs.Replay refl asks)
+
+pub returns-in-Some-clause-world : goal.returns-in-Some-clause-world
+returns-in-Some-clause-world g c = λ asks. c.run_job.ensures.world (asked_is (Some c.in-Some.job) (map string_bytes c.args.words.now) c.in-Some.ensures c.in-Some.job jobs.Replay refl asks)
+
+pub returns-in-Some-clause-headline : goal.returns-in-Some-clause-headline
+returns-in-Some-clause-headline g c = λ asks. c.run_job.ensures.headline (asked_is (Some c.in-Some.job) (map string_bytes c.args.words.now) c.in-Some.ensures c.in-Some.job jobs.Replay refl asks)
+
+pub returns-in-Some-clause-headline_after_faults : goal.returns-in-Some-clause-headline_after_faults
+returns-in-Some-clause-headline_after_faults g c = λ asks. c.run_job.ensures.headline_after_faults (asked_is (Some c.in-Some.job) (map string_bytes c.args.words.now) c.in-Some.ensures c.in-Some.job jobs.Replay refl asks)
+
+pub returns-in-Some-clause-generated : goal.returns-in-Some-clause-generated
+returns-in-Some-clause-generated g c = λ seed count asks. c.run_job.ensures.generated seed count (asked_is (Some c.in-Some.job) (map string_bytes c.args.words.now) c.in-Some.ensures c.in-Some.job (jobs.Generate seed count) refl asks)
+
+pub returns-in-Some-clause-generates : goal.returns-in-Some-clause-generates
+returns-in-Some-clause-generates g c = λ seed count asks. c.run_job.ensures.generates seed count (asked_is (Some c.in-Some.job) (map string_bytes c.args.words.now) c.in-Some.ensures c.in-Some.job (jobs.Generate seed count) refl asks)
+
+pub returns-in-Some-clause-file : goal.returns-in-Some-clause-file
+returns-in-Some-clause-file g c = λ command asks. c.run_job.ensures.file command (asked_is (Some c.in-Some.job) (map string_bytes c.args.words.now) c.in-Some.ensures c.in-Some.job (jobs.File command) refl asks)
+
+pub returns-in-Some-clause-disk_aside : goal.returns-in-Some-clause-disk_aside
+returns-in-Some-clause-disk_aside g c = λ asks. c.run_job.ensures.disk_aside (asked_is (Some c.in-Some.job) (map string_bytes c.args.words.now) c.in-Some.ensures c.in-Some.job jobs.Replay refl asks)
+
+pub returns-in-Some-clause-all_aside : goal.returns-in-Some-clause-all_aside
+returns-in-Some-clause-all_aside g c = λ seed count asks. c.run_job.ensures.all_aside seed count (asked_is (Some c.in-Some.job) (map string_bytes c.args.words.now) c.in-Some.ensures c.in-Some.job (jobs.Generate seed count) refl asks)
+
+pub returns-in-Some-clause-world_aside : goal.returns-in-Some-clause-world_aside
+returns-in-Some-clause-world_aside g c = λ command asks. c.run_job.ensures.world_aside command (asked_is (Some c.in-Some.job) (map string_bytes c.args.words.now) c.in-Some.ensures c.in-Some.job (jobs.File command) refl asks)
+
+pub returns-in-Some-clause-complete : goal.returns-in-Some-clause-complete
+returns-in-Some-clause-complete g c = λ asks. c.run_job.ensures.complete (asked_is (Some c.in-Some.job) (map string_bytes c.args.words.now) c.in-Some.ensures c.in-Some.job jobs.Replay refl asks)
+
+pub returns-in-Some-clause-complete_generate : goal.returns-in-Some-clause-complete_generate
+returns-in-Some-clause-complete_generate g c = λ seed count asks. c.run_job.ensures.complete_generate seed count (asked_is (Some c.in-Some.job) (map string_bytes c.args.words.now) c.in-Some.ensures c.in-Some.job (jobs.Generate seed count) refl asks)
+
+pub returns-in-Some-clause-complete_file : goal.returns-in-Some-clause-complete_file
+returns-in-Some-clause-complete_file g c = λ command asks. c.run_job.ensures.complete_file command (asked_is (Some c.in-Some.job) (map string_bytes c.args.words.now) c.in-Some.ensures c.in-Some.job (jobs.File command) refl asks)
+
+pub returns-in-None-clause-replay : goal.returns-in-None-clause-replay
+returns-in-None-clause-replay g c = λ asks. absurd (none_asked None (map string_bytes c.args.words.now) c.in-None.ensures jobs.Replay refl asks)
+
+pub returns-in-None-clause-world : goal.returns-in-None-clause-world
+returns-in-None-clause-world g c = λ asks. absurd (none_asked None (map string_bytes c.args.words.now) c.in-None.ensures jobs.Replay refl asks)
+
+pub returns-in-None-clause-headline : goal.returns-in-None-clause-headline
+returns-in-None-clause-headline g c = λ asks. absurd (none_asked None (map string_bytes c.args.words.now) c.in-None.ensures jobs.Replay refl asks)
+
+pub returns-in-None-clause-headline_after_faults : goal.returns-in-None-clause-headline_after_faults
+returns-in-None-clause-headline_after_faults g c = λ asks. absurd (none_asked None (map string_bytes c.args.words.now) c.in-None.ensures jobs.Replay refl asks)
+
+pub returns-in-None-clause-generated : goal.returns-in-None-clause-generated
+returns-in-None-clause-generated g c = λ seed count asks. absurd (none_asked None (map string_bytes c.args.words.now) c.in-None.ensures (jobs.Generate seed count) refl asks)
+
+pub returns-in-None-clause-generates : goal.returns-in-None-clause-generates
+returns-in-None-clause-generates g c = λ seed count asks. absurd (none_asked None (map string_bytes c.args.words.now) c.in-None.ensures (jobs.Generate seed count) refl asks)
+
+pub returns-in-None-clause-file : goal.returns-in-None-clause-file
+returns-in-None-clause-file g c = λ command asks. absurd (none_asked None (map string_bytes c.args.words.now) c.in-None.ensures (jobs.File command) refl asks)
+
+pub returns-in-None-clause-complete : goal.returns-in-None-clause-complete
+returns-in-None-clause-complete g c = λ asks. absurd (none_asked None (map string_bytes c.args.words.now) c.in-None.ensures jobs.Replay refl asks)
+
+pub returns-in-None-clause-complete_generate : goal.returns-in-None-clause-complete_generate
+returns-in-None-clause-complete_generate g c = λ seed count asks. absurd (none_asked None (map string_bytes c.args.words.now) c.in-None.ensures (jobs.Generate seed count) refl asks)
+
+pub returns-in-None-clause-complete_file : goal.returns-in-None-clause-complete_file
+returns-in-None-clause-complete_file g c = λ command asks. absurd (none_asked None (map string_bytes c.args.words.now) c.in-None.ensures (jobs.File command) refl asks)

@@ -1,0 +1,9 @@
+pub mod Lengths
+pub mod Loans
+pub mod Items
+pub mod Runs
+pub mod Exits
+pub mod Nodes
+pub mod Opened
+pub mod Shown
+pub mod Telling

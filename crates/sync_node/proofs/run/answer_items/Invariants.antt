@@ -1,0 +1,23 @@
+use Rattle.std.proofs.Common.{◌≡◌, ◌-◌, ◌≤◌, ◌++◌, List, ℕ}
+use Rattle.std.specs.Option.{option_map}
+use Rattle.sync_io.specs.Devices.{Took}
+use Rattle.sync_io.specs.Input.{max_input}
+use Rattle.sync_node.specs.Runs.{Answer, added, onto, runs, texts}
+use Rattle.sync_node.proofs.run.answer_items.Given as goal
+
+abbrev pub invariant-items : goal.invariant-items
+invariant-items g l = record {
+  so_far : (records : List g.C.Command.Record) → g.C.Command.Stands l.initial.command records → (answers : List (Answer g.C.Command.Record))
+      × Took (texts answers) (g.K.Sink.taken l.initial.sink) (g.K.Sink.taken l.sink)
+      × g.C.Command.Stands l.command (records ++ added answers)
+      × (runs g.C.Command.step records (g.I.ItemReader.ahead l.initial.items (g.S.Source.left l.initial.source))
+      ≡ option_map (onto answers) (runs g.C.Command.step (records ++ added answers) (g.I.ItemReader.ahead l.items (g.S.Source.left l.source))));
+  ready : g.I.ItemReader.ready l.items;
+  source_faults : g.S.Source.faults l.initial.source ≤ g.S.Source.faults l.source;
+  sink_faults : g.K.Sink.faults l.initial.sink ≤ g.K.Sink.faults l.sink;
+  disk_faults : g.C.Command.faults l.initial.command ≤ g.C.Command.faults l.command;
+  same : g.C.Command.origin l.command ≡ g.C.Command.origin l.initial.command;
+}
+
+abbrev pub decreases-items : goal.decreases-items
+decreases-items g l = max_input - g.I.ItemReader.count l.items

@@ -1,0 +1,13 @@
+pub mod FrameItems
+pub mod Frames
+pub mod Holding
+pub mod Items
+pub mod Lent
+pub mod Opening
+pub mod Readers
+pub mod Runs
+pub mod Saying
+pub mod Sending
+pub mod Showing
+pub mod Steps
+pub mod Texts

@@ -1,0 +1,166 @@
+-- A run of a command over the items of an input: what is written, which records are added, and how the run ends.
+use Rattle.std.specs.Prelude.{◌≡◌, ℕ, ◌+◌, ◌≤◌, Bool, true, false, List, [], ◌∷◌, ◌++◌, length, take, map, Option, None, Some, IfSome}
+use Rattle.std.specs.Bool.{MatchBool}
+use Rattle.std.specs.Option.{option_map}
+use Rattle.sync_disk.specs.Disk.{Only}
+use Rattle.sync_io.specs.Devices.{Took, TookSome}
+use Rattle.sync_io.specs.declared.status.Status.{Status}
+use Rattle.sync_io.specs.declared.status.Status.TheVariants as statuses
+use Rattle.sync_io.specs.declared.sink.SinkRefusal.{SinkRefusal}
+use Rattle.sync_io.specs.declared.sink.SinkRefusal.TheVariants as sinks
+use Rattle.sync_journal.specs.Records.{records_of}
+use Rattle.sync_journal.specs.Records.Reading.{Good}
+use Rattle.sync_node.specs.Items.{Items, Over, Bad, Limit, Next}
+
+-- what an item is answered by: the text that is written, and the records that are added before
+pub record Answer (R : Type 0) : Type 0 where
+  pub text : List ℕ
+  pub records : List R
+
+pub record Run (R : Type 0) : Type 0 where
+  pub answers : List (Answer R)
+  pub status : Status
+
+module _ {R : Type 0} where
+  -- all that is written, and all records that are added
+  abbrev pub texts : List (Answer R) → List ℕ
+  texts [] = []
+  texts (a ∷ answers) = a.text ++ texts answers
+
+  abbrev pub added : List (Answer R) → List R
+  added [] = []
+  added (a ∷ answers) = a.records ++ added answers
+
+  -- the records of an item's answer; an item that is none of the command's has none
+  abbrev pub records_in : Option (Answer R) → List R
+  records_in None = []
+  records_in (Some answer) = answer.records
+
+  abbrev pub ended : Status → Run R
+  ended status = record { answers = []; status = status }
+
+  abbrev pub onto : List (Answer R) → Run R → Run R
+  onto answers run = record { answers = answers ++ run.answers; status = run.status }
+
+  -- the answer of an item goes before what follows, which the new records bear on
+  abbrev pub answered : ℕ → Option (Answer R) → (List R → Run R) → Run R
+  answered number None rest = ended (statuses.BadInput number)
+  answered number (Some answer) rest = onto (answer ∷ []) (rest answer.records)
+
+module _ {R : Type 0} (step : List R → ℕ → List ℕ → Option (Answer R)) where
+  -- a node of these records answers the items in their order
+  abbrev pub run_from : List R → Items → Run R
+  run_from records Over = ended statuses.Done
+  run_from records (Bad number) = ended (statuses.BadInput number)
+  run_from records Limit = ended statuses.InputTooLong
+  run_from records (Next number item rest) = answered number (step records number item) (λ new. run_from (records ++ new) rest)
+
+  -- of a source that tells its bytes
+  abbrev pub runs : List R → Option Items → Option (Run R)
+  runs records items = option_map (run_from records) items
+
+-- ---- what a run that may be cut short does of it
+-- a fault, or want of memory
+abbrev pub is_fault : Status → Bool
+is_fault statuses.ReadFault = true
+is_fault statuses.WriteFault = true
+is_fault statuses.DiskFault = true
+is_fault statuses.NoMemory = true
+is_fault status = false
+
+-- the sink has so many bytes more at least, where it tells them
+abbrev pub WroteAtLeast : ℕ → Option (List ℕ) → Option (List ℕ) → Type 0
+WroteAtLeast n old new = (had : List ℕ) × (has : List ℕ) × (old ≡ Some had) × (new ≡ Some has) × (length had + n ≤ length has)
+
+-- the bytes stand for these records and some of the next ones, from the first on
+pub record LeavesSome {R : Type 0} (bytes_of : R → List ℕ) (records next : List R) (image : List ℕ) : Type 0 where
+  pub count : ℕ
+  pub within : count ≤ length next
+  pub reads : records_of image ≡ Good (map bytes_of (records ++ take count next))
+
+module _ {R : Type 0} where
+  -- The status is the run's, and what was written too. After a fault and after want of memory a part of it was written, from its front.
+  abbrev pub Follows : Status → Run R → Option (List ℕ) → Option (List ℕ) → Type 0
+  Follows status run old new = MatchBool (is_fault status) (TookSome (texts run.answers) old new) ((status ≡ run.status) × Took (texts run.answers) old new)
+
+  abbrev pub FollowsTold : Status → Option (Run R) → Option (List ℕ) → Option (List ℕ) → Type 0
+  FollowsTold status meant old new = IfSome meant (λ run. Follows status run old new)
+
+  -- The bytes stand for the old records and some of the run's, from the first on: at least those of each answer that was written whole.
+  pub record Left (bytes_of : R → List ℕ) (records : List R) (run : Run R) (old new : Option (List ℕ)) (image : List ℕ) : Type 0 where
+    pub leaves : LeavesSome bytes_of records (added run.answers) image
+    pub holds : (n : ℕ) → WroteAtLeast (length (texts (take n run.answers))) old new → length (added (take n run.answers)) ≤ leaves.count
+
+  -- At the end of a run: what was written, and what the disk holds, of which a crash may leave these images.
+  pub record Exits (bytes_of : R → List ℕ) (Stands : List R → Type 0) (images : List ℕ → Type 0) (records : List R) (run : Run R) (status : Status) (old new : Option (List ℕ)) : Type 0 where
+    pub follows : Follows status run old new
+    pub left : (image : List ℕ) → images image → Left bytes_of records run old new image
+    pub stands : is_fault status ≡ false → Stands (records ++ added run.answers)
+
+  abbrev pub ExitsTold : (R → List ℕ) → (List R → Type 0) → (List ℕ → Type 0) → List R → Option (Run R) → Status → Option (List ℕ) → Option (List ℕ) → Type 0
+  ExitsTold bytes_of Stands images records meant status old new = IfSome meant (λ run. Exits bytes_of Stands images records run status old new)
+
+  -- ---- the parts of the loop
+  -- an item was answered so
+  pub record AnswersSo (meant : Option (Answer R)) (records : List R) (text : List ℕ) (Stands : List R → Type 0) : Type 0 where
+    pub answer : Answer R
+    pub is : meant ≡ Some answer
+    pub text_is : text ≡ answer.text
+    pub stands : Stands (records ++ answer.records)
+
+  -- and the answer was written
+  pub record Answered (meant : Option (Answer R)) (records : List R) (Stands : List R → Type 0) (old new : Option (List ℕ)) : Type 0 where
+    pub answer : Answer R
+    pub is : meant ≡ Some answer
+    pub took : Took answer.text old new
+    pub stands : Stands (records ++ answer.records)
+
+  -- no answer is empty
+  abbrev pub AllSay : List (Answer R) → Type 0
+  AllSay [] = Unit {0}
+  AllSay (a ∷ answers) = (1 ≤ length a.text) × AllSay answers
+
+  -- the run ends at an item, whatever follows
+  abbrev pub EndsAt : (R → List ℕ) → (List R → Type 0) → (List ℕ → Type 0) → List R → ℕ → Option (Answer R) → Status → Option (List ℕ) → Option (List ℕ) → Type 0
+  EndsAt bytes_of Stands images records number meant status old new =
+      (rest : List R → Run R) → ((new : List R) → AllSay (rest new).answers) → Exits bytes_of Stands images records (answered number meant rest) status old new
+
+-- the status of a refused write
+abbrev pub write_status : SinkRefusal → Status
+write_status sinks.Failed = statuses.WriteFault
+write_status sinks.NoMemory = statuses.NoMemory
+
+-- an item that is read ends a run by its own fault, that of a write or of the disk, or want of memory
+abbrev pub IsItemStatus : Status → Type 0
+IsItemStatus (statuses.BadInput number) = Unit {0}
+IsItemStatus statuses.WriteFault = Unit {0}
+IsItemStatus statuses.DiskFault = Unit {0}
+IsItemStatus statuses.NoMemory = Unit {0}
+IsItemStatus status = ⊥
+
+-- the ends of a run over items
+abbrev pub IsRunStatus : Status → Type 0
+IsRunStatus statuses.BadWords = ⊥
+IsRunStatus (statuses.BadFile place) = ⊥
+IsRunStatus status = Unit {0}
+
+-- ---- a node over a disk
+module _ {D R : Type 0} (content : D → Option (List ℕ)) (images : D → List ℕ → Type 0) (bytes_of : R → List ℕ) where
+  -- the disk holds these records, and nothing else after a crash
+  pub record DiskHolds (records : List R) (disk : D) : Type 0 where
+    pub file : List ℕ
+    pub told : content disk ≡ Some file
+    pub reads : records_of file ≡ Good (map bytes_of records)
+    pub durable : Only file (images disk)
+
+  -- The run of a node of these records is at its end, over a disk that may have left only those when it began.
+  pub record NodeExits (first : D) (records : List R) (meant : Option (Run R)) (status : Status) (last : D) (old new : Option (List ℕ)) : Type 0 where
+    pub follows : FollowsTold status meant old new
+    pub stored : is_fault status ≡ false → IfSome meant (λ run. DiskHolds (records ++ added run.answers) last)
+    pub left : ((image : List ℕ) → images first image → records_of image ≡ Good (map bytes_of records))
+        → IfSome meant (λ run. (image : List ℕ) → images last image → Left bytes_of records run old new image)
+
+-- the ends of a run over a node's file
+abbrev pub IsNodeStatus : Status → Type 0
+IsNodeStatus statuses.BadWords = ⊥
+IsNodeStatus status = Unit {0}

@@ -1,0 +1,59 @@
+-- What is shown of a node over a file.
+use Rattle.std.specs.Prelude.{ℕ, Bool, true, false, if◌then◌else◌, List, [], ◌∷◌, ◌++◌, codes, length, Option, Some, Result, Ok, Err}
+use Rattle.sync_journal.specs.Records.{Reading, records_of}
+use Rattle.sync_journal.specs.Records.Reading.{Good, BadAt}
+use Rattle.sync_model.specs.Clients.{ClientRecord, client_of}
+use Rattle.sync_model.specs.Servers.{ServerRecord, entries_from, server_objects, server_of}
+use Rattle.sync_exchange.specs.Profile.{the_profile}
+use Rattle.sync_exchange.specs.Seen.{read_client}
+use Rattle.sync_node.specs.Opening.{client_in, server_in}
+use Rattle.sync_world.specs.Reports.{server_text, standing_text}
+
+-- ---- whose file it is
+abbrev pub is_birth : Option ClientRecord → Bool
+is_birth (Some (ClientRecord.Born id)) = true
+is_birth other = false
+
+-- the first record is a client's birth
+abbrev pub starts_born : List (List ℕ) → Bool
+starts_born [] = false
+starts_born (r ∷ rs) = is_birth (read_client r)
+
+abbrev pub is_client_in : Reading → Bool
+is_client_in (Good file) = starts_born file
+is_client_in (BadAt place) = false
+
+-- a file that begins with a client's birth is a client's, and any other a server's
+abbrev pub is_client_file : List ℕ → Bool
+is_client_file bytes = is_client_in (records_of bytes)
+
+-- ---- its records
+pub data NodeRecords : Type 0 where
+  OfClient : List ClientRecord → NodeRecords
+  OfServer : List ServerRecord → NodeRecords
+
+abbrev pub of_client : Result (List ClientRecord) ℕ → Result NodeRecords ℕ
+of_client (Ok records) = Ok (OfClient records)
+of_client (Err place) = Err place
+
+abbrev pub of_server : Result (List ServerRecord) ℕ → Result NodeRecords ℕ
+of_server (Ok records) = Ok (OfServer records)
+of_server (Err place) = Err place
+
+abbrev pub node_in : Reading → Result NodeRecords ℕ
+node_in reading = if is_client_in reading then of_client (client_in reading) else of_server (server_in reading)
+
+-- the records of a node's file, or the place at which the bytes are no journal of the node
+abbrev pub node_file : List ℕ → Result NodeRecords ℕ
+node_file bytes = node_in (records_of bytes)
+
+-- ---- the node's part of the report
+abbrev pub client_shown : List ClientRecord → List ℕ
+client_shown records = codes "client" ++ standing_text (client_of the_profile records).ident (client_of the_profile records).cursor (length (client_of the_profile records).unsent) (client_of the_profile records).objects
+
+abbrev pub server_shown : List ServerRecord → List ℕ
+server_shown records = server_text (entries_from the_profile (server_of the_profile records).log (length (server_of the_profile records).log) 0) (server_objects the_profile (server_of the_profile records))
+
+abbrev pub shown : NodeRecords → List ℕ
+shown (OfClient records) = client_shown records
+shown (OfServer records) = server_shown records

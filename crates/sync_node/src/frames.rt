@@ -1,0 +1,52 @@
+ghost use Rattle.std.specs.Prelude.{◌≡◌, ℕ, ◌+◌, ◌<◌, ◌≤◌, List, [], Option, None, Some, Err, IfOk, IfErr, IfSome, OnOk};
+ghost use Rattle.sync_node.specs.Items.{frames_of};
+
+use super::item::Item;
+use super::lines::read_status;
+use super::reader::ItemReader;
+use std::alloc::Global;
+use sync_io::{FrameReader, NoMemory, Source, Status};
+
+/// Reads the frames of an input.
+#[derive(Drop)]
+pub struct Frames {
+    reader: FrameReader,
+    count: u64,
+}
+
+impl Frames {
+    ghost use Rattle.sync_node.specs.FrameItems.{IsReady, frames_ahead};
+
+    /// A reader that has read nothing.
+    pub fn new(alloc: Global) -> Result<Frames, NoMemory>
+        ensures ready { IfOk result IsReady }
+        ensures ahead { IfOk result (λ made. (left : Option (List ℕ)) → frames_ahead made left ≡ frames_of left) }
+    {
+        match FrameReader::new(alloc) {
+            Ok(reader) => Ok(Frames { reader, count: 0 }),
+            Err(_) => Err(NoMemory),
+        }
+    }
+}
+
+impl ItemReader for Frames {
+    ghost use Rattle.sync_node.specs.FrameItems.{IsReady, frames_ahead};
+
+    ghost ahead = { frames_ahead };
+
+    ghost count = { λ frames. frames.count };
+
+    ghost ready = { IsReady };
+
+    fn next<S: Source>(&mut self, source: &mut S) -> Result<Option<Item>, Status> {
+        match self.reader.next(source) {
+            Ok(Some(bytes)) => {
+                self.count += 1;
+                let number = self.count as u32;
+                Ok(Some(Item { number, bytes }))
+            }
+            Ok(None) => Ok(None),
+            Err(refusal) => Err(read_status(self.count, refusal)),
+        }
+    }
+}

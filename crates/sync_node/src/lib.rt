@@ -1,0 +1,41 @@
+//! The commands of a client and of a server that live in a file.
+#![tactic(auto)]
+
+mod calls;
+mod command;
+mod editing;
+mod editor;
+mod frame;
+mod frames;
+mod item;
+mod lent;
+mod lines;
+mod opening;
+mod outcome;
+mod reader;
+mod run;
+mod sending;
+mod serving;
+mod showing;
+mod taking;
+#[cfg(test)]
+mod tests_of_reading;
+#[cfg(test)]
+mod tests_of_running;
+mod text;
+mod waiter;
+
+pub use command::{Command, ItemEnd};
+pub use editing::edit;
+pub use frame::frame_of;
+pub use frames::Frames;
+pub use item::Item;
+pub use lent::Lent;
+pub use lines::Lines;
+pub use opening::{Ended, open_client, open_server};
+pub use reader::ItemReader;
+pub use run::run_items;
+pub use sending::{ask, send};
+pub use serving::serve;
+pub use showing::show;
+pub use taking::take;

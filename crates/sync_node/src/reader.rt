@@ -1,0 +1,31 @@
+ghost use Rattle.std.specs.Prelude.{◌≡◌, ℕ, ◌<◌, ◌≤◌, List, Option, Err, IfOk, IfErr, IfSome, OnOk};
+ghost use Rattle.sync_io.specs.Faults.{HasRisen};
+ghost use Rattle.sync_io.specs.Input.{max_input};
+ghost use Rattle.sync_node.specs.Items.{Items, Read, EndsReading, IsReadStatus};
+
+use super::item::Item;
+use sync_io::{Source, Status};
+
+/// Reads the items of an input, one after another: its lines, or its frames.
+pub trait ItemReader {
+    /// The items that are ahead over a source that has these bytes left, where it tells them.
+    ghost ahead: { Self → Option (List ℕ) → Option Items };
+
+    /// How many were read, blank ones among them.
+    ghost count: { Self → ℕ };
+
+    /// It has refused nothing yet.
+    ghost ready: { Self → Type 0 };
+
+    /// The next item, or None at the end of the input.
+    fn next<S: Source>(&mut self, source: &mut S) -> Result<Option<Item>, Status>
+        requires { ready self.old }
+        ensures read { IfOk result (λ item. Read item (ahead self.old (S.left source.old)) (ahead self.new (S.left source.new))) }
+        ensures stays_ready { OnOk result (ready self.new) }
+        ensures counts { IfOk result (λ item. IfSome item (λ _. count self.old < count self.new)) }
+        ensures few { count self.new ≤ max_input }
+        ensures err { IfErr result (λ status. EndsReading status (ahead self.old (S.left source.old))) }
+        ensures faults { S.faults source.old ≤ S.faults source.new }
+        ensures cause { result ≡ Err Status.ReadFault → HasRisen (S.faults source.old) (S.faults source.new) }
+        ensures only { IfErr result IsReadStatus };
+}

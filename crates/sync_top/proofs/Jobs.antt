@@ -1,0 +1,105 @@
+-- Numbers in decimal as words, and the words of each command.
+use Rattle.std.proofs.Common.{◌≡◌, ◌≢◌, ◌<◌, ◌≤◌, ◌+◌, ◌^◌, ◌==◌, ◌&&◌, ◌||◌, not, ℕ, suc, zero, Bool, true, false, List, [], ◌∷◌, ◌++◌, length, get_or, map, codes, Option, None, Some, Result, Ok, Err, refl, sym, ap, subst, ◌∙◌, rules, arith, ◌↔◌}
+use Rattle.std.specs.Fmt.{decimal}
+use Rattle.std.specs.Result.{result_ok, OkIff}
+use Rattle.std.specs.Str.Parse.{AllDigits, IsNumeral, ParsesUnsigned, digits_value}
+use Rattle.std.proofs.lemmas.Fmt.{decimal-digits_value, decimal_digit, decimal_is_IsNumeral, first_decimal, parse-decimal, decimal_nonempty}
+use Rattle.std.proofs.lemmas.Str.Parse.{IsNumeralModel, numerals_by_value, tells_digits, parse_plain, digit_at}
+use Rattle.std.proofs.lemmas.Bool.Decides.{nat_tests}
+use Rattle.std.proofs.lemmas.Slice.Eq.{bytes_eq-Decides}
+use Rattle.std.specs.Int.{IsInRange}
+use Rattle.std.specs.Str.{bytes_eq}
+use Rattle.sync_top.specs.declared.job.Job.{Job}
+use Rattle.sync_top.specs.declared.job.Job.TheVariants as jobs
+use Rattle.sync_top.specs.Jobs.{AsksFor, IsExchange, IsFileJob, IsNumber, command_word, is_padded}
+
+own : IsNumeralModel (AllDigits 10) (digits_value 10)
+own = numerals_by_value (AllDigits 10) tells_digits
+
+-- ---- what isn't padded
+plain_first : (bs : List ℕ) → is_padded bs ≡ false → get_or bs 0 0 ≢ 43
+plain_first [] e = λ h. cc
+plain_first (b ∷ bs) e = λ h. grind (arith, nat_tests)
+
+plain_zero : (bs : List ℕ) → is_padded bs ≡ false → get_or bs 0 0 ≡ 48 → length bs ≡ 1
+plain_zero [] e = λ h. cc
+plain_zero (b ∷ bs) e = λ h. grind (arith, nat_tests)
+
+-- a number in decimal isn't padded
+plain_by : (n : ℕ) (bs : List ℕ) → n < 2 ^ 64 → IsInRange 48 57 (get_or bs 0 0) → 0 < length bs → (0 < n → 48 < get_or bs 0 0) → (n ≡ 0 → length bs ≡ 1) → is_padded bs ≡ false
+plain_by n [] small digit filled first none = absurd (omega arith)
+plain_by n (b ∷ bs) small digit filled first none = grind (arith, nat_tests)
+
+decimal_plain : (n : ℕ) → n < 2 ^ 64 → is_padded (decimal n) ≡ false
+decimal_plain n small =
+    let numeral : IsNumeral 10 (decimal n) = (decimal_is_IsNumeral n small).0 in
+    let none : n ≡ 0 → length (decimal n) ≡ 1 = λ z. ap length (decimal_digit n (omega arith)) in
+    plain_by n (decimal n) small (digit_at (decimal n) 0 numeral.1 numeral.0) numeral.0 (λ some. first_decimal n some small) none
+
+pub number_plain : (n : ℕ) (bs : List ℕ) → IsNumber n bs → is_padded bs ≡ false
+number_plain n bs is = subst (λ (b : List ℕ). is_padded b ≡ false) (sym is.0) (decimal_plain n is.1)
+
+-- ---- what is parsed
+parsed : {E : Type 0} (bs : List ℕ) (r : Result ℕ E) → ParsesUnsigned 64 10 bs r → is_padded bs ≡ false → (n : ℕ) → result_ok r ≡ Some n → IsNumber n bs
+parsed {E} bs (Err e) parses plain n is = cc
+parsed {E} bs (Ok x) parses plain n is =
+    let got = parse_plain own {E = E} 64 bs (Ok x) parses (plain_first bs plain) in
+    let same : n ≡ digits_value 10 bs = cc (got.1) in
+    let text : decimal (digits_value 10 bs) ≡ bs = decimal-digits_value own bs got.0.0 got.0.1 (plain_zero bs plain) got.0.2 in
+    (sym text ∙ ap decimal (sym same), subst (λ (k : ℕ). k < 2 ^ 64) (sym same) got.0.2)
+
+pub parsed_number : {E : Type 0} (bs : List ℕ) (r : Result ℕ E) (o : Option ℕ) → o ≡ result_ok r → ParsesUnsigned 64 10 bs r → is_padded bs ≡ false → (n : ℕ) → (o ≡ Some n → IsNumber n bs) × (IsNumber n bs → o ≡ Some n)
+parsed_number bs r o is parses plain n =
+    (λ some. parsed bs r parses plain n (sym is ∙ some), λ number. is ∙ ap result_ok (parse-decimal 64 n bs r number.1 number.1 number.0 parses))
+
+-- ---- lists by their places
+pub one_item : {A B : Type 0} (f : A → B) (xs : List A) (a : A) (b : B) → 1 ≤ length xs → length xs < 2 → a ≡ get_or xs 0 a → b ≡ f a → map f xs ≡ b ∷ []
+one_item f [] a b low high first is = absurd (omega arith)
+one_item f (x ∷ []) a b low high first is = cc
+one_item f (x ∷ y ∷ xs) a b low high first is = absurd (omega arith)
+
+pub two_items : {A B : Type 0} (f : A → B) (xs : List A) (a : A) (b : B) → 2 ≤ length xs → length xs < 3 → a ≡ get_or xs 0 a → b ≡ f a → (file : B) × (map f xs ≡ b ∷ file ∷ [])
+two_items f [] a b low high first is = absurd (omega arith)
+two_items f (x ∷ []) a b low high first is = absurd (omega arith)
+two_items f (x ∷ y ∷ []) a b low high first is = (f y, let same : x ≡ a = cc in let head : f x ≡ b = cc in ap (λ h. h ∷ f y ∷ []) head)
+two_items f (x ∷ y ∷ z ∷ xs) a b low high first is = absurd (omega arith)
+
+pub three_items : {A B : Type 0} (f : A → B) (xs : List A) (a1 a2 a3 : A) (b1 b2 b3 : B) → 3 ≤ length xs → length xs < 4 → a1 ≡ get_or xs 0 a1 → a2 ≡ get_or xs 1 a2 → a3 ≡ get_or xs 2 a3
+    → b1 ≡ f a1 → b2 ≡ f a2 → b3 ≡ f a3 → map f xs ≡ b1 ∷ b2 ∷ b3 ∷ []
+three_items f [] a1 a2 a3 b1 b2 b3 low high e1 e2 e3 is1 is2 is3 = absurd (omega arith)
+three_items f (x ∷ []) a1 a2 a3 b1 b2 b3 low high e1 e2 e3 is1 is2 is3 = absurd (omega arith)
+three_items f (x ∷ y ∷ []) a1 a2 a3 b1 b2 b3 low high e1 e2 e3 is1 is2 is3 = absurd (omega arith)
+three_items f (x ∷ y ∷ z ∷ []) a1 a2 a3 b1 b2 b3 low high e1 e2 e3 is1 is2 is3 = cc
+three_items f (x ∷ y ∷ z ∷ w ∷ xs) a1 a2 a3 b1 b2 b3 low high e1 e2 e3 is1 is2 is3 = absurd (omega arith)
+
+pub is_text : (r : Bool) (xs ys : List ℕ) → r ≡ bytes_eq xs ys → r ≡ true → xs ≡ ys
+is_text r xs ys e t = (bytes_eq-Decides xs ys).0 (sym e ∙ t)
+
+-- ---- all words
+-- one word
+pub one_word : (words : List (List ℕ)) (word : List ℕ) → words ≡ word ∷ [] → word ≡ codes "replay" → (job : Job) → (Some jobs.Replay ≡ Some job → AsksFor job words) × (AsksFor job words → Some jobs.Replay ≡ Some job)
+one_word words word are is jobs.Replay = (λ e. are ∙ ap (λ w. w ∷ []) is, λ e. refl)
+one_word words word are is (jobs.File command) = (λ e. cc, λ e. absurd (omega (arith, ap length (sym are ∙ e.1))))
+one_word words word are is (jobs.Generate seed count) = (λ e. cc, λ e. absurd (omega (arith, ap length (sym are ∙ e.0))))
+
+-- two words
+pub two_words : (words : List (List ℕ)) (word file : List ℕ) (o : Option Job) → words ≡ word ∷ file ∷ [] → ((job : Job) → (o ≡ Some job → IsFileJob job word) × (IsFileJob job word → o ≡ Some job))
+    → (job : Job) → (o ≡ Some job → AsksFor job words) × (AsksFor job words → o ≡ Some job)
+two_words words word file o are exact jobs.Replay = (λ some. absurd ((exact jobs.Replay).0 some), λ e. absurd (omega (arith, ap length (sym are ∙ e))))
+two_words words word file o are exact (jobs.Generate seed count) = (λ some. absurd ((exact (jobs.Generate seed count)).0 some), λ e. absurd (omega (arith, ap length (sym are ∙ e.0))))
+two_words words word file o are exact (jobs.File command) = (
+  λ some. (file, are ∙ ap (λ w. w ∷ file ∷ []) ((exact (jobs.File command)).0 some)),
+  λ asked. (exact (jobs.File command)).1 (let same = sym are ∙ asked.1 in cc),
+)
+
+-- three words
+pub three_words : (words : List (List ℕ)) (word seed count : List ℕ) (o : Option Job) → words ≡ word ∷ seed ∷ count ∷ [] → word ≡ codes "gen" → ((job : Job) → (o ≡ Some job → IsExchange job seed count) × (IsExchange job seed count → o ≡ Some job))
+    → (job : Job) → (o ≡ Some job → AsksFor job words) × (AsksFor job words → o ≡ Some job)
+three_words words word seed count o are is exact jobs.Replay =
+    (λ some. absurd ((exact jobs.Replay).0 some), λ e. absurd (omega (arith, ap length (sym are ∙ e))))
+three_words words word seed count o are is exact (jobs.File command) =
+    (λ some. absurd ((exact (jobs.File command)).0 some), λ e. absurd (omega (arith, ap length (sym are ∙ e.1))))
+three_words words word seed count o are is exact (jobs.Generate s n) = (
+  λ some. let got = (exact (jobs.Generate s n)).0 some in (let first = got.0.0 in let second = got.1.0 in cc, got.0.1, got.2),
+  λ asked. (exact (jobs.Generate s n)).1 (let same = sym are ∙ asked.0 in ((cc, asked.1), (cc, omega (arith, asked.2)), asked.2)),
+)

@@ -1,0 +1,22 @@
+use Rattle.std.proofs.Common.{codes, map, string_bytes}
+use Rattle.sync_top.proofs.Jobs.{one_item, two_items, three_items, is_text, one_word, two_words, three_words}
+use Rattle.sync_top.proofs.job.job_of.Goals as goal
+
+pub returns-in-len1 : goal.returns-in-len1
+returns-in-len1 c =
+    let words = one_item string_bytes c.args.words.now c.word-item.result c.as_str.result.now c.in-len1.len_at_least c.in-len1.len_below c.word-item.is c.as_str.ensures.value in
+    one_word (map string_bytes c.args.words.now) c.as_str.result.now words (is_text c.eq.result c.as_str.result.now (codes "replay") c.eq.ensures c.if-eq.true)
+
+pub returns-in-len2 : goal.returns-in-len2
+returns-in-len2 c =
+    let words = two_items string_bytes c.args.words.now c.word-item-then-words-lt3.result c.as_str-in-len2.result.now c.in-len2.len_at_least c.in-len2.len_below c.word-item-then-words-lt3.is c.as_str-in-len2.ensures.value in
+    two_words (map string_bytes c.args.words.now) c.as_str-in-len2.result.now words.0 c.file_job_of.result words.1 c.file_job_of.ensures
+
+pub returns-in-len3 : goal.returns-in-len3
+returns-in-len3 c =
+    let word = c.as_str-then-words-lt4 in
+    let seed = c.as_str-in-len3 in
+    let count = c.as_str-in-len3-2 in
+    let words = three_items string_bytes c.args.words.now c.word-item-then-words-lt4.result c.seed-item.result c.count-item.result word.result.now seed.result.now count.result.now c.in-len3.len_at_least c.in-len3.len_below
+    c.word-item-then-words-lt4.is c.seed-item.is c.count-item.is word.ensures.value seed.ensures.value count.ensures.value in
+    three_words (map string_bytes c.args.words.now) word.result.now seed.result.now count.result.now c.generate_of.result words (is_text c.eq-then-words-lt4.result word.result.now (codes "gen") c.eq-then-words-lt4.ensures c.if-eq-2.true) c.generate_of.ensures

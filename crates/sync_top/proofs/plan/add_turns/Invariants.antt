@@ -1,0 +1,6 @@
+use Rattle.std.proofs.Common.{◌≡◌, ◌++◌}
+use Rattle.sync_top.specs.Plans.{turns}
+use Rattle.sync_top.proofs.plan.add_turns.Given as goal
+
+abbrev pub invariant-loop-before : goal.invariant-loop-before
+invariant-loop-before l = l.plan.items ≡ l.initial.plan.items ++ turns l.before

@@ -1,0 +1,108 @@
+ghost use Rattle.std.specs.Prelude.{◌≡◌, ◌↔◌, ℕ, IfSome, IfNone, Some, map, string_bytes};
+ghost use Rattle.sync_top.specs.Jobs.{AsksFor, IsExchange, IsFileJob, IsNumber, command_word, is_padded};
+
+/// The most turns of a generated exchange.
+pub const MOST_TURNS: u32 = 100_000;
+
+/// A command over the file of a node.
+#[derive(Clone, Copy, Debug, PartialEq, Eq)]
+pub enum FileCommand {
+    /// A client does what node lines say.
+    Edit,
+    /// A client writes what it has for the server.
+    Send,
+    /// A client writes its question for the history.
+    Ask,
+    /// A client takes frames.
+    Take,
+    /// A server answers frames.
+    Serve,
+    /// A node is shown.
+    Show,
+}
+
+/// What a command line asks for (docs/FORMATS.md, "Commands").
+#[derive(Clone, Copy, Debug, PartialEq, Eq)]
+pub enum Job {
+    /// Event lines are read and answered.
+    Replay,
+    /// An exchange of so many turns is generated.
+    Generate { seed: u64, count: u32 },
+    /// A command over the file that the second word names.
+    File { command: FileCommand },
+}
+
+/// Whether a word begins with a sign or a needless zero.
+fn is_padded(word: &[u8]) -> bool
+    ensures { result ≡ is_padded word.now }
+{
+    match word {
+        [] => false,
+        [first, rest @ ..] => *first == b'+' || *first == b'0' && !rest.is_empty(),
+    }
+}
+
+/// The number that a word is in decimal, without a sign and without needless zeros.
+fn number_of(word: &str) -> Option<u64>
+    ensures { (n : ℕ) → (result ≡ Some n) ↔ IsNumber n word.now }
+{
+    if is_padded(word.as_bytes()) {
+        return None;
+    }
+    word.parse::<u64>().ok()
+}
+
+/// The exchange of this seed and this number of turns.
+fn generate_of(seed: &str, count: &str) -> Option<Job>
+    ensures { (job : Job) → (result ≡ Some job) ↔ IsExchange job seed.now count.now }
+{
+    let seed = number_of(seed)?;
+    let count = number_of(count)?;
+    if count > MOST_TURNS as u64 {
+        return None;
+    }
+    Some(Job::Generate {
+        seed,
+        count: count as u32,
+    })
+}
+
+/// The command over a file that a word names.
+fn file_command_of(word: &str) -> Option<FileCommand>
+    ensures some { IfSome result (λ command. word.now ≡ command_word command) }
+    ensures none { IfNone result ((command : FileCommand) → word.now ≡ command_word command → ⊥) }
+{
+    match word {
+        "edit" => Some(FileCommand::Edit),
+        "send" => Some(FileCommand::Send),
+        "ask" => Some(FileCommand::Ask),
+        "take" => Some(FileCommand::Take),
+        "serve" => Some(FileCommand::Serve),
+        "show" => Some(FileCommand::Show),
+        _ => None,
+    }
+}
+
+/// The command over a file that these two words are.
+fn file_job_of(word: &str) -> Option<Job>
+    ensures { (job : Job) → (result ≡ Some job) ↔ IsFileJob job word.now }
+{
+    match file_command_of(word) {
+        Some(command) => Some(Job::File { command }),
+        None => None,
+    }
+}
+
+/// What the words of a command line ask for; none where they are no command's.
+pub fn job_of(words: &[String]) -> Option<Job>
+    ensures { (job : Job) → (result ≡ Some job) ↔ AsksFor job (map string_bytes words.now) }
+{
+    match words {
+        [word] if word.as_str() == "replay" => Some(Job::Replay),
+        [word, _] => file_job_of(word.as_str()),
+        [word, seed, count] if word.as_str() == "gen" => {
+            generate_of(seed.as_str(), count.as_str())
+        }
+        _ => None,
+    }
+}
