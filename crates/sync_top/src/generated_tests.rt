@@ -27,23 +27,26 @@ fn generated(alloc: Global, all: &[&str], writes: &[u64]) -> Result<(Status, Vec
     Ok((status, Vec::from_slice(alloc, sink.bytes())?))
 }
 
-/// What follows the word in the line that it begins.
-fn told<'a>(summary: &'a str, word: &str) -> Option<&'a str> {
-    summary
-        .lines()
-        .find_map(|line| line.strip_prefix(word)?.strip_prefix(" "))
+/// The number that follows the word in the line that it begins.
+fn told(summary: &str, word: &str) -> Option<u64> {
+    summary.lines().find_map(|line| {
+        line.strip_prefix(word)?
+            .strip_prefix(" ")?
+            .parse::<u64>()
+            .ok()
+    })
 }
 
 /// Nothing is refused, all that was made is in the history, and all clients agree.
-fn agrees(rt: &impl Abort, alloc: Global, seed: &str, count: &str) -> Result<(), Fail> {
-    let (status, output) = generated(alloc, &["gen", seed, count], &[])?;
+fn agrees(rt: &impl Abort, alloc: Global, all: &[&str]) -> Result<(), Fail> {
+    let (status, output) = generated(alloc, all, &[])?;
     assert_eq!(rt; status, Status::Done);
     let summary = str::from_utf8(&output)?;
-    assert_eq!(rt; told(summary, "seed"), Some(seed));
-    assert_eq!(rt; told(summary, "turns"), Some(count));
-    assert_eq!(rt; told(summary, "history"), told(summary, "made"));
-    assert_eq!(rt; told(summary, "refused"), Some("0"));
-    assert_eq!(rt; told(summary, "equal"), Some("8"));
+    let made = told(summary, "made");
+    assert!(rt; made.is_some());
+    assert_eq!(rt; told(summary, "history"), made);
+    assert_eq!(rt; told(summary, "refused"), Some(0));
+    assert_eq!(rt; told(summary, "equal"), Some(8));
     assert_eq!(rt; summary.lines().count(), 6);
     Ok(())
 }
@@ -64,15 +67,14 @@ fn an_exchange_without_turns(rt: HostRuntime) -> Result<(), Fail> {
 
 #[test]
 fn a_thousand_turns_of_three_seeds(rt: HostRuntime) -> Result<(), Fail> {
-    for seed in ["1", "2", "3"] {
-        agrees(&rt, rt.alloc(), seed, "1000")?;
-    }
-    Ok(())
+    agrees(&rt, rt.alloc(), &["gen", "1", "1000"])?;
+    agrees(&rt, rt.alloc(), &["gen", "2", "1000"])?;
+    agrees(&rt, rt.alloc(), &["gen", "3", "1000"])
 }
 
 #[test]
 fn the_most_turns(rt: HostRuntime) -> Result<(), Fail> {
-    agrees(&rt, rt.alloc(), "1", "100000")
+    agrees(&rt, rt.alloc(), &["gen", "1", "100000"])
 }
 
 #[test]

@@ -37,8 +37,8 @@ fn replayed(
         Vec::from_slice(alloc, reads)?,
     );
     let mut sink = MemorySink::new(alloc, Vec::from_slice(alloc, writes)?);
-    let mut world = World::new(alloc).map_err(|_| "no memory")?;
-    let mut disk = MemoryDisk::new(alloc).map_err(|_| "no memory")?;
+    let mut world = World::new(alloc)?;
+    let mut disk = MemoryDisk::new(alloc)?;
     let status = run(alloc, &words, &mut source, &mut sink, &mut disk, &mut world);
     Ok((status, Vec::from_slice(alloc, sink.bytes())?))
 }
@@ -79,8 +79,8 @@ fn words_that_are_no_command(rt: HostRuntime) -> Result<(), Fail> {
     for all in table {
         let mut source = MemorySource::new(joined(alloc, &[CLIENT])?, Vec::new(alloc));
         let mut sink = MemorySink::new(alloc, Vec::new(alloc));
-        let mut world = World::new(alloc).map_err(|_| "no memory")?;
-        let mut disk = MemoryDisk::new(alloc).map_err(|_| "no memory")?;
+        let mut world = World::new(alloc)?;
+        let mut disk = MemoryDisk::new(alloc)?;
         let status = run(
             alloc,
             &words(alloc, all)?,
