@@ -3,10 +3,12 @@
 
 mod apart;
 mod places;
+mod shifts;
 #[cfg(test)]
 mod tests;
 
-use places::{common_length, erase_at, growing_length, insert_at, update_at};
+use places::{common_length, erase_at, growing_length, update_at};
+pub use shifts::{shift_erasure_and_insertion, shift_insertion_and_erasure, shift_insertions};
 use sync_base::{
     EraseObject, ListErase, ListInsert, ListUpdate, Meets, Mismatch, Outcome, erases, is_erased,
     keep_both, keep_left, keep_neither, keep_right, later_wins, left_wins, right_wins, same_cell,
@@ -113,30 +115,20 @@ impl Meets<ListInsert, ListUpdate> for ListRules {
 
 impl Meets<ListInsert, ListInsert> for ListRules {
     fn meet(left: ListInsert, right: ListInsert, left_later: bool) -> Result<Outcome, Mismatch> {
-        if !same_cell(&left.cell, &right.cell) {
-            return keep_both(left, right);
-        }
-        let (p, q) = (left.spot.place(), right.spot.place());
-        match growing_length(left.spot.prior(), right.spot.prior()) {
+        let (mut left, mut right) = (left, right);
+        match shift_insertions(&mut left, &mut right, left_later) {
+            Ok(()) => keep_both(left, right),
             Err(mismatch) => Err(mismatch),
-            Ok(n) if p < q || p == q && !left_later => {
-                keep_both(insert_at(left, p, n + 1), insert_at(right, q + 1, n + 1))
-            }
-            Ok(n) => keep_both(insert_at(left, p + 1, n + 1), insert_at(right, q, n + 1)),
         }
     }
 }
 
 impl Meets<ListInsert, ListErase> for ListRules {
-    fn meet(left: ListInsert, right: ListErase, _: bool) -> Result<Outcome, Mismatch> {
-        if !same_cell(&left.cell, &right.cell) {
-            return keep_both(left, right);
-        }
-        let (p, q) = (left.spot.place(), right.spot.place());
-        match growing_length(left.spot.prior(), right.spot.prior()) {
+    fn meet(left: ListInsert, right: ListErase, left_later: bool) -> Result<Outcome, Mismatch> {
+        let (mut left, mut right) = (left, right);
+        match shift_insertion_and_erasure(&mut left, &mut right, left_later) {
+            Ok(()) => keep_both(left, right),
             Err(mismatch) => Err(mismatch),
-            Ok(n) if p <= q => keep_both(insert_at(left, p, n - 1), erase_at(right, q + 1, n + 1)),
-            Ok(n) => keep_both(insert_at(left, p - 1, n - 1), erase_at(right, q, n + 1)),
         }
     }
 }
@@ -157,15 +149,11 @@ impl Meets<ListErase, ListUpdate> for ListRules {
 }
 
 impl Meets<ListErase, ListInsert> for ListRules {
-    fn meet(left: ListErase, right: ListInsert, _: bool) -> Result<Outcome, Mismatch> {
-        if !same_cell(&left.cell, &right.cell) {
-            return keep_both(left, right);
-        }
-        let (p, q) = (left.spot.place(), right.spot.place());
-        match growing_length(left.spot.prior(), right.spot.prior()) {
+    fn meet(left: ListErase, right: ListInsert, left_later: bool) -> Result<Outcome, Mismatch> {
+        let (mut left, mut right) = (left, right);
+        match shift_erasure_and_insertion(&mut left, &mut right, left_later) {
+            Ok(()) => keep_both(left, right),
             Err(mismatch) => Err(mismatch),
-            Ok(n) if q <= p => keep_both(erase_at(left, p + 1, n + 1), insert_at(right, q, n - 1)),
-            Ok(n) => keep_both(erase_at(left, p, n + 1), insert_at(right, q - 1, n - 1)),
         }
     }
 }

@@ -1,8 +1,8 @@
-ghost use Rattle.std.specs.Prelude.{◌≡◌, ◌<◌, ◌≤◌, ◌==◌, if◌then◌else◌, Ok, Err};
+ghost use Rattle.std.specs.Prelude.{◌≡◌, ◌<◌, ◌==◌, if◌then◌else◌, Ok, Err};
 ghost use Rattle.sync_base.specs.Rules.{spot, top};
 ghost use Rattle.sync_base.specs.declared.answers.Mismatch.TheVariants as mismatches;
 
-use sync_base::{Between, Inside, ListErase, ListInsert, ListUpdate, Mismatch};
+use sync_base::{Inside, ListErase, ListUpdate, Mismatch};
 
 /// The length of the list on which both sides were made.
 pub fn common_length(prior: u32, other: u32) -> Result<u32, Mismatch>
@@ -37,18 +37,6 @@ pub fn update_at(update: ListUpdate, place: u32, prior: u32) -> ListUpdate
         cell: update.cell,
         spot: Inside::new(place, prior).unwrap(),
         value: update.value,
-    }
-}
-
-/// The insertion at another place, into a list of another length.
-pub fn insert_at(insert: ListInsert, place: u32, prior: u32) -> ListInsert
-    requires { place ≤ prior }
-    ensures { result ≡ record { cell = insert.cell; spot = spot place prior; value = insert.value } }
-{
-    ListInsert {
-        cell: insert.cell,
-        spot: Between::new(place, prior).unwrap(),
-        value: insert.value,
     }
 }
 

@@ -8,3 +8,4 @@ mod object;
 mod tests;
 
 pub use index::Index;
+pub use object::are_apart;

@@ -1,4 +1,5 @@
 pub mod Turns
+pub mod Cells
 pub mod Covered
 pub mod Parts
 pub mod Sizes

@@ -7,8 +7,8 @@ ghost use Rattle.sync_law.specs.Instrs.{meet};
 ghost use Rattle.sync_index.specs.Touched.{Covers};
 ghost use Rattle.sync_transform.specs.Indexes.{IsCovered};
 
-use super::row::{RowMismatch, hole, pass_indexed};
-use super::slots::{lay, lift};
+use super::row::{RowMismatch, pass_indexed};
+use super::slots::{hole, lay, lift};
 use sync_base::{Instr, Mismatch};
 use sync_index::Index;
 

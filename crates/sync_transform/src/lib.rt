@@ -2,6 +2,7 @@
 #![tactic(auto)]
 
 mod crossing;
+mod in_place;
 mod pairs;
 mod row;
 mod sets;

@@ -1,14 +1,17 @@
-ghost use Rattle.std.specs.Prelude.{◌≡◌, ◌<◌, ◌≤◌, Some, Ok, Err, IfOk, IfErr, IsTrue, List, length, drop};
+ghost use Rattle.std.specs.Prelude.{◌≡◌, ◌<◌, ◌≤◌, ◌+◌, Some, None, Ok, Err, IfOk, IfErr, IsTrue, List, cond, length, take, drop};
 ghost use Rattle.std.specs.Option.{option_copied};
 ghost use Rattle.sync_data.specs.declared.instr.Instr.{Instr};
 ghost use Rattle.sync_index.specs.Touched.{ApartFromAll};
 ghost use Rattle.sync_transform.specs.Indexes.{IsCovered};
 ghost use Rattle.sync_theory.specs.Lists.{row};
+ghost use Rattle.sync_theory.specs.Loops.{row_after};
 ghost use Rattle.sync_law.specs.Instrs.{meet};
 
+use super::in_place::{InPlace, meet_where_they_lie};
 use super::pairs::meet;
-use super::slots::{close, lay, lift};
-use sync_base::{AddTable, Instr, KeyKind, Mismatch, Name, Outcome};
+use super::slots::{close, hole, lay, lift, put, settle};
+use std::mem;
+use sync_base::{Instr, Mismatch, Outcome};
 use sync_index::Index;
 
 /// An instruction that passed a list: what is left of it, and how many places at the front of the list are free now.
@@ -18,19 +21,18 @@ pub(crate) struct Passed {
     pub(crate) freed: usize,
 }
 
+/// After a meeting in a list: whether the instruction is still there, and where the next of the list goes.
+#[derive(Clone, Copy)]
+struct Step {
+    stays: bool,
+    next: usize,
+}
+
 /// Where an instruction can't pass a list: the place in the list as it was passed so far.
 #[derive(Clone, Copy)]
 pub(crate) struct RowMismatch {
     pub(crate) place: usize,
     pub(crate) kind: Mismatch,
-}
-
-/// What stands in a place while its instruction is out.
-pub(crate) fn hole() -> Instr {
-    Instr::AddTable(AddTable {
-        table: Name::new("h").unwrap(),
-        key: KeyKind::Int,
-    })
 }
 
 /// `pass`, unless the index of the list tells that the instruction meets none of it.
@@ -79,18 +81,14 @@ pub(crate) fn pass(
     let mut read = 0;
     let mut written = 0;
     while read < rights.len() {
-        let right = lift(rights, read, hole());
-        match meet(now, right, left_later) {
+        match meet_at(&mut now, rights, written, read, left_later) {
             Err(kind) => return Err(RowMismatch { place: read, kind }),
-            Ok(Outcome { left, right }) => {
+            Ok(Step { stays, next }) => {
                 read += 1;
-                written = lay(rights, written, right);
-                match left {
-                    Some(left) => now = left,
-                    None => {
-                        let freed = close(rights, written, read);
-                        return Ok(Passed { left: None, freed });
-                    }
+                written = next;
+                if !stays {
+                    let freed = close(rights, written, read);
+                    return Ok(Passed { left: None, freed });
                 }
             }
         }
@@ -100,4 +98,59 @@ pub(crate) fn pass(
         left: Some(now),
         freed,
     })
+}
+
+/// The instruction meets the one at a place of a list, of which the part before is done and written up to another place.
+fn meet_at(
+    left: &mut Instr,
+    rights: &mut [Instr],
+    written: usize,
+    read: usize,
+    left_later: bool,
+) -> Result<Step, Mismatch>
+    requires order { written ≤ read }
+    requires within { read < length rights.old }
+    ensures ok { IfOk result (λ s. row_after (take written rights.old) read (row (λ a b. meet a b left_later) (Some left.old) (drop read rights.old)) ≡ row_after (take s.next rights.new) (read + 1) (row (λ a b. meet a b left_later) (cond s.stays (Some left.new) None) (drop (read + 1) rights.new))) }
+    ensures err { IfErr result (λ kind. row_after (take written rights.old) read (row (λ a b. meet a b left_later) (Some left.old) (drop read rights.old)) ≡ Err (read, kind)) }
+    ensures next { IfOk result (λ s. s.next ≤ written + 1) }
+{
+    match meet_where_they_lie(left, &mut rights[read], left_later) {
+        InPlace::Stuck(kind) => Err(kind),
+        InPlace::Both => {
+            let next = settle(rights, written, read);
+            Ok(Step { stays: true, next })
+        }
+        InPlace::Untold => meet_apart(left, rights, written, read, left_later),
+    }
+}
+
+/// The same of two instructions that are taken out of their places.
+fn meet_apart(
+    left: &mut Instr,
+    rights: &mut [Instr],
+    written: usize,
+    read: usize,
+    left_later: bool,
+) -> Result<Step, Mismatch>
+    requires order { written ≤ read }
+    requires within { read < length rights.old }
+    ensures ok { IfOk result (λ s. row_after (take written rights.old) read (row (λ a b. meet a b left_later) (Some left.old) (drop read rights.old)) ≡ row_after (take s.next rights.new) (read + 1) (row (λ a b. meet a b left_later) (cond s.stays (Some left.new) None) (drop (read + 1) rights.new))) }
+    ensures err { IfErr result (λ kind. row_after (take written rights.old) read (row (λ a b. meet a b left_later) (Some left.old) (drop read rights.old)) ≡ Err (read, kind)) }
+    ensures next { IfOk result (λ s. s.next ≤ written + 1) }
+{
+    let own = mem::replace(left, hole());
+    let right = lift(rights, read, hole());
+    match meet(own, right, left_later) {
+        Err(kind) => Err(kind),
+        Ok(Outcome { left: kept, right }) => {
+            let next = lay(rights, written, right);
+            match kept {
+                Some(kept) => {
+                    put(left, kept);
+                    Ok(Step { stays: true, next })
+                }
+                None => Ok(Step { stays: false, next }),
+            }
+        }
+    }
 }

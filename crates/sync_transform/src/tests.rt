@@ -1,3 +1,4 @@
+mod all_families;
 mod families;
 mod indexed;
 mod lists;

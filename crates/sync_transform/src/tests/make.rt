@@ -6,7 +6,7 @@ use sync_base::{
     Name, SetErase, SetInsert, Shape, Update, Value,
 };
 
-/// An instruction about the table `t`, an object of it by its key, or a cell of the object 1. Numbers of list edits are the
+/// An instruction about the table `t`, an object of it by its key, or a cell of one object. Numbers of list edits are the
 /// place, the length and the value.
 #[derive(Clone, Copy)]
 pub(super) enum Make {
@@ -25,17 +25,21 @@ pub(super) enum Make {
     Exclude(i64),
     Bind(i64),
     Empty,
+    EmptyList,
+    EmptySet,
 }
 
+/// These instructions, with the cells of the object 1.
 pub(super) fn list(alloc: Global, items: &[Make]) -> Result<Vec<Instr>, Fail> {
     let mut list = Vec::new(alloc);
     for item in items {
-        list.push(made(alloc, *item)?)?;
+        list.push(made(alloc, *item, 1)?)?;
     }
     Ok(list)
 }
 
-fn made(alloc: Global, item: Make) -> Result<Instr, Fail> {
+/// That instruction, with the cells of the object `key`.
+pub(super) fn made(alloc: Global, item: Make, key: i64) -> Result<Instr, Fail> {
     match item {
         Make::Table => table(),
         Make::IntColumn => column("age", Kind::Int),
@@ -43,22 +47,31 @@ fn made(alloc: Global, item: Make) -> Result<Instr, Fail> {
         Make::OtherColumn => column("b", Kind::Int),
         Make::Create(key) => create(key),
         Make::Erase(key) => erase(key),
-        Make::Set(number) => update(number),
-        Make::Add(amount) => add(amount),
-        Make::Replace(place, prior, number) => replace(place, prior, number),
-        Make::Insert(place, prior, number) => insert(place, prior, number),
-        Make::Remove(place, prior) => remove(place, prior),
-        Make::Include(number) => include(number),
-        Make::Exclude(number) => exclude(number),
-        Make::Bind(number) => bind(alloc, number),
-        Make::Empty => empty(),
+        Make::Set(number) => update(cell(key, "n")?, number),
+        Make::Add(amount) => add(cell(key, "n")?, amount),
+        Make::Bind(number) => bind(alloc, cell(key, "d")?, number),
+        Make::Empty => empty(cell(key, "d")?),
+        Make::EmptyList => empty(cell(key, "l")?),
+        Make::EmptySet => empty(cell(key, "s")?),
+        _ => of_elements(item, key),
     }
 }
 
-fn cell(column: &str) -> Result<CellName, Fail> {
+fn of_elements(item: Make, key: i64) -> Result<Instr, Fail> {
+    match item {
+        Make::Replace(place, prior, number) => replace(cell(key, "l")?, place, prior, number),
+        Make::Insert(place, prior, number) => insert(cell(key, "l")?, place, prior, number),
+        Make::Remove(place, prior) => remove(cell(key, "l")?, place, prior),
+        Make::Include(number) => include(cell(key, "s")?, number),
+        Make::Exclude(number) => exclude(cell(key, "s")?, number),
+        _ => Err("an edit of a list or a set".into()),
+    }
+}
+
+fn cell(key: i64, column: &str) -> Result<CellName, Fail> {
     Ok(CellName {
         table: Name::new("t")?,
-        key: Key::Int(1),
+        key: Key::Int(key),
         column: Name::new(column)?,
     })
 }
@@ -96,65 +109,62 @@ fn erase(key: i64) -> Result<Instr, Fail> {
     }))
 }
 
-fn update(number: i64) -> Result<Instr, Fail> {
+fn update(cell: CellName, number: i64) -> Result<Instr, Fail> {
     Ok(Instr::Update(Update {
-        cell: cell("n")?,
+        cell,
         value: Value::Int(number),
     }))
 }
 
-fn add(amount: i64) -> Result<Instr, Fail> {
-    Ok(Instr::AddInteger(AddInteger {
-        cell: cell("n")?,
-        amount,
-    }))
+fn add(cell: CellName, amount: i64) -> Result<Instr, Fail> {
+    Ok(Instr::AddInteger(AddInteger { cell, amount }))
 }
 
-fn replace(place: u32, prior: u32, number: i64) -> Result<Instr, Fail> {
+fn replace(cell: CellName, place: u32, prior: u32, number: i64) -> Result<Instr, Fail> {
     Ok(Instr::ListUpdate(ListUpdate {
-        cell: cell("l")?,
+        cell,
         spot: Inside::new(place, prior)?,
         value: Value::Int(number),
     }))
 }
 
-fn insert(place: u32, prior: u32, number: i64) -> Result<Instr, Fail> {
+fn insert(cell: CellName, place: u32, prior: u32, number: i64) -> Result<Instr, Fail> {
     Ok(Instr::ListInsert(ListInsert {
-        cell: cell("l")?,
+        cell,
         spot: Between::new(place, prior)?,
         value: Value::Int(number),
     }))
 }
 
-fn remove(place: u32, prior: u32) -> Result<Instr, Fail> {
+fn remove(cell: CellName, place: u32, prior: u32) -> Result<Instr, Fail> {
     Ok(Instr::ListErase(ListErase {
-        cell: cell("l")?,
+        cell,
         spot: Inside::new(place, prior)?,
     }))
 }
 
-fn include(number: i64) -> Result<Instr, Fail> {
+fn include(cell: CellName, number: i64) -> Result<Instr, Fail> {
     Ok(Instr::SetInsert(SetInsert {
-        cell: cell("s")?,
+        cell,
         value: Value::Int(number),
     }))
 }
 
-fn exclude(number: i64) -> Result<Instr, Fail> {
+fn exclude(cell: CellName, number: i64) -> Result<Instr, Fail> {
     Ok(Instr::SetErase(SetErase {
-        cell: cell("s")?,
+        cell,
         value: Value::Int(number),
     }))
 }
 
-fn bind(alloc: Global, number: i64) -> Result<Instr, Fail> {
+fn bind(alloc: Global, cell: CellName, number: i64) -> Result<Instr, Fail> {
     Ok(Instr::DictUpdate(DictUpdate {
-        cell: cell("d")?,
+        cell,
         at: KeyText::new(alloc, "k")?,
         value: Some(Value::Int(number)),
     }))
 }
 
-fn empty() -> Result<Instr, Fail> {
-    Ok(Instr::Clear(Clear { cell: cell("d")? }))
+fn empty(cell: CellName) -> Result<Instr, Fail> {
+    Ok(Instr::Clear(Clear { cell }))
 }
