@@ -1,3 +1,4 @@
 pub mod Acting
 pub mod Filling
+pub mod Small
 pub mod Taking

@@ -4,3 +4,4 @@ pub mod Backs
 pub mod Codes
 pub mod Flat
 pub mod Links
+pub mod Small

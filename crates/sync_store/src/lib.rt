@@ -2,6 +2,7 @@
 #![tactic(auto)]
 
 mod check;
+mod laws;
 mod object;
 mod objects;
 mod parts;
@@ -15,5 +16,6 @@ mod tests;
 mod undo;
 mod wanted;
 
+pub use laws::values_stay_small;
 pub use refusals::{AllRefusal, ApplyRefusal};
 pub use store::Store;

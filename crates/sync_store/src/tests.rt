@@ -1,3 +1,6 @@
+mod breaks;
+mod same;
+
 use super::*;
 use std::alloc::Global;
 use std::test::Fail;
@@ -19,10 +22,11 @@ enum Does {
     Include,
     Exclude,
     Bind,
+    Unbind,
     Empty,
 }
 
-use Does::{Add, Bind, Empty, Exclude, Include, Insert, Remove, Replace, Set};
+use Does::{Add, Bind, Empty, Exclude, Include, Insert, Remove, Replace, Set, Unbind};
 
 fn cell(table: &str, key: Key, column: &str) -> Result<CellName, Fail> {
     Ok(CellName {
@@ -59,6 +63,11 @@ fn instr(alloc: Global, does: Does, cell: CellName, prior: u32) -> Result<Instr,
             at: KeyText::new(alloc, "k")?,
             value: Some(value),
         }),
+        Unbind => Instr::DictUpdate(DictUpdate {
+            cell,
+            at: KeyText::new(alloc, "k")?,
+            value: None,
+        }),
         Empty => Instr::Clear(Clear { cell }),
     })
 }
@@ -77,13 +86,19 @@ fn add_table(table: &str) -> Result<Instr, Fail> {
     }))
 }
 
-fn add_column(table: &str, column: &str, kind: Kind, shape: Shape) -> Result<Instr, Fail> {
+fn add_column(
+    table: &str,
+    column: &str,
+    kind: Kind,
+    nullable: bool,
+    shape: Shape,
+) -> Result<Instr, Fail> {
     Ok(Instr::AddColumn(AddColumn {
         table: Name::new(table)?,
         column: Name::new(column)?,
         def: Column {
             kind,
-            nullable: false,
+            nullable,
             shape,
         },
     }))
@@ -103,7 +118,7 @@ fn erase(table: &str, key: Key) -> Result<Instr, Fail> {
     }))
 }
 
-/// Table t with object 1: columns of numbers of each shape, and columns of texts of each shape.
+/// Table t with object 1: columns of numbers of each shape, columns of texts of each shape, and one of a text or null.
 fn store(alloc: Global) -> Result<Store, Fail> {
     let Ok(mut store) = Store::new(alloc) else {
         return Err("no store".into());
@@ -116,121 +131,17 @@ fn store(alloc: Global) -> Result<Store, Fail> {
         ("u", "g", Shape::Set),
         ("d", "e", Shape::Dict),
     ] {
-        put(&mut store, add_column("t", number, Kind::Int, shape)?)?;
-        put(&mut store, add_column("t", text, Kind::Text, shape)?)?;
+        put(
+            &mut store,
+            add_column("t", number, Kind::Int, false, shape)?,
+        )?;
+        put(&mut store, add_column("t", text, Kind::Text, false, shape)?)?;
     }
+    put(
+        &mut store,
+        add_column("t", "z", Kind::Text, true, Shape::One)?,
+    )?;
     Ok(store)
-}
-
-/// Whether the instruction is refused so, by a look and by an attempt.
-fn is_refused(store: &mut Store, instr: Instr, want: Break) -> bool {
-    let looked = store.check(&instr);
-    let tried = store.apply(instr);
-    (looked == Err(want)) & (tried == Err(ApplyRefusal::Break(want)))
-}
-
-#[test]
-fn changes_of_cells_break_in_this_order(rt: HostRuntime) -> Result<(), Fail> {
-    let mut store = store(rt.alloc())?;
-    for (does, own, of_text, other) in [
-        (Set, "n", "s", "l"),
-        (Add, "n", "s", "u"),
-        (Replace, "l", "w", "n"),
-        (Insert, "l", "w", "u"),
-        (Remove, "l", "w", "d"),
-        (Include, "u", "g", "l"),
-        (Exclude, "u", "g", "n"),
-        (Bind, "d", "e", "u"),
-        (Empty, "l", "w", "n"),
-    ] {
-        for (table, key, column, want) in [
-            ("x", 1, other, Break::NoTable),
-            ("t", 9, other, Break::NoObject),
-            ("t", 1, "x", Break::NoColumn),
-            ("t", 1, other, Break::WrongShape),
-        ] {
-            let cell = cell(table, Key::Int(key), column)?;
-            let instr = instr(rt.alloc(), does, cell, 5)?;
-            assert!(rt; is_refused(&mut store, instr, want));
-        }
-        assert!(rt; text_keys_break(&mut store, rt.alloc(), does)?);
-        assert!(rt; later_checks_break(&mut store, rt.alloc(), does, own, of_text)?);
-    }
-    Ok(())
-}
-
-/// Whether a text key breaks it where keys are numbers, before the object is looked for.
-fn text_keys_break(store: &mut Store, alloc: Global, does: Does) -> Result<bool, Fail> {
-    let key = Key::Text(KeyText::new(alloc, "9")?);
-    let instr = instr(alloc, does, cell("t", key, "x")?, 5)?;
-    Ok(is_refused(store, instr, Break::WrongKeyKind))
-}
-
-/// Whether it meets that break in object 1, at a place of a list of five.
-fn breaks(
-    store: &mut Store,
-    alloc: Global,
-    does: Does,
-    column: &str,
-    want: Break,
-) -> Result<bool, Fail> {
-    let instr = instr(alloc, does, cell("t", Key::Int(1), column)?, 5)?;
-    Ok(is_refused(store, instr, want))
-}
-
-fn acts(store: &Store, alloc: Global, does: Does, column: &str) -> Result<bool, Fail> {
-    let instr = instr(alloc, does, cell("t", Key::Int(1), column)?, 5)?;
-    Ok(store.check(&instr).is_ok())
-}
-
-/// Whether a number breaks it in a column of texts, and a wrong length in a list.
-fn later_checks_break(
-    store: &mut Store,
-    alloc: Global,
-    does: Does,
-    own: &str,
-    of_text: &str,
-) -> Result<bool, Fail> {
-    let texts = match does {
-        Remove => breaks(store, alloc, does, of_text, Break::BadPrior)?,
-        Empty => acts(store, alloc, does, of_text)?,
-        _ => breaks(store, alloc, does, of_text, Break::WrongKind)?,
-    };
-    let numbers = match does {
-        Remove | Replace | Insert => breaks(store, alloc, does, own, Break::BadPrior)?,
-        _ => acts(store, alloc, does, own)?,
-    };
-    Ok(texts & numbers)
-}
-
-#[test]
-fn tables_columns_and_objects_break_in_this_order(rt: HostRuntime) -> Result<(), Fail> {
-    let mut store = store(rt.alloc())?;
-    let target = Kind::Link(Name::new("x")?);
-    let same = Kind::Link(Name::new("t")?);
-    for (instr, want) in [
-        (add_table("t")?, Break::TableExists),
-        (add_column("x", "n", Kind::Int, Shape::One)?, Break::NoTable),
-        (
-            add_column("t", "n", Kind::Int, Shape::One)?,
-            Break::ColumnExists,
-        ),
-        (add_column("t", "k", same, Shape::One)?, Break::BadColumn),
-        (add_column("t", "k", target, Shape::List)?, Break::NoTable),
-    ] {
-        assert!(rt; is_refused(&mut store, instr, want));
-    }
-    let text = || KeyText::new(rt.alloc(), "9");
-    for (instr, want) in [
-        (create("x", Key::Int(1))?, Break::NoTable),
-        (create("t", Key::Text(text()?))?, Break::WrongKeyKind),
-        (erase("x", Key::Int(1))?, Break::NoTable),
-        (erase("t", Key::Text(text()?))?, Break::WrongKeyKind),
-        (erase("t", Key::Int(9))?, Break::NoObject),
-    ] {
-        assert!(rt; is_refused(&mut store, instr, want));
-    }
-    Ok(())
 }
 
 fn number(store: &Store, column: &str) -> Result<Option<i64>, Fail> {
