@@ -240,6 +240,15 @@ fn a_schema_and_its_first_object(rt: HostRuntime) -> Result<(), Fail> {
     Ok(())
 }
 
+#[test]
+fn one_object(rt: HostRuntime) -> Result<(), Fail> {
+    let alloc = rt.alloc();
+    let mut instrs = Vec::new(alloc);
+    instrs.push(create_object()?)?;
+    assert!(rt; is_spelled(alloc, instrs, "010101740103000002")?);
+    Ok(())
+}
+
 fn dict_update(alloc: Global) -> Result<Vec<Instr>, Fail> {
     let mut instrs = Vec::new(alloc);
     instrs.push(Instr::DictUpdate(DictUpdate {

@@ -62,6 +62,43 @@ fn records_are_spelled(rt: HostRuntime) -> Result<(), Fail> {
     Ok(())
 }
 
+/// The record is spelled so, and read from those bytes.
+fn is_client_record(alloc: Global, record: ClientRecord, bytes: &[u8]) -> Result<bool, Fail> {
+    let spelled = record.record_bytes(alloc).map_err(|_| "spelled")?;
+    Ok((spelled.as_slice() == bytes) & is_client_spelling(alloc, bytes)?)
+}
+
+#[test]
+fn changesets_and_the_form_of_a_client_are_spelled(rt: HostRuntime) -> Result<(), Fail> {
+    let alloc = rt.alloc();
+    let made = ClientRecord::Made {
+        number: 1,
+        ms: 300,
+        body: Blob::new(alloc, b"\x01\0\0").map_err(|_| "body")?,
+    };
+    assert!(rt; is_client_record(alloc, made, b"\x03\x01\xac\x02\x01\0\0")?);
+    let took = ClientRecord::Took {
+        origin: 2,
+        number: 1,
+        ms: 0,
+        body: Blob::new(alloc, b"\x01\0\0").map_err(|_| "body")?,
+    };
+    assert!(rt; is_client_record(alloc, took, b"\x04\x02\x01\0\x01\0\0")?);
+    assert!(rt; is_client_record(alloc, ClientRecord::Form, b"\x07\x02")?);
+    Ok(())
+}
+
+#[test]
+fn a_client_and_the_form_of_a_server_are_spelled(rt: HostRuntime) -> Result<(), Fail> {
+    let alloc = rt.alloc();
+    let client = ServerRecord::Client { id: ID };
+    let bytes = client.record_bytes(alloc).map_err(|_| "client")?;
+    assert!(rt; bytes.as_slice() == b"\x05\0\0\0\0\0\0\x40\0\x80\0\0\0\0\0\0\x01".as_slice());
+    let bytes = ServerRecord::Form.record_bytes(alloc).map_err(|_| "form")?;
+    assert!(rt; bytes.as_slice() == b"\x07\x02".as_slice());
+    Ok(())
+}
+
 #[test]
 fn other_bytes_are_no_record_of_a_client(rt: HostRuntime) {
     let table: [(&[u8], &str); 11] = [
