@@ -1,3 +1,10 @@
+mod calls;
+mod entries;
+mod faults;
+mod files;
+mod orders;
+mod stops;
+
 use super::*;
 use std::alloc::Global;
 use std::process::Abort;
@@ -5,8 +12,7 @@ use std::test::Fail;
 use sync_data::{
     AddColumn, AddTable, Column, CreateObject, Id, Instr, Key, KeyKind, Kind, Name, Shape,
 };
-use sync_disk::{Disk, Leaves, MemoryDisk};
-use sync_journal::{Journal, OpenCause};
+use sync_disk::{Disk, MemoryDisk};
 use sync_messages::{Given, Message, message_bytes, message_of};
 
 const ID: Id = [1; 16];
@@ -263,36 +269,6 @@ fn an_own_entry_that_was_not_made(rt: HostRuntime) -> Result<(), Fail> {
     Ok(())
 }
 
-// Whether the recording of the uuid fails where the disk's call of that number does.
-fn closes(rt: &impl Abort, alloc: Global, call: u64) -> Result<bool, Fail> {
-    let mut disk = MemoryDisk::new(alloc)?;
-    disk.fail_at(call)?;
-    let Ok(mut client) = Client::open(alloc, disk) else {
-        return Ok(false);
-    };
-    if client.born(ID) == Ok(()) {
-        return Ok(false);
-    }
-    assert_eq!(rt; client.born(ID), Err(ClientRefusal::Closed));
-    assert_eq!(rt; client.commit(5, added(alloc)?), Err(ClientRefusal::Closed));
-    assert_eq!(rt; client.ask().err(), Some(ClientRefusal::Closed));
-    takes(rt, alloc, &mut client, ENTRIES, Err(ClientRefusal::Closed))?;
-    Ok(true)
-}
-
-#[test]
-fn a_fault_closes_the_client(rt: HostRuntime) -> Result<(), Fail> {
-    let mut closed: u32 = 0;
-    for call in 1..=20 {
-        if closes(&rt, rt.alloc(), call)? {
-            closed = closed.saturating_add(1);
-        }
-    }
-    // A record takes four strokes.
-    assert_eq!(rt; closed, 4);
-    Ok(())
-}
-
 // Adds an instruction that creates an object of the table `t`.
 fn creates(edits: &mut Vec<Instr>) -> Result<(), Fail> {
     edits.push(Instr::CreateObject(CreateObject {
@@ -315,9 +291,8 @@ fn a_transaction_of_too_many_instructions(rt: HostRuntime) -> Result<(), Fail> {
     Ok(())
 }
 
-// A transaction whose second instruction needs form 2: the table `t`, and a column of dictionaries.
-fn second(alloc: Global) -> Result<Vec<Instr>, Fail> {
-    let mut edits = added(alloc)?;
+// Adds an instruction that needs form 2, a column of dictionaries of the table `t`.
+fn push_second(edits: &mut Vec<Instr>) -> Result<(), Fail> {
     edits.push(Instr::AddColumn(AddColumn {
         table: Name::new("t")?,
         column: Name::new("d")?,
@@ -327,6 +302,13 @@ fn second(alloc: Global) -> Result<Vec<Instr>, Fail> {
             shape: Shape::Dict,
         },
     }))?;
+    Ok(())
+}
+
+// A transaction whose second instruction needs form 2: the table `t`, and a column of dictionaries.
+fn second(alloc: Global) -> Result<Vec<Instr>, Fail> {
+    let mut edits = added(alloc)?;
+    push_second(&mut edits)?;
     Ok(edits)
 }
 
@@ -352,254 +334,10 @@ fn a_transaction_that_needs_form_2(rt: HostRuntime) -> Result<(), Fail> {
     Ok(())
 }
 
-// A client of form 1 with the ident 7, which has an empty changeset unsent and one that adds the table `t` with integer keys.
-fn with_unsent(alloc: Global) -> Result<Client<MemoryDisk>, Fail> {
-    let mut client = named(alloc)?;
-    if client.commit(5, Vec::new(alloc)) != Ok(1) || client.commit(5, added(alloc)?) != Ok(2) {
-        return Err("not committed".into());
-    }
-    Ok(client)
-}
-
-// The spelling of a Download from 0 on with one entry.
-fn entry(alloc: Global, bytes: &[u8]) -> Result<Vec<u8>, Fail> {
-    let mut download = vec![in alloc; 5, 7, 0, 1]?;
-    download.extend_from_slice(bytes)?;
-    Ok(download)
-}
-
-#[test]
-fn entries_that_are_refused(rt: HostRuntime) -> Result<(), Fail> {
-    // Each with its origin, number, time and length before its bytes.
-    let table: [(&[u8], ClientRefusal); 9] = [
-        // Bytes that are no changeset.
-        (b"\x08\x01\x06\0", bad(0, 40)),
-        (b"\x08\x01\x06\x01\x03", bad(0, 41)),
-        (b"\x08\x01\x06\x04\x01\0\0\0", bad(3, 52)),
-        (b"\x08\x01\x06\x03\x02\0\0", bad(0, 53)),
-        // A DictUpdate of `t`, 1, `d`, at `a`.
-        (
-            b"\x08\x01\x06\x12\x02\x03\x01t\x01d\x01a\x01\x0c\0\0\x02\x01\x02\x01\x01\x06",
-            ClientRefusal::OldEntry { version: 0 },
-        ),
-        // The table `t` with text keys.
-        (
-            b"\x08\x01\x06\x08\x01\x01\x01t\x01\x01\0\x01",
-            ClientRefusal::Mismatch {
-                version: 0,
-                number: 2,
-                kind: 1,
-            },
-        ),
-        // The table `v`, and an object of `u`, which isn't there.
-        (
-            b"\x08\x01\x06\x0e\x01\x02\x01v\x01u\x02\x01\0\0\x03\x01\0\x02",
-            ClientRefusal::NotApplicable {
-                version: 0,
-                place: 1,
-                code: 11,
-            },
-        ),
-        // Own entries with another time and another number than the first unsent changeset.
-        (
-            b"\x07\x01\x06\x03\x01\0\0",
-            ClientRefusal::Forked { number: 1 },
-        ),
-        (
-            b"\x07\x02\x05\x03\x01\0\0",
-            ClientRefusal::Forked { number: 2 },
-        ),
-    ];
-    let mut client = with_unsent(rt.alloc())?;
-    for (bytes, refusal) in table {
-        let download = entry(rt.alloc(), bytes)?;
-        takes(
-            &rt,
-            rt.alloc(),
-            &mut client,
-            download.as_slice(),
-            Err(refusal),
-        )?;
-    }
-    unchanged(&rt, &client)
-}
-
-// The entry of version 0 has this fault.
-fn bad(offset: u32, rule: u8) -> ClientRefusal {
-    ClientRefusal::BadBody {
-        version: 0,
-        offset,
-        rule,
-    }
-}
-
-// The client has taken nothing, and both changesets are unsent.
-fn unchanged(rt: &impl Abort, client: &Client<MemoryDisk>) -> Result<(), Fail> {
-    assert_eq!(rt; asked(&client.ask()), Some((7, 0, 0)));
-    assert_eq!(rt; client.unsent(), 2);
-    Ok(())
-}
-
-#[test]
-fn the_second_entry_is_refused(rt: HostRuntime) -> Result<(), Fail> {
-    let alloc = rt.alloc();
-    let mut client = with_unsent(alloc)?;
-    let bytes = b"\x05\x07\0\x02\x07\x01\x05\x03\x01\0\0\x08\x01\x06\x02\x01\0";
-    let refusal = ClientRefusal::BadBody {
-        version: 1,
-        offset: 2,
-        rule: 40,
-    };
-    takes(&rt, alloc, &mut client, bytes, Err(refusal))?;
-    assert_eq!(rt; (client.cursor(), client.unsent()), (1, 1));
-    let client = open(alloc, client.into_disk())?;
-    assert_eq!(rt; (client.cursor(), client.unsent()), (1, 1));
-    Ok(())
-}
-
 // What a read gives of the whole file.
 fn file(alloc: Global, disk: &mut MemoryDisk) -> Result<Vec<u8>, Fail> {
     let len = disk.len()? as usize;
     let mut bytes = vec![in alloc; 0u8; len]?;
     disk.read_at(0, &mut bytes)?;
     Ok(bytes)
-}
-
-#[test]
-fn the_file_of_a_client(rt: HostRuntime) -> Result<(), Fail> {
-    let alloc = rt.alloc();
-    let mut client = born(alloc)?;
-    assert_eq!(rt; client.upgrade(), Ok(true));
-    let want =
-        b"RSYNCJ01\x01\0\0\0\x11\x01\x01\x01\x01\x01\x01\x01\x01\x01\x01\x01\x01\x01\x01\x01\x01\x01\x01\0\0\0\x02\x07\x02\0";
-    let bytes = file(alloc, &mut client.into_disk())?;
-    assert_eq!(rt; bytes.as_slice(), want.as_slice());
-    Ok(())
-}
-
-// Opening a file of these bytes tells this place, and leaves it as it was.
-fn bad_at(rt: &impl Abort, alloc: Global, bytes: &[u8], place: u64) -> Result<(), Fail> {
-    let mut disk = MemoryDisk::new(alloc)?;
-    disk.write_at(0, bytes)?;
-    disk.sync()?;
-    match Client::open(alloc, disk) {
-        Ok(_) => assert!(rt; false, "{bytes:?}"),
-        Err(refusal) => {
-            assert_eq!(rt; refusal.cause, OpenCause::BadFile { place }, "{bytes:?}");
-            let mut disk = refusal.disk;
-            assert_eq!(rt; file(alloc, &mut disk)?.as_slice(), bytes);
-        }
-    }
-    Ok(())
-}
-
-#[test]
-fn files_of_no_client(rt: HostRuntime) -> Result<(), Fail> {
-    let table: [(&[u8], u64); 4] = [
-        // Not how a journal begins.
-        (b"RSYNCJ02\x01\0", 7),
-        // No record has the tag 9.
-        (b"RSYNCJ01\x01\0\0\0\x01\x09\0", 8),
-        // A Form before the uuid.
-        (b"RSYNCJ01\x01\0\0\0\x02\x07\x02\0", 8),
-        // The uuid twice.
-        (
-            b"RSYNCJ01\x01\0\0\0\x11\x01aaaaaaaaaaaaaaaa\x01\0\0\0\x11\x01aaaaaaaaaaaaaaaa\0",
-            30,
-        ),
-    ];
-    for (bytes, place) in table {
-        bad_at(&rt, rt.alloc(), bytes, place)?;
-    }
-    Ok(())
-}
-
-#[derive(Clone, Copy, Debug)]
-enum Call {
-    Commit,
-    Upgrade,
-    Download,
-}
-
-// Three entries of client 8, without instructions.
-const THREE: &[u8] =
-    b"\x05\x07\0\x03\x08\x01\x06\x03\x01\0\0\x08\x02\x06\x03\x01\0\0\x08\x03\x06\x03\x01\0\0";
-
-// Makes the call; its refusal.
-fn refused(
-    alloc: Global,
-    client: &mut Client<MemoryDisk>,
-    call: Call,
-) -> Result<Option<ClientRefusal>, Fail> {
-    match call {
-        Call::Commit => Ok(client.commit(5, Vec::new(alloc)).err()),
-        Call::Upgrade => Ok(client.upgrade().err()),
-        Call::Download => {
-            let message = message_of(alloc, THREE).map_err(|_| "no message")?;
-            Ok(client.take(message).err())
-        }
-    }
-}
-
-// How many records stand behind the uuid and the ident after a crash; they are those of a client.
-fn standing(alloc: Global, mut disk: MemoryDisk) -> Result<usize, Fail> {
-    disk.crash();
-    let Ok((journal, records)) = Journal::open(alloc, disk) else {
-        return Err("no journal".into());
-    };
-    open(alloc, journal.into_disk())?;
-    Ok(records.len().saturating_sub(2))
-}
-
-// The disk stops in a call at that stroke, counted from 1.
-fn stops(rt: &impl Abort, alloc: Global, call: Call, at: u32, leaves: Leaves) -> Result<(), Fail> {
-    let mut client = named(alloc)?;
-    client.arm(at.max(1), leaves);
-    let fault = Some(ClientRefusal::DiskFault);
-    assert_eq!(rt; refused(alloc, &mut client, call)?, fault);
-    assert!(rt; client.stopped());
-    let closed = Some(ClientRefusal::Closed);
-    assert_eq!(rt; refused(alloc, &mut client, call)?, closed);
-    // Each record takes four strokes, and its gate is written in the third.
-    let before = at.saturating_sub(1);
-    let gate = before % 4 >= 2 && leaves == Leaves::Keep;
-    let want = (before / 4) as usize + gate as usize;
-    assert_eq!(rt;
-        standing(alloc, client.into_disk())?,
-        want,
-        "{call:?} at {at}, {leaves:?}"
-    );
-    Ok(())
-}
-
-// The disk would stop behind the call's strokes, and is disarmed.
-fn passes(
-    rt: &impl Abort,
-    alloc: Global,
-    call: Call,
-    strokes: u32,
-    leaves: Leaves,
-) -> Result<(), Fail> {
-    let mut client = named(alloc)?;
-    client.arm(strokes.saturating_add(1), leaves);
-    assert_eq!(rt; refused(alloc, &mut client, call)?, None);
-    assert!(rt; !client.stopped());
-    client.disarm();
-    assert_eq!(rt; client.commit(6, Vec::new(alloc)).err(), None);
-    let want = (strokes / 4) as usize + 1;
-    assert_eq!(rt; standing(alloc, client.into_disk())?, want);
-    Ok(())
-}
-
-#[test]
-fn a_stop_at_each_stroke_of_a_call(rt: HostRuntime) -> Result<(), Fail> {
-    for (call, strokes) in [(Call::Commit, 4), (Call::Upgrade, 4), (Call::Download, 12)] {
-        for leaves in [Leaves::Drop, Leaves::Keep, Leaves::Torn] {
-            for at in 1..=strokes {
-                stops(&rt, rt.alloc(), call, at, leaves)?;
-            }
-            passes(&rt, rt.alloc(), call, strokes, leaves)?;
-        }
-    }
-    Ok(())
 }

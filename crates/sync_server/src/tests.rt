@@ -1,8 +1,14 @@
+mod calls;
+mod codes;
+mod faults;
+mod orders;
+mod stops;
+
 use super::*;
 use std::alloc::Global;
 use std::process::Abort;
 use std::test::Fail;
-use sync_disk::{Leaves, MemoryDisk};
+use sync_disk::MemoryDisk;
 use sync_messages::{message_bytes, message_of};
 
 fn open(alloc: Global, disk: MemoryDisk) -> Result<Server<MemoryDisk>, Fail> {
@@ -168,35 +174,6 @@ fn a_base_may_not_go_back(rt: HostRuntime) -> Result<(), Fail> {
     Ok(())
 }
 
-// Whether recording a client fails where the disk's call of that number does.
-fn closes(rt: &impl Abort, alloc: Global, call: u64) -> Result<bool, Fail> {
-    let mut disk = MemoryDisk::new(alloc)?;
-    disk.fail_at(call)?;
-    let Ok(mut server) = Server::open(alloc, disk) else {
-        return Ok(false);
-    };
-    let bind = message_of(alloc, BIND).map_err(|_| "no message")?;
-    if server.take(bind).is_ok() {
-        return Ok(false);
-    }
-    let ask = message_of(alloc, b"\x04\x01\0\0").map_err(|_| "no message")?;
-    assert_eq!(rt; server.take(ask).err(), Some(ServerRefusal::Closed));
-    Ok(true)
-}
-
-#[test]
-fn a_fault_closes_the_server(rt: HostRuntime) -> Result<(), Fail> {
-    let mut closed: u32 = 0;
-    for call in 1..=20 {
-        if closes(&rt, rt.alloc(), call)? {
-            closed = closed.saturating_add(1);
-        }
-    }
-    // A record takes four strokes.
-    assert_eq!(rt; closed, 4);
-    Ok(())
-}
-
 // Client 1 adds a column of dictionaries to the table `t`, at base 2.
 const UPLOAD_SECOND: &[u8] =
     b"\x03\x01\x01\x02\x02\x07\x0d\x02\x02\x01t\x01d\x01\x02\0\x01\x01\0\x03";
@@ -231,64 +208,4 @@ fn an_old_client_is_told_of_version_2(rt: HostRuntime) -> Result<(), Fail> {
         replies(&rt, alloc, &mut server, bytes, want)?;
     }
     Ok(())
-}
-
-// Client 1 uploads three changes, each with a table.
-const UPLOAD_THREE: &[u8] =
-    b"\x03\x01\x03\x01\0\x05\x08\x01\x01\x01t\x01\x01\0\0\x02\0\x05\x08\x01\x01\x01u\x01\x01\0\0\x03\0\x05\x08\x01\x01\x01v\x01\x01\0\0";
-
-// A server with one client, whose disk stops at the stroke of that number, counted from 0.
-fn armed(
-    rt: &impl Abort,
-    alloc: Global,
-    stroke: u32,
-    leaves: Leaves,
-) -> Result<Server<MemoryDisk>, Fail> {
-    let mut server = open(alloc, MemoryDisk::new(alloc)?)?;
-    replies(rt, alloc, &mut server, BIND, GIVEN)?;
-    server.arm(stroke.saturating_add(1), leaves);
-    Ok(server)
-}
-
-// Why three changes aren't taken.
-fn refused(alloc: Global, server: &mut Server<MemoryDisk>) -> Result<Option<ServerRefusal>, Fail> {
-    let upload = message_of(alloc, UPLOAD_THREE).map_err(|_| "no message")?;
-    Ok(server.take(upload).err())
-}
-
-// The disk stops in an Upload of three changes: what is answered, what stands after the crash, and that the rest follows.
-fn stops(rt: &impl Abort, alloc: Global, stroke: u32, leaves: Leaves) -> Result<(), Fail> {
-    let mut server = armed(rt, alloc, stroke, leaves)?;
-    let fault = Some(ServerRefusal::DiskFault);
-    assert_eq!(rt; refused(alloc, &mut server)?, fault, "{stroke}");
-    assert!(rt; server.stopped());
-    let closed = Some(ServerRefusal::Closed);
-    assert_eq!(rt; refused(alloc, &mut server)?, closed, "{stroke}");
-    let mut disk = server.into_disk();
-    disk.crash();
-    let mut server = open(alloc, disk)?;
-    let kept = stroke % 4 >= 2 && leaves == Leaves::Keep;
-    let stand = if kept { stroke / 4 + 1 } else { stroke / 4 };
-    assert_eq!(rt; server.len(), stand, "{stroke}, {leaves:?}");
-    replies(rt, alloc, &mut server, UPLOAD_THREE, b"\x07\x01\x03")
-}
-
-#[test]
-fn a_stop_at_each_stroke_of_an_upload(rt: HostRuntime) -> Result<(), Fail> {
-    for leaves in [Leaves::Drop, Leaves::Keep, Leaves::Torn] {
-        for stroke in 0..12 {
-            stops(&rt, rt.alloc(), stroke, leaves)?;
-        }
-    }
-    Ok(())
-}
-
-#[test]
-fn a_stop_behind_an_upload_is_disarmed(rt: HostRuntime) -> Result<(), Fail> {
-    let alloc = rt.alloc();
-    let mut server = armed(&rt, alloc, 12, Leaves::Drop)?;
-    replies(&rt, alloc, &mut server, UPLOAD_THREE, b"\x07\x01\x03")?;
-    assert!(rt; !server.stopped());
-    server.disarm();
-    replies(&rt, alloc, &mut server, BIND_OTHER, GIVEN_OTHER)
 }
