@@ -19,9 +19,15 @@ mod serving;
 mod showing;
 mod taking;
 #[cfg(test)]
+mod tests_of_exchanges;
+#[cfg(test)]
+mod tests_of_parts;
+#[cfg(test)]
 mod tests_of_reading;
 #[cfg(test)]
 mod tests_of_running;
+#[cfg(test)]
+mod tests_of_stops;
 mod text;
 mod waiter;
 

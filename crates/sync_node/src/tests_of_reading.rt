@@ -174,25 +174,37 @@ fn each_call_of_the_disk_fails(rt: HostRuntime) -> Result<(), Fail> {
     fails(&rt, rt.alloc(), Call::Show, b"", 10)
 }
 
+/// A command whose sink fails in its write or in its flush: it ends by that fault, and writes nothing, or all.
+fn sink_fails(
+    rt: &impl Abort,
+    alloc: Global,
+    what: Call,
+    bytes: &[u8],
+    number: u64,
+    status: Status,
+) -> Result<(), Fail> {
+    let mut disk = disk_of(alloc, bytes)?;
+    let mut sink = MemorySink::new(alloc, Vec::from_slice(alloc, &[number])?);
+    assert_eq!(rt;
+        make_call(alloc, what, &mut sink, &mut disk),
+        status,
+        "{what:?}, {number}"
+    );
+    assert_eq!(rt; sink.bytes().is_empty(), number == 1, "{what:?}, {number}");
+    Ok(())
+}
+
 #[test]
 fn each_call_of_the_sink_fails(rt: HostRuntime) -> Result<(), Fail> {
-    let alloc = rt.alloc();
-    for what in [Call::Send, Call::Show] {
-        for number in 1..4 {
-            let mut disk = disk_of(alloc, BORN)?;
-            let mut sink = MemorySink::new(alloc, Vec::from_slice(alloc, &[number])?);
-            let want = if number < 3 {
-                Status::WriteFault
-            } else {
-                Status::Done
-            };
-            assert_eq!(rt;
-                make_call(alloc, what, &mut sink, &mut disk),
-                want,
-                "{what:?}, {number}"
-            );
-            assert_eq!(rt; sink.bytes().is_empty(), number == 1, "{what:?}, {number}");
-        }
+    for (what, bytes) in [
+        (Call::Send, BORN),
+        (Call::Show, BORN),
+        (Call::Show, SERVER),
+        (Call::Ask, NAMED),
+    ] {
+        sink_fails(&rt, rt.alloc(), what, bytes, 1, Status::WriteFault)?;
+        sink_fails(&rt, rt.alloc(), what, bytes, 2, Status::WriteFault)?;
+        sink_fails(&rt, rt.alloc(), what, bytes, 3, Status::Done)?;
     }
     Ok(())
 }
