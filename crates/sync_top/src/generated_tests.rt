@@ -38,10 +38,11 @@ fn told(summary: &str, word: &str) -> Option<u64> {
 }
 
 /// Nothing is refused, all that was made is in the history, and all clients agree.
-fn agrees(rt: &impl Abort, alloc: Global, all: &[&str]) -> Result<(), Fail> {
+fn agrees(rt: &impl Abort, alloc: Global, all: &[&str], head: &str) -> Result<(), Fail> {
     let (status, output) = generated(alloc, all, &[])?;
     assert_eq!(rt; status, Status::Done);
     let summary = str::from_utf8(&output)?;
+    assert!(rt; summary.starts_with(head), "{head}");
     let made = told(summary, "made");
     assert!(rt; made.is_some());
     assert_eq!(rt; told(summary, "history"), made);
@@ -60,21 +61,55 @@ fn an_exchange_without_turns(rt: HostRuntime) -> Result<(), Fail> {
         text,
         "seed 7\nturns 0\nmade 1\nhistory 1\nrefused 0\nequal 8\n"
     );
-    let (status, _) = generated(rt.alloc(), &["gen", "7", "0"], &[1])?;
-    assert_eq!(rt; status, Status::WriteFault);
+    Ok(())
+}
+
+/// Its only write, and the flush behind it, fail: nothing is written, or all.
+#[test]
+fn each_call_of_the_sink_fails(rt: HostRuntime) -> Result<(), Fail> {
+    for (call, want, is_empty) in [
+        (1, Status::WriteFault, true),
+        (2, Status::WriteFault, false),
+        (3, Status::Done, false),
+    ] {
+        let (status, output) = generated(rt.alloc(), &["gen", "7", "0"], &[call])?;
+        assert_eq!(rt; status, want, "{call}");
+        assert_eq!(rt; output.is_empty(), is_empty, "{call}");
+    }
     Ok(())
 }
 
 #[test]
 fn a_thousand_turns_of_three_seeds(rt: HostRuntime) -> Result<(), Fail> {
-    agrees(&rt, rt.alloc(), &["gen", "1", "1000"])?;
-    agrees(&rt, rt.alloc(), &["gen", "2", "1000"])?;
-    agrees(&rt, rt.alloc(), &["gen", "3", "1000"])
+    let alloc = rt.alloc();
+    agrees(
+        &rt,
+        alloc,
+        &["gen", "1", "1000"],
+        "seed 1\nturns 1000\nmade ",
+    )?;
+    agrees(
+        &rt,
+        alloc,
+        &["gen", "2", "1000"],
+        "seed 2\nturns 1000\nmade ",
+    )?;
+    agrees(
+        &rt,
+        alloc,
+        &["gen", "3", "1000"],
+        "seed 3\nturns 1000\nmade ",
+    )
 }
 
 #[test]
 fn the_most_turns(rt: HostRuntime) -> Result<(), Fail> {
-    agrees(&rt, rt.alloc(), &["gen", "1", "100000"])
+    agrees(
+        &rt,
+        rt.alloc(),
+        &["gen", "1", "100000"],
+        "seed 1\nturns 100000\nmade ",
+    )
 }
 
 #[test]

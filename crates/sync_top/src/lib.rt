@@ -21,6 +21,10 @@ pub use lines::run_lines;
 pub use program::run;
 
 #[cfg(test)]
+mod file_tests;
+#[cfg(test)]
 mod generated_tests;
+#[cfg(test)]
+mod stop_tests;
 #[cfg(test)]
 mod tests;

@@ -1,4 +1,5 @@
 mod injections;
+mod near_misses;
 
 use super::*;
 use std::alloc::Global;
@@ -16,7 +17,7 @@ const EDIT: &str =
 const REPORT: &str =
     "server 0\nclient \"A\" 0 0 1\n{\"key\":\"Int\",\"table\":\"t\"}\n{\"column\":\"f\",\"kind\":\"Int\",\"nullable\":false,\"shape\":\"One\",\"table\":\"t\"}\n{\"cells\":{\"f\":3},\"key\":1,\"table\":\"t\"}\n";
 
-fn words(alloc: Global, all: &[&str]) -> Result<Vec<String>, Fail> {
+pub(crate) fn words(alloc: Global, all: &[&str]) -> Result<Vec<String>, Fail> {
     let mut words = Vec::new(alloc);
     for word in all {
         words.push(String::from_str(alloc, word)?)?;
@@ -25,7 +26,7 @@ fn words(alloc: Global, all: &[&str]) -> Result<Vec<String>, Fail> {
 }
 
 /// The status and the output of a replay in which these reads and writes fail.
-fn replayed(
+pub(crate) fn replayed(
     alloc: Global,
     input: &[u8],
     reads: &[u64],
@@ -43,7 +44,7 @@ fn replayed(
     Ok((status, Vec::from_slice(alloc, sink.bytes())?))
 }
 
-fn joined(alloc: Global, parts: &[&str]) -> Result<Vec<u8>, Fail> {
+pub(crate) fn joined(alloc: Global, parts: &[&str]) -> Result<Vec<u8>, Fail> {
     let mut all = Vec::new(alloc);
     for part in parts {
         all.extend_from_slice(part.as_bytes())?;
