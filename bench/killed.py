@@ -1,6 +1,6 @@
 #!/usr/bin/env python3
-"""Kills `edit`, `serve` and `take` over real files between answers, starts them again, and looks whether anything that was
-answered is missing. It shows what is tested, and nothing is proved by it.
+"""Kills `edit`, `serve`, `take` and `show` over real files, the first three between answers, starts them again, and looks
+whether anything that was answered is missing. It shows what is tested, and nothing is proved by it.
 
 usage: bench/killed.py [PROGRAM] [ROUNDS]        (./realm_sync and 20 where they are left out)
 """
@@ -10,6 +10,7 @@ import struct
 import subprocess
 import sys
 import tempfile
+import time
 
 PROGRAM = os.path.abspath(sys.argv[1] if len(sys.argv) > 1 else "./realm_sync")
 ROUNDS = int(sys.argv[2]) if len(sys.argv) > 2 else 20
@@ -53,6 +54,14 @@ def killed_edits(path, generator):
     return answered
 
 
+def kill_show(path, generator):
+    """Kills `show` soon after its start."""
+    command = start("show", path)
+    time.sleep(generator.random() / 100)
+    command.kill()
+    command.wait()
+
+
 def frames(data):
     at, found = 0, []
     while at < len(data):
@@ -87,12 +96,14 @@ def main():
         answered = 0
         for _ in range(ROUNDS):
             answered += killed_edits(client, generator)
+            kill_show(client, generator)
             _, number = shown(client)
             assert number >= answered, f"{answered} additions were answered, and {number} stand"
             answered = number
             # the same upload and question, more than once
             given = frames(whole("send", client)) * 2 + frames(whole("ask", client))
             replies = killed_answers("serve", server, given, generator)
+            kill_show(server, generator)
             _, stored = shown(server)
             killed_answers("take", client, replies, generator)
             _, number = shown(client)

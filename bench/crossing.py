@@ -1,0 +1,84 @@
+#!/usr/bin/env python3
+"""How long lists, unsent changesets and reciprocal lists take to cross, for growing N.
+
+For each kind and N it prints the seconds, the nanoseconds a meeting (a pair), the growth exponent from one N to the next, and
+the peak memory of the process; the best of up to twenty. `lists` has N * N meetings, all others have N. It builds the program
+where it is missing.
+
+usage: bench/crossing.py [KIND ..]      (all five where they are left out)
+"""
+import math
+import os
+import re
+import subprocess
+import sys
+import time
+
+CRATE = os.path.join(os.path.dirname(os.path.dirname(os.path.abspath(__file__))), "crates", "crossing_bench")
+PROGRAM = os.path.join(CRATE, "out", "crossing_bench")
+LINE = re.compile(r": (\d+) runs in (\d+) nanoseconds")
+KINDS = ["lists", "unsent-apart", "unsent-touched", "entries-apart", "entries-touched"]
+COUNTS = [250, 500, 1000, 2000, 4000, 8000]
+MOST_SECONDS = 10
+TRIES = 20
+
+
+def build():
+    if not os.path.exists(PROGRAM):
+        subprocess.run(["rt", "run"], cwd=CRATE, stdin=subprocess.DEVNULL, stdout=sys.stderr, check=True)
+
+
+def peak_of(process):
+    """The kilobytes that a running process had at its peak so far, or 0 once it has ended."""
+    try:
+        with open(f"/proc/{process.pid}/status") as status:
+            words = [line.split() for line in status if line.startswith("VmHWM")]
+    except OSError:
+        return 0
+    return int(words[0][1]) if words else 0
+
+
+def once(kind, count):
+    """The seconds of one run, and the megabytes that the process had at its peak."""
+    process = subprocess.Popen([PROGRAM, kind, str(count)], stdout=subprocess.PIPE, text=True)
+    peak = 0
+    while process.poll() is None:
+        peak = max(peak, peak_of(process))
+        time.sleep(0.002)
+    assert process.returncode == 0, (kind, count, process.returncode)
+    runs, nanos = map(int, LINE.search(process.stdout.read()).groups())
+    return nanos / 1e9 / runs, peak / 1024
+
+
+def measured(kind, count):
+    """The seconds of the best of up to twenty, and the most megabytes."""
+    rows = [once(kind, count)]
+    while len(rows) < TRIES and sum(seconds for seconds, _ in rows) < 2:
+        rows.append(once(kind, count))
+    return min(seconds for seconds, _ in rows), max(megabytes for _, megabytes in rows)
+
+
+def table(kind):
+    before = None
+    for count in COUNTS:
+        seconds, megabytes = measured(kind, count)
+        meetings = count * count if kind == "lists" else count
+        exponent = ""
+        if before is not None:
+            exponent = f"{math.log(seconds / before[1]) / math.log(count / before[0]):.2f}"
+        each = 1e9 * seconds / meetings
+        print(f"{kind:15}  {count:5d}  {seconds:11.7f}  {each:11.2f}  {exponent:>8}  {megabytes:7.1f}", flush=True)
+        if seconds > MOST_SECONDS:
+            break
+        before = (count, seconds)
+
+
+def main():
+    build()
+    print("kind                 N      seconds   ns/meeting  exponent  peak MB")
+    for kind in sys.argv[1:] or KINDS:
+        table(kind)
+
+
+if __name__ == "__main__":
+    main()

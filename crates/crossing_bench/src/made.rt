@@ -1,0 +1,43 @@
+use crate::failure::Failure;
+use std::alloc::Global;
+use sync_base::{AddInteger, Between, CellName, Changeset, Instr, Key, ListInsert, Name, Value};
+
+fn name(text: &str) -> Result<Name, Failure> {
+    match Name::new(text) {
+        Ok(name) => Ok(name),
+        Err(_) => Err(Failure::Crossing),
+    }
+}
+
+fn cell(key: u32, column: &str) -> Result<CellName, Failure> {
+    Ok(CellName {
+        table: name("item")?,
+        key: Key::Int(key as i64),
+        column: name(column)?,
+    })
+}
+
+/// An insertion at the end of a list of that length.
+pub(crate) fn insertion(length: u32) -> Result<Instr, Failure> {
+    let Ok(spot) = Between::new(length, length) else {
+        return Err(Failure::Crossing);
+    };
+    Ok(Instr::ListInsert(ListInsert {
+        cell: cell(1, "steps")?,
+        spot,
+        value: Value::Int(length as i64),
+    }))
+}
+
+/// An addition to a number of the object with that key.
+pub(crate) fn addition(alloc: Global, key: u32, ms: u64) -> Result<Changeset, Failure> {
+    let mut instrs = Vec::new(alloc);
+    instrs.push(Instr::AddInteger(AddInteger {
+        cell: cell(key, "votes")?,
+        amount: 1,
+    }))?;
+    match Changeset::checked(ms, instrs) {
+        Ok(changes) => Ok(changes),
+        Err(_) => Err(Failure::Crossing),
+    }
+}

@@ -1,0 +1,62 @@
+//! How long lists of instructions, unsent changesets and reciprocal lists take to cross.
+//!
+//! `crossing_bench KIND COUNT` runs one of these so often that it takes a hundredth of a second at least, and prints the runs and
+//! the nanoseconds. Without these words it prints how to call it.
+//!
+//! - `lists`: COUNT insertions into a list cross as many;
+//! - `unsent-apart`, `unsent-touched`: an entry of one instruction is taken by COUNT unsent changesets of one instruction, of
+//!   which it touches none, or each;
+//! - `entries-apart`, `entries-touched`: a change of one instruction is carried over COUNT entries of one instruction, of which
+//!   it touches none, or each.
+#![tactic(auto)]
+
+mod entries;
+mod failure;
+mod lists;
+mod made;
+mod unsent;
+
+use failure::Failure;
+use std::env;
+use std::process::ExitCode;
+
+/// The most instructions, changesets or entries.
+const MOST: u64 = 60_000;
+
+/// A run takes as many nanoseconds at least.
+const LEAST: u128 = 10_000_000;
+
+fn main(rt: HostRuntime) -> ExitCode {
+    match run(&rt) {
+        Ok(()) => ExitCode::SUCCESS,
+        Err(_) => ExitCode::FAILURE,
+    }
+}
+
+fn run(rt: &HostRuntime) -> Result<(), Failure> {
+    let mut words = env::args(rt)?;
+    let _program = words.next();
+    let (Some(kind), Some(count)) = (words.next(), words.next()) else {
+        println!(rt; "usage: crossing_bench KIND COUNT")?;
+        return Ok(());
+    };
+    let count = number(count.as_str())?;
+    let (runs, nanos) = match kind.as_str() {
+        "lists" => lists::measured(rt, count)?,
+        "unsent-apart" => unsent::measured(rt, count, 2)?,
+        "unsent-touched" => unsent::measured(rt, count, 1)?,
+        "entries-apart" => entries::measured(rt, count, 2)?,
+        "entries-touched" => entries::measured(rt, count, 1)?,
+        _ => return Err(Failure::Words),
+    };
+    println!(rt; "{kind} {count}: {runs} runs in {nanos} nanoseconds")?;
+    Ok(())
+}
+
+// A number of at most 60,000.
+fn number(text: &str) -> Result<u32, Failure> {
+    match text.parse::<u64>() {
+        Ok(n) if n <= MOST => Ok(n as u32),
+        _ => Err(Failure::Words),
+    }
+}

@@ -1,0 +1,65 @@
+//! Nanoseconds of `Store::apply`, for one kind of instruction on a store that is filled first.
+//!
+//! `store_bench WORK BASE COUNT` fills a store with BASE objects or elements, applies COUNT instructions, and prints
+//! `WORK BASE COUNT NANOSECONDS`. Making the instructions isn't counted. Without these words it prints how to call it.
+#![tactic(auto)]
+
+mod filled;
+mod work;
+
+use filled::Filled;
+use std::process::ExitCode;
+use std::{env, io};
+use work::Work;
+
+/// Why a run ends early.
+#[derive(Clone, Copy, Debug)]
+pub enum Failure {
+    /// The words aren't a work and two numbers below 2^31, or the work needs a base and has none.
+    Words,
+    /// An instruction was refused.
+    Refused,
+    /// Memory ran out.
+    Memory,
+    /// The clock or the output failed.
+    System,
+}
+
+impl From<io::Error> for Failure {
+    fn from(_: io::Error) -> Self {
+        Failure::System
+    }
+}
+
+fn main(rt: HostRuntime) -> ExitCode {
+    match run(&rt) {
+        Ok(()) => ExitCode::SUCCESS,
+        Err(_) => ExitCode::FAILURE,
+    }
+}
+
+fn run(rt: &HostRuntime) -> Result<(), Failure> {
+    let mut words = env::args(rt)?;
+    let _program = words.next();
+    let (Some(word), Some(base), Some(count)) = (words.next(), words.next(), words.next()) else {
+        println!(rt; "usage: store_bench WORK BASE COUNT")?;
+        return Ok(());
+    };
+    let work = Work::of(word.as_str()).ok_or(Failure::Words)?;
+    let base = number(base.as_str())?;
+    let count = number(count.as_str())?;
+    let mut store = Filled::new(rt.alloc(), base)?;
+    store.apply_many(rt, work.before(), 0, base)?;
+    let nanos = store.apply_many(rt, work, work.first(base), count)?;
+    let word = word.as_str();
+    println!(rt; "{word} {base} {count} {nanos}")?;
+    Ok(())
+}
+
+// A number below 2^31.
+fn number(text: &str) -> Result<u32, Failure> {
+    match text.parse::<u32>() {
+        Ok(n) if n < 1 << 31 => Ok(n),
+        _ => Err(Failure::Words),
+    }
+}
