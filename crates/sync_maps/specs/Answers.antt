@@ -1,5 +1,5 @@
 -- What follows from a call that was answered well, or refused.
-use Rattle.std.specs.Prelude.{◌≡◌, true, false, Result, Ok, Err, OnOk, OnErr, IfOk, refl}
+use Rattle.std.specs.Prelude.{◌≡◌, true, false, Result, Ok, Err, OnOk, OnErr, IfOk}
 use Rattle.std.specs.Result.{is_err}
 
 module _ {A E : Type 0} {P Q : Type 0} where

@@ -1,5 +1,5 @@
 -- A change through a reference that a map lends, on the finite map that it stands for.
-use Rattle.std.specs.Prelude.{◌≡◌, List, Option, None, Some, refl}
+use Rattle.std.specs.Prelude.{◌≡◌, Some}
 use Rattle.std.specs.declared.cmp.Ordering.{Ordering}
 use Rattle.std.specs.Cmp.{IsTotalOrder}
 use Rattle.std.specs.FinMap as map

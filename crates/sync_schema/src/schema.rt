@@ -15,10 +15,10 @@ use super::table::TableDef;
 use std::alloc::Global;
 use std::collections::BTreeMap;
 use std::marker::Model;
-use std::ops::Bound;
 use sync_base::{
     AddColumn, AddTable, Column, Key, KeyKind, Kind, Name, NoMemory, Shape, Value, same_name,
 };
+use sync_maps::next_key;
 
 /// The tables, each with the kind of its keys and its columns.
 #[derive(Drop)]
@@ -216,13 +216,7 @@ impl Schema {
     pub fn next_table(&self, after: Option<&Name>) -> Option<&Name>
         ensures { IsNext name_cmp (λ t. is_some (map.get self.now t)) (option_copied after.entry) (option_copied result) }
     {
-        let Some(after) = after else {
-            return Some(self.tables.first_key_value()?.0);
-        };
-        let mut above = self
-            .tables
-            .range((Bound::Excluded(after), Bound::Unbounded));
-        Some(above.next()?.0)
+        next_key(&self.tables, after)
     }
 
     /// The least column name of a table above `after`, or the least of all. It takes no memory.

@@ -9,8 +9,8 @@ ghost use Rattle.sync_schema.specs.Steps.{without_column};
 use std::alloc::Global;
 use std::collections::BTreeMap;
 use std::marker::Model;
-use std::ops::Bound;
 use sync_base::{Column, KeyKind, Name, NoMemory};
+use sync_maps::next_key;
 
 /// A table: the kind of its keys, and its columns by name.
 #[derive(Drop)]
@@ -104,12 +104,6 @@ impl TableDef {
     pub(crate) fn next_column(&self, after: Option<&Name>) -> Option<&Name>
         ensures { IsNext name_cmp (λ c. is_some (map.get self.now.columns c)) (option_copied after.entry) (option_copied result) }
     {
-        let Some(after) = after else {
-            return Some(self.columns.first_key_value()?.0);
-        };
-        let mut above = self
-            .columns
-            .range((Bound::Excluded(after), Bound::Unbounded));
-        Some(above.next()?.0)
+        next_key(&self.columns, after)
     }
 }
