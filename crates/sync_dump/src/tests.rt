@@ -6,6 +6,7 @@ use sync_base::{
     Instr, Key, KeyKind, KeyText, Kind, ListInsert, Name, SetInsert, Shape, Text, Time, Update,
     Value,
 };
+use sync_data::MOST_PAYLOAD;
 use sync_store::Store;
 
 const ID: [u8; 16] = [0, 0, 0, 0, 0, 0, 0x40, 0, 0x80, 0, 0, 0, 0, 0, 0, 0xAB];
@@ -26,6 +27,9 @@ impl Example {
     }
 
     fn apply(&mut self, instr: Instr) -> Result<(), Fail> {
+        if instr.payload() > MOST_PAYLOAD {
+            return Err("too large".into());
+        }
         self.store.apply(instr)?;
         Ok(())
     }

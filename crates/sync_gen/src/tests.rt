@@ -6,6 +6,7 @@ use sync_base::{
     AddInteger, Between, CellName, CreateObject, EraseObject, Inside, Instr, Key, ListErase,
     ListInsert, ListUpdate, Name, SetErase, SetInsert, Text, Update, Value,
 };
+use sync_data::MOST_PAYLOAD;
 use sync_store::Store;
 
 #[test]
@@ -144,21 +145,29 @@ struct Example {
     store: Store,
 }
 
+fn apply(store: &mut Store, instr: Instr) -> Result<(), Fail> {
+    if instr.payload() > MOST_PAYLOAD {
+        return Err("too large".into());
+    }
+    store.apply(instr)?;
+    Ok(())
+}
+
 impl Example {
     fn new(alloc: Global) -> Result<Example, Fail> {
         let mut store = Store::new(alloc)?;
         for instr in first_edits(alloc)? {
-            store.apply(instr)?;
+            apply(&mut store, instr)?;
         }
         Ok(Example { alloc, store })
     }
 
     fn with_list(alloc: Global, length: u32) -> Result<Example, Fail> {
         let mut example = Example::new(alloc)?;
-        example.store.apply(create(5)?)?;
+        apply(&mut example.store, create(5)?)?;
         for prior in 0..length {
             let instr = insert(alloc, 0, prior, "x")?;
-            example.store.apply(instr)?;
+            apply(&mut example.store, instr)?;
         }
         Ok(example)
     }

@@ -1,4 +1,5 @@
 pub mod Acting
 pub mod Filling
+pub mod Ordered
 pub mod Small
 pub mod Taking

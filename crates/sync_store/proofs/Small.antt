@@ -19,17 +19,17 @@ use Rattle.sync_data.specs.declared.column.Kind.TheVariants as kinds
 use Rattle.sync_data.specs.declared.column.Shape.{Shape}
 use Rattle.sync_data.specs.declared.column.Shape.TheVariants as shapes
 use Rattle.sync_base.specs.After.{added, edited, default_of, default_by, zero_of, after, tables_after}
-use Rattle.sync_base.specs.Checks.{act, act_all, is_prior}
+use Rattle.sync_base.specs.Checks.{act, is_prior}
 use Rattle.sync_base.specs.Effects.{ObjectName, CellPath, Edit, Effect, Set, Add, Replace, Insert, Remove, Include, Exclude, Bind, Empty, NewTable, NewColumn, Create, Erase, Change, effect_of}
 use Rattle.sync_base.specs.Lemmas.Cells.{touched}
 use Rattle.sync_base.specs.Lemmas.Looks.{name_total, name_exact, path_exact}
 use Rattle.sync_base.specs.Lemmas.Maps.{tied_is}
 use Rattle.sync_base.specs.Lemmas.Places.{acted}
 use Rattle.sync_base.specs.Lemmas.Steps.{Found, found, cell-after, clash}
-use Rattle.sync_base.specs.Lemmas.Whole.{shaped_of, keeps_state}
+use Rattle.sync_base.specs.Lemmas.Whole.{shaped_of}
 use Rattle.sync_base.specs.Merged.{path_cmp, touch, cell_or_default}
 use Rattle.sync_base.specs.States.{State, Cell, Cells, One, Many, Members, Dict, IsState, no_state, object_cmp, column_in, has, cell_at}
-use Rattle.sync_store.specs.Small.{most_bytes, names_of, IsSmallValue, AreSmall, IsSmallCell, IsSmallState, IsSmallInstr, AreSmallInstrs}
+use Rattle.sync_store.specs.Small.{most_bytes, names_of, IsSmallValue, AreSmall, IsSmallCell, IsSmallState, IsSmallInstr}
 
 -- ---- lists
 set_all : (n : ℕ) (xs : List Value) (i : ℕ) (v : Value) → IsSmallValue n v → AreSmall n xs → AreSmall n (slice_set xs i v)
@@ -210,15 +210,6 @@ pub stays_small : (i : Instr) (s t : State) → IsState s → IsSmallInstr i →
 stays_small i s t is h ok e =
     let a = acted (effect_of i) s t e in
     subst IsSmallState a.gives (small_after s is ok (effect_of i) (found s (effect_of i) a.acts) (small_effect i h))
-
-acts_small : (i : Instr) (is : List Instr) (s t : State) → IsState s → IsSmallInstr i → IsSmallState s → (o : Option State) → act i s ≡ o → option_and_then (act_all is) o ≡ Some t
-    → ((u : State) → IsState u → IsSmallState u → act_all is u ≡ Some t → IsSmallState t) → IsSmallState t
-acts_small i is s t ok h small None e f go = cc
-acts_small i is s t ok h small (Some u) e f go = go u (keeps_state i s u ok e) (stays_small i s u ok h small e) f
-
-pub all_stay_small : (is : List Instr) (s t : State) → IsState s → AreSmallInstrs is → IsSmallState s → act_all is s ≡ Some t → IsSmallState t
-all_stay_small [] s t ok h small e = subst IsSmallState (same_Some s t e) small
-all_stay_small (i ∷ is) s t ok h small e = acts_small i is s t ok h.0 small (act i s) refl e (λ u k l f. all_stay_small is u t k h.1 l f)
 
 pub empty_small : IsSmallState no_state
 empty_small o c x e = let g : None ≡ Some x = sym (ap (option_and_then (λ (m : Cells). map.get m c)) (map.get-empty object_cmp o)) ∙ e in cc

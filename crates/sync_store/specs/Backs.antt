@@ -20,6 +20,7 @@ use Rattle.sync_store.specs.declared.refusals.ApplyRefusal.TheVariants as applie
 use Rattle.sync_store.specs.declared.refusals.AllRefusal.{AllRefusal}
 use Rattle.sync_store.specs.declared.refusals.AllRefusal.TheVariants as refusals
 use Rattle.sync_store.specs.Flat.{without_cell}
+use Rattle.sync_store.specs.Small.{MayGrow}
 
 -- one cell is changed
 abbrev pub changed_at : CellName → (Cell → Cell) → State → State
@@ -55,6 +56,7 @@ pub record HasStepped (i : Instr) (old new : State) (before now : List Undo) : T
   pub after : new ≡ after old (effect_of i)
   pub back : back undo new ≡ old
   pub kept : now ≡ before ++ undo ∷ []
+  pub grows : MayGrow (effect_of i)
 
 -- an instruction is applied and what takes it back is kept, or it meets a break and nothing changes
 abbrev pub Steps : Result (Unit {0}) ApplyRefusal → Instr → State → State → List Undo → List Undo → Type 0

@@ -4,4 +4,5 @@ pub mod Backs
 pub mod Codes
 pub mod Flat
 pub mod Links
+pub mod Places
 pub mod Small

@@ -44,7 +44,3 @@ MayGrow d = Unit {0}
 -- an instruction that a changeset may bear
 abbrev pub IsSmallInstr : Instr → Type 0
 IsSmallInstr i = (payload i ≤ most_bytes) × MayGrow (effect_of i)
-
-abbrev pub AreSmallInstrs : List Instr → Type 0
-AreSmallInstrs [] = Unit {0}
-AreSmallInstrs (i ∷ is) = IsSmallInstr i × AreSmallInstrs is

@@ -2,7 +2,6 @@
 #![tactic(auto)]
 
 mod check;
-mod laws;
 mod object;
 mod objects;
 mod parts;
@@ -16,6 +15,5 @@ mod tests;
 mod undo;
 mod wanted;
 
-pub use laws::values_stay_small;
 pub use refusals::{AllRefusal, ApplyRefusal};
 pub use store::Store;

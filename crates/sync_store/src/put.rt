@@ -1,4 +1,4 @@
-ghost use Rattle.std.specs.Prelude.{◌≡◌, true, Some, None, IfOk};
+ghost use Rattle.std.specs.Prelude.{◌≡◌, ◌≤◌, true, Some, None, IfOk};
 ghost use Rattle.sync_base.specs.Effects.{effect_of, is_effect, path_of, NewTable, NewColumn, Create, Erase};
 ghost use Rattle.sync_base.specs.States.{IsState};
 ghost use Rattle.std.specs.FinMap as map;
@@ -6,12 +6,14 @@ ghost use Rattle.sync_base.specs.After.{after, new_cells};
 ghost use Rattle.sync_base.specs.Checks.{break_of};
 ghost use Rattle.sync_cells.specs.Undoing.{done, edit_of, has_place};
 ghost use Rattle.sync_store.specs.Backs.{back, changed_at};
+ghost use Rattle.sync_store.specs.Small.{MayGrow};
 
 use super::object::Object;
 use super::parts::Parts;
 use super::undo::Undo;
 use sync_base::{
-    AddColumn, AddTable, CellName, CreateObject, EraseObject, Instr, Name, NoMemory, Value as Held,
+    AddColumn, AddTable, CellName, CreateObject, EraseObject, Instr, ListInsert, Name, NoMemory,
+    Value as Held,
 };
 use sync_cells::{Edit, inverse_of};
 
@@ -23,6 +25,7 @@ impl Parts {
         ensures after { IfOk result (λ undo. self.new ≡ after self.old (effect_of instr.now)) }
         ensures back { IfOk result (λ undo. back undo self.new ≡ self.old) }
         ensures placed { IfOk result (λ undo. is_effect (effect_of instr.now) ≡ true) }
+        ensures grows { MayGrow (effect_of instr.now) }
     {
         match instr {
             Instr::AddTable(i) => self.put_table(i),
@@ -35,6 +38,7 @@ impl Parts {
                 self.change(instr, &i.cell, Edit::Replace(i.spot, i.value.copy()?))
             }
             Instr::ListInsert(i) => {
+                fits_a_length(i);
                 self.change(instr, &i.cell, Edit::Insert(i.spot, i.value.copy()?))
             }
             Instr::ListErase(i) => self.change(instr, &i.cell, Edit::Remove(i.spot)),
@@ -131,6 +135,13 @@ impl Parts {
         };
         Ok(Undo::EditCell(cell.copy()?, edit))
     }
+}
+
+/// The length of the list that an insertion tells has 32 bits.
+fn fits_a_length(insert: &ListInsert)
+    ensures { insert.now.spot.prior ≤ 4294967295 }
+{
+    let _ = insert.spot.prior();
 }
 
 fn copy_binding(value: &Option<Held>) -> Result<Option<Held>, NoMemory>

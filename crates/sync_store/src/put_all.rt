@@ -1,7 +1,9 @@
-ghost use Rattle.std.specs.Prelude.{◌≡◌, OnOk};
+ghost use Rattle.std.specs.Prelude.{◌≡◌, ◌≤◌, OnOk};
+ghost use Rattle.sync_data.specs.Payload.{payload_all};
 ghost use Rattle.sync_base.specs.States.{IsState};
 ghost use Rattle.sync_store.specs.Applying.{AppliesAll};
 ghost use Rattle.sync_store.specs.Backs.{all_back, IsTakenBack, Steps};
+ghost use Rattle.sync_store.specs.Small.{IsSmallState, most_bytes};
 
 use super::parts::Parts;
 use super::refusals::{AllRefusal, ApplyRefusal};
@@ -12,7 +14,8 @@ impl Parts {
     /// Applies instructions one after the other, or none of them.
     pub(crate) fn put_all(&mut self, instrs: &[Instr]) -> Result<(), AllRefusal>
         requires { IsState self.old }
-        ensures { AppliesAll result instrs.now self.old self.new }
+        ensures applied { AppliesAll result instrs.now self.old self.new }
+        ensures small { OnOk result (payload_all instrs.now ≤ most_bytes → IsSmallState self.old → IsSmallState self.new) }
     {
         let mut undos = Vec::new(self.alloc);
         for (place, instr) in instrs.iter().enumerate() {

@@ -12,9 +12,9 @@ use std::alloc::Global;
 use std::collections::BTreeMap;
 use std::marker::Model;
 use std::mem;
-use std::ops::Bound;
 use sync_base::{Column, Key, Name, NoMemory};
 use sync_cells::{CellRefusal, Edit, Former};
+use sync_maps::next_key;
 
 /// The objects of a table, by key.
 #[derive(Drop)]
@@ -121,12 +121,6 @@ impl Rows {
     pub(crate) fn next_key(&self, after: Option<&Key>) -> Option<&Key>
         ensures { IsNext key_cmp (λ k. is_some (map.get self.now k)) (option_copied after.entry) (option_copied result) }
     {
-        let Some(after) = after else {
-            return Some(self.objects.first_key_value()?.0);
-        };
-        let mut above = self
-            .objects
-            .range((Bound::Excluded(after), Bound::Unbounded));
-        Some(above.next()?.0)
+        next_key(&self.objects, after)
     }
 }

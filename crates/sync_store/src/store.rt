@@ -1,7 +1,8 @@
-ghost use Rattle.std.specs.Prelude.{◌≡◌, ◌&&◌, false, Ok, is_some};
+ghost use Rattle.std.specs.Prelude.{◌≡◌, ◌≤◌, ◌&&◌, false, Ok, is_some};
 ghost use Rattle.std.specs.Option.{option_copied};
 ghost use Rattle.std.specs.FinMap as map;
 ghost use Rattle.sync_data.specs.Orders.{name_cmp, key_cmp};
+ghost use Rattle.sync_data.specs.Payload.{payload};
 ghost use Rattle.sync_base.specs.Effects.{effect_of};
 ghost use Rattle.sync_base.specs.States.{IsState, no_state, column_in, cell_at, has};
 ghost use Rattle.sync_base.specs.Checks.{break_of};
@@ -9,6 +10,7 @@ ghost use Rattle.sync_maps.specs.Next.{IsNext};
 ghost use Rattle.sync_store.specs.Asking.{verdict};
 ghost use Rattle.sync_store.specs.Applying.{Applies, AppliesAll};
 ghost use Rattle.sync_store.specs.Links.{is_resolved};
+ghost use Rattle.sync_store.specs.Small.{IsSmallState, most_bytes};
 
 use super::objects::Objects;
 use super::parts::Parts;
@@ -29,6 +31,7 @@ pub struct Store {
 impl Model for Store {
     ghost use Rattle.sync_base.specs.States.{State, IsState};
     ghost use Rattle.sync_store.specs.Codes.{coded_state};
+    ghost use Rattle.sync_store.specs.Small.{IsSmallState};
 
     ghost Value = { State };
 
@@ -36,7 +39,7 @@ impl Model for Store {
 
     ghost view = { λ a. a.parts };
 
-    ghost invariant = { λ a. IsState a.parts };
+    ghost invariant = { λ a. IsState a.parts × IsSmallState a.parts };
 }
 
 impl Store {
@@ -53,6 +56,16 @@ impl Store {
         })
     }
 
+    /// What every store keeps, whatever was applied: its objects have the cells of their tables' columns; each value has,
+    /// with the names and text keys under which it stands, at most 4,194,304 bytes; and each list has at most
+    /// 4,294,967,296 elements (docs/GUARANTEES.md, "The store"). It does nothing.
+    pub fn keeps_its_limits(&self)
+        ensures state { IsState self.now }
+        ensures small { IsSmallState self.now }
+    {
+        let _ = &self.parts;
+    }
+
     /// Whether an instruction acts on the state, or its first break (docs/MERGE_RULES.md, "Breaks"). It takes no memory.
     pub fn check(&self, instr: &Instr) -> Result<(), Break>
         ensures first_break { result ≡ verdict (break_of self.now (effect_of instr.now)) }
@@ -60,9 +73,10 @@ impl Store {
         self.parts.check(instr)
     }
 
-    /// Applies one instruction. `Break` comes exactly where `check` gives it, and then nothing changes. After `NoMemory`
+    /// Applies one instruction, whose payload is at most 4,194,304 bytes. `Break` comes exactly where `check` gives it, and then nothing changes. After `NoMemory`
     /// the store is empty.
     pub fn apply(&mut self, instr: Instr) -> Result<(), ApplyRefusal>
+        requires small { payload instr ≤ most_bytes }
         ensures applied { Applies result instr self.old self.new }
     {
         let applied = self.apply_one(&instr);
@@ -71,6 +85,7 @@ impl Store {
     }
 
     fn apply_one(&mut self, instr: &Instr) -> Result<(), ApplyRefusal>
+        requires small { payload instr.now ≤ most_bytes }
         ensures { Applies result instr.now self.old self.new }
     {
         match self.parts.check(instr) {

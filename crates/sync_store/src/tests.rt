@@ -10,6 +10,7 @@ use sync_base::{
     ListInsert, ListUpdate, Name, SetErase, SetInsert, Shape, Text, Update, Value,
 };
 use sync_cells::Content;
+use sync_data::MOST_PAYLOAD;
 
 /// What an instruction does to a cell.
 #[derive(Clone, Copy, Debug, PartialEq, Eq)]
@@ -73,6 +74,9 @@ fn instr(alloc: Global, does: Does, cell: CellName, prior: u32) -> Result<Instr,
 }
 
 fn put(store: &mut Store, instr: Instr) -> Result<(), Fail> {
+    if instr.payload() > MOST_PAYLOAD {
+        return Err("too large".into());
+    }
     match store.apply(instr) {
         Ok(()) => Ok(()),
         Err(_) => Err("refused".into()),

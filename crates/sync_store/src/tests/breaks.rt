@@ -36,6 +36,9 @@ impl Twins {
 
     /// Whether the instruction is refused so, by a look and by an attempt, and nothing changes.
     fn is_refused(&mut self, instr: Instr, want: Break) -> bool {
+        if instr.payload() > MOST_PAYLOAD {
+            return false;
+        }
         let looked = self.store.check(&instr);
         let tried = self.store.apply(instr);
         let same = is_same(&self.store, &self.twin);
