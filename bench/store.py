@@ -1,9 +1,10 @@
 #!/usr/bin/env python3
 """Measures `Store::apply` by the program `store_bench`, which it builds where needed.
 
-For each work and each size: `apply` calls per second, the growth exponent between two sizes (1 where the time grows
-with the number of instructions), and for the largest size the peak memory for each object or element. List insertions
-are made into a list of 100,000 elements. Each time is the least of three runs.
+For each work and each number of objects in the store: `apply` calls per second, nanoseconds a call, the growth exponent,
+and the peak memory for each object. The exponent is that of as many calls as there are objects: 1 where a call costs the
+same whatever their number. List insertions are made into a list of 100,000 elements. The works on one set and one
+dictionary have no other objects, and tell the growth in its elements. Each time is the least of three runs.
 
 usage: bench/store.py [WORK ..]
 """
@@ -15,24 +16,25 @@ import sys
 TOP = os.path.dirname(os.path.dirname(os.path.abspath(__file__)))
 CRATE = os.path.join(TOP, "crates", "store_bench")
 PROGRAM = os.path.join(CRATE, "out", "store_bench")
-LIST = 100_000
-OBJECTS = [50_000, 100_000, 200_000]
-INSERTIONS = [25_000, 50_000, 100_000]
+OBJECTS = [25_000, 50_000, 100_000, 200_000]
+EACH = 8  # elements that each object's set or dictionary gets
+INSERTIONS = 25_000  # as many as a list of 100,000 takes before its block grows
+DRAWN = 1_000
 
-# the sizes of each work: the base that the store is filled with, and the instructions that are timed
+# the sizes of each work: the objects of the store before, and the calls that are timed
 WORKS = {
     "create": [(0, n) for n in OBJECTS],
     "update": [(n, n) for n in OBJECTS],
     "add": [(n, n) for n in OBJECTS],
-    "end": [(LIST, n) for n in INSERTIONS],
-    "front": [(LIST, n) for n in INSERTIONS],
-    "near": [(LIST, n) for n in INSERTIONS],
-    "random": [(LIST, n) for n in (500, 1000, 2000)],
-    "set": [(0, n) for n in OBJECTS],
-    "dict": [(0, n) for n in OBJECTS],
+    "end": [(n, INSERTIONS) for n in OBJECTS],
+    "front": [(n, INSERTIONS) for n in OBJECTS],
+    "near": [(n, INSERTIONS) for n in OBJECTS],
+    "random": [(n, DRAWN) for n in OBJECTS],
+    "set": [(n, EACH * n) for n in OBJECTS],
+    "dict": [(n, EACH * n) for n in OBJECTS],
+    "one-set": [(0, n) for n in OBJECTS],
+    "one-dict": [(0, n) for n in OBJECTS],
 }
-# what is counted is the base, which the instructions only change
-CHANGES = ("update", "add")
 
 
 def build():
@@ -40,17 +42,17 @@ def build():
     subprocess.run(["rt", "run"], cwd=CRATE, stdin=subprocess.DEVNULL, stdout=sys.stderr, check=True)
 
 
-def measured(work, base, count):
+def measured(work, objects, count):
     """Nanoseconds, and the peak of memory in bytes, which `time` tells: a child of Python would begin with Python's own."""
-    words = [work, str(base), str(count)]
+    words = [work, str(objects), str(count)]
     done = subprocess.run(["/usr/bin/time", "-f", "%M", PROGRAM, *words], stdout=subprocess.PIPE, stderr=subprocess.PIPE, text=True)
     told = done.stdout.split()
     assert done.returncode == 0 and told[:3] == words, (done.returncode, told)
     return int(told[3]), int(done.stderr) * 1024
 
 
-def best(work, base, count):
-    runs = [measured(work, base, count) for _ in range(3)]
+def best(work, objects, count):
+    runs = [measured(work, objects, count) for _ in range(3)]
     return min(nanos for nanos, _ in runs), max(peak for _, peak in runs)
 
 
@@ -61,19 +63,18 @@ def main():
     if not os.path.exists(PROGRAM):
         build()
     empty = measured("create", 0, 0)[1]
-    print("work        base    count  apply/second  nanoseconds  exponent  bytes/object")
+    print("work       objects    calls  apply/second  nanoseconds  exponent  bytes/object")
     cost = {}
     for work in works:
         before = None
-        for base, count in WORKS[work]:
-            nanos, peak = best(work, base, count)
+        for objects, count in WORKS[work]:
+            nanos, peak = best(work, objects, count)
+            size = objects or count
             cost[work] = nanos / count
-            exponent = "" if before is None else f"{math.log(nanos / before[1]) / math.log(count / before[0]):.2f}"
-            objects = base if work in CHANGES else base + count
-            memory = f"{(peak - empty) / objects:.0f}" if (base, count) == WORKS[work][-1] else ""
+            exponent = "" if before is None else f"{1 + math.log(cost[work] / before[1]) / math.log(size / before[0]):.2f}"
             rate = 1e9 * count / nanos
-            print(f"{work:8s} {base:7d} {count:8d} {rate:13.0f} {cost[work]:12.0f} {exponent:>9} {memory:>13}")
-            before = (count, nanos)
+            print(f"{work:9s} {size:8d} {count:8d} {rate:13.0f} {cost[work]:12.0f} {exponent:>9} {(peak - empty) / size:13.0f}")
+            before = (size, cost[work])
     if "end" in cost and "near" in cost:
         print(f"an insertion near the last place costs {cost['near'] / cost['end']:.1f} times one at the end")
 

@@ -7,32 +7,36 @@ use sync_base::{
     AddColumn, AddInteger, AddTable, Between, CellName, Column, CreateObject, DictUpdate, Instr,
     Key, KeyKind, KeyText, Kind, ListInsert, Name, SetInsert, Shape, Update, Value,
 };
+use sync_data::MOST_PAYLOAD;
 use sync_store::Store;
 
 /// How many instructions are made at once.
 const MADE_AT_ONCE: usize = 1000;
 
-/// The key of the object whose list, set and dictionary grow. No created object has it.
+/// The key of the object whose list is long, and into whose set or dictionary all is put. No other object has it.
 const GROWING: i64 = -1;
+
+/// The elements of the long list.
+const LIST: u32 = 100_000;
 
 /// A store with the table `t`: numbers `n`, lists `l`, sets `u` and dictionaries `d` of numbers.
 #[derive(Drop)]
 pub struct Filled {
     alloc: Global,
     store: Store,
-    base: u32,
+    objects: u32,
     seed: u64,
     place: u32,
 }
 
 impl Filled {
-    /// The store that is to have `base` objects or elements.
-    pub fn new(alloc: Global, base: u32) -> Result<Filled, Failure> {
+    /// The store that is to have `objects` objects.
+    pub fn new(alloc: Global, objects: u32) -> Result<Filled, Failure> {
         let store = Store::new(alloc).ok().ok_or(Failure::Memory)?;
         let mut filled = Filled {
             alloc,
             store,
-            base,
+            objects,
             seed: 1,
             place: 0,
         };
@@ -53,11 +57,33 @@ impl Filled {
     }
 
     fn apply(&mut self, instr: Instr) -> Result<(), Failure> {
+        if instr.payload() > MOST_PAYLOAD {
+            return Err(Failure::Refused);
+        }
         self.store.apply(instr).ok().ok_or(Failure::Refused)
     }
 
+    /// Creates the objects, and the list that is inserted into.
+    pub fn fill(&mut self, rt: &HostRuntime, work: Work) -> Result<(), Failure> {
+        self.apply_many(rt, Work::Create, 0, self.objects)?;
+        if work.is_of_list() {
+            self.apply_many(rt, Work::End, 0, LIST)?;
+        }
+        Ok(())
+    }
+
+    /// Applies `count` instructions to the filled store, and answers how many nanoseconds that took.
+    pub fn measure(&mut self, rt: &HostRuntime, work: Work, count: u32) -> Result<u128, Failure> {
+        let first = match work {
+            Work::Create => self.objects,
+            _ if work.is_of_list() => LIST,
+            _ => 0,
+        };
+        self.apply_many(rt, work, first, count)
+    }
+
     /// Applies `count` instructions from the number `first` on, and answers how many nanoseconds that took.
-    pub fn apply_many(
+    fn apply_many(
         &mut self,
         rt: &HostRuntime,
         work: Work,
@@ -99,17 +125,16 @@ impl Filled {
                 amount: number as i64,
             })),
             Work::End | Work::Front | Work::Near | Work::Random => self.insertion(work, number),
-            Work::Set => Ok(Instr::SetInsert(SetInsert {
-                cell: cell("u", GROWING)?,
-                value: Value::Int(scattered(number) as i64),
-            })),
-            Work::Dict => self.binding(number),
+            Work::Set => member(self.key_of(number)?, number),
+            Work::OneSet => member(GROWING, number),
+            Work::Dict => self.binding(self.key_of(number)?, number),
+            Work::OneDict => self.binding(GROWING, number),
         }
     }
 
     /// The key of an object that was created first.
     fn key_of(&self, number: u32) -> Result<i64, Failure> {
-        let key = number.checked_rem(self.base).ok_or(Failure::Words)?;
+        let key = number.checked_rem(self.objects).ok_or(Failure::Words)?;
         Ok(key as i64)
     }
 
@@ -145,19 +170,26 @@ impl Filled {
         u32::try_from(drawn).ok().unwrap_or(last)
     }
 
-    fn binding(&self, number: u32) -> Result<Instr, Failure> {
+    fn binding(&self, key: i64, number: u32) -> Result<Instr, Failure> {
         let number = scattered(number);
         let text = format!(in self.alloc; "{number}")
             .ok()
             .ok_or(Failure::Memory)?;
         Ok(Instr::DictUpdate(DictUpdate {
-            cell: cell("d", GROWING)?,
+            cell: cell("d", key)?,
             at: KeyText::new(self.alloc, text.as_str())
                 .ok()
                 .ok_or(Failure::Memory)?,
             value: Some(Value::Int(number as i64)),
         }))
     }
+}
+
+fn member(key: i64, number: u32) -> Result<Instr, Failure> {
+    Ok(Instr::SetInsert(SetInsert {
+        cell: cell("u", key)?,
+        value: Value::Int(scattered(number) as i64),
+    }))
 }
 
 /// Numbers that aren't in order, each different.

@@ -1,7 +1,8 @@
 //! Nanoseconds of `Store::apply`, for one kind of instruction on a store that is filled first.
 //!
-//! `store_bench WORK BASE COUNT` fills a store with BASE objects or elements, applies COUNT instructions, and prints
-//! `WORK BASE COUNT NANOSECONDS`. Making the instructions isn't counted. Without these words it prints how to call it.
+//! `store_bench WORK OBJECTS COUNT` fills a store with OBJECTS objects, and with a list of 100,000 elements where WORK inserts
+//! into one, applies COUNT instructions, and prints `WORK OBJECTS COUNT NANOSECONDS`. Making the instructions isn't counted.
+//! Without these words it prints how to call it.
 #![tactic(auto)]
 
 mod filled;
@@ -15,7 +16,7 @@ use work::Work;
 /// Why a run ends early.
 #[derive(Clone, Copy, Debug)]
 pub enum Failure {
-    /// The words aren't a work and two numbers below 2^31, or the work needs a base and has none.
+    /// The words aren't a work and two numbers below 2^31, or the work needs objects and has none.
     Words,
     /// An instruction was refused.
     Refused,
@@ -41,18 +42,18 @@ fn main(rt: HostRuntime) -> ExitCode {
 fn run(rt: &HostRuntime) -> Result<(), Failure> {
     let mut words = env::args(rt)?;
     let _program = words.next();
-    let (Some(word), Some(base), Some(count)) = (words.next(), words.next(), words.next()) else {
-        println!(rt; "usage: store_bench WORK BASE COUNT")?;
+    let (Some(word), Some(objects), Some(count)) = (words.next(), words.next(), words.next()) else {
+        println!(rt; "usage: store_bench WORK OBJECTS COUNT")?;
         return Ok(());
     };
     let work = Work::of(word.as_str()).ok_or(Failure::Words)?;
-    let base = number(base.as_str())?;
+    let objects = number(objects.as_str())?;
     let count = number(count.as_str())?;
-    let mut store = Filled::new(rt.alloc(), base)?;
-    store.apply_many(rt, work.before(), 0, base)?;
-    let nanos = store.apply_many(rt, work, work.first(base), count)?;
+    let mut store = Filled::new(rt.alloc(), objects)?;
+    store.fill(rt, work)?;
+    let nanos = store.measure(rt, work, count)?;
     let word = word.as_str();
-    println!(rt; "{word} {base} {count} {nanos}")?;
+    println!(rt; "{word} {objects} {count} {nanos}")?;
     Ok(())
 }
 

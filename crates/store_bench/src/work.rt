@@ -15,10 +15,14 @@ pub enum Work {
     Near,
     /// Insertions at drawn places.
     Random,
-    /// Insertions of scattered numbers into a set.
+    /// Insertions of scattered numbers into the set of each object in turn.
     Set,
-    /// Insertions into a dictionary, at the decimal texts of scattered numbers.
+    /// Insertions into the dictionary of each object in turn, at the decimal texts of scattered numbers.
     Dict,
+    /// As `Set`, but all into one set.
+    OneSet,
+    /// As `Dict`, but all into one dictionary.
+    OneDict,
 }
 
 impl Work {
@@ -34,24 +38,14 @@ impl Work {
             "random" => Some(Work::Random),
             "set" => Some(Work::Set),
             "dict" => Some(Work::Dict),
+            "one-set" => Some(Work::OneSet),
+            "one-dict" => Some(Work::OneDict),
             _ => None,
         }
     }
 
-    /// What fills the store first.
-    pub fn before(self) -> Work {
-        match self {
-            Work::Update | Work::Add => Work::Create,
-            Work::Front | Work::Near | Work::Random => Work::End,
-            other => other,
-        }
-    }
-
-    /// The number of its first instruction where the store was filled with `base` objects or elements.
-    pub fn first(self, base: u32) -> u32 {
-        match self {
-            Work::Update | Work::Add => 0,
-            _ => base,
-        }
+    /// Whether it inserts into the long list.
+    pub fn is_of_list(self) -> bool {
+        matches!(self, Work::End | Work::Front | Work::Near | Work::Random)
     }
 }
