@@ -3,8 +3,6 @@
 
 mod apart;
 mod clearing;
-#[cfg(test)]
-mod tests;
 
 use sync_base::{
     Clear, DictUpdate, EraseObject, Meets, Mismatch, Outcome, erases, is_erased, left_wins,

@@ -2,8 +2,6 @@
 #![tactic(auto)]
 
 mod apart;
-#[cfg(test)]
-mod tests;
 
 use sync_base::{
     EraseObject, Meets, Mismatch, Outcome, SetErase, SetInsert, erases, is_erased, keep_both,

@@ -1,52 +1,15 @@
-use super::clearing::{list_erase, list_insert, list_update, set_erase, set_insert};
-use super::*;
-use sync_base::{
-    AddColumn, AddInteger, AddTable, Column, CreateObject, KeyKind, Kind, Shape, Update,
+use super::dicts::{HERE, bind, clear};
+use super::makers::{
+    addition, column, creation, list_erase, list_insert, list_update, member_at, set_erase,
+    set_insert, table, update,
 };
-
-fn table() -> Result<AddTable, Fail> {
-    Ok(AddTable {
-        table: Name::new("t")?,
-        key: KeyKind::Text,
-    })
-}
-
-fn column() -> Result<AddColumn, Fail> {
-    Ok(AddColumn {
-        table: Name::new("t")?,
-        column: Name::new("c")?,
-        def: Column {
-            kind: Kind::Int,
-            nullable: true,
-            shape: Shape::Dict,
-        },
-    })
-}
-
-fn creation(alloc: Global) -> Result<CreateObject, Fail> {
-    Ok(CreateObject {
-        table: Name::new("t")?,
-        key: Key::Text(key_text(alloc, 0)?),
-    })
-}
-
-fn update(alloc: Global) -> Result<Update, Fail> {
-    Ok(Update {
-        cell: cell(alloc, Place::Here)?,
-        value: Value::Null,
-    })
-}
-
-fn addition(alloc: Global) -> Result<AddInteger, Fail> {
-    Ok(AddInteger {
-        cell: cell(alloc, Place::Here)?,
-        amount: i64::MIN,
-    })
-}
+use super::*;
+use rule_dict::DictRules;
+use sync_base::Shape;
 
 fn is_schema_apart(alloc: Global, later: bool) -> Result<bool, Fail> {
     let table = both(DictRules::meet(table()?, bind(alloc, HERE)?, later));
-    let column = both(DictRules::meet(clear(alloc, Place::Here)?, column()?, later));
+    let column = both(DictRules::meet(clear(alloc, Place::Here)?, column(Shape::Dict)?, later));
     Ok(table & column)
 }
 
@@ -81,8 +44,12 @@ fn are_list_changes_apart(alloc: Global, later: bool) -> Result<bool, Fail> {
 }
 
 fn are_set_changes_apart(alloc: Global, later: bool) -> Result<bool, Fail> {
-    let left = both(DictRules::meet(bind(alloc, HERE)?, set_insert(alloc, Place::Here)?, later));
-    let right = both(DictRules::meet(set_erase(alloc, Place::Here)?, bind(alloc, HERE)?, later));
+    let (low, null) = (
+        member_at(Place::Here, Some(i64::MIN)),
+        member_at(Place::Here, None),
+    );
+    let left = both(DictRules::meet(bind(alloc, HERE)?, set_insert(alloc, low)?, later));
+    let right = both(DictRules::meet(set_erase(alloc, null)?, bind(alloc, HERE)?, later));
     Ok(left & right)
 }
 

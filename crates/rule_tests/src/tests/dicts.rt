@@ -1,74 +1,11 @@
-mod apart;
-mod clearing;
-mod objects;
-
+use super::makers::object;
 use super::*;
-use std::alloc::Global;
-use std::test::Fail;
-use sync_base::{CellName, Key, KeyText, Name, Value};
-
-/// Where a cell stands: in an object whose key is the empty text, or elsewhere.
-#[derive(Clone, Copy)]
-enum Place {
-    Here,
-    OtherTable,
-    LongestKey,
-    OtherColumn,
-}
-
-/// Which of the two sides stay.
-#[derive(Clone, Copy)]
-struct Stays {
-    left: bool,
-    right: bool,
-}
-
-const BOTH: Stays = Stays {
-    left: true,
-    right: true,
-};
-
-fn stay(left: bool, right: bool) -> Stays {
-    Stays { left, right }
-}
-
-/// Whether those sides stay.
-fn leaves(met: Result<Outcome, Mismatch>, stays: Stays) -> bool {
-    match met {
-        Ok(met) => (met.left.is_some() == stays.left) & (met.right.is_some() == stays.right),
-        Err(_) => false,
-    }
-}
-
-fn both(met: Result<Outcome, Mismatch>) -> bool {
-    leaves(met, BOTH)
-}
-
-fn key_text(alloc: Global, bytes: usize) -> Result<KeyText, Fail> {
-    let text = "k".repeat(alloc, bytes)?;
-    Ok(KeyText::new(alloc, text.as_str())?)
-}
-
-fn cell_of(alloc: Global, table: &str, bytes: usize, column: &str) -> Result<CellName, Fail> {
-    Ok(CellName {
-        table: Name::new(table)?,
-        key: Key::Text(key_text(alloc, bytes)?),
-        column: Name::new(column)?,
-    })
-}
-
-fn cell(alloc: Global, place: Place) -> Result<CellName, Fail> {
-    match place {
-        Place::Here => cell_of(alloc, "t", 0, "c"),
-        Place::OtherTable => cell_of(alloc, "u", 0, "c"),
-        Place::LongestKey => cell_of(alloc, "t", 255, "c"),
-        Place::OtherColumn => cell_of(alloc, "t", 0, "d"),
-    }
-}
+use rule_dict::DictRules;
+use sync_base::{Clear, DictUpdate};
 
 /// What a key is bound to.
 #[derive(Clone, Copy)]
-enum Bound {
+pub(super) enum Bound {
     Nothing,
     Null,
     Int(i64),
@@ -76,19 +13,19 @@ enum Bound {
 
 /// A key of a dictionary, of that many bytes, and what it is bound to.
 #[derive(Clone, Copy)]
-struct Binding {
+pub(super) struct Binding {
     place: Place,
     bytes: usize,
     to: Bound,
 }
 
-const HERE: Binding = Binding {
+pub(super) const HERE: Binding = Binding {
     place: Place::Here,
     bytes: 0,
     to: Bound::Int(0),
 };
 
-fn binding_at(place: Place, bytes: usize, to: Bound) -> Binding {
+pub(super) fn binding_at(place: Place, bytes: usize, to: Bound) -> Binding {
     Binding { place, bytes, to }
 }
 
@@ -100,7 +37,7 @@ fn value(bound: Bound) -> Option<Value> {
     }
 }
 
-fn bind(alloc: Global, binding: Binding) -> Result<DictUpdate, Fail> {
+pub(super) fn bind(alloc: Global, binding: Binding) -> Result<DictUpdate, Fail> {
     Ok(DictUpdate {
         cell: cell(alloc, binding.place)?,
         at: key_text(alloc, binding.bytes)?,
@@ -108,7 +45,7 @@ fn bind(alloc: Global, binding: Binding) -> Result<DictUpdate, Fail> {
     })
 }
 
-fn clear(alloc: Global, place: Place) -> Result<Clear, Fail> {
+pub(super) fn clear(alloc: Global, place: Place) -> Result<Clear, Fail> {
     Ok(Clear {
         cell: cell(alloc, place)?,
     })
@@ -165,6 +102,36 @@ fn bindings_of_two_cells_both_stay(rt: HostRuntime) -> Result<(), Fail> {
         for place in [Place::OtherTable, Place::LongestKey, Place::OtherColumn] {
             let other = binding_at(place, 0, Bound::Int(0));
             assert!(rt; bindings_leave(alloc, HERE, other, later, BOTH)?);
+        }
+    }
+    Ok(())
+}
+
+/// Whether the erased object on the left stays erased, and a binding and a Clear stay as is said.
+fn left_erased(alloc: Global, at: Meeting, to: Bound, later: bool) -> Result<bool, Fail> {
+    let of = binding_at(at.changed, 255, to);
+    let bound = DictRules::meet(object(alloc, at.gone)?, bind(alloc, of)?, later);
+    let first = left_prevails(bound, at);
+    let cleared = DictRules::meet(object(alloc, at.gone)?, clear(alloc, at.changed)?, later);
+    Ok(first & left_prevails(cleared, at))
+}
+
+fn right_erased(alloc: Global, at: Meeting, to: Bound, later: bool) -> Result<bool, Fail> {
+    let of = binding_at(at.changed, 255, to);
+    let bound = DictRules::meet(bind(alloc, of)?, object(alloc, at.gone)?, later);
+    let first = right_prevails(bound, at);
+    let cleared = DictRules::meet(clear(alloc, at.changed)?, object(alloc, at.gone)?, later);
+    Ok(first & right_prevails(cleared, at))
+}
+
+#[test]
+fn cells_of_an_erased_object_are_not_changed(rt: HostRuntime) -> Result<(), Fail> {
+    for later in [false, true] {
+        for at in meetings(false) {
+            for to in [Bound::Nothing, Bound::Int(i64::MIN)] {
+                assert!(rt; left_erased(rt.alloc(), at, to, later)?);
+                assert!(rt; right_erased(rt.alloc(), at, to, later)?);
+            }
         }
     }
     Ok(())
