@@ -14,7 +14,7 @@ use Rattle.sync_base.specs.States.{object_cmp}
 use Rattle.sync_base.specs.Objects.{object_of}
 use Rattle.sync_base.specs.Lemmas.Looks.{name_total, name_exact, object_total}
 use Rattle.sync_base.specs.Lemmas.Maps.{tied_is}
-use Rattle.sync_index.specs.Touched.{Touched, has_object, is_one, is_about, is_of_schema, with_object, with_one, with_instr, touches, Covers}
+use Rattle.sync_index.specs.Touched.{Touched, holds, has_object, with_name, is_one, is_about, is_of_schema, with_one, with_instr, touches, Covers}
 
 -- with each of the instructions
 abbrev pub indexed : Touched → List Instr → Touched
@@ -35,7 +35,7 @@ or_swap true true c = refl
 or_swap true false c = refl
 or_swap false b c = refl
 
-or_true : (b : Bool) → (b || true) ≡ true
+pub or_true : (b : Bool) → (b || true) ≡ true
 or_true true = refl
 or_true false = refl
 
@@ -44,20 +44,20 @@ keys_of : (k : Option (set.FinSet key_cmp)) (o : ObjectName) → set.contains (u
 keys_of None o = set.contains-empty key_cmp o.1
 keys_of (Some s) o = refl
 
-has-with : (t : Touched) (p o : ObjectName) → has_object (with_object p t) o ≡ (eq_by_cmp object_cmp o p || has_object t o)
-has-with t p o =
-    ap (λ k. option_map_or (λ keys. set.contains keys o.1) k false) (map.get-insert name_total t.objects p.0 _ o.0)
-    ∙ elim (eq_by_cmp name_cmp o.0 p.0) as (λ b. eq_by_cmp name_cmp o.0 p.0 ≡ b → option_map_or (λ keys. set.contains keys o.1) (cond b (Some (set.insert (unwrap_or (map.get t.objects p.0) set.empty) p.1)) (map.get t.objects o.0)) false ≡ ((b && eq_by_cmp key_cmp o.1 p.1) || has_object t o)) [
+pub holds-with : (objects : map.FinMap name_cmp (set.FinSet key_cmp)) (p o : ObjectName) → holds (with_name p objects) o ≡ (eq_by_cmp object_cmp o p || holds objects o)
+holds-with objects p o =
+    ap (λ k. option_map_or (λ keys. set.contains keys o.1) k false) (map.get-insert name_total objects p.0 _ o.0)
+    ∙ elim (eq_by_cmp name_cmp o.0 p.0) as (λ b. eq_by_cmp name_cmp o.0 p.0 ≡ b → option_map_or (λ keys. set.contains keys o.1) (cond b (Some (set.insert (unwrap_or (map.get objects p.0) set.empty) p.1)) (map.get objects o.0)) false ≡ ((b && eq_by_cmp key_cmp o.1 p.1) || holds objects o)) [
       | true ↦ λ h.
           set.contains-insert key_cmp_total _ p.1 o.1
-          ∙ ap (λ b. eq_by_cmp key_cmp o.1 p.1 || b) (ap (λ q. set.contains (unwrap_or (map.get t.objects q) set.empty) o.1) (sym (tied_is name_exact o.0 p.0 h)) ∙ keys_of (map.get t.objects o.0) o)
+          ∙ ap (λ b. eq_by_cmp key_cmp o.1 p.1 || b) (ap (λ q. set.contains (unwrap_or (map.get objects q) set.empty) o.1) (sym (tied_is name_exact o.0 p.0 h)) ∙ keys_of (map.get objects o.0) o)
       | false ↦ λ _. refl
     ] refl
-    ∙ ap (λ b. b || has_object t o) (tied_then (name_cmp o.0 p.0) (key_cmp o.1 p.1))
+    ∙ ap (λ b. b || holds objects o) (tied_then (name_cmp o.0 p.0) (key_cmp o.1 p.1))
 
 has-one : (t : Touched) (p : Option ObjectName) (o : ObjectName) → has_object (with_one p t) o ≡ (is_one o p || has_object t o)
 has-one t None o = refl
-has-one t (Some p) o = has-with t p o
+has-one t (Some p) o = holds-with t.objects p o
 
 pub has-indexed : (t : Touched) (bs : List Instr) (o : ObjectName) → has_object (indexed t bs) o ≡ (has_object t o || list_any (is_about o) bs)
 has-indexed t [] o = sym (or_false (has_object t o))

@@ -16,5 +16,8 @@ coded_key = code_by (ℕ × (ℤ × List ℕ)) (coded× coded_ℕ (coded× coded
 abbrev pub coded_keys : Coded (set.FinSet key_cmp)
 coded_keys = set.code coded_key
 
+abbrev pub coded_objects : Coded (map.FinMap name_cmp (set.FinSet key_cmp))
+coded_objects = map.code coded_bytes coded_keys
+
 abbrev pub coded_touched : Coded Touched
-coded_touched = code_by (map.FinMap name_cmp (set.FinSet key_cmp) × Bool) (coded× (map.code coded_bytes coded_keys) coded_bool) (λ t. (t.objects, t.schema)) (λ p. record { objects = p.0; schema = p.1 }) (λ _. refl)
+coded_touched = code_by (map.FinMap name_cmp (set.FinSet key_cmp) × Bool) (coded× coded_objects coded_bool) (λ t. (t.objects, t.schema)) (λ p. record { objects = p.0; schema = p.1 }) (λ _. refl)

@@ -1,3 +1,5 @@
 pub mod Codes
+pub mod Cells
 pub mod Touched
+pub mod Filters
 pub mod Lemmas

@@ -16,8 +16,11 @@ pub record Touched : Type 0 where
   pub objects : map.FinMap name_cmp (set.FinSet key_cmp)
   pub schema : Bool
 
+abbrev pub holds : map.FinMap name_cmp (set.FinSet key_cmp) → ObjectName → Bool
+holds objects o = option_map_or (λ keys. set.contains keys o.1) (map.get objects o.0) false
+
 abbrev pub has_object : Touched → ObjectName → Bool
-has_object t o = option_map_or (λ keys. set.contains keys o.1) (map.get t.objects o.0) false
+has_object t o = holds t.objects o
 
 -- ---- what is indexed
 abbrev pub is_one : ObjectName → Option ObjectName → Bool
@@ -31,9 +34,12 @@ is_about o i = is_one o (object_of (effect_of i))
 abbrev pub is_of_schema : Instr → Bool
 is_of_schema i = not (is_some (object_of (effect_of i)))
 
--- with one instruction more
+-- with one object more, with one instruction more
+abbrev pub with_name : ObjectName → map.FinMap name_cmp (set.FinSet key_cmp) → map.FinMap name_cmp (set.FinSet key_cmp)
+with_name o objects = map.insert objects o.0 (set.insert (unwrap_or (map.get objects o.0) set.empty) o.1)
+
 abbrev pub with_object : ObjectName → Touched → Touched
-with_object o t = record { objects = map.insert t.objects o.0 (set.insert (unwrap_or (map.get t.objects o.0) set.empty) o.1); schema = t.schema }
+with_object o t = record { objects = with_name o t.objects; schema = t.schema }
 
 abbrev pub with_one : Option ObjectName → Touched → Touched
 with_one None t = record { objects = t.objects; schema = true }

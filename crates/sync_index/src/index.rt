@@ -4,23 +4,22 @@ ghost use Rattle.sync_data.specs.declared.instr.Instr.{Instr};
 ghost use Rattle.sync_base.specs.Effects.{ObjectName};
 ghost use Rattle.sync_index.specs.Touched.{has_object, may_touch, is_about, is_of_schema, with_object, with_instr, Covers, ApartFromAll};
 
-use super::keys::Keys;
+use super::filter::Filter;
 use super::object::object_of;
+use super::objects::Objects;
 use std::alloc::Global;
-use std::collections::BTreeMap;
 use std::marker::Model;
 use sync_base::{Instr, Key, Name, NoMemory};
 
 /// The objects that a list of instructions is about, and whether one of them adds a table or a column.
 #[derive(Drop)]
 pub struct Index {
-    alloc: Global,
-    objects: BTreeMap<Name, Keys>,
+    filter: Filter,
+    objects: Objects,
     schema: bool,
 }
 
 impl Model for Index {
-    ghost use Rattle.std.specs.FinMap as map;
     ghost use Rattle.sync_index.specs.Touched.{Touched};
     ghost use Rattle.sync_index.specs.Codes.{coded_touched};
 
@@ -28,7 +27,11 @@ impl Model for Index {
 
     ghost coded = { coded_touched };
 
-    ghost view = { λ a. record { objects = map.from_entries a.objects.entries; schema = a.schema } };
+    ghost use Rattle.sync_index.specs.Filters.{PassesAll};
+
+    ghost view = { λ a. record { objects = a.objects; schema = a.schema } };
+
+    ghost invariant = { λ a. PassesAll a.filter a.objects };
 }
 
 impl Index {
@@ -39,8 +42,8 @@ impl Index {
         ensures covers { IfOk result (λ index. Covers index instrs.now) }
     {
         let mut index = Index {
-            alloc,
-            objects: BTreeMap::new(alloc),
+            filter: Filter::new(),
+            objects: Objects::new(alloc),
             schema: false,
         };
         for instr in instrs {
@@ -65,10 +68,7 @@ impl Index {
     fn has_object(&self, table: &Name, key: &Key) -> bool
         ensures { result ≡ has_object self.now (table.now, key.now) }
     {
-        match self.objects.get(table) {
-            Some(keys) => keys.contains(key),
-            None => false,
-        }
+        self.filter.may_hold(key) && self.objects.contains(table, key)
     }
 
     fn include(&mut self, instr: &Instr) -> Result<(), NoMemory>
@@ -84,14 +84,7 @@ impl Index {
     fn include_object(&mut self, table: &Name, key: Key) -> Result<(), NoMemory>
         ensures { OnOk result (self.new ≡ with_object (table.now, key) self.old) }
     {
-        if let Some(keys) = self.objects.get_mut(table) {
-            return keys.put(key);
-        }
-        let mut keys = Keys::new(self.alloc);
-        keys.put(key)?;
-        if self.objects.insert(table.copy()?, keys).is_err() {
-            return Err(NoMemory);
-        }
-        Ok(())
+        self.filter.mark(&key);
+        self.objects.put(table, key)
     }
 }

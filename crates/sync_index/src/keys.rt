@@ -1,4 +1,4 @@
-ghost use Rattle.std.specs.Prelude.{◌≡◌, OnOk};
+ghost use Rattle.std.specs.Prelude.{◌≡◌, OnOk, OnErr};
 ghost use Rattle.std.specs.FinSet as set;
 
 use std::alloc::Global;
@@ -43,7 +43,8 @@ impl Keys {
 
     /// Puts a key there.
     pub(crate) fn put(&mut self, key: Key) -> Result<(), NoMemory>
-        ensures { OnOk result (self.new ≡ set.insert self.old key) }
+        ensures ok { OnOk result (self.new ≡ set.insert self.old key) }
+        ensures unchanged { OnErr result (self.new ≡ self.old) }
     {
         if self.keys.insert(key).is_err() {
             return Err(NoMemory);

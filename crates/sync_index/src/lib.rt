@@ -1,11 +1,13 @@
 //! The objects that a list of instructions touches, so that what can't meet is passed over.
 #![tactic(auto)]
 
+mod filter;
 mod index;
 mod keys;
 mod object;
+mod objects;
 #[cfg(test)]
 mod tests;
 
 pub use index::Index;
-pub use object::are_apart;
+pub use object::{are_apart, cell_of};

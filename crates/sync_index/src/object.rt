@@ -1,8 +1,9 @@
 ghost use Rattle.std.specs.Prelude.{◌≡◌, true, Bool, Some, Ok};
 ghost use Rattle.std.specs.Option.{option_map};
-ghost use Rattle.sync_base.specs.Effects.{ObjectName, effect_of};
+ghost use Rattle.sync_base.specs.Effects.{ObjectName, CellPath, effect_of, path_of};
 ghost use Rattle.sync_base.specs.Objects.{object_of, are_apart};
 ghost use Rattle.sync_base.specs.Rules.{meeting};
+ghost use Rattle.sync_index.specs.Cells.{cell_in};
 
 use sync_base::{CellName, Instr, Key, Name, same_object};
 
@@ -28,28 +29,38 @@ fn are_two(left: &Instr, right: &Instr) -> bool
 }
 
 /// The object that an instruction is about, by its table and key; none for an instruction of the schema.
+#[inline(always)]
 pub(crate) fn object_of(instr: &Instr) -> Option<(&Name, &Key)>
     ensures { option_map {U = ObjectName} (λ o. (o.0.now, o.1.now)) result ≡ object_of (effect_of instr.now) }
 {
     match instr {
-        Instr::AddTable(_) => None,
-        Instr::AddColumn(_) => None,
         Instr::CreateObject(create) => Some((&create.table, &create.key)),
         Instr::EraseObject(erase) => Some((&erase.table, &erase.key)),
-        Instr::Update(update) => of_cell(&update.cell),
-        Instr::AddInteger(add) => of_cell(&add.cell),
-        Instr::ListUpdate(update) => of_cell(&update.cell),
-        Instr::ListInsert(insert) => of_cell(&insert.cell),
-        Instr::ListErase(erase) => of_cell(&erase.cell),
-        Instr::SetInsert(insert) => of_cell(&insert.cell),
-        Instr::SetErase(erase) => of_cell(&erase.cell),
-        Instr::DictUpdate(update) => of_cell(&update.cell),
-        Instr::Clear(clear) => of_cell(&clear.cell),
+        _ => match cell_of(instr) {
+            Some(cell) => Some((&cell.table, &cell.key)),
+            None => None,
+        },
     }
 }
 
-fn of_cell(cell: &CellName) -> Option<(&Name, &Key)>
-    ensures { option_map {U = ObjectName} (λ o. (o.0.now, o.1.now)) result ≡ Some (cell.now.table, cell.now.key) }
+/// The cell that an instruction changes; none for one of an object or of the schema.
+#[inline(always)]
+pub fn cell_of(instr: &Instr) -> Option<&CellName>
+    ensures { option_map {U = CellPath} (λ cell. path_of cell.now) result ≡ cell_in (effect_of instr.now) }
 {
-    Some((&cell.table, &cell.key))
+    match instr {
+        Instr::AddTable(_) => None,
+        Instr::AddColumn(_) => None,
+        Instr::CreateObject(_) => None,
+        Instr::EraseObject(_) => None,
+        Instr::Update(update) => Some(&update.cell),
+        Instr::AddInteger(add) => Some(&add.cell),
+        Instr::ListUpdate(update) => Some(&update.cell),
+        Instr::ListInsert(insert) => Some(&insert.cell),
+        Instr::ListErase(erase) => Some(&erase.cell),
+        Instr::SetInsert(insert) => Some(&insert.cell),
+        Instr::SetErase(erase) => Some(&erase.cell),
+        Instr::DictUpdate(update) => Some(&update.cell),
+        Instr::Clear(clear) => Some(&clear.cell),
+    }
 }

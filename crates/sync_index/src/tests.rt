@@ -2,8 +2,8 @@ use super::*;
 use std::alloc::Global;
 use std::test::Fail;
 use sync_base::{
-    AddInteger, AddTable, CellName, Clear, CreateObject, Instr, Key, KeyKind, KeyText, Name,
-    Update, Value,
+    AddInteger, AddTable, CellName, Clear, CreateObject, EraseObject, Instr, Key, KeyKind, KeyText,
+    Name, Update, Value,
 };
 
 fn cell(table: &str, key: Key) -> Result<CellName, Fail> {
@@ -39,6 +39,16 @@ fn clear_of_text_key(alloc: Global, key: &str) -> Result<Instr, Fail> {
     let key = Key::Text(KeyText::new(alloc, key)?);
     Ok(Instr::Clear(Clear {
         cell: cell("t", key)?,
+    }))
+}
+
+fn erase_of_uuid(first: u8, last: u8) -> Result<Instr, Fail> {
+    let mut id = [0; 16];
+    id[0] = first;
+    id[15] = last;
+    Ok(Instr::EraseObject(EraseObject {
+        table: Name::new("t")?,
+        key: Key::Uuid(id),
     }))
 }
 
@@ -80,6 +90,15 @@ fn objects_of_many_tables_are_found(rt: HostRuntime) -> Result<(), Fail> {
     }
     assert!(rt; index.may_touch(&clear_of_text_key(alloc, "k")?));
     assert!(rt; !index.may_touch(&clear_of_text_key(alloc, "")?));
+    Ok(())
+}
+
+#[test]
+fn uuids_of_one_last_byte_are_told_apart(rt: HostRuntime) -> Result<(), Fail> {
+    let index = Index::of(rt.alloc(), &[erase_of_uuid(1, 7)?])?;
+    for (first, last, is_there) in [(1, 7, true), (2, 7, false), (1, 8, false)] {
+        assert!(rt; index.may_touch(&erase_of_uuid(first, last)?) == is_there);
+    }
     Ok(())
 }
 

@@ -6,7 +6,7 @@ use Rattle.sync_base.specs.Effects.{CellPath, Effect, NewTable, NewColumn, Creat
 use Rattle.sync_base.specs.Merged.{path_cmp}
 use Rattle.sync_base.specs.Rules.{rule, meeting, outcome_of, kept, has_row, lifted, rule_of_edits}
 use Rattle.sync_base.specs.Lemmas.Whole.{instr-effect}
-use Rattle.sync_transform.specs.Cells.{cell_in}
+use Rattle.sync_index.specs.Cells.{cell_in}
 
 and_false : (b c : Bool) → c ≡ false → (b && c) ≡ false
 and_false true c h = h

@@ -5,11 +5,11 @@ ghost use Rattle.sync_base.specs.declared.answers.Mismatch.{Mismatch};
 ghost use Rattle.sync_base.specs.Effects.{CellPath, effect_of, path_of};
 ghost use Rattle.sync_base.specs.Rules.{meeting};
 ghost use Rattle.sync_law.specs.Instrs.{meet};
-ghost use Rattle.sync_transform.specs.Cells.{cell_in};
+ghost use Rattle.sync_index.specs.Cells.{cell_in};
 
 use rule_list::{shift_erasure_and_insertion, shift_insertion_and_erasure, shift_insertions};
-use sync_base::{CellName, Instr, Mismatch, same_cell};
-use sync_index::are_apart;
+use sync_base::{Instr, Mismatch, same_cell};
+use sync_index::{are_apart, cell_of};
 
 /// What is told of two instructions that meet where they lie.
 pub(crate) enum InPlace {
@@ -21,7 +21,8 @@ pub(crate) enum InPlace {
     Untold,
 }
 
-/// Two instructions meet where they lie, so that none is moved: what is apart, and insertions and erasures of lists.
+/// Two instructions meet where they lie, so that none is moved: what is apart or has no rule, and insertions and erasures
+/// of lists.
 pub(crate) fn meet_where_they_lie(left: &mut Instr, right: &mut Instr, left_later: bool) -> InPlace
     ensures both { result ≡ InPlace.Both → meet left.old right.old left_later ≡ Ok (Some left.new, Some right.new) }
     ensures stuck { (m : Mismatch) → result ≡ InPlace.Stuck m → meet left.old right.old left_later ≡ Err m }
@@ -29,7 +30,7 @@ pub(crate) fn meet_where_they_lie(left: &mut Instr, right: &mut Instr, left_late
     ensures untold_right { result ≡ InPlace.Untold → right.new ≡ right.old }
 {
     match list_instructions(left, right, left_later) {
-        InPlace::Untold if stay_apart(left, right) => InPlace::Both,
+        InPlace::Untold if both_stay(left, right) => InPlace::Both,
         told => told,
     }
 }
@@ -54,6 +55,18 @@ fn list_instructions(left: &mut Instr, right: &mut Instr, left_later: bool) -> I
     }
 }
 
+/// Whether it is plain that two instructions both stay as they are.
+fn both_stay(left: &Instr, right: &Instr) -> bool
+    ensures { result ≡ true → (later : Bool) → meeting left.now right.now later ≡ Ok (record { left = Some left.now; right = Some right.now }) }
+{
+    match (left, right) {
+        (Instr::AddInteger(_), Instr::AddInteger(_)) => true,
+        (Instr::SetInsert(_), Instr::SetInsert(_)) => true,
+        (Instr::SetErase(_), Instr::SetErase(_)) => true,
+        _ => stay_apart(left, right),
+    }
+}
+
 /// Whether two instructions are about two cells or two objects, or one is about an object and the other about a table.
 fn stay_apart(left: &Instr, right: &Instr) -> bool
     ensures { result ≡ true → (later : Bool) → meeting left.now right.now later ≡ Ok (record { left = Some left.now; right = Some right.now }) }
@@ -61,27 +74,6 @@ fn stay_apart(left: &Instr, right: &Instr) -> bool
     match (cell_of(left), cell_of(right)) {
         (Some(cell), Some(other)) => !same_cell(cell, other),
         _ => are_apart(left, right),
-    }
-}
-
-/// The cell that an instruction changes; none for one of an object or of the schema.
-fn cell_of(instr: &Instr) -> Option<&CellName>
-    ensures { option_map {U = CellPath} (λ cell. path_of cell.now) result ≡ cell_in (effect_of instr.now) }
-{
-    match instr {
-        Instr::AddTable(_) => None,
-        Instr::AddColumn(_) => None,
-        Instr::CreateObject(_) => None,
-        Instr::EraseObject(_) => None,
-        Instr::Update(update) => Some(&update.cell),
-        Instr::AddInteger(add) => Some(&add.cell),
-        Instr::ListUpdate(update) => Some(&update.cell),
-        Instr::ListInsert(insert) => Some(&insert.cell),
-        Instr::ListErase(erase) => Some(&erase.cell),
-        Instr::SetInsert(insert) => Some(&insert.cell),
-        Instr::SetErase(erase) => Some(&erase.cell),
-        Instr::DictUpdate(update) => Some(&update.cell),
-        Instr::Clear(clear) => Some(&clear.cell),
     }
 }
 

@@ -8,6 +8,7 @@ mod sets;
 use super::*;
 use make::{Make, list};
 use std::alloc::Global;
+use std::process::Abort;
 use std::test::Fail;
 use sync_base::Instr;
 
@@ -33,4 +34,45 @@ fn crosses(
         Ok((left, right)) => Ok(are_same(&left, &want_left) & are_same(&right, &want_right)),
         Err(_) => Ok(false),
     }
+}
+
+/// Two lists.
+type Pair = (&'static [Make], &'static [Make]);
+
+/// What is left of two lists that cross.
+#[derive(Clone, Copy)]
+enum Rest {
+    /// Both lists: nothing of them meets.
+    All,
+    /// In either order of their stamps.
+    Same(Pair),
+    /// Where the left one is later, and where it is earlier.
+    ByStamp(Pair, Pair),
+}
+
+use Rest::{All, ByStamp, Same};
+
+/// Two lists that cross, and what is left of them.
+type Row = (&'static [Make], &'static [Make], Rest);
+
+/// The row holds for both orders of stamps, and with the sides turned.
+fn holds(alloc: Global, row: Row) -> Result<bool, Fail> {
+    let (left, right, rest) = row;
+    let (later, earlier) = match rest {
+        All => ((left, right), (left, right)),
+        Same(rest) => (rest, rest),
+        ByStamp(later, earlier) => (later, earlier),
+    };
+    let is_later = crosses(alloc, true, left, right, later.0, later.1)?;
+    let is_earlier = crosses(alloc, false, left, right, earlier.0, earlier.1)?;
+    let is_later_turned = crosses(alloc, false, right, left, later.1, later.0)?;
+    let is_earlier_turned = crosses(alloc, true, right, left, earlier.1, earlier.0)?;
+    Ok(is_later & is_earlier & is_later_turned & is_earlier_turned)
+}
+
+fn hold(rt: &impl Abort, alloc: Global, rows: &[Row]) -> Result<(), Fail> {
+    for (place, row) in rows.iter().enumerate() {
+        assert!(rt; holds(alloc, *row)?, "row {place}");
+    }
+    Ok(())
 }

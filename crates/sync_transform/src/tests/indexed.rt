@@ -44,24 +44,20 @@ fn is_alike(alloc: Global, left: &[Make], right: &[Make]) -> Result<bool, Fail> 
     Ok(are_alike(by_index(alloc, left, right)?, by_all(alloc, left, right)?))
 }
 
+const LISTS: [(&[Make], &[Make]); 3] = [
+    (&[Create(2), IntColumn], &[Create(1), Set(1)]),
+    (
+        &[Create(2), Insert(0, 1, 1), Erase(1)],
+        &[Remove(0, 1), Erase(2)],
+    ),
+    (&[Create(1), IntColumn, Set(1)], &[Erase(1), TextColumn]),
+];
+
 #[test]
 fn an_index_changes_no_answer(rt: HostRuntime) -> Result<(), Fail> {
-    let alloc = rt.alloc();
-    assert!(rt; is_alike(alloc, &[Create(2), IntColumn], &[Create(1), Set(1)])?);
-    assert!(rt;
-        is_alike(
-            alloc,
-            &[Create(2), Insert(0, 1, 1), Erase(1)],
-            &[Remove(0, 1), Erase(2)]
-        )?
-    );
-    assert!(rt;
-        is_alike(
-            alloc,
-            &[Create(1), IntColumn, Set(1)],
-            &[Erase(1), TextColumn]
-        )?
-    );
+    for (left, right) in LISTS {
+        assert!(rt; is_alike(rt.alloc(), left, right)?);
+    }
     Ok(())
 }
 

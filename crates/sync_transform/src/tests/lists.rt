@@ -2,16 +2,18 @@ use super::*;
 use Make::*;
 use sync_base::Mismatch;
 
+const INSERTIONS: [Row; 1] = [(
+    &[Insert(0, 0, 1), Insert(1, 1, 2)],
+    &[Insert(0, 0, 3)],
+    ByStamp(
+        (&[Insert(1, 1, 1), Insert(2, 2, 2)], &[Insert(0, 2, 3)]),
+        (&[Insert(0, 1, 1), Insert(1, 2, 2)], &[Insert(2, 2, 3)]),
+    ),
+)];
+
 #[test]
 fn insertions_stand_in_the_order_of_stamps(rt: HostRuntime) -> Result<(), Fail> {
-    let alloc = rt.alloc();
-    let left = [Insert(0, 0, 1), Insert(1, 1, 2)];
-    let right = [Insert(0, 0, 3)];
-    let behind = [Insert(1, 1, 1), Insert(2, 2, 2)];
-    assert!(rt; crosses(alloc, true, &left, &right, &behind, &[Insert(0, 2, 3)])?);
-    let in_front = [Insert(0, 1, 1), Insert(1, 2, 2)];
-    assert!(rt; crosses(alloc, false, &left, &right, &in_front, &[Insert(2, 2, 3)])?);
-    Ok(())
+    hold(&rt, rt.alloc(), &INSERTIONS)
 }
 
 #[test]

@@ -23,11 +23,15 @@ fn left_stays(alloc: Global, left_ms: u64, right_ms: u64, ident: u32) -> Result<
 
 #[test]
 fn the_later_stamp_counts(rt: HostRuntime) -> Result<(), Fail> {
-    let alloc = rt.alloc();
-    assert!(rt; left_stays(alloc, 9, 8, 1)?);
-    assert!(rt; !left_stays(alloc, 8, 9, 3)?);
-    assert!(rt; !left_stays(alloc, 9, 9, 1)?);
-    assert!(rt; left_stays(alloc, 9, 9, 3)?);
+    for (left_ms, right_ms, ident, stays) in [
+        (9, 8, 1, true),
+        (8, 9, 3, false),
+        (9, 9, 1, false),
+        (9, 9, 3, true),
+    ] {
+        let found = left_stays(rt.alloc(), left_ms, right_ms, ident)?;
+        assert_eq!(rt; found, stays);
+    }
     Ok(())
 }
 

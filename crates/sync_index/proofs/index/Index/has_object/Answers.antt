@@ -1,14 +1,10 @@
-use Rattle.std.proofs.Common.{sym, ◌∙◌, ap, false}
-use Rattle.std.specs.FinSet as set
-use Rattle.std.specs.Option.{option_map_or}
-use Rattle.sync_base.specs.Lemmas.Looks.{name_total}
-use Rattle.sync_maps.specs.Seen.{seen_at}
+use Rattle.std.proofs.Common.{sym, ◌∙◌, ap}
+use Rattle.sync_index.specs.Touched.{has_object}
+use Rattle.sync_index.proofs.Filtered.{absent}
 use Rattle.sync_index.proofs.index.Index.has_object.Goals as goal
 
-pub returns-in-None : goal.returns-in-None
-returns-in-None c = sym (ap (λ k. option_map_or (λ keys. set.contains keys c.args.key.now) k false) (seen_at name_total c.self.inside.objects c.args.table.now (ap (λ t. t.objects) c.self.view_is) c.in-None.ensures.value))
-
-pub returns-in-Some : goal.returns-in-Some
-returns-in-Some c =
-    c.contains.ensures
-    ∙ sym (ap (λ k. option_map_or (λ keys. set.contains keys c.args.key.now) k false) (seen_at name_total c.self.inside.objects c.args.table.now (ap (λ t. t.objects) c.self.view_is) c.in-Some.ensures.value))
+pub returns-else-may_hold : goal.returns-else-may_hold
+returns-else-may_hold c =
+    c.if-may_hold.false
+    ∙ sym (absent c.self.inside.filter c.self.inside.objects (c.args.table.now, c.args.key.now) c.self.invariant (sym c.may_hold.ensures ∙ c.if-may_hold.false))
+    ∙ ap (λ t. has_object t (c.args.table.now, c.args.key.now)) c.self.view_is

@@ -2,7 +2,11 @@ use Rattle.std.proofs.Common.{◌∙◌, ap, sym, arith}
 use Rattle.std.proofs.lemmas.List.{at_drop_all}
 use Rattle.sync_index.specs.Touched.{has_object}
 use Rattle.sync_index.proofs.Indexed.{indexed, of_objects, of_schema, covers}
+use Rattle.sync_index.proofs.Filtered.{passes_none}
 use Rattle.sync_index.proofs.index.Index.of.Goals as goal
+
+pub invariant_of-index : goal.invariant_of-index
+invariant_of-index c = passes_none c.new.result c.new-2.result c.new-2.ensures
 
 pub returns-clause-objects : goal.returns-clause-objects
 returns-clause-objects c = λ o.

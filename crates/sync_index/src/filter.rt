@@ -1,0 +1,68 @@
+ghost use Rattle.std.specs.Prelude.{◌≡◌, ℕ, ◌||◌, ◌==◌, false};
+ghost use Rattle.sync_data.specs.declared.key.Key.{Key};
+ghost use Rattle.sync_index.specs.Filters.{last_byte, spot_of, may_hold};
+
+use std::marker::Model;
+use sync_base::Key;
+
+/// One mark for each byte. It tells of most keys that aren't in a set that they aren't: where the spot of a key isn't
+/// marked, no key of the set has that spot.
+#[derive(Drop)]
+pub(crate) struct Filter {
+    marks: [bool; 256],
+}
+
+impl Model for Filter {
+    ghost use Rattle.std.specs.Prelude.{Bool, List};
+
+    ghost Value = { List Bool };
+
+    ghost view = { λ a. a.marks };
+}
+
+impl Filter {
+    /// Nothing is marked.
+    pub(crate) fn new() -> Filter
+        ensures { (key : Key) → may_hold result key ≡ false }
+    {
+        Filter {
+            marks: [false; 256],
+        }
+    }
+
+    /// Whether the key's spot is marked.
+    #[inline(always)]
+    pub(crate) fn may_hold(&self, key: &Key) -> bool
+        ensures { result ≡ may_hold self.now key.now }
+    {
+        self.marks[spot_of(key) as usize]
+    }
+
+    /// Marks the key's spot.
+    pub(crate) fn mark(&mut self, key: &Key)
+        ensures { (other : Key) → may_hold self.new other ≡ ((spot_of other == spot_of key.now) || may_hold self.old other) }
+    {
+        self.marks[spot_of(key) as usize] = true;
+    }
+}
+
+/// The spot of a key: the last byte of a number, a text or a uuid.
+#[inline(always)]
+fn spot_of(key: &Key) -> u8
+    ensures { result ≡ spot_of key.now }
+{
+    match key {
+        Key::Int(number) => (number.cast_unsigned() % 256) as u8,
+        Key::Text(text) => last_byte(text.text().as_bytes()),
+        Key::Uuid(id) => id[15],
+    }
+}
+
+fn last_byte(bytes: &[u8]) -> u8
+    ensures { result ≡ last_byte bytes.now }
+{
+    match bytes.last() {
+        Some(byte) => *byte,
+        None => 0,
+    }
+}
