@@ -2,7 +2,7 @@
 use Rattle.std.proofs.Common.{◌≡◌, ◌≢◌, ℕ, zero, suc, ◌+◌, ◌<◌, List, [], ◌∷◌, ◌++◌, Option, Result, Ok, length, map, take, drop, get_or, sym, ap, ◌∙◌, All, arith}
 use Rattle.std.proofs.lemmas.List.{drop_more, drop-map, take-map, map_more, length-map, length-take-le}
 use Rattle.std.proofs.lemmas.List.Elements.{All-head, All-tail}
-use Rattle.sync_data.specs.Payload.{Changes}
+use Rattle.sync_data.specs.declared.entry.Entry.{Entry}
 use Rattle.sync_data.specs.declared.instr.Instr.{Instr}
 use Rattle.sync_base.specs.declared.answers.Mismatch.{Mismatch}
 use Rattle.sync_theory.specs.Changesets.{Changeset, cross_sets}
@@ -38,7 +38,7 @@ module _ (ks : List Kept) (n : ℕ) (k : Kept) (within : n < length ks) (here : 
 
   module _ (whole : Result (Changeset Instr × List (Changeset Instr)) (ℕ × ℕ × Mismatch)) (cs : List Crossed) (x : Changeset Instr)
       (so_far : whole ≡ carry_after (crossed_entries cs (take n (map kept_entry ks))) (carry (cross_sets meet) x (drop n (map kept_entry ks)))) where
-    pub turn : (ds : List Crossed) (o : Option Changes) (y : Changeset Instr) → AllWithin n cs → ds ≡ cs ++ noted n o → cross_sets meet x (kept_entry k) ≡ Ok (y, crossed_entry o (kept_entry k))
+    pub turn : (ds : List Crossed) (o : Option Entry) (y : Changeset Instr) → AllWithin n cs → ds ≡ cs ++ noted n o → cross_sets meet x (kept_entry k) ≡ Ok (y, crossed_entry o (kept_entry k))
         → whole ≡ carry_after (crossed_entries ds (take (n + 1) (map kept_entry ks))) (carry (cross_sets meet) y (drop (n + 1) (map kept_entry ks)))
     turn ds o y inside is m =
         so_far ∙ ap (λ l. carry_after (crossed_entries cs (take n (map kept_entry ks))) (carry (cross_sets meet) x l)) opened

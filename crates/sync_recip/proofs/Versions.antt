@@ -7,7 +7,7 @@ use Rattle.std.proofs.Math.ListN.{drop_of_length-le}
 use Rattle.std.specs.Vec.{with_items}
 use borrow.Rule.Slice.PartMut.{put_mid}
 use Rattle.std.proofs.lemmas.List.Elements.{All-nil, All-cons, All-head, All-tail, All-push}
-use Rattle.sync_data.specs.Payload.{Changes}
+use Rattle.sync_data.specs.declared.entry.Entry.{Entry}
 use Rattle.sync_theory.specs.Grid.{tail}
 use Rattle.sync_theory.specs.Reciprocals.{from_base, put_first, settle}
 use Rattle.sync_theory.proofs.World.{put_if, put_unless}
@@ -92,19 +92,19 @@ all_from_base P b (q ∷ qs) a =
       | false ↦ All-cons P q.1 (from_base b qs) (All-head (λ q. P q.1) q qs a) rest
     ]
 
--- ---- one entry with what is left of it
-abbrev left_of : Kept → Changes → Kept
-left_of k c = record { version = k.version; item = record { origin = k.item.origin; number = k.item.number; changes = c } }
+-- ---- one entry in place of another
+abbrev put_entry : Kept → Entry → Kept
+put_entry k x = record { version = k.version; item = x }
 
-pub entries_set : (ks : List Kept) (n : ℕ) (d : Kept) (c : Changes) → n < length ks → map kept_entry (set ks n (left_of (get_or ks n d) c)) ≡ with_crossed n c (map kept_entry ks)
-entries_set [] n d c h = absurd (omega arith)
-entries_set (k ∷ ks) zero d c h = refl
-entries_set (k ∷ ks) (suc n) d c h = ap (λ l. kept_entry k ∷ l) (entries_set ks n d c (omega arith))
+pub entries_set : (ks : List Kept) (n : ℕ) (d : Kept) (x : Entry) → n < length ks → map kept_entry (set ks n (put_entry (get_or ks n d) x)) ≡ with_crossed n x (map kept_entry ks)
+entries_set [] n d x h = absurd (omega arith)
+entries_set (k ∷ ks) zero d x h = refl
+entries_set (k ∷ ks) (suc n) d x h = ap (λ l. kept_entry k ∷ l) (entries_set ks n d x (omega arith))
 
-pub versions_set : (ks : List Kept) (n : ℕ) (d : Kept) (c : Changes) → n < length ks → versions (set ks n (left_of (get_or ks n d) c)) ≡ versions ks
-versions_set [] n d c h = absurd (omega arith)
-versions_set (k ∷ ks) zero d c h = refl
-versions_set (k ∷ ks) (suc n) d c h = ap (λ l. k.version ∷ l) (versions_set ks n d c (omega arith))
+pub versions_set : (ks : List Kept) (n : ℕ) (d : Kept) (x : Entry) → n < length ks → versions (set ks n (put_entry (get_or ks n d) x)) ≡ versions ks
+versions_set [] n d x h = absurd (omega arith)
+versions_set (k ∷ ks) zero d x h = refl
+versions_set (k ∷ ks) (suc n) d x h = ap (λ l. k.version ∷ l) (versions_set ks n d x (omega arith))
 
 -- ---- a list that is settled
 module _ (b : ℕ) (ks : List Kept) (n : ℕ) (below : All (λ k. k.version < b) (take n ks)) (above : All (λ k. b ≤ k.version) (drop n ks)) where

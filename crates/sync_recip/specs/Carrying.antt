@@ -1,11 +1,12 @@
 -- A change that was carried over entries, and these as it crossed them.
 use Rattle.std.specs.Prelude.{◌≡◌, ℕ, zero, suc, ◌<◌, List, [], ◌∷◌, Option, None, Some, Result, Err, length}
 use Rattle.sync_data.specs.Payload.{Changes}
+use Rattle.sync_data.specs.declared.entry.Entry.{Entry}
 use Rattle.sync_data.specs.declared.instr.Instr.{Instr}
 use Rattle.sync_base.specs.declared.answers.Mismatch.{Mismatch}
 use Rattle.sync_theory.specs.Changesets.{Changeset}
 use Rattle.sync_theory.specs.Reciprocals.{from_base}
-use Rattle.sync_transform.specs.Sets.{made_by}
+use Rattle.sync_recip.specs.Lists.{entry_of}
 use Rattle.sync_recip.specs.declared.carried.Crossed.{Crossed}
 use Rattle.sync_recip.specs.declared.refusal.RecipRefusal.{RecipRefusal}
 use Rattle.sync_recip.specs.declared.refusal.RecipRefusal.TheVariants as refusals
@@ -18,21 +19,21 @@ pub record Carrying : Type 0 where
 
 -- ---- the entries as crossed
 
--- an entry with what is left of it, or as it was
-abbrev pub crossed_entry : Option Changes → Changeset Instr → Changeset Instr
+-- an entry as what it became, or as it was
+abbrev pub crossed_entry : Option Entry → Changeset Instr → Changeset Instr
 crossed_entry None e = e
-crossed_entry (Some c) e = made_by e.origin e.number c
+crossed_entry (Some x) e = entry_of x
 
--- entries of which that at a place has this left
-abbrev pub with_crossed : ℕ → Changes → List (Changeset Instr) → List (Changeset Instr)
-with_crossed place c [] = []
-with_crossed zero c (e ∷ es) = crossed_entry (Some c) e ∷ es
-with_crossed (suc place) c (e ∷ es) = e ∷ with_crossed place c es
+-- entries of which that at a place became this
+abbrev pub with_crossed : ℕ → Entry → List (Changeset Instr) → List (Changeset Instr)
+with_crossed place x [] = []
+with_crossed zero x (e ∷ es) = crossed_entry (Some x) e ∷ es
+with_crossed (suc place) x (e ∷ es) = e ∷ with_crossed place x es
 
--- entries of which those that changed have what is left of them
+-- entries of which those that changed are what they became
 abbrev pub crossed_entries : List Crossed → List (Changeset Instr) → List (Changeset Instr)
 crossed_entries [] es = es
-crossed_entries (c ∷ cs) es = with_crossed c.place c.changes (crossed_entries cs es)
+crossed_entries (c ∷ cs) es = with_crossed c.place c.entry (crossed_entries cs es)
 
 -- each of them has a place below this
 abbrev pub AllWithin : ℕ → List Crossed → Type 0
@@ -40,9 +41,9 @@ AllWithin n [] = Unit {0}
 AllWithin n (c ∷ cs) = (c.place < n) × AllWithin n cs
 
 -- what is noted of an entry at a place: nothing where it stays
-abbrev pub noted : ℕ → Option Changes → List Crossed
+abbrev pub noted : ℕ → Option Entry → List Crossed
 noted place None = []
-noted place (Some c) = record { place = place; changes = c } ∷ []
+noted place (Some x) = record { place = place; entry = x } ∷ []
 
 -- ---- of a list
 

@@ -3,14 +3,15 @@ ghost use Rattle.sync_recip.specs.Lists.{versions, kept_entry};
 ghost use Rattle.sync_recip.specs.Carrying.{AllWithin, crossed_entries, with_crossed};
 
 use super::kept::Kept;
+use super::shared::SharedEntry;
 use std::marker::Model;
 use sync_base::Changeset;
 
-/// An entry that changed as a change crossed it: its place among the entries from the base on, and what is left of it.
+/// An entry that changed as a change crossed it: its place among the entries from the base on, and what it became.
 #[derive(Drop)]
 pub(crate) struct Crossed {
     pub(crate) place: usize,
-    pub(crate) changes: Changeset,
+    pub(crate) entry: SharedEntry,
 }
 
 /// A change as carried over the entries of a reciprocal list from a base on, and the entries that changed as it crossed
@@ -54,8 +55,8 @@ pub(crate) fn put_crossed(kept: &mut [Kept], crossed: Vec<Crossed>)
 fn put_one(kept: &mut [Kept], crossed: Crossed)
     requires { crossed.place < length kept.old }
     ensures versions { versions kept.new ≡ versions kept.old }
-    ensures entries { map kept_entry kept.new ≡ with_crossed crossed.place crossed.changes (map kept_entry kept.old) }
+    ensures entries { map kept_entry kept.new ≡ with_crossed crossed.place crossed.entry (map kept_entry kept.old) }
 {
-    let Crossed { place, changes } = crossed;
-    kept[place].item.changes = changes;
+    let Crossed { place, entry } = crossed;
+    kept[place].item = entry;
 }

@@ -10,6 +10,7 @@ ghost use Rattle.sync_recip.specs.Carrying.{AllWithin, crossed_entry, crossed_en
 use super::carried::{Carried, Crossed};
 use super::kept::Kept;
 use super::refusal::RecipRefusal;
+use super::shared::SharedEntry;
 use std::alloc::Global;
 use sync_base::{Changeset, Entry, Ident, NoMemory};
 use sync_index::Index;
@@ -35,11 +36,11 @@ pub(crate) fn carry_over(
     let mut left = changes;
     let mut crossed = Vec::new(alloc);
     for (place, one) in kept.iter().enumerate() {
-        match cross_one(left, own, &one.item, index) {
+        match cross_one(alloc, left, own, one.item.entry(), index) {
             Err(refusal) => return Err(refusal),
-            Ok((next, right)) => {
+            Ok((next, entry)) => {
                 left = next;
-                let Ok(()) = note(&mut crossed, place, right) else {
+                let Ok(()) = note(&mut crossed, place, entry) else {
                     return Err(RecipRefusal::NoMemory);
                 };
             }
@@ -52,13 +53,14 @@ pub(crate) fn carry_over(
     })
 }
 
-/// What is left of a change as it crosses an entry of another, and what is left of the entry where it may have changed.
+/// What is left of a change as it crosses an entry of another, and what the entry became where it may have changed.
 fn cross_one(
+    alloc: Global,
     changes: Changeset,
     own: Ident,
     entry: &Entry,
     index: &Index,
-) -> Result<(Changeset, Option<Changeset>), RecipRefusal>
+) -> Result<(Changeset, Option<SharedEntry>), RecipRefusal>
     requires other { entry.now.origin ≢ own }
     requires indexed { Covers index.now changes.instrs }
     ensures ok { IfOk result (λ p. (number : ℕ) → crossed_sets meet (made_by own number changes) (entry_of entry.now) ≡ Ok (made_by own number p.0, crossed_entry p.1 (entry_of entry.now))) }
@@ -77,21 +79,36 @@ fn cross_one(
             place: stop.left_place,
             kind: stop.kind,
         }),
-        Ok((left, right)) => Ok((left, Some(right))),
+        Ok((left, right)) => match with_changes(alloc, entry, right) {
+            Ok(crossed) => Ok((left, Some(crossed))),
+            Err(NoMemory) => Err(RecipRefusal::NoMemory),
+        },
     }
 }
 
-/// Notes what is left of the entry at a place, where it may have changed.
+/// The entry of the same number with other changes.
+fn with_changes(alloc: Global, entry: &Entry, changes: Changeset) -> Result<SharedEntry, NoMemory>
+    ensures { IfOk result (λ made. entry_of made ≡ made_by entry.now.origin entry.now.number changes) }
+{
+    let changed = Entry {
+        origin: entry.origin,
+        number: entry.number,
+        changes,
+    };
+    SharedEntry::new(alloc, changed)
+}
+
+/// Notes what the entry at a place became, where it may have changed.
 fn note(
     crossed: &mut Vec<Crossed>,
     place: usize,
-    changes: Option<Changeset>,
+    entry: Option<SharedEntry>,
 ) -> Result<(), NoMemory>
-    ensures { OnOk result (crossed.new.items ≡ crossed.old.items ++ noted place changes) }
+    ensures { OnOk result (crossed.new.items ≡ crossed.old.items ++ noted place entry) }
 {
-    match changes {
+    match entry {
         None => Ok(()),
-        Some(changes) => keep(crossed, Crossed { place, changes }),
+        Some(entry) => keep(crossed, Crossed { place, entry }),
     }
 }
 

@@ -2,13 +2,13 @@ ghost use Rattle.std.specs.Prelude.{◌≡◌, ◌≤◌, ◌<◌, length, take,
 ghost use Rattle.sync_theory.specs.Reciprocals.{from_base};
 ghost use Rattle.sync_recip.specs.Lists.{versions, pair_of, kept_entry, IsRising};
 
-use sync_base::Entry;
+use super::shared::SharedEntry;
 
-/// An entry and its version.
+/// A shared entry and its version.
 #[derive(Drop)]
 pub(crate) struct Kept {
     pub(crate) version: u32,
-    pub(crate) item: Entry,
+    pub(crate) item: SharedEntry,
 }
 
 /// How many have a version below the base.

@@ -7,9 +7,11 @@ mod carry;
 mod kept;
 mod recip;
 mod refusal;
+mod shared;
 #[cfg(test)]
 mod tests;
 
 pub use carried::Carried;
 pub use recip::Recip;
 pub use refusal::RecipRefusal;
+pub use shared::SharedEntry;

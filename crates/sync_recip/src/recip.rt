@@ -13,6 +13,7 @@ use super::carried::{Carried, put_crossed};
 use super::carry::{carry_over, keep};
 use super::kept::{Kept, count_below, kept_from};
 use super::refusal::RecipRefusal;
+use super::shared::SharedEntry;
 use std::alloc::Global;
 use std::marker::Model;
 use sync_base::{Changeset, Entry, Ident, NoMemory};
@@ -21,6 +22,7 @@ use sync_index::Index;
 /// The entries of others with their versions, which rise, as one client's changes crossed them.
 #[derive(Drop)]
 pub struct Recip {
+    alloc: Global,
     kept: Vec<Kept>,
 }
 
@@ -43,6 +45,7 @@ impl Recip {
         ensures { result ≡ [] }
     {
         Recip {
+            alloc,
             kept: Vec::new(alloc),
         }
     }
@@ -59,7 +62,7 @@ impl Recip {
         ensures { option_map {U = ℕ × Changes Instr} (λ p. (p.0, entry_of p.1.now)) result ≡ slice_get self.now place }
     {
         match self.kept.as_slice().get(place) {
-            Some(kept) => Some((kept.version, &kept.item)),
+            Some(kept) => Some((kept.version, kept.item.entry())),
             None => None,
         }
     }
@@ -70,11 +73,30 @@ impl Recip {
         ensures ok { OnOk result (self.new ≡ self.old ++ (version, entry_of entry) ∷ []) }
         ensures unchanged { OnErr result (self.new ≡ self.old) }
     {
-        let added = Kept {
-            version,
-            item: entry,
-        };
-        keep(&mut self.kept, added)
+        match SharedEntry::new(self.alloc, entry) {
+            Ok(item) => self.add(version, item),
+            Err(NoMemory) => Err(NoMemory),
+        }
+    }
+
+    /// Adds an entry that others hold too, and copies nothing. Its version is above all others.
+    pub fn push_shared(&mut self, version: u32, entry: &SharedEntry) -> Result<(), NoMemory>
+        requires { All (λ pair. pair.0 < version) self.old }
+        ensures ok { OnOk result (self.new ≡ self.old ++ (version, entry_of entry.now) ∷ []) }
+        ensures unchanged { OnErr result (self.new ≡ self.old) }
+    {
+        match entry.share() {
+            Ok(item) => self.add(version, item),
+            Err(NoMemory) => Err(NoMemory),
+        }
+    }
+
+    fn add(&mut self, version: u32, item: SharedEntry) -> Result<(), NoMemory>
+        requires { All (λ pair. pair.0 < version) self.old }
+        ensures ok { OnOk result (self.new ≡ self.old ++ (version, entry_of item) ∷ []) }
+        ensures unchanged { OnErr result (self.new ≡ self.old) }
+    {
+        keep(&mut self.kept, Kept { version, item })
     }
 
     /// A change that the client made at a base, as carried over the entries from the base on, and these as it crossed them.

@@ -154,3 +154,28 @@ fn a_mismatch_has_its_place_in_what_is_left(rt: HostRuntime) -> Result<(), Fail>
     assert!(rt; kept.carry(alloc, 1, 0, made).err() == Some(want));
     Ok(())
 }
+
+/// A list of one entry, which others hold too.
+fn sharing(shared: &SharedEntry, alloc: Global) -> Result<Recip, Fail>
+    requires { shared.now.origin ≡ 2 }
+    ensures { IfOk result (λ made. All (λ pair. pair.1.origin ≢ 1) made) }
+{
+    let mut made = Recip::new(alloc);
+    made.push_shared(0, shared)?;
+    Ok(made)
+}
+
+#[test]
+fn a_shared_entry_stays_in_the_other_lists(rt: HostRuntime) -> Result<(), Fail> {
+    let alloc = rt.alloc();
+    let shared = SharedEntry::new(alloc, entry(alloc, 1, &[Make::Set(1, 10)])?)?;
+    let mut crossed = sharing(&shared, alloc)?;
+    let other = sharing(&shared, alloc)?;
+    let made = changes(alloc, 5, &[Make::Set(1, 7)])?;
+    let carried = crossed.carry(alloc, 1, 0, made)?;
+    let change = crossed.settle(carried);
+    assert!(rt; are_same(change.instrs(), &list(alloc, &[Make::Set(1, 7)])?));
+    assert!(rt; holds(alloc, &crossed, 0, &[])?);
+    assert!(rt; holds(alloc, &other, 0, &[Make::Set(1, 10)])?);
+    Ok(())
+}

@@ -17,6 +17,7 @@ use std::alloc::Global;
 use sync_base::{Blob, Entry, Ident, NoMemory};
 use sync_codec::encode;
 use sync_messages::{Download, Message, Sent};
+use sync_recip::SharedEntry;
 
 /// The most entries of a Download, and the most bytes that they have together.
 const MOST_LISTED: usize = 4_096;
@@ -63,7 +64,7 @@ fn next_sent(
 }
 
 /// The longest beginning of the entries that a Download may bear.
-fn sent_entries(alloc: Global, entries: &[Entry], second: bool) -> Result<Vec<Sent>, NoMemory>
+fn sent_entries(alloc: Global, entries: &[SharedEntry], second: bool) -> Result<Vec<Sent>, NoMemory>
     requires { (given : ℕ) × All (λ e. IsEntry given (entry_of e)) entries.now }
     ensures sent { IfOk result (λ sent. map sent_seen sent.items ≡ sendable second (map entry_of entries.now)) }
     ensures few { IfOk result (λ sent. length sent.items ≤ most_listed) }
@@ -72,11 +73,11 @@ fn sent_entries(alloc: Global, entries: &[Entry], second: bool) -> Result<Vec<Se
 {
     let mut sent = Vec::new(alloc);
     let mut room = MOST_BYTES;
-    for entry in entries {
+    for shared in entries {
         if sent.len() == MOST_LISTED {
             return Ok(sent);
         }
-        match next_sent(alloc, entry, room, second) {
+        match next_sent(alloc, shared.entry(), room, second) {
             Ok(Some(next)) => {
                 room -= next.body().len();
                 match keep(&mut sent, next) {
@@ -92,12 +93,12 @@ fn sent_entries(alloc: Global, entries: &[Entry], second: bool) -> Result<Vec<Se
 }
 
 /// Whether the first of the entries is of version 2.
-fn starts_second(entries: &[Entry]) -> bool
+fn starts_second(entries: &[SharedEntry]) -> bool
     ensures { result ≡ sending.starts_second (map entry_of entries.now) }
 {
     match entries {
         [] => false,
-        [first, ..] => needs_second(first.changes.instrs()),
+        [first, ..] => needs_second(first.entry().changes.instrs()),
     }
 }
 

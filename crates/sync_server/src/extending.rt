@@ -1,21 +1,21 @@
-ghost use Rattle.std.specs.Prelude.{◌≡◌, ◌<◌, ◌≤◌, ◌++◌, ◌∷◌, [], ℕ, length, map, All, IfOk, OnOk, OnErr};
+ghost use Rattle.std.specs.Prelude.{◌≡◌, ◌<◌, ◌≤◌, ℕ, length, map, All, IfOk, OnOk, OnErr};
 ghost use Rattle.sync_recip.specs.Lists.{entry_of};
-ghost use Rattle.sync_model.specs.Parts.{extended, with_versions};
+ghost use Rattle.sync_model.specs.Parts.{with_versions};
 ghost use Rattle.sync_server.specs.Extending.{first_extended};
 
 use crate::given::Given;
 use std::alloc::Global;
-use sync_base::{Entry, NoMemory};
-use sync_recip::Recip;
+use sync_base::NoMemory;
+use sync_recip::{Recip, SharedEntry};
 
-/// All entries with their versions.
-pub(crate) fn with_versions(alloc: Global, entries: &[Entry]) -> Result<Recip, NoMemory>
+/// All entries with their versions. They are shared and not copied.
+pub(crate) fn with_versions(alloc: Global, entries: &[SharedEntry]) -> Result<Recip, NoMemory>
     requires { length entries.now ≤ 4294967295 }
     ensures { IfOk result (λ made. made ≡ with_versions 0 (map entry_of entries.now)) }
 {
     let mut made = Recip::new(alloc);
     for (version, entry) in entries.iter().enumerate() {
-        match push_copy(&mut made, version as u32, entry) {
+        match made.push_shared(version as u32, entry) {
             Ok(()) => {}
             Err(NoMemory) => return Err(NoMemory),
         }
@@ -23,33 +23,12 @@ pub(crate) fn with_versions(alloc: Global, entries: &[Entry]) -> Result<Recip, N
     Ok(made)
 }
 
-fn push_copy(list: &mut Recip, version: u32, entry: &Entry) -> Result<(), NoMemory>
-    requires { All (λ pair. pair.0 < version) list.old }
-    ensures { OnOk result (list.new ≡ list.old ++ (version, entry_of entry.now) ∷ []) }
-{
-    match entry.copy() {
-        Ok(copy) => list.push(version, copy),
-        Err(NoMemory) => Err(NoMemory),
-    }
-}
-
-fn extend_one(given: &mut Given, version: u32, entry: &Entry) -> Result<(), NoMemory>
-    requires { All (λ pair. pair.0 < version) given.old.reciprocal }
-    ensures ok { OnOk result (given.new ≡ extended version (entry_of entry.now) given.old) }
-    ensures unchanged { OnErr result (given.new ≡ given.old) }
-{
-    match entry.copy() {
-        Ok(copy) => given.extend(version, copy),
-        Err(NoMemory) => Err(NoMemory),
-    }
-}
-
-/// Gives a new entry to all but its own ident, whose place is told, or to the first of them.
+/// Shares a new entry with all but its own ident, whose place is told, or to the first of them.
 pub(crate) fn extend_others(
     idents: &mut [Given],
     own: usize,
     version: u32,
-    entry: &Entry,
+    entry: &SharedEntry,
 ) -> Result<(), NoMemory>
     requires { All (λ g. All (λ pair. pair.0 < version) g.reciprocal) idents.old }
     ensures ok { OnOk result (idents.new ≡ first_extended (length idents.old) own version (entry_of entry.now) 0 idents.old) }
@@ -57,7 +36,7 @@ pub(crate) fn extend_others(
 {
     for place in 0..idents.len() {
         if place != own {
-            match extend_one(&mut idents[place], version, entry) {
+            match idents[place].extend(version, entry) {
                 Ok(()) => {}
                 Err(NoMemory) => return Err(NoMemory),
             }

@@ -6,8 +6,8 @@ ghost use Rattle.sync_model.specs.Servers.{place_of};
 ghost use Rattle.sync_server.specs.Integrating.{found};
 
 use std::marker::Model;
-use sync_base::{Changeset, Entry, Id, Ident, NoMemory};
-use sync_recip::{Carried, Recip};
+use sync_base::{Changeset, Id, Ident, NoMemory};
+use sync_recip::{Carried, Recip, SharedEntry};
 
 /// What a server keeps of an ident: the client's uuid, how many of its changes are integrated, the base of the last
 /// one, and the entries of others as its changes crossed them.
@@ -82,13 +82,13 @@ impl Given {
         self.reciprocal.settle(carried)
     }
 
-    /// Keeps an entry of another, whose version is above all before.
-    pub(crate) fn extend(&mut self, version: u32, entry: Entry) -> Result<(), NoMemory>
+    /// Shares an entry of another, whose version is above all before.
+    pub(crate) fn extend(&mut self, version: u32, entry: &SharedEntry) -> Result<(), NoMemory>
         requires { All (λ pair. pair.0 < version) self.old.reciprocal }
-        ensures ok { OnOk result (self.new ≡ extended version (entry_of entry) self.old) }
+        ensures ok { OnOk result (self.new ≡ extended version (entry_of entry.now) self.old) }
         ensures unchanged { OnErr result (self.new ≡ self.old) }
     {
-        self.reciprocal.push(version, entry)
+        self.reciprocal.push_shared(version, entry)
     }
 }
 

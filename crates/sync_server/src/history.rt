@@ -1,4 +1,4 @@
-ghost use Rattle.std.specs.Prelude.{◌≡◌, ◌≤◌, ◌<◌, ◌++◌, ◌∷◌, [], ◌||◌, ℕ, suc, true, length, map, drop, slice_get, All, Some, None, IfSome, IfOk, OnOk};
+ghost use Rattle.std.specs.Prelude.{◌≡◌, ◌≤◌, ◌<◌, ◌++◌, ◌∷◌, [], ◌||◌, ℕ, suc, true, length, map, drop, slice_get, All, Some, None, IfSome, IfOk, OnOk, OnErr};
 ghost use Rattle.std.specs.Option.{option_copied, option_map};
 ghost use Rattle.sync_recip.specs.Lists.{entry_of};
 ghost use Rattle.sync_recip.specs.Carrying.{entries_of};
@@ -15,15 +15,16 @@ use crate::lists::keep;
 use std::alloc::Global;
 use std::marker::Model;
 use sync_base::{Entry, Id, Ident, NoMemory};
-use sync_recip::Carried;
+use sync_recip::{Carried, SharedEntry};
 
 /// The greatest length of a history, and the greatest ident.
 pub(crate) const LAST: u32 = 4_294_967_295;
 
-/// The history, whether the file is in form 2, and what is kept of each ident. The first ident is 1.
+/// The history, whether the file is in form 2, and what is kept of each ident. The first ident is 1. A reciprocal list
+/// shares the entries of the history, but for those that changed as they were crossed.
 #[derive(Drop)]
 pub(crate) struct History {
-    entries: Vec<Entry>,
+    entries: Vec<SharedEntry>,
     second: bool,
     idents: Vec<Given>,
 }
@@ -63,11 +64,14 @@ impl History {
     pub(crate) fn entry(&self, version: u32) -> Option<&Entry>
         ensures { option_map (λ e. entry_of e.now) result ≡ slice_get self.now.entries version }
     {
-        self.entries.as_slice().get(version as usize)
+        match self.entries.as_slice().get(version as usize) {
+            Some(shared) => Some(shared.entry()),
+            None => None,
+        }
     }
 
     /// The entries from a version on.
-    pub(crate) fn from(&self, version: u32) -> &[Entry]
+    pub(crate) fn from(&self, version: u32) -> &[SharedEntry]
         requires { version ≤ length self.now.entries }
         ensures entries { map entry_of result.now ≡ drop version self.now.entries }
         ensures each { All (λ e. IsEntry (length self.now.idents) (entry_of e)) result.now }
@@ -133,6 +137,7 @@ impl History {
     /// Takes the next change of an ident as integrated.
     pub(crate) fn integrate(
         &mut self,
+        alloc: Global,
         ident: Ident,
         number: u32,
         base: u32,
@@ -151,7 +156,7 @@ impl History {
             number,
             changes,
         };
-        match keep(&mut self.entries, entry) {
+        match keep_entry(&mut self.entries, alloc, entry) {
             Ok(()) => {}
             Err(NoMemory) => return Err(NoMemory),
         }
@@ -162,5 +167,16 @@ impl History {
             version as u32,
             &self.entries[version],
         )
+    }
+}
+
+/// Puts an entry at the end, for others to share.
+fn keep_entry(entries: &mut Vec<SharedEntry>, alloc: Global, entry: Entry) -> Result<(), NoMemory>
+    ensures ok { OnOk result (entries.new.items ≡ entries.old.items ++ entry ∷ []) }
+    ensures unchanged { OnErr result (entries.new.items ≡ entries.old.items) }
+{
+    match SharedEntry::new(alloc, entry) {
+        Ok(shared) => keep(entries, shared),
+        Err(NoMemory) => Err(NoMemory),
     }
 }

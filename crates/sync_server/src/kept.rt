@@ -85,10 +85,14 @@ impl Kept {
             Err(refusal) => return Err(refusal),
         }
         let form = second & !self.history.second();
-        match self
-            .history
-            .integrate(ident, change.number(), change.base(), second, carried)
-        {
+        match self.history.integrate(
+            alloc,
+            ident,
+            change.number(),
+            change.base(),
+            second,
+            carried,
+        ) {
             Ok(()) => Ok(form),
             Err(NoMemory) => Err(ChangeRefusal::NoMemory),
         }

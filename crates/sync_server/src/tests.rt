@@ -52,43 +52,63 @@ const UPLOAD: &[u8] = b"\x03\x01\x01\x01\0\x05\x08\x01\x01\x01t\x01\x01\0\0";
 
 const UPLOAD_OTHER: &[u8] = b"\x03\x02\x01\x01\0\x06\x08\x01\x01\x01u\x01\x01\0\x01";
 
-// A server with two clients, each of which has one entry.
-fn served(rt: &impl Abort, alloc: Global) -> Result<Server<MemoryDisk>, Fail> {
-    let mut server = open(alloc, MemoryDisk::new(alloc)?)?;
-    let table: [(&[u8], &[u8]); 4] = [
-        (BIND, GIVEN),
-        (BIND_OTHER, GIVEN_OTHER),
-        (UPLOAD, b"\x07\x01\x01"),
-        (UPLOAD_OTHER, b"\x07\x02\x01"),
-    ];
-    for (bytes, want) in table {
-        replies(rt, alloc, &mut server, bytes, want)?;
-    }
-    Ok(server)
-}
+// The two clients are given their idents, and each stores its entry.
+const FIRST: [(&[u8], &[u8]); 4] = [
+    (BIND, GIVEN),
+    (BIND_OTHER, GIVEN_OTHER),
+    (UPLOAD, b"\x07\x01\x01"),
+    (UPLOAD_OTHER, b"\x07\x02\x01"),
+];
 
-// What is said again, and what the clients ask for. None of it changes the server.
-fn says_again(rt: &impl Abort, alloc: Global, server: &mut Server<MemoryDisk>) -> Result<(), Fail> {
-    let table: [(&[u8], &[u8]); 8] = [
-        (BIND, GIVEN),
-        (BIND_OTHER, GIVEN_OTHER),
-        (UPLOAD, b"\x07\x01\x01"),
-        (UPLOAD_OTHER, b"\x07\x02\x01"),
-        (b"\x03\x01\0", b"\x07\x01\x01"),
-        (
-            b"\x04\x02\0\0",
-            b"\x05\x02\0\x02\x01\x01\x05\x08\x01\x01\x01t\x01\x01\0\0\x02\x01\x06\x08\x01\x01\x01u\x01\x01\0\x01",
-        ),
-        (
-            b"\x04\x01\x01\x01",
-            b"\x05\x01\x01\x01\x02\x01\x06\x08\x01\x01\x01u\x01\x01\0\x01",
-        ),
-        (b"\x08\x01\x02\x01", b"\x05\x01\x02\0"),
-    ];
+// What the server replies to several messages, in this order.
+fn replies_each(
+    rt: &impl Abort,
+    alloc: Global,
+    server: &mut Server<MemoryDisk>,
+    table: &[(&[u8], &[u8])],
+) -> Result<(), Fail> {
     for (bytes, want) in table {
         replies(rt, alloc, server, bytes, want)?;
     }
-    assert_eq!(rt; server.len(), 2);
+    Ok(())
+}
+
+// How many entries the history has.
+fn has_entries(rt: &impl Abort, server: &Server<MemoryDisk>, want: u32) {
+    assert_eq!(rt; server.len(), want);
+}
+
+// The ident of the uuid of 16 such bytes.
+fn has_ident(rt: &impl Abort, server: &Server<MemoryDisk>, byte: u8, want: Option<u32>) {
+    assert_eq!(rt; server.ident_of(&[byte; 16]), want);
+}
+
+// A server with two clients, each of which has one entry.
+fn served(rt: &impl Abort, alloc: Global) -> Result<Server<MemoryDisk>, Fail> {
+    let mut server = open(alloc, MemoryDisk::new(alloc)?)?;
+    replies_each(rt, alloc, &mut server, &FIRST)?;
+    Ok(server)
+}
+
+// What the clients ask for.
+const ASKED: [(&[u8], &[u8]); 4] = [
+    (b"\x03\x01\0", b"\x07\x01\x01"),
+    (
+        b"\x04\x02\0\0",
+        b"\x05\x02\0\x02\x01\x01\x05\x08\x01\x01\x01t\x01\x01\0\0\x02\x01\x06\x08\x01\x01\x01u\x01\x01\0\x01",
+    ),
+    (
+        b"\x04\x01\x01\x01",
+        b"\x05\x01\x01\x01\x02\x01\x06\x08\x01\x01\x01u\x01\x01\0\x01",
+    ),
+    (b"\x08\x01\x02\x01", b"\x05\x01\x02\0"),
+];
+
+// What is said again, and what the clients ask for. None of it changes the server.
+fn says_again(rt: &impl Abort, alloc: Global, server: &mut Server<MemoryDisk>) -> Result<(), Fail> {
+    replies_each(rt, alloc, server, &FIRST)?;
+    replies_each(rt, alloc, server, &ASKED)?;
+    has_entries(rt, server, 2);
     Ok(())
 }
 
@@ -98,8 +118,8 @@ fn two_clients_exchange_their_changes(rt: HostRuntime) -> Result<(), Fail> {
     let mut server = served(&rt, alloc)?;
     says_again(&rt, alloc, &mut server)?;
     let mut server = open(alloc, server.into_disk())?;
-    assert_eq!(rt; server.ident_of(&[11; 16]), Some(2));
-    assert_eq!(rt; server.ident_of(&[12; 16]), None);
+    has_ident(&rt, &server, 11, Some(2));
+    has_ident(&rt, &server, 12, None);
     says_again(&rt, alloc, &mut server)
 }
 
@@ -168,10 +188,7 @@ fn a_base_may_not_go_back(rt: HostRuntime) -> Result<(), Fail> {
             b"\x05\x01\x02\x01\x01\x02\0\x03\x01\0\0",
         ),
     ];
-    for (bytes, want) in table {
-        replies(&rt, alloc, &mut server, bytes, want)?;
-    }
-    Ok(())
+    replies_each(&rt, alloc, &mut server, &table)
 }
 
 // Client 1 adds a column of dictionaries to the table `t`, at base 2.
@@ -204,8 +221,5 @@ fn an_old_client_is_told_of_version_2(rt: HostRuntime) -> Result<(), Fail> {
         (b"\x04\x02\x04\x02", b"\x06\x02\0\x3f\x03"),
         (b"\x04\x02\x03\x03", b"\x05\x02\x03\0"),
     ];
-    for (bytes, want) in table {
-        replies(&rt, alloc, &mut server, bytes, want)?;
-    }
-    Ok(())
+    replies_each(&rt, alloc, &mut server, &table)
 }

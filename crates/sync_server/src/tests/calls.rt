@@ -61,6 +61,20 @@ pub(super) fn refused(
     Ok(server.take(message).err())
 }
 
+// The message is refused so, at that stroke.
+pub(super) fn is_refused(
+    rt: &impl Abort,
+    alloc: Global,
+    server: &mut Server<MemoryDisk>,
+    call: Call,
+    stroke: u32,
+    want: ServerRefusal,
+) -> Result<(), Fail> {
+    let found = refused(alloc, server, call)?;
+    assert_eq!(rt; found, Some(want), "{call:?}, {stroke}");
+    Ok(())
+}
+
 // The record of that place, counted from 0, after the message.
 fn record(call: Call, place: usize) -> &'static [u8] {
     match (place, call) {

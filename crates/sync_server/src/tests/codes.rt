@@ -37,7 +37,7 @@ fn refuses(
     let message = upload(alloc, ident, number, base, body)?;
     let want = [6, ident, number, code, place];
     replies(rt, alloc, server, message.as_slice(), &want)?;
-    assert_eq!(rt; server.len(), len);
+    has_entries(rt, server, len);
     Ok(())
 }
 
@@ -204,30 +204,46 @@ fn a_dropped_instruction_is_not_counted(rt: HostRuntime) -> Result<(), Fail> {
     refuses(&rt, alloc, &mut server, (1, 3, 3), other, 3, 0)
 }
 
-// What the numbers of a change are refused by, where the history has its greatest length.
-fn at_the_end(alloc: Global, number: u32) -> Result<Option<(u32, u32)>, Fail> {
+// The code and the place by which a change of that number is refused, where the history has its greatest length.
+fn is_refused_at_the_end(
+    rt: &impl Abort,
+    alloc: Global,
+    number: u32,
+    want: (u32, u32),
+) -> Result<(), Fail> {
     let given = Given::new([10; 16], Recip::new(alloc));
     let change = Change::new(number.max(1), 9, 5, Blob::new(alloc, b"")?);
     match admit(&given, LAST, &change) {
-        Ok(()) => Ok(None),
-        Err(why) => Ok(Some((why.code(), why.place()))),
+        Ok(()) => Err("no refusal".into()),
+        Err(why) => {
+            assert_eq!(rt; (why.code(), why.place()), want);
+            Ok(())
+        }
     }
 }
 
 #[test]
-fn codes_that_no_short_exchange_reaches(rt: HostRuntime) -> Result<(), Fail> {
-    let alloc = rt.alloc();
-    assert_eq!(rt; at_the_end(alloc, 2)?, Some((61, 1)));
-    assert_eq!(rt; at_the_end(alloc, 1)?, Some((64, 4_294_967_295)));
-    let full = message_bytes(alloc, &refuse(0, 0, Refusal::IdentsFull { given: LAST }))?;
+fn a_history_that_is_full(rt: HostRuntime) -> Result<(), Fail> {
+    is_refused_at_the_end(&rt, rt.alloc(), 2, (61, 1))?;
+    is_refused_at_the_end(&rt, rt.alloc(), 1, (64, 4_294_967_295))
+}
+
+#[test]
+fn idents_that_are_all_given(rt: HostRuntime) -> Result<(), Fail> {
+    let refusal = Refusal::IdentsFull { given: LAST };
+    let reply = message_bytes(rt.alloc(), &refuse(0, 0, refusal))?;
     assert_eq!(rt;
-        full.as_slice(),
+        reply.as_slice(),
         b"\x06\0\0\x41\xff\xff\xff\xff\x0f".as_slice()
     );
+    Ok(())
+}
+
+#[test]
+fn a_list_out_of_range(rt: HostRuntime) {
     let range = Refusal::Mismatch {
         place: 3,
         kind: Mismatch::Range,
     };
     assert_eq!(rt; (range.code(), range.place()), (4, 3));
-    Ok(())
 }

@@ -16,9 +16,7 @@ fn the_first_cause_of_a_message_is_told(rt: HostRuntime) -> Result<(), Fail> {
     ];
     let alloc = rt.alloc();
     let mut server = served(&rt, alloc)?;
-    for (bytes, want) in table {
-        replies(&rt, alloc, &mut server, bytes, want)?;
-    }
+    replies_each(&rt, alloc, &mut server, &table)?;
     says_again(&rt, alloc, &mut server)
 }
 
@@ -56,10 +54,8 @@ fn the_first_cause_of_a_change_is_told(rt: HostRuntime) -> Result<(), Fail> {
     ];
     let alloc = rt.alloc();
     let mut server = with_base(&rt, alloc)?;
-    for (bytes, want) in table {
-        replies(&rt, alloc, &mut server, bytes, want)?;
-    }
-    assert_eq!(rt; server.len(), 3);
+    replies_each(&rt, alloc, &mut server, &table)?;
+    has_entries(&rt, &server, 3);
     Ok(())
 }
 
@@ -72,6 +68,6 @@ fn changes_behind_a_refused_one(rt: HostRuntime) -> Result<(), Fail> {
         b"\x03\x01\x05\x01\0\0\0\x02\x02\0\x03\x01\0\0\x03\x02\0\0\x03\x02\0\x03\x01\0\0\x02\x02\0\x03\x01\0\0";
     replies(&rt, alloc, &mut server, bytes, b"\x06\x01\x03\x28\0")?;
     replies(&rt, alloc, &mut server, b"\x03\x01\0", b"\x07\x01\x02")?;
-    assert_eq!(rt; server.len(), 3);
+    has_entries(&rt, &server, 3);
     Ok(())
 }

@@ -1,4 +1,4 @@
-use super::calls::{CALLS, Call, ready, refused, reply, spelled, stand, strokes_of};
+use super::calls::{CALLS, Call, is_refused, ready, reply, spelled, stand, strokes_of};
 use super::*;
 use sync_disk::Leaves;
 
@@ -12,11 +12,11 @@ fn stops(
 ) -> Result<(), Fail> {
     let mut server = ready(rt, alloc)?;
     server.arm(stroke.saturating_add(1), leaves);
-    let fault = Some(ServerRefusal::DiskFault);
-    assert_eq!(rt; refused(alloc, &mut server, call)?, fault, "{stroke}");
+    let fault = ServerRefusal::DiskFault;
+    is_refused(rt, alloc, &mut server, call, stroke, fault)?;
     assert!(rt; server.stopped());
-    let closed = Some(ServerRefusal::Closed);
-    assert_eq!(rt; refused(alloc, &mut server, call)?, closed, "{stroke}");
+    let closed = ServerRefusal::Closed;
+    is_refused(rt, alloc, &mut server, call, stroke, closed)?;
     let mut disk = server.into_disk();
     disk.crash();
     // Each record takes four strokes, and its gate is written in the third.

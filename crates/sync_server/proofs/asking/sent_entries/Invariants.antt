@@ -9,10 +9,10 @@ use Rattle.sync_server.specs.Sending.{sendable, shown, size_of}
 use Rattle.sync_server.proofs.asking.sent_entries.Given as goal
 
 -- what was sent, and what the rest gives, is what all gives
-abbrev pub invariant-loop-entry : goal.invariant-loop-entry
-invariant-loop-entry l = record {
-  sent : map sent_seen l.sent.items ++ fitting size_of (4096 - length l.sent.items) l.room (map (sent_of the_profile) (shown l.second (map entry_of (drop l.entry-index l.entries)))) ≡ sendable l.second (map entry_of l.entries);
+abbrev pub invariant-loop-shared : goal.invariant-loop-shared
+invariant-loop-shared l = record {
+  sent : map sent_seen l.sent.items ++ fitting size_of (4096 - length l.sent.items) l.room (map (sent_of the_profile) (shown l.second (map entry_of (drop l.shared-index l.entries)))) ≡ sendable l.second (map entry_of l.entries);
   few : length l.sent.items ≤ 4096;
   bytes : bytes_of_entries l.sent.items + l.room ≡ 16777216;
-  short : length l.sent.items ≤ l.entry-index;
+  short : length l.sent.items ≤ l.shared-index;
 }

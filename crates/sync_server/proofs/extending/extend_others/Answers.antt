@@ -4,8 +4,8 @@ use Rattle.sync_server.proofs.Others.{next_is, next_other, next_own}
 use Rattle.sync_server.proofs.extending.extend_others.Goals as goal
 use Rattle.sync_server.proofs.extending.extend_others.Goals.{then-place-own+in-Ok, else-place-own}
 
-pub extend_one-requires : goal.extend_one-requires
-extend_one-requires c =
+pub extend-requires : goal.extend-requires
+extend-requires c =
     let n = c.loop-place.place in
     let d = c.index-idents-place.result in
     let x = entry_of c.args.entry.now in
@@ -17,6 +17,6 @@ loop-place-preserved c =
     let n = c.loop-place.place in
     let x = entry_of c.args.entry.now in
     elim c.if-place-own.branch [
-      | then-place-own+in-Ok w ↦ w.idents-is ∙ next_other c.args.own c.args.version x n c.args.idents.now c.loop-place.idents w.index-idents-place.result w.extend_one.new.given (omega arith) w.if-place-own.true c.loop-place.invariant w.in-Ok.ensures.ok
+      | then-place-own+in-Ok w ↦ w.idents-is ∙ next_other c.args.own c.args.version x n c.args.idents.now c.loop-place.idents w.index-idents-place.result w.extend.new.self (omega arith) w.if-place-own.true c.loop-place.invariant w.in-Ok.ensures.ok
       | else-place-own w ↦ w.idents-is ∙ next_own c.args.own c.args.version x n c.args.idents.now c.loop-place.idents (omega arith) w.if-place-own.false c.loop-place.invariant
     ]

@@ -19,7 +19,7 @@ invariant_of-self c =
     let was = c.index_mut.ensures.value ∙ sym (here.here c.index_mut.result.now) in
     let new = c.settle-changes.ensures.settled ∙ ap (λ g. settled c.args.base (entries_of c.args.carried g.reciprocal) g) was in
     made.not_entered c.self.inside.entries.items c.self.inside.second c.self.inside.idents.items c.args.ident c.args.number c.args.base c.args.carried given.given here c.self.invariant given.next given.small given.others c.settle-changes.new.self new
-    c.keep.new.items.items c.in-Err.ensures.unchanged
+    c.keep_entry.new.entries.items c.in-Err.ensures.unchanged
 
 pub extend_others-requires : goal.extend_others-requires
 extend_others-requires c =
@@ -41,14 +41,14 @@ invariant_of-self-2 c =
     let was = c.index_mut.ensures.value ∙ sym (here.here c.index_mut.result.now) in
     let new = c.settle-changes.ensures.settled ∙ ap (λ g. settled c.args.base (entries_of c.args.carried g.reciprocal) g) was in
     let version : c.len-version.result ≡ length es = omega (arith, c.len-version.ensures, c.self.inside.entries.ok.0) in
-    let item = subst (λ n. c.index.result.now ≡ get_or c.keep.new.items.items n c.index.result.now) version c.index.ensures in
+    let item = subst (λ n. c.index.result.now ≡ get_or c.keep_entry.new.entries.items n c.index.result.now) version c.index.ensures in
     let room = subst (λ n. n < 4294967295) (sym (ap (λ (h : HistoryParts). length h.entries) c.self.view_is)) c.requires.room in
     let long = c.extend_others.auto.idents ∙ ap length c.deref_mut.ensures.value ∙ length-set gs (c.args.ident - 1) c.settle-changes.new.self in
     let hs = with_items_is (with_item c.self.inside.idents (c.args.ident - 1) c.settle-changes.new.self) c.extend_others.new.idents (omega (arith, long, c.self.inside.idents.ok.0)) in
     let some =
     the_first c.extend_others.result (c.args.ident - 1) c.len-version.result (entry_of c.index.result.now) c.deref_mut.result.now c.extend_others.new.idents c.extend_others.ensures.ok c.extend_others.ensures.part in
     made.entered es c.self.inside.second gs c.args.ident c.args.number c.args.base c.args.carried given.given here c.self.invariant given.next given.small given.others c.settle-changes.new.self new
-    (record { origin = c.args.ident; number = c.args.number; changes = c.settle-changes.result }) (ap (λ v. record { origin = c.args.ident; number = c.args.number; changes = v }) c.settle-changes.ensures.changes) c.keep.new.items.items c.in-Ok.ensures.ok room c.index.result.now item
+    (record { origin = c.args.ident; number = c.args.number; changes = c.settle-changes.result }) (ap (λ v. record { origin = c.args.ident; number = c.args.number; changes = v }) c.settle-changes.ensures.changes) c.keep_entry.new.entries.items c.in-Ok.ensures.ok room c.index.result.now item
     some.0 _ _ (ap length hs ∙ long) (hs ∙ some.1 ∙ (λ i. first_extended some.0 (c.args.ident - 1) (version i) (entry_of c.index.result.now) 0 (c.deref_mut.ensures.value i)))
 
 pub returns : goal.returns
@@ -60,13 +60,13 @@ returns c = λ g is.
     let was = c.index_mut.ensures.value ∙ sym (here.here c.index_mut.result.now) in
     let new = c.settle-changes.ensures.settled ∙ ap (λ g. settled c.args.base (entries_of c.args.carried g.reciprocal) g) was in
     let version : c.len-version.result ≡ length es = omega (arith, c.len-version.ensures, c.self.inside.entries.ok.0) in
-    let item = subst (λ n. c.index.result.now ≡ get_or c.keep.new.items.items n c.index.result.now) version c.index.ensures in
+    let item = subst (λ n. c.index.result.now ≡ get_or c.keep_entry.new.entries.items n c.index.result.now) version c.index.ensures in
     let room = subst (λ n. n < 4294967295) (sym (ap (λ (h : HistoryParts). length h.entries) c.self.view_is)) c.requires.room in
     let long = c.extend_others.auto.idents ∙ ap length c.deref_mut.ensures.value ∙ length-set gs (c.args.ident - 1) c.settle-changes.new.self in
     let hs = with_items_is (with_item c.self.inside.idents (c.args.ident - 1) c.settle-changes.new.self) c.extend_others.new.idents (omega (arith, long, c.self.inside.idents.ok.0)) in
     let one : given.given ≡ g = the_same (sym given.is_given ∙ is) in
     on_ok c.extend_others.result _ _ c.extend_others.ensures.ok (λ ok.
     made.whole es c.self.inside.second gs c.args.ident c.args.number c.args.base c.args.carried given.given here c.self.invariant given.next given.small given.others c.settle-changes.new.self new
-    (record { origin = c.args.ident; number = c.args.number; changes = c.settle-changes.result }) (ap (λ v. record { origin = c.args.ident; number = c.args.number; changes = v }) c.settle-changes.ensures.changes) c.keep.new.items.items c.in-Ok.ensures.ok room c.index.result.now item
+    (record { origin = c.args.ident; number = c.args.number; changes = c.settle-changes.result }) (ap (λ v. record { origin = c.args.ident; number = c.args.number; changes = v }) c.settle-changes.ensures.changes) c.keep_entry.new.entries.items c.in-Ok.ensures.ok room c.index.result.now item
     c.args.second _ (hs ∙ ok ∙ (λ i. first_extended (length (c.deref_mut.ensures.value i)) (c.args.ident - 1) (version i) (entry_of c.index.result.now) 0 (c.deref_mut.ensures.value i)))
     ∙ (λ i. with_entry (c.self.view_is i) c.args.ident c.args.base c.args.second (made_by c.args.ident c.args.number c.args.carried.changes) (entries_of c.args.carried (one i).reciprocal)))
