@@ -2,11 +2,12 @@
 ghost use Rattle.std.specs.Prelude.{◌≡◌, ◌+◌, ◌/◌, ◌≤◌, ℕ, List, take, length};
 ghost use Rattle.sync_disk.specs.Images.{state, is_written};
 ghost use Rattle.sync_disk.specs.Leaving.{count_written, tear, left_by};
-ghost use Rattle.sync_disk.specs.Memory.{act_of, strokes_of, ends_writes, is_over, writes_over, IsLastSync};
+ghost use Rattle.sync_disk.specs.Memory.{act_of, start_of, strokes_of, ends_writes, is_over, writes_over, IsLastSync};
 
 use crate::Leaves;
 use crate::kept::{Asked, KeptStroke};
-use crate::writing::{refill, replay};
+use crate::start::Start;
+use crate::writing::replay;
 
 /// What a torn place holds.
 const TORN: u8 = 0x5a;
@@ -89,15 +90,14 @@ fn tear_bytes(bytes: &mut [u8], strokes: &[KeptStroke])
 }
 
 // Leaves of a content what a crash does. It has been written by the strokes since the start.
-pub fn leave(leaves: Leaves, start: &[u8], bytes: &mut Vec<u8>, strokes: &[KeptStroke])
-    requires { bytes.old.items ≡ (state start.now (strokes_of strokes.now)).content }
-    ensures content { bytes.new.items ≡ left_by leaves (state start.now (strokes_of strokes.now)) }
-    ensures no_longer { length bytes.new.items ≤ length bytes.old.items }
+pub fn leave(leaves: Leaves, start: &Start, bytes: &mut Vec<u8>, strokes: &[KeptStroke])
+    requires { bytes.old.items ≡ (state (start_of start.now bytes.old.items) (strokes_of strokes.now)).content }
+    ensures content { bytes.new.items ≡ left_by leaves (state (start_of start.now bytes.old.items) (strokes_of strokes.now)) }
 {
     let synced = synced_strokes(strokes);
     match leaves {
         Leaves::Drop => {
-            refill(bytes, start);
+            start.restore(bytes);
             replay(bytes, &strokes[..synced]);
         }
         Leaves::Keep => {}

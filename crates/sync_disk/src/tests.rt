@@ -37,9 +37,55 @@ fn three_strokes(disk: &mut MemoryDisk) -> Result<(), DiskRefusal> {
     disk.sync()
 }
 
+// The call of that number: the length, a read, a write of the byte 2 or a sync.
+fn call(disk: &mut MemoryDisk, number: u64) -> Result<(), DiskRefusal> {
+    match number {
+        1 => disk.len().map(|_| ()),
+        2 => disk.read_at(0, &mut []),
+        3 => disk.write_at(0, &[2]),
+        _ => disk.sync(),
+    }
+}
+
+// The disk stops at that stroke, if there are as many, and a crash leaves these bytes.
+fn stops_and_crashes(
+    rt: &impl process::Abort,
+    alloc: Global,
+    at: u32,
+    leaves: Leaves,
+    want: &[u8],
+) -> Result<(), Fail> {
+    let mut disk = disk_with(alloc, &[1, 2, 3])?;
+    disk.arm(at.max(1), leaves);
+    let stops = at < 4;
+    assert_eq!(rt; three_strokes(&mut disk).is_err(), stops, "at {at}");
+    assert_eq!(rt; disk.stopped(), stops, "at {at}");
+    if stops {
+        for number in 1..=4 {
+            assert_eq!(rt; call(&mut disk, number), Err(DiskRefusal::Failed));
+        }
+    }
+    disk.crash();
+    assert!(rt; !disk.stopped());
+    let left = content(alloc, &mut disk)?;
+    assert_eq!(rt; left.as_slice(), want, "at {at}, {leaves:?}");
+    keeps_at_a_crash(rt, alloc, &mut disk)
+}
+
+// A crash of a disk that isn't armed keeps what was written.
+fn keeps_at_a_crash(
+    rt: &impl process::Abort,
+    alloc: Global,
+    disk: &mut MemoryDisk,
+) -> Result<(), Fail> {
+    write(disk, 0, &[6])?;
+    disk.crash();
+    assert_eq!(rt; content(alloc, disk)?.first().copied(), Some(6));
+    Ok(())
+}
+
 #[test]
 fn a_crash_leaves_what_the_disk_was_armed_with(rt: HostRuntime) -> Result<(), Fail> {
-    let alloc = rt.alloc();
     for (at, leaves, want) in [
         (1, Leaves::Drop, &[1, 2, 3][..]),
         (1, Leaves::Keep, &[1, 7, 8][..]),
@@ -53,52 +99,32 @@ fn a_crash_leaves_what_the_disk_was_armed_with(rt: HostRuntime) -> Result<(), Fa
         (4, Leaves::Drop, &[1, 7, 9, 10][..]),
         (4, Leaves::Torn, &[1, 7, 9, 10][..]),
     ] {
-        let mut disk = disk_with(alloc, &[1, 2, 3])?;
-        disk.arm(at, leaves);
-        let stops = at < 4;
-        assert_eq!(rt; three_strokes(&mut disk).is_err(), stops, "at {at}");
-        assert_eq!(rt; disk.stopped(), stops, "at {at}");
-        if stops {
-            assert_eq!(rt; disk.len(), Err(DiskRefusal::Failed));
-            assert_eq!(rt; disk.read_at(0, &mut []), Err(DiskRefusal::Failed));
-            assert_eq!(rt; disk.write_at(0, &[4]), Err(DiskRefusal::Failed));
-            assert_eq!(rt; disk.sync(), Err(DiskRefusal::Failed));
-        }
-        disk.crash();
-        assert!(rt; !disk.stopped());
-        assert_eq!(rt;
-            content(alloc, &mut disk)?.as_slice(),
-            want,
-            "at {at}, {leaves:?}"
-        );
-        write(&mut disk, 0, &[6])?;
-        disk.crash();
-        assert_eq!(rt;
-            content(alloc, &mut disk)?.first().copied(),
-            Some(6),
-            "a crash of a disk that isn't armed keeps"
-        );
+        stops_and_crashes(&rt, rt.alloc(), at, leaves, want)?;
     }
+    Ok(())
+}
+
+// Of the calls that fails alone which is set to.
+fn fails_at(rt: &impl process::Abort, alloc: Global, set: u64) -> Result<(), Fail> {
+    let mut disk = disk_with(alloc, &[1])?;
+    disk.fail_at(set)?;
+    for number in 1..=5 {
+        let fails = call(&mut disk, number).is_err();
+        assert_eq!(rt; fails, set == number, "at {set}, {number}");
+    }
+    let want = if set == 3 { 1 } else { 2 };
+    assert_eq!(rt;
+        content(alloc, &mut disk)?.as_slice(),
+        [want].as_slice(),
+        "at {set}"
+    );
     Ok(())
 }
 
 #[test]
 fn calls_fail_where_they_are_set_to(rt: HostRuntime) -> Result<(), Fail> {
-    let alloc = rt.alloc();
-    for call in 1..=5 {
-        let mut disk = disk_with(alloc, &[1])?;
-        disk.fail_at(call)?;
-        assert_eq!(rt; disk.len().is_err(), call == 1, "at {call}");
-        assert_eq!(rt; disk.read_at(0, &mut []).is_err(), call == 2, "at {call}");
-        assert_eq!(rt; disk.write_at(0, &[2]).is_err(), call == 3, "at {call}");
-        assert_eq!(rt; disk.sync().is_err(), call == 4, "at {call}");
-        assert_eq!(rt; disk.sync().is_err(), call == 5, "at {call}");
-        let want = if call == 3 { 1 } else { 2 };
-        assert_eq!(rt;
-            content(alloc, &mut disk)?.as_slice(),
-            [want].as_slice(),
-            "at {call}"
-        );
+    for set in 1..=5 {
+        fails_at(&rt, rt.alloc(), set)?;
     }
     Ok(())
 }

@@ -6,16 +6,6 @@ ghost use Rattle.sync_disk.specs.Memory.{act_of, strokes_of};
 
 use crate::kept::{Asked, KeptStroke};
 
-// Makes the content that of other bytes, for which there is room.
-pub fn refill(content: &mut Vec<u8>, bytes: &[u8])
-    requires { length bytes.now ≤ vec_capacity content.old }
-    ensures content { content.new.items ≡ bytes.now }
-    ensures room { vec_capacity content.old ≤ vec_capacity content.new }
-{
-    content.clear();
-    content.extend_from_slice(bytes).unwrap();
-}
-
 // Puts bytes over what stands at a place and past the end. There is room for them. A place past the end is the end.
 fn put_bytes(content: &mut Vec<u8>, place: usize, bytes: &[u8])
     requires { length (put content.old.items place bytes.now) ≤ vec_capacity content.old }
