@@ -57,20 +57,64 @@ fn added(alloc: Global) -> Result<Vec<Instr>, Fail> {
     Ok(edits)
 }
 
-// A transaction that creates an object of the table `t`.
-fn created(alloc: Global) -> Result<Vec<Instr>, Fail> {
-    let mut edits = Vec::new(alloc);
+// Adds an instruction that creates an object of the table `t`.
+fn creates(edits: &mut Vec<Instr>) -> Result<(), Fail> {
     edits.push(Instr::CreateObject(CreateObject {
         table: Name::new("t")?,
         key: Key::Int(1),
     }))?;
+    Ok(())
+}
+
+// A transaction that creates an object of the table `t`.
+fn created(alloc: Global) -> Result<Vec<Instr>, Fail> {
+    let mut edits = Vec::new(alloc);
+    creates(&mut edits)?;
     Ok(edits)
 }
 
-// The kind of the table's keys.
-fn kind(client: &Client<MemoryDisk>, table: &str) -> Result<Option<KeyKind>, Fail> {
+// The client answers that to a transaction or a message.
+fn answers(rt: &impl Abort, found: Result<u32, ClientRefusal>, want: Result<u32, ClientRefusal>) {
+    assert_eq!(rt; found, want);
+}
+
+// A call of another kind is refused so.
+fn refuses(rt: &impl Abort, found: Option<ClientRefusal>, want: ClientRefusal) {
+    assert_eq!(rt; found, Some(want));
+}
+
+// The client answers that to a transaction that adds the table `t`.
+fn adds(
+    rt: &impl Abort,
+    alloc: Global,
+    client: &mut Client<MemoryDisk>,
+    want: Result<u32, ClientRefusal>,
+) -> Result<(), Fail> {
+    answers(rt, client.commit(5, added(alloc)?), want);
+    Ok(())
+}
+
+// The client's file is put into form 2, or is in it already.
+fn upgrades(rt: &impl Abort, client: &mut Client<MemoryDisk>, is_new: bool) {
+    assert_eq!(rt; client.upgrade(), Ok(is_new));
+}
+
+// The client's ident, its cursor, and how many changesets are unsent.
+fn stands_at(rt: &impl Abort, client: &Client<MemoryDisk>, want: (u32, u32, u32)) {
+    let found = (client.ident(), client.cursor(), client.unsent());
+    assert_eq!(rt; found, want);
+}
+
+// The kind of the table's keys, where it is there.
+fn has_table(
+    rt: &impl Abort,
+    client: &Client<MemoryDisk>,
+    table: &str,
+    want: Option<KeyKind>,
+) -> Result<(), Fail> {
     let name = Name::new(table)?;
-    Ok(client.objects().schema().table(&name))
+    assert_eq!(rt; client.objects().schema().table(&name), want);
+    Ok(())
 }
 
 // What the client answers to a message that is spelled so.
@@ -86,6 +130,19 @@ fn takes(
     Ok(())
 }
 
+// What the client says to messages none of which it takes.
+fn refuses_each(
+    rt: &impl Abort,
+    alloc: Global,
+    client: &mut Client<MemoryDisk>,
+    table: &[(&[u8], ClientRefusal)],
+) -> Result<(), Fail> {
+    for (bytes, refusal) in table {
+        takes(rt, alloc, client, bytes, Err(*refusal))?;
+    }
+    Ok(())
+}
+
 // The ident, cursor and settled place of an Ask.
 fn asked(message: &Result<Message, ClientRefusal>) -> Option<(u32, u32, u32)> {
     match message {
@@ -94,16 +151,19 @@ fn asked(message: &Result<Message, ClientRefusal>) -> Option<(u32, u32, u32)> {
     }
 }
 
+fn asks(rt: &impl Abort, client: &Client<MemoryDisk>, want: (u32, u32, u32)) {
+    assert_eq!(rt; asked(&client.ask()), Some(want));
+}
+
 #[test]
 fn a_transaction_stands_after_opening_again(rt: HostRuntime) -> Result<(), Fail> {
     let alloc = rt.alloc();
     let mut client = born(alloc)?;
-    assert_eq!(rt; client.commit(5, added(alloc)?), Ok(1));
-    assert_eq!(rt; kind(&client, "t")?, Some(KeyKind::Int));
+    adds(&rt, alloc, &mut client, Ok(1))?;
+    has_table(&rt, &client, "t", Some(KeyKind::Int))?;
     let client = open(alloc, client.into_disk())?;
-    assert_eq!(rt; kind(&client, "t")?, Some(KeyKind::Int));
-    assert_eq!(rt; (client.cursor(), client.ident()), (0, 0));
-    assert_eq!(rt; client.unsent(), 1);
+    has_table(&rt, &client, "t", Some(KeyKind::Int))?;
+    stands_at(&rt, &client, (0, 0, 1));
     Ok(())
 }
 
@@ -117,125 +177,129 @@ fn a_client_asks_for_its_ident(rt: HostRuntime) -> Result<(), Fail> {
     Ok(())
 }
 
-// The bytes of an Upload.
-fn uploaded(alloc: Global, client: &Client<MemoryDisk>) -> Result<Vec<u8>, Fail> {
+// The client's Upload has these bytes.
+fn uploads(
+    rt: &impl Abort,
+    alloc: Global,
+    client: &Client<MemoryDisk>,
+    want: &[u8],
+) -> Result<(), Fail> {
     let message = client.upload().map_err(|_| "no Upload")?;
-    Ok(message_bytes(alloc, &message)?)
+    let bytes = message_bytes(alloc, &message)?;
+    assert_eq!(rt; bytes.as_slice(), want);
+    Ok(())
 }
 
 #[test]
 fn a_client_uploads_what_it_made(rt: HostRuntime) -> Result<(), Fail> {
     let alloc = rt.alloc();
     let mut client = named(alloc)?;
-    let none = b"\x03\x07\0";
-    assert_eq!(rt; uploaded(alloc, &client)?.as_slice(), none.as_slice());
-    assert_eq!(rt; client.commit(5, added(alloc)?), Ok(1));
+    uploads(&rt, alloc, &client, b"\x03\x07\0")?;
+    adds(&rt, alloc, &mut client, Ok(1))?;
     let want = b"\x03\x07\x01\x01\0\x05\x08\x01\x01\x01t\x01\x01\0\0";
-    assert_eq!(rt; uploaded(alloc, &client)?.as_slice(), want.as_slice());
-    Ok(())
+    uploads(&rt, alloc, &client, want)
 }
 
 #[test]
 fn a_break_changes_nothing(rt: HostRuntime) -> Result<(), Fail> {
     let alloc = rt.alloc();
     let mut client = born(alloc)?;
-    let edits = created(alloc)?;
     let refusal = ClientRefusal::Break { place: 0, code: 11 };
-    assert_eq!(rt; client.commit(5, edits), Err(refusal));
-    assert_eq!(rt; client.unsent(), 0);
-    assert_eq!(rt; client.commit(6, Vec::new(alloc)), Ok(1));
-    assert_eq!(rt; client.unsent(), 1);
+    answers(&rt, client.commit(5, created(alloc)?), Err(refusal));
+    stands_at(&rt, &client, (0, 0, 0));
+    answers(&rt, client.commit(6, Vec::new(alloc)), Ok(1));
+    stands_at(&rt, &client, (0, 0, 1));
     Ok(())
 }
 
+// The client refuses so each call but its birth, and a message with these bytes.
+fn refuses_calls(
+    rt: &impl Abort,
+    alloc: Global,
+    client: &mut Client<MemoryDisk>,
+    bytes: &[u8],
+    want: ClientRefusal,
+) -> Result<(), Fail> {
+    adds(rt, alloc, client, Err(want))?;
+    refuses(rt, client.upgrade().err(), want);
+    refuses(rt, client.bind().err(), want);
+    refuses(rt, client.ask().err(), want);
+    refuses(rt, client.upload().err(), want);
+    takes(rt, alloc, client, bytes, Err(want))
+}
+
+// A Download of client 7 without entries.
+const EMPTY_DOWNLOAD: &[u8] = b"\x05\x07\0\0";
+
 #[test]
 fn a_client_without_a_uuid(rt: HostRuntime) -> Result<(), Fail> {
-    let alloc = rt.alloc();
-    let mut client = unborn(alloc)?;
-    assert_eq!(rt;
-        client.commit(5, added(alloc)?),
-        Err(ClientRefusal::NotBorn)
-    );
-    assert_eq!(rt; client.upgrade(), Err(ClientRefusal::NotBorn));
-    assert_eq!(rt; client.bind().err(), Some(ClientRefusal::NotBorn));
-    assert_eq!(rt; client.ask().err(), Some(ClientRefusal::NotBorn));
-    assert_eq!(rt; client.upload().err(), Some(ClientRefusal::NotBorn));
-    takes(
-        &rt,
-        alloc,
-        &mut client,
-        b"\x05\x07\0\0",
-        Err(ClientRefusal::NotBorn),
-    )
+    let mut client = unborn(rt.alloc())?;
+    let none = ClientRefusal::NotBorn;
+    refuses_calls(&rt, rt.alloc(), &mut client, EMPTY_DOWNLOAD, none)
 }
 
 #[test]
 fn a_client_has_one_uuid_and_no_ident_at_first(rt: HostRuntime) -> Result<(), Fail> {
-    let alloc = rt.alloc();
-    let mut client = born(alloc)?;
-    assert_eq!(rt; client.born(OTHER), Err(ClientRefusal::AlreadyBorn));
-    assert_eq!(rt; client.ask().err(), Some(ClientRefusal::NotNamed));
-    assert_eq!(rt; client.upload().err(), Some(ClientRefusal::NotNamed));
-    // A Download of client 7, and a refusal for an unnamed client.
-    takes(
-        &rt,
-        alloc,
-        &mut client,
-        b"\x05\x07\0\0",
-        Err(ClientRefusal::NotMine),
-    )?;
+    let mut client = born(rt.alloc())?;
+    refuses(&rt, client.born(OTHER).err(), ClientRefusal::AlreadyBorn);
+    refuses(&rt, client.ask().err(), ClientRefusal::NotNamed);
+    refuses(&rt, client.upload().err(), ClientRefusal::NotNamed);
     let refused = ClientRefusal::WasRefused { number: 3, code: 5 };
-    takes(&rt, alloc, &mut client, b"\x06\0\x03\x05\0", Err(refused))
+    // Of client 7, and for an unnamed client.
+    let table: [(&[u8], ClientRefusal); 2] = [
+        (EMPTY_DOWNLOAD, ClientRefusal::NotMine),
+        (b"\x06\0\x03\x05\0", refused),
+    ];
+    refuses_each(&rt, rt.alloc(), &mut client, &table)
 }
 
 #[test]
 fn a_client_keeps_its_ident(rt: HostRuntime) -> Result<(), Fail> {
     let mut client = born(rt.alloc())?;
-    let other = Message::Ident(Given::new(OTHER, 7));
-    assert_eq!(rt; client.take(other), Err(ClientRefusal::NotMine));
-    assert_eq!(rt; client.take(Message::Ident(Given::new(ID, 7))), Ok(0));
-    assert_eq!(rt; client.take(Message::Ident(Given::new(ID, 7))), Ok(0));
     let differs = ClientRefusal::IdentDiffers { kept: 7, got: 8 };
-    assert_eq!(rt;
-        client.take(Message::Ident(Given::new(ID, 8))),
-        Err(differs)
-    );
-    assert_eq!(rt; client.ident(), 7);
+    for (uuid, ident, want) in [
+        (OTHER, 7, Err(ClientRefusal::NotMine)),
+        (ID, 7, Ok(0)),
+        (ID, 7, Ok(0)),
+        (ID, 8, Err(differs)),
+    ] {
+        let message = Message::Ident(Given::new(uuid, ident));
+        answers(&rt, client.take(message), want);
+    }
+    stands_at(&rt, &client, (7, 0, 0));
     Ok(())
 }
 
 #[test]
 fn messages_for_others(rt: HostRuntime) -> Result<(), Fail> {
-    let table: [&[u8]; 6] = [
-        b"\x01\x01\x01\x01\x01\x01\x01\x01\x01\x01\x01\x01\x01\x01\x01\x01\x01",
-        b"\x03\x07\0",
-        b"\x04\x07\0\0",
-        b"\x05\x08\0\0",
-        b"\x06\x08\x01\x01\0",
-        b"\x07\x08\x01",
+    let other = ClientRefusal::NotMine;
+    let table: [(&[u8], ClientRefusal); 6] = [
+        (
+            b"\x01\x01\x01\x01\x01\x01\x01\x01\x01\x01\x01\x01\x01\x01\x01\x01\x01",
+            other,
+        ),
+        (b"\x03\x07\0", other),
+        (b"\x04\x07\0\0", other),
+        (b"\x05\x08\0\0", other),
+        (b"\x06\x08\x01\x01\0", other),
+        (b"\x07\x08\x01", other),
     ];
-    let mut client = named(rt.alloc())?;
-    for bytes in table {
-        takes(
-            &rt,
-            rt.alloc(),
-            &mut client,
-            bytes,
-            Err(ClientRefusal::NotMine),
-        )?;
-    }
-    Ok(())
+    refuses_each(&rt, rt.alloc(), &mut named(rt.alloc())?, &table)
 }
 
 #[test]
 fn a_download_behind_the_cursor(rt: HostRuntime) -> Result<(), Fail> {
-    let alloc = rt.alloc();
-    let mut client = named(alloc)?;
+    let mut client = named(rt.alloc())?;
     let gap = ClientRefusal::Gap { cursor: 0, from: 1 };
-    takes(&rt, alloc, &mut client, b"\x05\x07\x01\0", Err(gap))?;
-    takes(&rt, alloc, &mut client, b"\x05\x07\0\0", Ok(0))?;
-    takes(&rt, alloc, &mut client, b"\x07\x07\x01", Ok(0))?;
-    assert_eq!(rt; asked(&client.ask()), Some((7, 0, 0)));
+    let table: [(&[u8], Result<u32, ClientRefusal>); 3] = [
+        (b"\x05\x07\x01\0", Err(gap)),
+        (EMPTY_DOWNLOAD, Ok(0)),
+        (b"\x07\x07\x01", Ok(0)),
+    ];
+    for (bytes, want) in table {
+        takes(&rt, rt.alloc(), &mut client, bytes, want)?;
+    }
+    asks(&rt, &client, (7, 0, 0));
     Ok(())
 }
 
@@ -247,34 +311,23 @@ const ENTRIES: &[u8] =
 fn a_download_of_two_entries(rt: HostRuntime) -> Result<(), Fail> {
     let alloc = rt.alloc();
     let mut client = named(alloc)?;
-    assert_eq!(rt; client.commit(5, added(alloc)?), Ok(1));
+    adds(&rt, alloc, &mut client, Ok(1))?;
     takes(&rt, alloc, &mut client, ENTRIES, Ok(2))?;
-    assert_eq!(rt; asked(&client.ask()), Some((7, 2, 2)));
+    asks(&rt, &client, (7, 2, 2));
     takes(&rt, alloc, &mut client, ENTRIES, Ok(2))?;
     let client = open(alloc, client.into_disk())?;
-    assert_eq!(rt; (client.cursor(), client.unsent()), (2, 0));
-    assert_eq!(rt; kind(&client, "u")?, Some(KeyKind::Text));
-    assert_eq!(rt; kind(&client, "t")?, Some(KeyKind::Int));
-    Ok(())
+    stands_at(&rt, &client, (7, 2, 0));
+    has_table(&rt, &client, "u", Some(KeyKind::Text))?;
+    has_table(&rt, &client, "t", Some(KeyKind::Int))
 }
 
 #[test]
 fn an_own_entry_that_was_not_made(rt: HostRuntime) -> Result<(), Fail> {
-    let alloc = rt.alloc();
-    let mut client = named(alloc)?;
+    let mut client = named(rt.alloc())?;
     let forked = ClientRefusal::Forked { number: 1 };
-    takes(&rt, alloc, &mut client, ENTRIES, Err(forked))?;
+    takes(&rt, rt.alloc(), &mut client, ENTRIES, Err(forked))?;
     // The entry before it was taken.
-    assert_eq!(rt; asked(&client.ask()), Some((7, 1, 1)));
-    Ok(())
-}
-
-// Adds an instruction that creates an object of the table `t`.
-fn creates(edits: &mut Vec<Instr>) -> Result<(), Fail> {
-    edits.push(Instr::CreateObject(CreateObject {
-        table: Name::new("t")?,
-        key: Key::Int(1),
-    }))?;
+    asks(&rt, &client, (7, 1, 1));
     Ok(())
 }
 
@@ -286,8 +339,8 @@ fn a_transaction_of_too_many_instructions(rt: HostRuntime) -> Result<(), Fail> {
     for _ in 0..65_537 {
         creates(&mut edits)?;
     }
-    assert_eq!(rt; client.commit(5, edits), Err(ClientRefusal::TooLarge));
-    assert_eq!(rt; client.unsent(), 0);
+    answers(&rt, client.commit(5, edits), Err(ClientRefusal::TooLarge));
+    stands_at(&rt, &client, (0, 0, 0));
     Ok(())
 }
 
@@ -325,11 +378,11 @@ fn a_transaction_that_needs_form_2(rt: HostRuntime) -> Result<(), Fail> {
     let alloc = rt.alloc();
     let mut client = named(alloc)?;
     let old = ClientRefusal::OldForm { place: 1 };
-    assert_eq!(rt; client.commit(5, second(alloc)?), Err(old));
-    assert_eq!(rt; kind(&client, "t")?, None);
-    assert_eq!(rt; client.upgrade(), Ok(true));
-    assert_eq!(rt; client.upgrade(), Ok(false));
-    assert_eq!(rt; client.commit(5, second(alloc)?), Ok(1));
+    answers(&rt, client.commit(5, second(alloc)?), Err(old));
+    has_table(&rt, &client, "t", None)?;
+    upgrades(&rt, &mut client, true);
+    upgrades(&rt, &mut client, false);
+    answers(&rt, client.commit(5, second(alloc)?), Ok(1));
     assert!(rt; is_second(&client.ask()));
     Ok(())
 }

@@ -17,6 +17,20 @@ fn entry(alloc: Global, bytes: &[u8]) -> Result<Vec<u8>, Fail> {
     Ok(download)
 }
 
+// The client refuses each entry so, as the first one of a Download.
+fn refuses_entries(
+    rt: &impl Abort,
+    alloc: Global,
+    client: &mut Client<MemoryDisk>,
+    table: &[(&[u8], ClientRefusal)],
+) -> Result<(), Fail> {
+    for (bytes, refusal) in table {
+        let download = entry(alloc, bytes)?;
+        takes(rt, alloc, client, download.as_slice(), Err(*refusal))?;
+    }
+    Ok(())
+}
+
 #[test]
 fn entries_that_are_refused(rt: HostRuntime) -> Result<(), Fail> {
     // Each with its origin, number, time and length before its bytes.
@@ -60,17 +74,10 @@ fn entries_that_are_refused(rt: HostRuntime) -> Result<(), Fail> {
         ),
     ];
     let mut client = with_unsent(rt.alloc())?;
-    for (bytes, refusal) in table {
-        let download = entry(rt.alloc(), bytes)?;
-        takes(
-            &rt,
-            rt.alloc(),
-            &mut client,
-            download.as_slice(),
-            Err(refusal),
-        )?;
-    }
-    unchanged(&rt, &client)
+    refuses_entries(&rt, rt.alloc(), &mut client, &table)?;
+    asks(&rt, &client, (7, 0, 0));
+    stands_at(&rt, &client, (7, 0, 2));
+    Ok(())
 }
 
 #[test]
@@ -110,17 +117,10 @@ fn the_first_cause_of_an_entry_is_told(rt: HostRuntime) -> Result<(), Fail> {
         ),
     ];
     let mut client = with_unsent(rt.alloc())?;
-    for (bytes, refusal) in table {
-        let download = entry(rt.alloc(), bytes)?;
-        takes(
-            &rt,
-            rt.alloc(),
-            &mut client,
-            download.as_slice(),
-            Err(refusal),
-        )?;
-    }
-    unchanged(&rt, &client)
+    refuses_entries(&rt, rt.alloc(), &mut client, &table)?;
+    asks(&rt, &client, (7, 0, 0));
+    stands_at(&rt, &client, (7, 0, 2));
+    Ok(())
 }
 
 // Commits a transaction that is spelled so.
@@ -182,37 +182,27 @@ fn the_first_changeset_that_differs_is_told(rt: HostRuntime) -> Result<(), Fail>
         ),
     ];
     let mut client = with_three_unsent(rt.alloc())?;
-    for (bytes, refusal) in table {
-        let download = entry(rt.alloc(), bytes)?;
-        takes(
-            &rt,
-            rt.alloc(),
-            &mut client,
-            download.as_slice(),
-            Err(refusal),
-        )?;
-    }
-    assert_eq!(rt; (client.cursor(), client.unsent()), (0, 3));
+    refuses_entries(&rt, rt.alloc(), &mut client, &table)?;
+    stands_at(&rt, &client, (7, 0, 3));
     Ok(())
 }
 
 #[test]
 fn entries_below_the_cursor_are_skipped(rt: HostRuntime) -> Result<(), Fail> {
-    let alloc = rt.alloc();
-    let mut client = with_unsent(alloc)?;
-    takes(
-        &rt,
-        alloc,
-        &mut client,
-        b"\x05\x07\0\x01\x07\x01\x05\x03\x01\0\0",
-        Ok(1),
-    )?;
-    // An own entry that isn't the head and bytes that are no changeset, both below the cursor in their turn.
-    let again = b"\x05\x07\0\x02\x07\x09\x05\x03\x01\0\0\x08\x01\x06\x03\x01\0\0";
-    takes(&rt, alloc, &mut client, again, Ok(2))?;
-    let late = b"\x05\x07\x01\x01\x08\x01\x06\x01\x03";
-    takes(&rt, alloc, &mut client, late, Ok(2))?;
-    assert_eq!(rt; client.unsent(), 1);
+    let mut client = with_unsent(rt.alloc())?;
+    // An own entry; then one that isn't the head and bytes that are no changeset, both below the cursor in their turn.
+    let table: [(&[u8], u32); 3] = [
+        (b"\x05\x07\0\x01\x07\x01\x05\x03\x01\0\0", 1),
+        (
+            b"\x05\x07\0\x02\x07\x09\x05\x03\x01\0\0\x08\x01\x06\x03\x01\0\0",
+            2,
+        ),
+        (b"\x05\x07\x01\x01\x08\x01\x06\x01\x03", 2),
+    ];
+    for (bytes, cursor) in table {
+        takes(&rt, rt.alloc(), &mut client, bytes, Ok(cursor))?;
+    }
+    stands_at(&rt, &client, (7, 2, 1));
     Ok(())
 }
 
@@ -223,13 +213,6 @@ fn bad(offset: u32, rule: u8) -> ClientRefusal {
         offset,
         rule,
     }
-}
-
-// The client has taken nothing, and both changesets are unsent.
-fn unchanged(rt: &impl Abort, client: &Client<MemoryDisk>) -> Result<(), Fail> {
-    assert_eq!(rt; asked(&client.ask()), Some((7, 0, 0)));
-    assert_eq!(rt; client.unsent(), 2);
-    Ok(())
 }
 
 #[test]
@@ -243,8 +226,8 @@ fn the_second_entry_is_refused(rt: HostRuntime) -> Result<(), Fail> {
         rule: 40,
     };
     takes(&rt, alloc, &mut client, bytes, Err(refusal))?;
-    assert_eq!(rt; (client.cursor(), client.unsent()), (1, 1));
+    stands_at(&rt, &client, (7, 1, 1));
     let client = open(alloc, client.into_disk())?;
-    assert_eq!(rt; (client.cursor(), client.unsent()), (1, 1));
+    stands_at(&rt, &client, (7, 1, 1));
     Ok(())
 }

@@ -13,13 +13,8 @@ enum Reached {
 // A client whose uuid wasn't recorded for want of a disk: it is closed, which comes before all else.
 fn is_closed(rt: &impl Abort, alloc: Global, client: &mut Client<MemoryDisk>) -> Result<(), Fail> {
     let closed = ClientRefusal::Closed;
-    assert_eq!(rt; client.born(ID), Err(closed));
-    assert_eq!(rt; client.commit(5, added(alloc)?), Err(closed));
-    assert_eq!(rt; client.upgrade(), Err(closed));
-    assert_eq!(rt; client.bind().err(), Some(closed));
-    assert_eq!(rt; client.upload().err(), Some(closed));
-    assert_eq!(rt; client.ask().err(), Some(closed));
-    takes(rt, alloc, client, ENTRIES, Err(closed))
+    refuses(rt, client.born(ID).err(), closed);
+    refuses_calls(rt, alloc, client, ENTRIES, closed)
 }
 
 // Makes the call, of which that stroke fails, counted from 0. Its record stands where the gate was written.
@@ -34,7 +29,7 @@ fn calls(
     let Some(refusal) = refused(alloc, &mut client, call)? else {
         return Ok(Reached::Nothing);
     };
-    assert_eq!(rt; refusal, ClientRefusal::DiskFault);
+    refuses(rt, Some(refusal), ClientRefusal::DiskFault);
     is_closed(rt, alloc, &mut client)?;
     let kept = stroke / 4 + (stroke % 4 == 3) as u32;
     stand(

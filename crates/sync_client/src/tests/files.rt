@@ -5,7 +5,7 @@ use sync_journal::OpenCause;
 fn the_file_of_a_client(rt: HostRuntime) -> Result<(), Fail> {
     let alloc = rt.alloc();
     let mut client = born(alloc)?;
-    assert_eq!(rt; client.upgrade(), Ok(true));
+    upgrades(&rt, &mut client, true);
     let want =
         b"RSYNCJ01\x01\0\0\0\x11\x01\x01\x01\x01\x01\x01\x01\x01\x01\x01\x01\x01\x01\x01\x01\x01\x01\x01\0\0\0\x02\x07\x02\0";
     let bytes = file(alloc, &mut client.into_disk())?;

@@ -31,15 +31,24 @@ fn full(alloc: Global) -> Result<Client<MemoryDisk>, Fail> {
     Ok(client)
 }
 
+// The client refuses the transaction so.
+fn refuses_edits(
+    rt: &impl Abort,
+    client: Client<MemoryDisk>,
+    edits: Vec<Instr>,
+    want: ClientRefusal,
+) {
+    let mut client = client;
+    answers(rt, client.commit(5, edits), Err(want));
+}
+
 #[test]
 fn the_first_cause_of_a_transaction_is_told(rt: HostRuntime) -> Result<(), Fail> {
     let alloc = rt.alloc();
-    let not_born = unborn(alloc)?.commit(5, heavy(alloc)?);
-    assert_eq!(rt; not_born, Err(ClientRefusal::NotBorn));
-    let too_large = full(alloc)?.commit(5, heavy(alloc)?);
-    assert_eq!(rt; too_large, Err(ClientRefusal::TooLarge));
-    let no_number = full(alloc)?.commit(5, light(alloc)?);
-    assert_eq!(rt; no_number, Err(ClientRefusal::NumbersFull));
+    let too_large = ClientRefusal::TooLarge;
+    refuses_edits(&rt, unborn(alloc)?, heavy(alloc)?, ClientRefusal::NotBorn);
+    refuses_edits(&rt, full(alloc)?, heavy(alloc)?, too_large);
+    refuses_edits(&rt, full(alloc)?, light(alloc)?, ClientRefusal::NumbersFull);
     Ok(())
 }
 
@@ -48,11 +57,11 @@ fn the_form_is_looked_at_before_the_objects(rt: HostRuntime) -> Result<(), Fail>
     let alloc = rt.alloc();
     let mut client = born(alloc)?;
     let old = ClientRefusal::OldForm { place: 1 };
-    assert_eq!(rt; client.commit(5, light(alloc)?), Err(old));
-    assert_eq!(rt; client.upgrade(), Ok(true));
+    answers(&rt, client.commit(5, light(alloc)?), Err(old));
+    upgrades(&rt, &mut client, true);
     let absent = ClientRefusal::Break { place: 0, code: 11 };
-    assert_eq!(rt; client.commit(5, light(alloc)?), Err(absent));
-    assert_eq!(rt; client.unsent(), 0);
+    answers(&rt, client.commit(5, light(alloc)?), Err(absent));
+    stands_at(&rt, &client, (0, 0, 0));
     Ok(())
 }
 
@@ -61,14 +70,14 @@ fn the_last_number_is_used_once(rt: HostRuntime) -> Result<(), Fail> {
     let alloc = rt.alloc();
     let mut client = born(alloc)?;
     client.replica.count = 4_294_967_294;
-    assert_eq!(rt; client.commit(5, Vec::new(alloc)), Ok(4_294_967_295));
+    answers(&rt, client.commit(5, Vec::new(alloc)), Ok(4_294_967_295));
     let full = ClientRefusal::NumbersFull;
-    assert_eq!(rt; client.commit(5, Vec::new(alloc)), Err(full));
-    assert_eq!(rt; client.unsent(), 1);
+    answers(&rt, client.commit(5, Vec::new(alloc)), Err(full));
+    stands_at(&rt, &client, (0, 0, 1));
     Ok(())
 }
 
-// What a client says to messages none of which it takes. Its records stay as they are.
+// A client opened again refuses each message so, and its file stays as it is.
 fn refuses_all(
     rt: &impl Abort,
     alloc: Global,
@@ -78,9 +87,7 @@ fn refuses_all(
     let mut disk = client.into_disk();
     let old = file(alloc, &mut disk)?;
     let mut client = open(alloc, disk)?;
-    for (bytes, refusal) in table {
-        takes(rt, alloc, &mut client, bytes, Err(*refusal))?;
-    }
+    refuses_each(rt, alloc, &mut client, table)?;
     let new = file(alloc, &mut client.into_disk())?;
     assert_eq!(rt; new.as_slice(), old.as_slice());
     Ok(())

@@ -13,11 +13,17 @@ fn stops(
 ) -> Result<(), Fail> {
     let mut client = ready(alloc, call)?;
     client.arm(stroke.saturating_add(1), leaves);
-    let fault = Some(ClientRefusal::DiskFault);
-    assert_eq!(rt; refused(alloc, &mut client, call)?, fault);
+    refuses(
+        rt,
+        refused(alloc, &mut client, call)?,
+        ClientRefusal::DiskFault,
+    );
     assert!(rt; client.stopped());
-    let closed = Some(ClientRefusal::Closed);
-    assert_eq!(rt; refused(alloc, &mut client, call)?, closed);
+    refuses(
+        rt,
+        refused(alloc, &mut client, call)?,
+        ClientRefusal::Closed,
+    );
     let mut disk = client.into_disk();
     disk.crash();
     // Each record takes four strokes, and its gate is written in the third.
