@@ -1,5 +1,5 @@
 -- How a run ends, and what the disk then holds.
-use Rattle.std.proofs.Common.{◌≡◌, ℕ, zero, suc, ◌+◌, ◌-◌, ◌<◌, ◌≤◌, true, false, List, [], ◌∷◌, ◌++◌, length, take, map, Option, None, Some, inl, inr, ◌⊎◌, refl, sym, ap, subst, ◌∙◌, append_assoc, append-nil, arith, length-append}
+use Rattle.std.proofs.Common.{◌≡◌, ℕ, zero, suc, ◌+◌, ◌<◌, ◌≤◌, true, false, List, [], ◌∷◌, ◌++◌, length, take, map, Option, None, Some, inl, inr, ◌⊎◌, refl, sym, ap, subst, ◌∙◌, append_assoc, append-nil, arith, length-append}
 use Rattle.std.proofs.lemmas.List.{take-append-le}
 use Rattle.std.proofs.Math.Seq.{take-append-add, take-append_seam}
 use Rattle.std.specs.Option.{option_map}
@@ -8,8 +8,8 @@ use Rattle.sync_io.specs.declared.status.Status.{Status}
 use Rattle.sync_io.specs.declared.status.Status.TheVariants as statuses
 use Rattle.sync_journal.specs.Records.{records_of}
 use Rattle.sync_journal.specs.Records.Reading.{Good}
-use Rattle.sync_node.specs.Items.{Items, Over, Bad, Limit, Next, EndsReading}
-use Rattle.sync_node.specs.Runs.{AllSay, Answer, Answered, AnswersSo, EndsAt, Exits, ExitsTold, Follows, LeavesSome, Left, Run, WroteAtLeast, added, answered, ended, is_fault, onto, records_in, run_from, runs, texts}
+use Rattle.sync_node.specs.Items.{Items, Over, Next, EndsReading}
+use Rattle.sync_node.specs.Runs.{AllSay, Answer, AnswersSo, EndsAt, Exits, ExitsTold, LeavesSome, Left, Run, WroteAtLeast, added, answered, ended, is_fault, onto, records_in, run_from, runs, texts}
 use Rattle.sync_node.proofs.Runs.{added_append, added_none, follows_cut, follows_end, follows_fault, follows_onto, follows_part, run_says, runs_item, texts_append, wrote_behind, wrote_none, wrote_within}
 
 -- a number is at most another, or so much more

@@ -1,8 +1,8 @@
 -- A line that is read, blank or not.
-use Rattle.std.proofs.Common.{◌≡◌, ℕ, ◌+◌, ◌<◌, Bool, true, false, cond, List, [], ◌∷◌, length, Option, None, Some, refl, ap, ◌∙◌, arith}
+use Rattle.std.proofs.Common.{◌≡◌, ℕ, ◌+◌, ◌<◌, true, false, cond, List, [], ◌∷◌, length, Option, None, Some, ap, ◌∙◌, arith}
 use Rattle.std.specs.Option.{option_map}
 use Rattle.sync_io.specs.Reading.{Reading, Gives}
-use Rattle.sync_node.specs.Items.{Items, Next, is_blank, lines_from}
+use Rattle.sync_node.specs.Items.{Next, is_blank, lines_from}
 
 pub blank_line : (before : ℕ) (line : List ℕ) (old new : Option Reading) → old ≡ option_map (Gives line) new → is_blank line ≡ true → option_map (lines_from before) old ≡ option_map (lines_from (before + 1)) new
 blank_line before line old None e b = ap (option_map (lines_from before)) e

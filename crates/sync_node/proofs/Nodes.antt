@@ -1,7 +1,7 @@
 -- The calls of a node over a disk as the answers of a run, and how a run over a file ends.
-use Rattle.std.proofs.Common.{◌≡◌, ℕ, zero, suc, ◌+◌, ◌<◌, ◌≤◌, Bool, true, false, List, [], ◌∷◌, ◌++◌, length, take, map, Option, None, Some, Result, Ok, Err, Vec, Global, refl, sym, ap, subst, ◌∙◌, arith}
+use Rattle.std.proofs.Common.{◌≡◌, ℕ, zero, suc, ◌<◌, ◌≤◌, Bool, true, false, List, [], ◌∷◌, ◌++◌, length, take, map, Option, None, Some, Result, Ok, Err, Vec, Global, refl, sym, ap, subst, ◌∙◌, arith}
 use Rattle.std.proofs.lemmas.List.{length-map, map-append}
-use Rattle.std.specs.Prelude.{IfOk, IfErr, IfSome}
+use Rattle.std.specs.Prelude.{IfOk, IfSome}
 use Rattle.std.specs.Option.{is_some, option_map}
 use Rattle.sync_disk.specs.Disk.{LeavesOnly}
 use Rattle.sync_disk.specs.declared.disk.Disk.{Ghosts}
@@ -18,7 +18,7 @@ use Rattle.sync_client.specs.Refusals.{IfSeen, refusal_seen}
 use Rattle.sync_client.specs.declared.refusal.ClientRefusal.{ClientRefusal as CodeRefusal}
 use Rattle.sync_client.specs.declared.refusal.ClientRefusal.TheVariants as codes
 use Rattle.sync_data.specs.declared.memory.NoMemory.{NoMemory}
-use Rattle.sync_world.specs.Words.{refusal_text}
+use Rattle.sync_world.specs.Words.{outcome_line, refusal_text}
 use Rattle.sync_client.specs.declared.client.Client.{Client}
 use Rattle.sync_server.specs.Serving as servers
 use Rattle.sync_server.specs.declared.server.Server.{Server}
@@ -27,9 +27,9 @@ use Rattle.sync_node.specs.Frames.{frame}
 use Rattle.sync_node.specs.Holding.{ClientStands, ServerStands}
 use Rattle.sync_node.specs.Items.{Items, Over, Bad, Limit, Next}
 use Rattle.sync_node.specs.Opening.{IsOpenStatus}
-use Rattle.sync_node.specs.Runs.{AllSay, Answer, AnswersSo, DiskHolds, Exits, ExitsTold, FollowsTold, Follows, IsNodeStatus, IsRunStatus, LeavesSome, Left, NodeExits, Run, added, answered, is_fault, onto, run_from, runs}
-use Rattle.sync_node.specs.Steps.{AreAll, Declined, IsValid, answer_words, outcome_line, replied, said}
-use Rattle.sync_node.specs.Texts.{IsDoneOrNoMemory, TellsBad}
+use Rattle.sync_node.specs.Runs.{Answer, AnswersSo, DiskHolds, ExitsTold, FollowsTold, Follows, IsNodeStatus, IsRunStatus, LeavesSome, Left, NodeExits, Run, added, answered, is_fault, run_from, runs}
+use Rattle.sync_node.specs.Steps.{AreAll, Declined, IsValid, answer_words, replied, said}
+use Rattle.sync_node.specs.Texts.{IsDoneOrNoMemory}
 use Rattle.sync_node.specs.declared.command.ItemEnd.{ItemEnd}
 use Rattle.sync_node.proofs.Exits.{leaves_old, left_some}
 use Rattle.sync_node.proofs.Runs.{follows_fault, run_says}
@@ -172,27 +172,12 @@ open_fault statuses.ReadFault only good = absurd only
 open_fault statuses.WriteFault only good = absurd only
 open_fault statuses.InputTooLong only good = absurd only
 
--- and one that is
-pub open_bad : (place : ℕ) (status : Status) → IsOpenStatus status → ((told : ℕ) → status ≡ statuses.BadFile told → told ≡ place) → TellsBad place status
-open_bad place statuses.DiskFault only same = tt
-open_bad place statuses.NoMemory only same = tt
-open_bad place (statuses.BadFile told) only same = same told refl
-open_bad place statuses.Done only same = absurd only
-open_bad place statuses.BadWords only same = absurd only
-open_bad place (statuses.BadInput number) only same = absurd only
-open_bad place statuses.ReadFault only same = absurd only
-open_bad place statuses.WriteFault only same = absurd only
-open_bad place statuses.InputTooLong only same = absurd only
-
--- a run tells no bad file, and a file that isn't opened no fault of a read or of a write
+-- a run tells no bad file, and a file that isn't opened no fault of a read
 pub run_no_bad : (status : Status) (place : ℕ) → IsRunStatus status → status ≡ statuses.BadFile place → ⊥
 run_no_bad status place only is = subst IsRunStatus is only
 
 pub open_no_read : (status : Status) → IsOpenStatus status → status ≡ statuses.ReadFault → ⊥
 open_no_read status only is = subst IsOpenStatus is only
-
-pub open_no_write : (status : Status) → IsOpenStatus status → status ≡ statuses.WriteFault → ⊥
-open_no_write status only is = subst IsOpenStatus is only
 
 pub run_node : (status : Status) → IsRunStatus status → IsNodeStatus status
 run_node statuses.Done only = tt
@@ -215,15 +200,6 @@ open_node statuses.DiskFault only = tt
 open_node (statuses.BadFile place) only = tt
 open_node statuses.NoMemory only = tt
 open_node statuses.InputTooLong only = tt
-
-pub not_both : {T : Type 0} (r : Result T ℕ) (t : T) (place : ℕ) → r ≡ Ok t → r ≡ Err place → ⊥
-not_both r t place ok err = let e = sym ok ∙ err in cc
-
-pub ok_is : {T : Type 0} (r : Result T ℕ) (s t : T) → r ≡ Ok s → r ≡ Ok t → s ≡ t
-ok_is r s t e f = let g = sym e ∙ f in cc
-
-pub err_is : {T : Type 0} (r : Result T ℕ) (m n : ℕ) → r ≡ Err m → r ≡ Err n → m ≡ n
-err_is r m n e f = let g = sym e ∙ f in cc
 
 -- ---- valid inputs
 abbrev pub Goes : {R : Type 0} → Option (Answer R) → Type 0

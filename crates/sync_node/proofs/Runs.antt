@@ -1,17 +1,17 @@
 -- How the parts of a run make the whole: what is written, and what is added.
-use Rattle.std.proofs.Common.{◌≡◌, ℕ, zero, suc, ◌+◌, ◌<◌, ◌≤◌, true, false, List, [], ◌∷◌, ◌++◌, length, take, map, min, Option, None, Some, refl, sym, ap, subst, ◌∙◌, append_assoc, append-nil, arith, length-append}
+use Rattle.std.proofs.Common.{◌≡◌, ℕ, zero, suc, ◌+◌, ◌<◌, ◌≤◌, true, false, List, [], ◌∷◌, ◌++◌, length, take, min, Option, None, Some, refl, sym, ap, subst, ◌∙◌, append_assoc, append-nil, arith, length-append}
 use Rattle.std.proofs.lemmas.List.{take_min, take-append-le, length-take-le}
-use Rattle.std.proofs.Math.Seq.{take-append-add, take-append_seam, take-length}
+use Rattle.std.proofs.Math.Seq.{take-append-add, take-length}
 use Rattle.std.specs.Bool.{MatchBool}
 use Rattle.std.specs.Option.{option_map}
 use Rattle.sync_io.specs.Devices.{Took, TookSome}
 use Rattle.sync_io.proofs.Inputs.{took_more}
 use Rattle.sync_io.specs.declared.status.Status.{Status}
-use Rattle.sync_io.specs.declared.status.Status.TheVariants as statuses
 use Rattle.sync_io.specs.declared.sink.SinkRefusal.{SinkRefusal}
 use Rattle.sync_io.specs.declared.sink.SinkRefusal.TheVariants as sinks
+use Rattle.sync_node.specs.Texts.{write_status}
 use Rattle.sync_node.specs.Items.{Items, Over, Bad, Limit, Next}
-use Rattle.sync_node.specs.Runs.{AllSay, Answer, Follows, Run, WroteAtLeast, added, answered, ended, is_fault, onto, run_from, runs, texts, write_status}
+use Rattle.sync_node.specs.Runs.{AllSay, Answer, Follows, Run, WroteAtLeast, added, answered, ended, is_fault, onto, run_from, runs, texts}
 
 -- ---- sinks
 pub took_none : (sink : Option (List ℕ)) → Took [] sink sink

@@ -7,7 +7,7 @@ use Rattle.sync_io.specs.declared.sink.SinkRefusal.TheVariants as sinks
 use Rattle.sync_io.specs.declared.status.Status.{Status}
 use Rattle.sync_io.specs.declared.status.Status.TheVariants as statuses
 use Rattle.sync_node.specs.Opening.{IsOpenStatus}
-use Rattle.sync_node.specs.Texts.{IsDoneOrNoMemory, IsMade, IsTellStatus, IsTextStatus, Writes, refused_status}
+use Rattle.sync_node.specs.Texts.{IsDoneOrNoMemory, IsMade, IsTellStatus, IsTextStatus, Writes, write_status}
 
 -- ---- what is written
 pub took_none : (text : List ℕ) (old : Option (List ℕ)) → TookSome text old old
@@ -93,6 +93,6 @@ writes_some (statuses.BadInput number) text old new took = took
 writes_some statuses.ReadFault text old new took = took
 writes_some statuses.InputTooLong text old new took = took
 
-pub refused_writes : (refusal : SinkRefusal) (text : List ℕ) (old new : Option (List ℕ)) → TookSome text old new → Writes (refused_status refusal) text old new
+pub refused_writes : (refusal : SinkRefusal) (text : List ℕ) (old new : Option (List ℕ)) → TookSome text old new → Writes (write_status refusal) text old new
 refused_writes sinks.Failed text old new some = some
 refused_writes sinks.NoMemory text old new some = some

@@ -1,15 +1,13 @@
 -- What a node and its disk stand for.
-use Rattle.std.specs.Prelude.{◌≡◌, ℕ, ◌+◌, ◌<◌, List, [], ◌++◌, codes, decimal, length, map, Option, None, Some, refl}
-use Rattle.std.proofs.Common.{ap, ◌∙◌, arith, length-append}
-use Rattle.std.specs.Option.{option_map}
+use Rattle.std.specs.Prelude.{◌≡◌, ℕ, List, map}
+use Rattle.std.proofs.Common.{ap, ◌∙◌}
 use Rattle.sync_disk.specs.Origin.{Origin}
 use Rattle.sync_disk.specs.declared.disk.Disk.{Ghosts}
 use Rattle.sync_journal.specs.Records.{records_of}
 use Rattle.sync_journal.specs.Records.Reading.{Good}
-use Rattle.sync_journal.specs.Stands.{Stands, disk_of}
+use Rattle.sync_journal.specs.Stands.{disk_of}
 use Rattle.sync_model.specs.Clients.{ClientRecord}
 use Rattle.sync_model.specs.Servers.{ServerRecord}
-use Rattle.sync_model.specs.Messages.{Message}
 use Rattle.sync_exchange.specs.Seen.{client_bytes, server_bytes}
 use Rattle.sync_client.specs.Clients as clients
 use Rattle.sync_client.specs.declared.client.Client.{Client}

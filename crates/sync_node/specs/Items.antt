@@ -1,5 +1,5 @@
 -- The items of an input: its lines that aren't blank, or its frames, each with its number, and then what ends them.
-use Rattle.std.specs.Prelude.{◌≡◌, ℕ, ◌+◌, ◌==◌, ◌<◌, Bool, ◌||◌, if◌then◌else◌, List, [], length, Option, None, Some, IfSome, Vec}
+use Rattle.std.specs.Prelude.{◌≡◌, ℕ, ◌+◌, ◌==◌, Bool, ◌||◌, if◌then◌else◌, List, [], Option, None, Some, IfSome}
 use Rattle.std.specs.List.{list_all}
 use Rattle.std.specs.Option.{option_map}
 use Rattle.sync_io.specs.Reading.{Reading, Ending}

@@ -6,8 +6,6 @@ use Rattle.sync_disk.specs.Disk.{Only}
 use Rattle.sync_io.specs.Devices.{Took, TookSome}
 use Rattle.sync_io.specs.declared.status.Status.{Status}
 use Rattle.sync_io.specs.declared.status.Status.TheVariants as statuses
-use Rattle.sync_io.specs.declared.sink.SinkRefusal.{SinkRefusal}
-use Rattle.sync_io.specs.declared.sink.SinkRefusal.TheVariants as sinks
 use Rattle.sync_journal.specs.Records.{records_of}
 use Rattle.sync_journal.specs.Records.Reading.{Good}
 use Rattle.sync_node.specs.Items.{Items, Over, Bad, Limit, Next}
@@ -124,11 +122,6 @@ module _ {R : Type 0} where
   abbrev pub EndsAt : (R → List ℕ) → (List R → Type 0) → (List ℕ → Type 0) → List R → ℕ → Option (Answer R) → Status → Option (List ℕ) → Option (List ℕ) → Type 0
   EndsAt bytes_of Stands images records number meant status old new =
       (rest : List R → Run R) → ((new : List R) → AllSay (rest new).answers) → Exits bytes_of Stands images records (answered number meant rest) status old new
-
--- the status of a refused write
-abbrev pub write_status : SinkRefusal → Status
-write_status sinks.Failed = statuses.WriteFault
-write_status sinks.NoMemory = statuses.NoMemory
 
 -- an item that is read ends a run by its own fault, that of a write or of the disk, or want of memory
 abbrev pub IsItemStatus : Status → Type 0

@@ -1,5 +1,5 @@
 -- No answer of a node is empty.
-use Rattle.std.specs.Prelude.{◌≡◌, ℕ, ◌+◌, ◌<◌, List, ◌∷◌, ◌++◌, codes, decimal, length, Option, None, Some, refl}
+use Rattle.std.specs.Prelude.{◌≡◌, ℕ, ◌<◌, List, ◌∷◌, ◌++◌, codes, decimal, length, Option, None, Some}
 use Rattle.std.proofs.Common.{ap, arith, length-append}
 use Rattle.std.specs.Option.{option_map}
 use Rattle.byteorder.specs.Endian.{big_bytes}
@@ -10,9 +10,10 @@ use Rattle.sync_edits.specs.Lines.{node_form_of_line}
 use Rattle.sync_edits.specs.declared.event.NodeLine.{NodeLine}
 use Rattle.sync_edits.specs.declared.event.NodeLine.TheVariants as node_lines
 use Rattle.sync_world.specs.Messages.{message_read}
+use Rattle.sync_world.specs.Words.{outcome_line}
 use Rattle.sync_node.specs.Frames.{frame, framed}
 use Rattle.sync_node.specs.Runs.{Answer}
-use Rattle.sync_node.specs.Steps.{edit_step, line_answer, outcome_line, serve_step, take_answer, take_step}
+use Rattle.sync_node.specs.Steps.{edit_step, line_answer, serve_step, take_answer, take_step}
 
 line_says : (number : ℕ) (words : List ℕ) → 0 < length (outcome_line number words)
 line_says number words = omega (arith, length-append (decimal number ++ codes " " ++ words) (codes "\n"))

@@ -1,5 +1,5 @@
 -- What answers a line or a frame, by the records of the node: the text that is written, and the records that are added before.
-use Rattle.std.specs.Prelude.{◌≡◌, ℕ, Bool, true, false, List, [], ◌∷◌, ◌++◌, codes, decimal, Option, None, Some, Result, Ok, Err, if◌then◌else◌, ⊤}
+use Rattle.std.specs.Prelude.{◌≡◌, ℕ, Bool, true, false, List, codes, Option, None, Some, Result, Ok, Err, ⊤}
 use Rattle.std.specs.Option.{is_some, option_map}
 use Rattle.sync_model.specs.Clients as clients
 use Rattle.sync_model.specs.Clients.{ClientRecord, ClientRefusal, ClientStep, client_of}
@@ -11,16 +11,12 @@ use Rattle.sync_edits.specs.Lines.{node_form_of_line}
 use Rattle.sync_edits.specs.declared.event.NodeLine.{NodeLine}
 use Rattle.sync_edits.specs.declared.event.NodeLine.TheVariants as node_lines
 use Rattle.sync_world.specs.Messages.{message_read}
-use Rattle.sync_world.specs.Words.{refusal_text, words_text}
+use Rattle.sync_world.specs.Words.{outcome_line, refusal_text, words_text}
 use Rattle.sync_node.specs.Frames.{frame}
 use Rattle.sync_node.specs.Items.{Items, Over, Bad, Limit, Next}
 use Rattle.sync_node.specs.Runs.{Answer}
 
 -- ---- outcome lines
--- the number of a line or frame, a space, and the words
-abbrev pub outcome_line : ℕ → List ℕ → List ℕ
-outcome_line number words = decimal number ++ codes " " ++ words ++ codes "\n"
-
 -- the words of what a client's call answers, or of why it refuses
 abbrev pub answer_words : {A : Type 0} → (A → List ℕ) → Result A ClientRefusal → List ℕ
 answer_words words (Ok a) = words a

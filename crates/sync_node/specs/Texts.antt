@@ -12,9 +12,9 @@ Writes statuses.Done text old new = Took text old new
 Writes status text old new = TookSome text old new
 
 -- the status of a refused write
-abbrev pub refused_status : SinkRefusal → Status
-refused_status sinks.Failed = statuses.WriteFault
-refused_status sinks.NoMemory = statuses.NoMemory
+abbrev pub write_status : SinkRefusal → Status
+write_status sinks.Failed = statuses.WriteFault
+write_status sinks.NoMemory = statuses.NoMemory
 
 -- the ends of a text that is written
 abbrev pub IsTextStatus : Status → Type 0

@@ -19,15 +19,7 @@ mod serving;
 mod showing;
 mod taking;
 #[cfg(test)]
-mod tests_of_exchanges;
-#[cfg(test)]
-mod tests_of_parts;
-#[cfg(test)]
-mod tests_of_reading;
-#[cfg(test)]
-mod tests_of_running;
-#[cfg(test)]
-mod tests_of_stops;
+mod tests;
 mod text;
 mod waiter;
 
@@ -45,3 +37,4 @@ pub use sending::{ask, send};
 pub use serving::serve;
 pub use showing::show;
 pub use taking::take;
+pub use text::write_status;

@@ -1,34 +1,13 @@
-ghost use Rattle.std.specs.Prelude.{◌≡◌, ◌++◌, List, ℕ, Ok, Err, IfOk, OnOk};
+ghost use Rattle.std.specs.Prelude.{◌≡◌, List, ℕ, Err, IfOk};
 ghost use Rattle.sync_client.specs.Refusals.{refusal_seen};
-ghost use Rattle.sync_node.specs.Steps.{Declined, outcome_line};
+ghost use Rattle.sync_world.specs.Words.{outcome_line};
+ghost use Rattle.sync_node.specs.Steps.{Declined};
 
 use super::command::ItemEnd;
 use std::alloc::Global;
 use sync_client::ClientRefusal;
 use sync_data::NoMemory;
-use sync_world::{declined_words, put, put_number};
-
-/// Puts bytes behind others.
-fn put_bytes(out: &mut Vec<u8>, bytes: &[u8]) -> Result<(), NoMemory>
-    ensures { OnOk result (out.new.items ≡ out.old.items ++ bytes.now) }
-{
-    match out.extend_from_slice(bytes) {
-        Ok(()) => Ok(()),
-        Err(_) => Err(NoMemory),
-    }
-}
-
-/// The outcome line of an item (docs/FORMATS.md, "Outcome lines").
-fn outcome_line(alloc: Global, number: u32, words: &[u8]) -> Result<Vec<u8>, NoMemory>
-    ensures { IfOk result (λ line. line.items ≡ outcome_line number words.now) }
-{
-    let mut out = Vec::new(alloc);
-    put_number(alloc, &mut out, number as u64)?;
-    put(&mut out, " ")?;
-    put_bytes(&mut out, words)?;
-    put(&mut out, "\n")?;
-    Ok(out)
-}
+use sync_world::{declined_words, outcome_line};
 
 /// Says words of an item, if there was the memory to make them.
 pub(crate) fn say(

@@ -2,25 +2,16 @@ ghost use Rattle.std.specs.Prelude.{◌≡◌, ℕ, ◌≤◌, List, Err, IfErr,
 ghost use Rattle.sync_disk.specs.Disk.{Rose};
 ghost use Rattle.sync_io.specs.Faults.{HasRisen};
 ghost use Rattle.sync_node.specs.Items.{frames_of, lines_of};
-ghost use Rattle.sync_node.specs.Runs.{Answered, EndsAt, ExitsTold, IsItemStatus, IsRunStatus, runs, write_status};
+ghost use Rattle.sync_node.specs.Runs.{Answered, EndsAt, ExitsTold, IsItemStatus, IsRunStatus, runs};
 
 use super::command::{Command, ItemEnd};
 use super::frames::Frames;
 use super::item::Item;
 use super::lines::Lines;
 use super::reader::ItemReader;
+use super::text::write_status;
 use std::alloc::Global;
-use sync_io::{NoMemory, Sink, SinkRefusal, Source, Status, write_all};
-
-/// The status of a refused write.
-fn write_status(refusal: SinkRefusal) -> Status
-    ensures { result ≡ write_status refusal }
-{
-    match refusal {
-        SinkRefusal::Failed => Status::WriteFault,
-        SinkRefusal::NoMemory => Status::NoMemory,
-    }
-}
+use sync_io::{NoMemory, Sink, Source, Status, write_all};
 
 /// Answers an item, and writes the answer.
 fn answer_item<K: Sink, C: Command>(

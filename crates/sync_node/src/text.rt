@@ -1,14 +1,14 @@
 ghost use Rattle.std.specs.Prelude.{◌≡◌, ◌≤◌, ℕ, List, IfOk, OnErr};
 ghost use Rattle.sync_io.specs.Faults.{HasRisen};
-ghost use Rattle.sync_node.specs.Texts.{IsTextStatus, Writes, refused_status};
+ghost use Rattle.sync_node.specs.Texts.{IsTextStatus, Writes, write_status};
 
 use std::alloc::Global;
 use sync_data::NoMemory;
 use sync_io::{Sink, SinkRefusal, Status, write_all};
 
-/// The status of a refused write.
-fn refused_status(refusal: SinkRefusal) -> Status
-    ensures { result ≡ refused_status refusal }
+/// The status of a run whose sink refused a write.
+pub fn write_status(refusal: SinkRefusal) -> Status
+    ensures { result ≡ write_status refusal }
 {
     match refusal {
         SinkRefusal::Failed => Status::WriteFault,
@@ -29,7 +29,7 @@ fn write_made<K: Sink>(sink: &mut K, made: Result<Vec<u8>, NoMemory>) -> Status
     };
     match write_all(sink, &text) {
         Ok(()) => Status::Done,
-        Err(refusal) => refused_status(refusal),
+        Err(refusal) => write_status(refusal),
     }
 }
 
@@ -43,6 +43,6 @@ pub(crate) fn write_text<K: Sink>(sink: &mut K, made: Result<Vec<u8>, NoMemory>)
     let status = write_made(sink, made);
     match sink.flush() {
         Ok(()) => status,
-        Err(refusal) => refused_status(refusal),
+        Err(refusal) => write_status(refusal),
     }
 }

@@ -7,7 +7,6 @@ use Rattle.serde_json.specs.Data.{Data}
 use Rattle.sync_value_text.specs.Forms.{◌>>=◌, provided}
 use Rattle.sync_value_text.specs.Fields.{exactly_form, text_form, name_form, id_form, hex_form, number_form, place_form}
 use Rattle.sync_edits.specs.declared.event.Event.{Event}
-use Rattle.sync_edits.specs.declared.event.Event.TheVariants as events
 use Rattle.sync_edits.specs.Edits.{edits_form}
 use Rattle.sync_edits.specs.Events.{client_form, transaction_form, only_client, bind_form, upload_form, ask_form, upgrade_form, deliver_form, restart_form, at_form, leaves_of_word, stop_form, inject_form, event_by_word, event_form}
 use Rattle.sync_edits.specs.Lines.{event_form_of_line, line_data}

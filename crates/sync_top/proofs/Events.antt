@@ -1,5 +1,5 @@
 -- What a replay leaves is the world after the events of its lines.
-use Rattle.std.proofs.Common.{◌≡◌, ℕ, zero, suc, ◌+◌, Bool, true, false, cond, List, [], ◌∷◌, ◌++◌, Option, None, Some, Result, Ok, Err, refl, sym, ap, ◌∙◌, arith}
+use Rattle.std.proofs.Common.{◌≡◌, ℕ, zero, suc, ◌+◌, Bool, true, false, cond, List, [], Option, None, Some, Ok, refl, sym, ap, ◌∙◌, arith}
 use Rattle.sync_data.specs.declared.instr.Instr.{Instr}
 use Rattle.sync_io.specs.Reading.{Reading, Ends, Gives, AtEnd, AtLongLine, AtLimit}
 use Rattle.sync_edits.specs.declared.event.Event.{Event as CodeEvent}
@@ -7,8 +7,7 @@ use Rattle.sync_edits.specs.Lines.{event_form_of_line}
 use Rattle.sync_model.specs.Worlds.{World, Event, happens, world_after}
 use Rattle.sync_exchange.specs.Profile.{the_profile}
 use Rattle.sync_world.specs.Events.{event_seen}
-use Rattle.sync_top.specs.declared.command.LineEnd.{LineEnd}
-use Rattle.sync_top.specs.Runs.{Ran, is_blank, answered, answer_to, ended, onto, run_from, Passes}
+use Rattle.sync_top.specs.Runs.{Ran, is_blank, answered, onto, run_from, Passes}
 use Rattle.sync_top.specs.Exchange.{answers, report, answered_form, event_before, events_of}
 use Rattle.sync_top.specs.Synced.{first}
 use Rattle.sync_top.proofs.RunLemmas.{onto_onto}

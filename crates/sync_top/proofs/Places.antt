@@ -1,5 +1,5 @@
 -- A run behind some of its lines.
-use Rattle.std.proofs.Common.{◌≡◌, ℕ, zero, suc, ◌+◌, true, false, List, [], ◌++◌, Option, None, Some, Result, Ok, Err, refl, sym, ap, subst, ◌∙◌, arith}
+use Rattle.std.proofs.Common.{◌≡◌, ℕ, zero, suc, ◌+◌, List, [], ◌++◌, Option, None, Some, Result, Ok, Err, refl, sym, ap, subst, ◌∙◌, arith}
 use Rattle.std.specs.Option.{option_map, IfSome}
 use Rattle.sync_io.specs.Devices.{Took, TookSome}
 use Rattle.sync_io.specs.Reading.{Reading, Ends, Gives, AtEnd, AtLongLine, AtLimit}
@@ -8,9 +8,9 @@ use Rattle.sync_io.specs.declared.status.Status.TheVariants as statuses
 use Rattle.sync_io.specs.declared.sink.SinkRefusal.{SinkRefusal}
 use Rattle.sync_io.specs.declared.sink.SinkRefusal.TheVariants as sinks
 use Rattle.sync_top.specs.declared.command.LineEnd.{LineEnd}
-use Rattle.sync_top.specs.declared.command.LineEnd.TheVariants as line_ends
-use Rattle.sync_top.specs.Runs.{Ran, ended, onto, answered, answer_to, run_from, runs, is_fault, Follows, FollowsTold, Passes, Went, IsCut, Leaves, LeavesOf, HasRun, AnsweredAll, EndsAt, EndsReading, IsReportStatus, IsRunStatus, flush_status, report_at, write_status}
-use Rattle.sync_top.proofs.RunLemmas.{all_is_some, cut_at_end, cut_off, follows_onto, follows_some, follows_told, is_write_fault, line_follows, onto_onto, some_behind, some_of_more, took_none}
+use Rattle.sync_node.specs.Texts.{write_status}
+use Rattle.sync_top.specs.Runs.{Ran, ended, onto, answered, answer_to, run_from, runs, Follows, FollowsTold, Passes, Went, IsCut, Leaves, LeavesOf, HasRun, AnsweredAll, EndsAt, EndsReading, IsReportStatus, flush_status, report_at}
+use Rattle.sync_top.proofs.RunLemmas.{all_is_some, cut_at_end, cut_off, follows_some, follows_told, is_write_fault, line_follows, onto_onto, some_behind, some_of_more, took_none}
 
 pub plus_one : (n : ℕ) → n + 1 ≡ suc n
 plus_one n = omega arith

@@ -15,7 +15,8 @@ use Rattle.sync_top.specs.declared.counts.Counts.{Counts}
 use Rattle.sync_top.specs.declared.plan.Move.TheVariants as moves
 use Rattle.sync_top.specs.Counting.{Goes}
 use Rattle.sync_top.specs.Generated.{done_by, exchanged, move_events, objects_of, world_by}
-use Rattle.sync_top.specs.Playing.{Writes, refused_write}
+use Rattle.sync_node.specs.Texts.{write_status}
+use Rattle.sync_top.specs.Playing.{Writes}
 use Rattle.sync_top.proofs.Playing.{joined_goes}
 
 pub join_plays : (es : List (Event Instr)) (client x : ℕ) (first second : Name) (id : Uuid) (counts : Counts) (world : CodeWorld) → first ≡ name_of client → second ≡ name_of client → id ≡ id_of client
@@ -46,6 +47,6 @@ edit_plays es client ms x name edit edits counts world a b c goes =
 pub wrote_some : (text : List ℕ) (old new : Option (List ℕ)) → Took text old new → TookSome text old new
 wrote_some text old new took = (length text, subst (λ t. Took t old new) (sym (take-length text)) took)
 
-pub write_refused : (text : List ℕ) (refusal : SinkRefusal) (old new : Option (List ℕ)) → TookSome text old new → Writes text (refused_write refusal) old new
+pub write_refused : (text : List ℕ) (refusal : SinkRefusal) (old new : Option (List ℕ)) → TookSome text old new → Writes text (write_status refusal) old new
 write_refused text refusals.Failed old new some = some
 write_refused text refusals.NoMemory old new some = some

@@ -1,19 +1,18 @@
 -- How the parts of a run make the whole.
-use Rattle.std.proofs.Common.{◌≡◌, ℕ, zero, suc, ◌+◌, true, false, List, [], ◌++◌, length, take, Option, None, Some, Result, Ok, Err, refl, sym, ap, subst, ◌∙◌, append_assoc, append-nil, min, arith}
+use Rattle.std.proofs.Common.{◌≡◌, ℕ, ◌+◌, true, false, List, [], ◌++◌, length, take, Option, None, Some, Result, Ok, Err, refl, sym, ap, subst, ◌∙◌, append_assoc, append-nil, min, arith}
 use Rattle.std.proofs.lemmas.List.{take_min, take-append-le}
 use Rattle.std.specs.Option.{option_map}
 use Rattle.std.specs.Bool.{MatchBool}
 use Rattle.std.proofs.Math.Seq.{take-append-add, take-length}
 use Rattle.sync_io.specs.Devices.{Took, TookSome}
-use Rattle.sync_io.specs.Reading.{Reading, Ends, Gives, AtEnd, AtLongLine, AtLimit}
 use Rattle.sync_io.proofs.Inputs.{took_more}
 use Rattle.sync_io.specs.declared.status.Status.{Status}
 use Rattle.sync_io.specs.declared.status.Status.TheVariants as statuses
 use Rattle.sync_top.specs.declared.command.LineEnd.{LineEnd}
-use Rattle.sync_top.specs.declared.command.LineEnd.TheVariants as line_ends
 use Rattle.sync_io.specs.declared.sink.SinkRefusal.{SinkRefusal}
 use Rattle.sync_io.specs.declared.sink.SinkRefusal.TheVariants as sinks
-use Rattle.sync_top.specs.Runs.{Ran, ended, onto, answered, is_fault, Follows, FollowsTold, EndsAt, text_of, write_status, run_from, runs, answer_to, IsRunStatus, IsDoneOrNoMemory}
+use Rattle.sync_node.specs.Texts.{write_status}
+use Rattle.sync_top.specs.Runs.{Ran, onto, answered, is_fault, Follows, FollowsTold, EndsAt, IsRunStatus, IsDoneOrNoMemory}
 
 -- ---- what was written
 -- nothing

@@ -1,5 +1,5 @@
 -- An exchange of clients with one server, line by line: what answers each event, and the world afterwards.
-use Rattle.std.specs.Prelude.{◌≡◌, ℕ, Bool, true, false, ◌||◌, if◌then◌else◌, List, [], ◌∷◌, ◌++◌, codes, decimal, Option, None, Some, Result, Ok, Err}
+use Rattle.std.specs.Prelude.{◌≡◌, ℕ, Bool, true, false, ◌||◌, if◌then◌else◌, List, [], ◌∷◌, codes, Option, None, Some, Result, Ok, Err}
 use Rattle.std.specs.Str.{bytes_eq}
 use Rattle.sync_data.specs.declared.instr.Instr.{Instr}
 use Rattle.sync_io.specs.Input.{input_ahead}
@@ -11,16 +11,12 @@ use Rattle.sync_model.specs.Reports.{report_of}
 use Rattle.sync_exchange.specs.Profile.{the_profile}
 use Rattle.sync_world.specs.Events.{event_seen}
 use Rattle.sync_world.specs.Reports.{report_text}
-use Rattle.sync_world.specs.Words.{words_text}
+use Rattle.sync_world.specs.Words.{outcome_line, words_text}
 use Rattle.sync_top.specs.declared.command.LineEnd.{LineEnd}
 use Rattle.sync_top.specs.declared.command.LineEnd.TheVariants as line_ends
 use Rattle.sync_top.specs.Runs.{is_blank}
 
 -- ---- a line and its answer
--- the line's number, a space and the words
-abbrev pub outcome_line : ℕ → List ℕ → List ℕ
-outcome_line number words = decimal number ++ codes " " ++ words ++ codes "\n"
-
 abbrev pub told : ℕ → Outcome → List ℕ × World
 told number o = (outcome_line number (words_text o.words), o.world)
 

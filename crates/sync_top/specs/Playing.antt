@@ -4,8 +4,6 @@ use Rattle.sync_data.specs.declared.instr.Instr.{Instr}
 use Rattle.sync_data.specs.declared.memory.NoMemory.{NoMemory}
 use Rattle.sync_gen.specs.Draws.{Drawing}
 use Rattle.sync_io.specs.Devices.{Took, TookSome}
-use Rattle.sync_io.specs.declared.sink.SinkRefusal.{SinkRefusal}
-use Rattle.sync_io.specs.declared.sink.SinkRefusal.TheVariants as refusals
 use Rattle.sync_io.specs.declared.status.Status.{Status}
 use Rattle.sync_io.specs.declared.status.Status.TheVariants as statuses
 use Rattle.sync_model.specs.Worlds.{Event, World, empty_world}
@@ -39,8 +37,3 @@ Writes text statuses.Done old new = Took text old new
 Writes text statuses.WriteFault old new = TookSome text old new
 Writes text statuses.NoMemory old new = TookSome text old new
 Writes text status old new = ⊥
-
--- the status of a refused write
-abbrev pub refused_write : SinkRefusal → Status
-refused_write refusals.Failed = statuses.WriteFault
-refused_write refusals.NoMemory = statuses.NoMemory

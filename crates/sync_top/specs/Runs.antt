@@ -8,10 +8,10 @@ use Rattle.sync_io.specs.Devices.{Took, TookSome}
 use Rattle.sync_io.specs.declared.status.Status.{Status}
 use Rattle.sync_io.specs.declared.status.Status.TheVariants as statuses
 use Rattle.sync_io.specs.declared.sink.SinkRefusal.{SinkRefusal}
-use Rattle.sync_io.specs.declared.sink.SinkRefusal.TheVariants as sinks
 use Rattle.sync_io.specs.declared.refusal.ReadRefusal.{ReadRefusal}
 use Rattle.sync_io.specs.declared.refusal.ReadRefusal.TheVariants as reads
 use Rattle.std.specs.declared.alloc.Global.{Global}
+use Rattle.sync_node.specs.Texts.{write_status}
 use Rattle.sync_top.specs.declared.command.LineEnd.{LineEnd}
 use Rattle.sync_top.specs.declared.command.LineEnd.TheVariants as line_ends
 
@@ -137,11 +137,6 @@ EndsAt (statuses.BadInput number) n command answer holds old new = (number ≡ n
 EndsAt {C} statuses.WriteFault n command answer holds old new = (text : List ℕ) × (next : C) × (answer ≡ Ok (text, next)) × TookSome text old new × holds next
 EndsAt statuses.NoMemory n command answer holds old new = TookSome (text_of answer) old new
 EndsAt status n command answer holds old new = ⊥
-
--- the status of a refused write
-abbrev pub write_status : SinkRefusal → Status
-write_status sinks.Failed = statuses.WriteFault
-write_status sinks.NoMemory = statuses.NoMemory
 
 -- the status of a run behind which the last flush was refused
 abbrev pub flush_status : Status → SinkRefusal → Status

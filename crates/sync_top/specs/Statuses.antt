@@ -1,6 +1,5 @@
 -- How each command may end.
 use Rattle.sync_io.specs.declared.status.Status.{Status}
-use Rattle.sync_io.specs.declared.status.Status.TheVariants as statuses
 use Rattle.sync_top.specs.declared.job.Job.{Job}
 use Rattle.sync_top.specs.declared.job.Job.TheVariants as jobs
 use Rattle.sync_top.specs.Commands.{IsFileStatus}

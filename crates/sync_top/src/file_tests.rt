@@ -1,5 +1,5 @@
 //! The commands over files by their words.
-use super::tests::words;
+use super::tests::{ends, prints, words};
 use super::*;
 use std::alloc::Global;
 use std::process::Abort;
@@ -33,8 +33,8 @@ fn writes(
     text: &[u8],
 ) -> Result<(), Fail> {
     let (status, written) = ran(alloc, &[command, "a file"], input, disk)?;
-    assert_eq!(rt; status, Status::Done, "{command}");
-    assert_eq!(rt; written.as_slice(), text, "{command}");
+    ends(rt, command, status, Status::Done);
+    prints(rt, command, &written, text);
     Ok(())
 }
 
@@ -61,17 +61,20 @@ fn a_client_and_a_server_by_words(rt: HostRuntime) -> Result<(), Fail> {
     writes(&rt, alloc, "show", b"", &mut server, b"server 0\n")
 }
 
+/// These words are none for a command.
+fn is_no_command(rt: &impl Abort, alloc: Global, all: &[&str]) -> Result<(), Fail> {
+    let mut disk = MemoryDisk::new(alloc)?;
+    let (status, written) = ran(alloc, all, b"x", &mut disk)?;
+    ends(rt, "no command", status, Status::BadWords);
+    prints(rt, "no command", &written, b"");
+    Ok(())
+}
+
 #[test]
 fn words_that_name_no_file_or_two(rt: HostRuntime) -> Result<(), Fail> {
-    let alloc = rt.alloc();
     for command in ["edit", "send", "ask", "take", "serve", "show", "open"] {
-        let mut disk = MemoryDisk::new(alloc)?;
-        let (status, text) = ran(alloc, &[command], b"x", &mut disk)?;
-        assert_eq!(rt; status, Status::BadWords, "{command}");
-        assert!(rt; text.is_empty(), "{command}");
-        let (status, text) = ran(alloc, &[command, "a", "b"], b"x", &mut disk)?;
-        assert_eq!(rt; status, Status::BadWords, "{command}");
-        assert!(rt; text.is_empty(), "{command}");
+        is_no_command(&rt, rt.alloc(), &[command])?;
+        is_no_command(&rt, rt.alloc(), &[command, "a", "b"])?;
     }
     Ok(())
 }

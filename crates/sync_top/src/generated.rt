@@ -4,7 +4,7 @@ ghost use Rattle.sync_model.specs.Worlds as model;
 ghost use Rattle.sync_world.specs.Holding.{Holds};
 ghost use Rattle.sync_top.specs.Generated.{events_of, world_by};
 ghost use Rattle.sync_top.specs.Jobs.{most_turns};
-ghost use Rattle.sync_top.specs.Playing.{Writes, refused_write};
+ghost use Rattle.sync_top.specs.Playing.{Writes};
 ghost use Rattle.sync_top.specs.Summaries.{summary_of};
 
 use super::plan::plan_of;
@@ -12,7 +12,8 @@ use super::progress::Progress;
 use super::summary::summary_of;
 use std::alloc::Global;
 use sync_data::NoMemory;
-use sync_io::{Sink, SinkRefusal, Status, write_all};
+use sync_io::{Sink, Status, write_all};
+use sync_node::write_status;
 use sync_world::World;
 
 /// The exchange happens in a world, and its summary is answered.
@@ -28,16 +29,6 @@ fn generated(alloc: Global, seed: u64, count: u32, world: &mut World) -> Result<
     summary_of(alloc, seed, count, progress.counts, world)
 }
 
-/// The status of a refused write.
-fn refused_write(refusal: SinkRefusal) -> Status
-    ensures { result ≡ refused_write refusal }
-{
-    match refusal {
-        SinkRefusal::Failed => Status::WriteFault,
-        SinkRefusal::NoMemory => Status::NoMemory,
-    }
-}
-
 /// Writes a text, and hands it on.
 fn write_text<K: Sink>(sink: &mut K, text: &[u8]) -> Status
     ensures writes { Writes text.now result (K.taken sink.old) (K.taken sink.new) }
@@ -45,11 +36,11 @@ fn write_text<K: Sink>(sink: &mut K, text: &[u8]) -> Status
     ensures cause { result ≡ Status.WriteFault → HasRisen (K.faults sink.old) (K.faults sink.new) }
 {
     if let Err(refusal) = write_all(sink, text) {
-        return refused_write(refusal);
+        return write_status(refusal);
     }
     match sink.flush() {
         Ok(()) => Status::Done,
-        Err(refusal) => refused_write(refusal),
+        Err(refusal) => write_status(refusal),
     }
 }
 

@@ -1,18 +1,10 @@
+use super::tests::{begins, ends, prints, words};
 use super::*;
-use std::alloc::{AllocError, Global};
+use std::alloc::Global;
 use std::process::Abort;
 use std::test::Fail;
 use sync_io::{MemorySink, Status};
 use sync_world::World;
-
-/// The words as they are handed to the program.
-fn words(alloc: Global, all: &[&str]) -> Result<Vec<String>, AllocError> {
-    let mut words = Vec::new(alloc);
-    for word in all {
-        words.push(String::from_str(alloc, word)?)?;
-    }
-    Ok(words)
-}
 
 /// The status and the output of an exchange in a new world, where these writes fail.
 fn generated(alloc: Global, all: &[&str], writes: &[u64]) -> Result<(Status, Vec<u8>), Fail> {
@@ -37,46 +29,52 @@ fn told(summary: &str, word: &str) -> Option<u64> {
     })
 }
 
+/// The summary tells this number behind that word.
+fn tells(rt: &impl Abort, summary: &str, word: &str, number: Option<u64>) {
+    assert!(rt; told(summary, word) == number, "{word}");
+}
+
 /// Nothing is refused, all that was made is in the history, and all clients agree.
+fn is_of_equals(rt: &impl Abort, summary: &str) {
+    assert!(rt; told(summary, "made").is_some());
+    assert!(rt; summary.lines().count() == 6);
+    tells(rt, summary, "history", told(summary, "made"));
+    tells(rt, summary, "refused", Some(0));
+    tells(rt, summary, "equal", Some(8));
+}
+
+/// The same of an exchange whose summary begins so.
 fn agrees(rt: &impl Abort, alloc: Global, all: &[&str], head: &str) -> Result<(), Fail> {
     let (status, output) = generated(alloc, all, &[])?;
-    assert_eq!(rt; status, Status::Done);
-    let summary = str::from_utf8(&output)?;
-    assert!(rt; summary.starts_with(head), "{head}");
-    let made = told(summary, "made");
-    assert!(rt; made.is_some());
-    assert_eq!(rt; told(summary, "history"), made);
-    assert_eq!(rt; told(summary, "refused"), Some(0));
-    assert_eq!(rt; told(summary, "equal"), Some(8));
-    assert_eq!(rt; summary.lines().count(), 6);
+    ends(rt, head, status, Status::Done);
+    begins(rt, head, &output, head.as_bytes());
+    is_of_equals(rt, str::from_utf8(&output)?);
     Ok(())
 }
 
-#[test]
-fn an_exchange_without_turns(rt: HostRuntime) -> Result<(), Fail> {
-    let (status, output) = generated(rt.alloc(), &["gen", "7", "0"], &[])?;
-    assert_eq!(rt; status, Status::Done);
-    let text = str::from_utf8(&output)?;
-    assert_eq!(rt;
-        text,
-        "seed 7\nturns 0\nmade 1\nhistory 1\nrefused 0\nequal 8\n"
-    );
+/// What is printed of no turns.
+const NONE: &[u8] = b"seed 7\nturns 0\nmade 1\nhistory 1\nrefused 0\nequal 8\n";
+
+/// An exchange of no turns, where that call of the sink fails, ends so and prints this.
+fn of_none(
+    rt: &impl Abort,
+    alloc: Global,
+    call: u64,
+    want: Status,
+    text: &[u8],
+) -> Result<(), Fail> {
+    let (status, output) = generated(alloc, &["gen", "7", "0"], &[call])?;
+    ends(rt, "no turns", status, want);
+    prints(rt, "no turns", &output, text);
     Ok(())
 }
 
 /// Its only write, and the flush behind it, fail: nothing is written, or all.
 #[test]
 fn each_call_of_the_sink_fails(rt: HostRuntime) -> Result<(), Fail> {
-    for (call, want, is_empty) in [
-        (1, Status::WriteFault, true),
-        (2, Status::WriteFault, false),
-        (3, Status::Done, false),
-    ] {
-        let (status, output) = generated(rt.alloc(), &["gen", "7", "0"], &[call])?;
-        assert_eq!(rt; status, want, "{call}");
-        assert_eq!(rt; output.is_empty(), is_empty, "{call}");
-    }
-    Ok(())
+    of_none(&rt, rt.alloc(), 1, Status::WriteFault, b"")?;
+    of_none(&rt, rt.alloc(), 2, Status::WriteFault, NONE)?;
+    of_none(&rt, rt.alloc(), 3, Status::Done, NONE)
 }
 
 #[test]
@@ -112,6 +110,13 @@ fn the_most_turns(rt: HostRuntime) -> Result<(), Fail> {
     )
 }
 
+/// The words ask for this job.
+fn asks_for(rt: &impl Abort, alloc: Global, all: &[&str], want: Option<Job>) -> Result<(), Fail> {
+    let words = words(alloc, all)?;
+    assert!(rt; job_of(&words) == want, "{all:?}");
+    Ok(())
+}
+
 #[test]
 fn words_that_are_no_command(rt: HostRuntime) -> Result<(), Fail> {
     let table: [&[&str]; 16] = [
@@ -134,11 +139,10 @@ fn words_that_are_no_command(rt: HostRuntime) -> Result<(), Fail> {
     ];
     let alloc = rt.alloc();
     for all in table {
-        assert!(rt; job_of(&words(alloc, all)?).is_none());
+        asks_for(&rt, alloc, all, None)?;
     }
-    assert_eq!(rt; job_of(&words(alloc, &["replay"])?), Some(Job::Replay));
+    asks_for(&rt, alloc, &["replay"], Some(Job::Replay))?;
     let (seed, count) = (u64::MAX, 100_000);
-    let most = words(alloc, &["gen", "18446744073709551615", "100000"])?;
-    assert_eq!(rt; job_of(&most), Some(Job::Generate { seed, count }));
-    Ok(())
+    let most = ["gen", "18446744073709551615", "100000"];
+    asks_for(&rt, alloc, &most, Some(Job::Generate { seed, count }))
 }

@@ -3,12 +3,13 @@ ghost use Rattle.sync_io.specs.Faults.{HasRisen};
 ghost use Rattle.sync_io.specs.Devices.{Took};
 ghost use Rattle.sync_io.specs.Input.{max_input};
 ghost use Rattle.sync_io.specs.Readers.{readings, readings_of};
-ghost use Rattle.sync_top.specs.Runs.{Follows, HasRun, ended, flush_status, IsReportStatus, answer_to, AnsweredAll, Read, CountsRead, EndsReading, is_blank, Answered, EndsAt, IsLineStatus, IsReadStatus, IsRunStatus, read_status, write_status};
+ghost use Rattle.sync_top.specs.Runs.{Follows, HasRun, ended, flush_status, IsReportStatus, answer_to, AnsweredAll, Read, CountsRead, EndsReading, is_blank, Answered, EndsAt, IsLineStatus, IsReadStatus, IsRunStatus, read_status};
 
 use super::command::{Command, LineEnd};
 use std::alloc::Global;
 use sync_data::NoMemory;
 use sync_io::{LineReader, ReadRefusal, Sink, SinkRefusal, Source, Status, write_all};
+use sync_node::write_status;
 
 /// Spaces, tabs and carriage returns only.
 fn is_blank(line: &[u8]) -> bool
@@ -16,16 +17,6 @@ fn is_blank(line: &[u8]) -> bool
 {
     line.iter()
         .all(|b| *b == b' ' || *b == b'\t' || *b == b'\r')
-}
-
-/// The status of a refused write.
-fn write_status(refusal: SinkRefusal) -> Status
-    ensures { result ≡ write_status refusal }
-{
-    match refusal {
-        SinkRefusal::Failed => Status::WriteFault,
-        SinkRefusal::NoMemory => Status::NoMemory,
-    }
 }
 
 /// The status where a reader refuses the line after so many.

@@ -1,27 +1,13 @@
 ghost use Rattle.std.specs.Prelude.{◌≡◌, IfOk};
 ghost use Rattle.sync_edits.specs.Lines.{ReadsLine, event_form_of_line};
 ghost use Rattle.sync_world.specs.Events.{IsCounted};
-ghost use Rattle.sync_top.specs.Exchange.{answers, outcome_line, report};
+ghost use Rattle.sync_top.specs.Exchange.{answers, report};
 
 use super::command::{Command, LineEnd};
 use std::alloc::Global;
 use sync_data::NoMemory;
 use sync_edits::{Event, LineRefusal, event_of};
-use sync_world::{World, put, put_number};
-
-/// The outcome line of the event in the line of this number, which came to these words.
-fn outcome_line(alloc: Global, number: u32, words: &[u8]) -> Result<Vec<u8>, NoMemory>
-    ensures { IfOk result (λ line. line.items ≡ outcome_line number words.now) }
-{
-    let mut out = Vec::new(alloc);
-    put_number(alloc, &mut out, number as u64)?;
-    put(&mut out, " ")?;
-    if out.extend_from_slice(words).is_err() {
-        return Err(NoMemory);
-    }
-    put(&mut out, "\n")?;
-    Ok(out)
-}
+use sync_world::{World, outcome_line};
 
 /// The event that a line is; a stop is counted from 1.
 fn counted_event(alloc: Global, line: &[u8]) -> Result<Event, LineRefusal>

@@ -1,51 +1,10 @@
 //! An exchange in which the disk of a node stops, at each write and sync of three transactions and of one upload.
-use super::tests::{joined, replayed};
+use super::tests::exchanges::joined::{JOINED, JOINED_TOLD};
+use super::tests::{joined, replays};
 use std::alloc::Global;
 use std::process::Abort;
 use std::test::Fail;
 use sync_io::Status;
-
-/// Two clients that are joined and share a table with one object.
-const JOINED: &str = r#"{"event":"client","name":"A","uuid":"00000000-0000-4000-8000-000000000001"}
-{"event":"bind","client":"A"}
-{"event":"deliver","message":1,"to":"server"}
-{"event":"deliver","message":2,"to":"A"}
-{"event":"client","name":"B","uuid":"00000000-0000-4000-8000-000000000002"}
-{"event":"bind","client":"B"}
-{"event":"deliver","message":3,"to":"server"}
-{"event":"deliver","message":4,"to":"B"}
-{"event":"edit","client":"A","ms":1,"edits":[{"op":"AddTable","table":"t","key":"Int"},{"op":"AddColumn","table":"t","column":"n","kind":"Int","nullable":false,"shape":"One"},{"op":"AddColumn","table":"t","column":"m","kind":"Int","nullable":true,"shape":"One"},{"op":"AddColumn","table":"t","column":"s","kind":"Text","nullable":true,"shape":"One"},{"op":"AddColumn","table":"t","column":"l","kind":"Text","nullable":false,"shape":"List"},{"op":"AddColumn","table":"t","column":"u","kind":"Int","nullable":false,"shape":"Set"},{"op":"AddColumn","table":"t","column":"k","kind":"Link","nullable":true,"shape":"One","target":"t"},{"op":"CreateObject","table":"t","key":1}]}
-{"event":"upload","client":"A"}
-{"event":"deliver","message":5,"to":"server"}
-{"event":"deliver","message":6,"to":"A"}
-{"event":"ask","client":"A"}
-{"event":"deliver","message":7,"to":"server"}
-{"event":"deliver","message":8,"to":"A"}
-{"event":"ask","client":"B"}
-{"event":"deliver","message":9,"to":"server"}
-{"event":"deliver","message":10,"to":"B"}
-"#;
-
-/// What is told of them.
-const JOINED_TOLD: &str = r#"1 client "A"
-2 message 1
-3 reply 2 ident 1
-4 took 0
-5 client "B"
-6 message 3
-7 reply 4 ident 2
-8 took 0
-9 made 1
-10 message 5
-11 reply 6 stored 1 1
-12 took 0
-13 message 7
-14 reply 8 download 1 0 1
-15 took 1
-16 message 9
-17 reply 10 download 2 0 1
-18 took 1
-"#;
 
 /// Transactions of one addition each.
 const EDITS: [&str; 3] = [
@@ -128,15 +87,6 @@ const OBJECTS: [&str; 4] = [
 "#,
 ];
 
-/// The client commits the transactions of the first so many, and the disk of the client stops in the next one.
-fn stop_in_commit<'a>(made: usize, stop: &'a str) -> [&'a str; 5] {
-    match made {
-        0 => [JOINED, "", "", stop, EDITS[0]],
-        1 => [JOINED, EDITS[0], "", stop, EDITS[1]],
-        _ => [JOINED, EDITS[0], EDITS[1], stop, EDITS[2]],
-    }
-}
-
 /// One of four texts.
 fn text_of<'a>(texts: &[&'a str; 4], place: usize) -> Result<&'a str, Fail> {
     match texts.get(place) {
@@ -145,117 +95,84 @@ fn text_of<'a>(texts: &[&'a str; 4], place: usize) -> Result<&'a str, Fail> {
     }
 }
 
-/// An exchange of these parts prints these.
-fn prints(rt: &impl Abort, alloc: Global, parts: &[&str], told: &[&str]) -> Result<(), Fail> {
-    let (status, output) = replayed(alloc, &joined(alloc, parts)?, &[], &[])?;
-    assert_eq!(rt; status, Status::Done, "{parts:?}");
-    assert!(rt;
-        output.as_slice() == joined(alloc, told)?.as_slice(),
-        "{parts:?}"
-    );
-    Ok(())
+/// The events of an exchange: after the first so many transactions the node's disk is to stop there, and then this comes.
+fn events(
+    alloc: Global,
+    made: usize,
+    sent: &str,
+    stop: (&str, usize, &str),
+    last: &str,
+) -> Result<Vec<u8>, Fail> {
+    let (node, at, leaves) = stop;
+    let mut events = joined(alloc, &[JOINED])?;
+    for edit in EDITS.iter().take(made) {
+        events.extend_from_slice(edit.as_bytes())?;
+    }
+    events.extend_from_slice(sent.as_bytes())?;
+    let line = format!(in alloc;
+        "{{\"event\":\"stop\",\"node\":\"{node}\",\"at\":{at},\"leaves\":\"{leaves}\"}}\n"
+    )?;
+    events.extend_from_slice(line.as_str().as_bytes())?;
+    events.extend_from_slice(last.as_bytes())?;
+    Ok(events)
 }
 
-/// The report where the server has so many of the transactions, and the client so many unsent: behind the lines told.
-fn reports(
-    rt: &impl Abort,
+/// What is told of them, and the report where the server has so many of the transactions, and the client so many unsent.
+fn told(
     alloc: Global,
-    parts: &[&str],
-    told: (usize, usize),
+    made: usize,
+    stopped: usize,
     server: usize,
     client: usize,
-) -> Result<(), Fail> {
-    let (made, stopped) = told;
-    let (made, stopped) = (text_of(&MADE, made)?, text_of(&STOPPED, stopped)?);
-    let (history, integrated) = (text_of(&SERVERS, server)?, text_of(&OBJECTS, server)?);
-    let (line, object) = (text_of(&CLIENTS, client)?, text_of(&OBJECTS, client)?);
-    let (none, empty) = (OTHER, text_of(&OBJECTS, 0)?);
-    prints(
-        rt,
+) -> Result<Vec<u8>, Fail> {
+    joined(
         alloc,
-        parts,
         &[
             JOINED_TOLD,
-            made,
-            stopped,
-            history,
+            text_of(&MADE, made)?,
+            text_of(&STOPPED, stopped)?,
+            text_of(&SERVERS, server)?,
             TABLE,
-            integrated,
-            line,
+            text_of(&OBJECTS, server)?,
+            text_of(&CLIENTS, client)?,
             TABLE,
-            object,
-            none,
+            text_of(&OBJECTS, client)?,
+            OTHER,
             TABLE,
-            empty,
+            text_of(&OBJECTS, 0)?,
         ],
     )
 }
 
-/// The strokes of one record: where the disk stops, what a crash leaves, and how many records then stand.
-const OF_A_COMMIT: [(&str, usize); 12] = [
-    (
-        "{\"event\":\"stop\",\"node\":\"A\",\"at\":1,\"leaves\":\"drop\"}\n",
-        0,
-    ),
-    (
-        "{\"event\":\"stop\",\"node\":\"A\",\"at\":1,\"leaves\":\"keep\"}\n",
-        0,
-    ),
-    (
-        "{\"event\":\"stop\",\"node\":\"A\",\"at\":1,\"leaves\":\"torn\"}\n",
-        0,
-    ),
-    (
-        "{\"event\":\"stop\",\"node\":\"A\",\"at\":2,\"leaves\":\"drop\"}\n",
-        0,
-    ),
-    (
-        "{\"event\":\"stop\",\"node\":\"A\",\"at\":2,\"leaves\":\"keep\"}\n",
-        0,
-    ),
-    (
-        "{\"event\":\"stop\",\"node\":\"A\",\"at\":2,\"leaves\":\"torn\"}\n",
-        0,
-    ),
-    (
-        "{\"event\":\"stop\",\"node\":\"A\",\"at\":3,\"leaves\":\"drop\"}\n",
-        0,
-    ),
-    (
-        "{\"event\":\"stop\",\"node\":\"A\",\"at\":3,\"leaves\":\"keep\"}\n",
-        1,
-    ),
-    (
-        "{\"event\":\"stop\",\"node\":\"A\",\"at\":3,\"leaves\":\"torn\"}\n",
-        0,
-    ),
-    (
-        "{\"event\":\"stop\",\"node\":\"A\",\"at\":4,\"leaves\":\"drop\"}\n",
-        0,
-    ),
-    (
-        "{\"event\":\"stop\",\"node\":\"A\",\"at\":4,\"leaves\":\"keep\"}\n",
-        1,
-    ),
-    (
-        "{\"event\":\"stop\",\"node\":\"A\",\"at\":4,\"leaves\":\"torn\"}\n",
-        0,
-    ),
-];
+/// What a crash leaves of what was written and not synced.
+const LEAVES: [&str; 3] = ["drop", "keep", "torn"];
+
+/// How many of one record stand after each of these crashes: where the disk stops at its write, its sync, the write of the
+/// open gate, and the sync of that.
+const OF_A_RECORD: [[usize; 3]; 4] = [[0, 0, 0], [0, 0, 0], [0, 1, 0], [0, 1, 0]];
+
+/// The client's disk stops there in each of three transactions.
+fn stops_in_a_transaction(
+    rt: &impl Abort,
+    alloc: Global,
+    at: usize,
+    leaves: &str,
+    stands: usize,
+) -> Result<(), Fail> {
+    for (made, edit) in EDITS.iter().enumerate() {
+        let events = events(alloc, made, "", ("A", at, leaves), edit)?;
+        let told = told(alloc, made, made, 0, made.saturating_add(stands))?;
+        replays(rt, alloc, leaves, &events, Status::Done, &told)?;
+    }
+    Ok(())
+}
 
 #[test]
 fn each_stroke_of_three_transactions_stops(rt: HostRuntime) -> Result<(), Fail> {
-    for (stop, stands) in OF_A_COMMIT {
-        for made in [0usize, 1, 2] {
-            let parts = stop_in_commit(made, stop);
-            reports(
-                &rt,
-                rt.alloc(),
-                &parts,
-                (made, made),
-                0,
-                made.saturating_add(stands),
-            )?;
+    for (stroke, stand) in OF_A_RECORD.iter().enumerate() {
+        for (leaves, stands) in LEAVES.iter().zip(stand.iter()) {
+            let at = stroke.saturating_add(1);
+            stops_in_a_transaction(&rt, rt.alloc(), at, leaves, *stands)?;
         }
     }
     Ok(())
@@ -266,159 +183,30 @@ const UPLOAD: &str = "{\"event\":\"upload\",\"client\":\"A\"}\n";
 
 const DELIVERY: &str = "{\"event\":\"deliver\",\"message\":11,\"to\":\"server\"}\n";
 
-/// The strokes of three records: the same of the server.
-const OF_AN_UPLOAD: [(&str, usize); 36] = [
-    (
-        "{\"event\":\"stop\",\"node\":\"server\",\"at\":1,\"leaves\":\"drop\"}\n",
-        0,
-    ),
-    (
-        "{\"event\":\"stop\",\"node\":\"server\",\"at\":1,\"leaves\":\"keep\"}\n",
-        0,
-    ),
-    (
-        "{\"event\":\"stop\",\"node\":\"server\",\"at\":1,\"leaves\":\"torn\"}\n",
-        0,
-    ),
-    (
-        "{\"event\":\"stop\",\"node\":\"server\",\"at\":2,\"leaves\":\"drop\"}\n",
-        0,
-    ),
-    (
-        "{\"event\":\"stop\",\"node\":\"server\",\"at\":2,\"leaves\":\"keep\"}\n",
-        0,
-    ),
-    (
-        "{\"event\":\"stop\",\"node\":\"server\",\"at\":2,\"leaves\":\"torn\"}\n",
-        0,
-    ),
-    (
-        "{\"event\":\"stop\",\"node\":\"server\",\"at\":3,\"leaves\":\"drop\"}\n",
-        0,
-    ),
-    (
-        "{\"event\":\"stop\",\"node\":\"server\",\"at\":3,\"leaves\":\"keep\"}\n",
-        1,
-    ),
-    (
-        "{\"event\":\"stop\",\"node\":\"server\",\"at\":3,\"leaves\":\"torn\"}\n",
-        0,
-    ),
-    (
-        "{\"event\":\"stop\",\"node\":\"server\",\"at\":4,\"leaves\":\"drop\"}\n",
-        0,
-    ),
-    (
-        "{\"event\":\"stop\",\"node\":\"server\",\"at\":4,\"leaves\":\"keep\"}\n",
-        1,
-    ),
-    (
-        "{\"event\":\"stop\",\"node\":\"server\",\"at\":4,\"leaves\":\"torn\"}\n",
-        0,
-    ),
-    (
-        "{\"event\":\"stop\",\"node\":\"server\",\"at\":5,\"leaves\":\"drop\"}\n",
-        1,
-    ),
-    (
-        "{\"event\":\"stop\",\"node\":\"server\",\"at\":5,\"leaves\":\"keep\"}\n",
-        1,
-    ),
-    (
-        "{\"event\":\"stop\",\"node\":\"server\",\"at\":5,\"leaves\":\"torn\"}\n",
-        1,
-    ),
-    (
-        "{\"event\":\"stop\",\"node\":\"server\",\"at\":6,\"leaves\":\"drop\"}\n",
-        1,
-    ),
-    (
-        "{\"event\":\"stop\",\"node\":\"server\",\"at\":6,\"leaves\":\"keep\"}\n",
-        1,
-    ),
-    (
-        "{\"event\":\"stop\",\"node\":\"server\",\"at\":6,\"leaves\":\"torn\"}\n",
-        1,
-    ),
-    (
-        "{\"event\":\"stop\",\"node\":\"server\",\"at\":7,\"leaves\":\"drop\"}\n",
-        1,
-    ),
-    (
-        "{\"event\":\"stop\",\"node\":\"server\",\"at\":7,\"leaves\":\"keep\"}\n",
-        2,
-    ),
-    (
-        "{\"event\":\"stop\",\"node\":\"server\",\"at\":7,\"leaves\":\"torn\"}\n",
-        1,
-    ),
-    (
-        "{\"event\":\"stop\",\"node\":\"server\",\"at\":8,\"leaves\":\"drop\"}\n",
-        1,
-    ),
-    (
-        "{\"event\":\"stop\",\"node\":\"server\",\"at\":8,\"leaves\":\"keep\"}\n",
-        2,
-    ),
-    (
-        "{\"event\":\"stop\",\"node\":\"server\",\"at\":8,\"leaves\":\"torn\"}\n",
-        1,
-    ),
-    (
-        "{\"event\":\"stop\",\"node\":\"server\",\"at\":9,\"leaves\":\"drop\"}\n",
-        2,
-    ),
-    (
-        "{\"event\":\"stop\",\"node\":\"server\",\"at\":9,\"leaves\":\"keep\"}\n",
-        2,
-    ),
-    (
-        "{\"event\":\"stop\",\"node\":\"server\",\"at\":9,\"leaves\":\"torn\"}\n",
-        2,
-    ),
-    (
-        "{\"event\":\"stop\",\"node\":\"server\",\"at\":10,\"leaves\":\"drop\"}\n",
-        2,
-    ),
-    (
-        "{\"event\":\"stop\",\"node\":\"server\",\"at\":10,\"leaves\":\"keep\"}\n",
-        2,
-    ),
-    (
-        "{\"event\":\"stop\",\"node\":\"server\",\"at\":10,\"leaves\":\"torn\"}\n",
-        2,
-    ),
-    (
-        "{\"event\":\"stop\",\"node\":\"server\",\"at\":11,\"leaves\":\"drop\"}\n",
-        2,
-    ),
-    (
-        "{\"event\":\"stop\",\"node\":\"server\",\"at\":11,\"leaves\":\"keep\"}\n",
-        3,
-    ),
-    (
-        "{\"event\":\"stop\",\"node\":\"server\",\"at\":11,\"leaves\":\"torn\"}\n",
-        2,
-    ),
-    (
-        "{\"event\":\"stop\",\"node\":\"server\",\"at\":12,\"leaves\":\"drop\"}\n",
-        2,
-    ),
-    (
-        "{\"event\":\"stop\",\"node\":\"server\",\"at\":12,\"leaves\":\"keep\"}\n",
-        3,
-    ),
-    (
-        "{\"event\":\"stop\",\"node\":\"server\",\"at\":12,\"leaves\":\"torn\"}\n",
-        2,
-    ),
-];
+/// The server's disk stops there in each of the three records of an upload.
+fn stops_in_an_upload(
+    rt: &impl Abort,
+    alloc: Global,
+    at: usize,
+    leaves: &str,
+    stands: usize,
+) -> Result<(), Fail> {
+    for before in 0..3usize {
+        let at = at.saturating_add(before.saturating_mul(4));
+        let events = events(alloc, 3, UPLOAD, ("server", at, leaves), DELIVERY)?;
+        let told = told(alloc, 3, 3, before.saturating_add(stands), 3)?;
+        replays(rt, alloc, leaves, &events, Status::Done, &told)?;
+    }
+    Ok(())
+}
 
 #[test]
 fn each_stroke_of_an_upload_stops(rt: HostRuntime) -> Result<(), Fail> {
-    for (stop, stand) in OF_AN_UPLOAD {
-        let parts = [JOINED, EDITS[0], EDITS[1], EDITS[2], UPLOAD, stop, DELIVERY];
-        reports(&rt, rt.alloc(), &parts, (3, 3), stand, 3)?;
+    for (stroke, stand) in OF_A_RECORD.iter().enumerate() {
+        for (leaves, stands) in LEAVES.iter().zip(stand.iter()) {
+            let at = stroke.saturating_add(1);
+            stops_in_an_upload(&rt, rt.alloc(), at, leaves, *stands)?;
+        }
     }
     Ok(())
 }

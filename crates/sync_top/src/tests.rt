@@ -1,8 +1,10 @@
+pub(crate) mod exchanges;
 mod injections;
 mod near_misses;
 
 use super::*;
 use std::alloc::Global;
+use std::process::Abort;
 use std::test::Fail;
 use sync_disk::MemoryDisk;
 use sync_io::{MemorySink, MemorySource, Status};
@@ -52,23 +54,57 @@ pub(crate) fn joined(alloc: Global, parts: &[&str]) -> Result<Vec<u8>, Fail> {
     Ok(all)
 }
 
-#[test]
-fn the_first_exchange_and_none(rt: HostRuntime) -> Result<(), Fail> {
-    let alloc = rt.alloc();
-    let input = joined(alloc, &[CLIENT, "\n", EDIT, "\n"])?;
-    let (status, output) = replayed(alloc, &input, &[], &[])?;
-    assert_eq!(rt; status, Status::Done);
-    let want = joined(alloc, &["1 client \"A\"\n2 made 1\n", REPORT])?;
-    assert!(rt; output.as_slice() == want.as_slice());
-    let (status, output) = replayed(alloc, b"", &[], &[])?;
-    assert_eq!(rt; status, Status::Done);
-    assert!(rt; output.as_slice() == b"server 0\n".as_slice());
+/// The run of this name ended so.
+pub(crate) fn ends(rt: &impl Abort, name: &str, status: Status, want: Status) {
+    assert_eq!(rt; status, want, "{name}");
+}
+
+/// It printed this.
+pub(crate) fn prints(rt: &impl Abort, name: &str, output: &[u8], want: &[u8]) {
+    assert!(rt; output == want, "{name}");
+}
+
+/// What it printed begins, or goes on, so.
+pub(crate) fn begins(rt: &impl Abort, name: &str, output: &[u8], front: &[u8]) {
+    assert!(rt; output.starts_with(front), "{name}");
+}
+
+/// The replay of this input ends so, and prints this.
+pub(crate) fn replays(
+    rt: &impl Abort,
+    alloc: Global,
+    name: &str,
+    input: &[u8],
+    want: Status,
+    text: &[u8],
+) -> Result<(), Fail> {
+    let (status, output) = replayed(alloc, input, &[], &[])?;
+    ends(rt, name, status, want);
+    prints(rt, name, &output, text);
+    Ok(())
+}
+
+/// A run of these words reads nothing, and prints nothing.
+fn is_no_command(rt: &impl Abort, alloc: Global, all: &[&str]) -> Result<(), Fail> {
+    let mut source = MemorySource::new(joined(alloc, &[CLIENT])?, Vec::new(alloc));
+    let mut sink = MemorySink::new(alloc, Vec::new(alloc));
+    let mut world = World::new(alloc)?;
+    let mut disk = MemoryDisk::new(alloc)?;
+    let status = run(
+        alloc,
+        &words(alloc, all)?,
+        &mut source,
+        &mut sink,
+        &mut disk,
+        &mut world,
+    );
+    ends(rt, "no command", status, Status::BadWords);
+    prints(rt, "no command", sink.bytes(), b"");
     Ok(())
 }
 
 #[test]
 fn words_that_are_no_command(rt: HostRuntime) -> Result<(), Fail> {
-    let alloc = rt.alloc();
     let table: [&[&str]; 6] = [
         &[],
         &["replay", "x"],
@@ -78,86 +114,64 @@ fn words_that_are_no_command(rt: HostRuntime) -> Result<(), Fail> {
         &["gen", "18446744073709551616", "1"],
     ];
     for all in table {
-        let mut source = MemorySource::new(joined(alloc, &[CLIENT])?, Vec::new(alloc));
-        let mut sink = MemorySink::new(alloc, Vec::new(alloc));
-        let mut world = World::new(alloc)?;
-        let mut disk = MemoryDisk::new(alloc)?;
-        let status = run(
-            alloc,
-            &words(alloc, all)?,
-            &mut source,
-            &mut sink,
-            &mut disk,
-            &mut world,
-        );
-        assert_eq!(rt; status, Status::BadWords);
-        assert!(rt; sink.bytes().is_empty());
+        is_no_command(&rt, rt.alloc(), all)?;
     }
     Ok(())
 }
 
+/// What is printed of one client.
+const ALONE: &str = "1 client \"A\"\nserver 0\nclient \"A\" 0 0 0\n";
+
 #[test]
-fn inputs_good_and_bad(rt: HostRuntime) -> Result<(), Fail> {
+fn ends_of_lines_and_blank_lines(rt: HostRuntime) -> Result<(), Fail> {
     let alloc = rt.alloc();
-    let done = "1 client \"A\"\nserver 0\nclient \"A\" 0 0 0\n";
-    let table: [(&[&str], Status, &str); 14] = [
-        // no last line feed; CR before it; blank lines of spaces, tabs and CR, which are counted
-        (&[CLIENT], Status::Done, done),
-        (&[CLIENT, "\r\n"], Status::Done, done),
-        (&[CLIENT, "\n \t\r\n\n\r\n"], Status::Done, done),
-        (
-            &[" \t\r\n\n", CLIENT, "\nx\n"],
-            Status::BadInput { place: 4 },
-            "3 client \"A\"\n",
-        ),
-        // not JSON; no object; no text; an object that is no form
-        (&["x\n"], Status::BadInput { place: 1 }, ""),
-        (&["[]\n"], Status::BadInput { place: 1 }, ""),
-        (&["1\n"], Status::BadInput { place: 1 }, ""),
-        (&["{\n"], Status::BadInput { place: 1 }, ""),
-        (&["{}\n"], Status::BadInput { place: 1 }, ""),
-        (
-            &[CLIENT, "\n{\"event\":\"fly\"}\n"],
-            Status::BadInput { place: 2 },
-            "1 client \"A\"\n",
-        ),
-        // a wrong field, a missing one, one too many, a name of no bytes
-        (
-            &[
-                "{\"event\":\"client\",\"name\":1,\"uuid\":\"00000000-0000-4000-8000-000000000001\"}",
-            ],
-            Status::BadInput { place: 1 },
-            "",
-        ),
-        (
-            &["{\"event\":\"client\",\"name\":\"A\"}"],
-            Status::BadInput { place: 1 },
-            "",
-        ),
-        (
-            &[
-                "{\"event\":\"client\",\"name\":\"A\",\"x\":1,\"uuid\":\"00000000-0000-4000-8000-000000000001\"}",
-            ],
-            Status::BadInput { place: 1 },
-            "",
-        ),
-        (
-            &[
-                "{\"event\":\"client\",\"name\":\"\",\"uuid\":\"00000000-0000-4000-8000-000000000001\"}",
-            ],
-            Status::BadInput { place: 1 },
-            "",
-        ),
+    let table: [(&str, &[&str]); 4] = [
+        ("no last line feed", &[CLIENT]),
+        ("a carriage return", &[CLIENT, "\r\n"]),
+        ("blank lines behind", &[CLIENT, "\n \t\r\n\n\r\n"]),
+        ("a blank line of spaces", &[CLIENT, "\n  "]),
     ];
-    for (parts, want, output) in table {
-        let (status, written) = replayed(alloc, &joined(alloc, parts)?, &[], &[])?;
-        assert_eq!(rt; status, want, "{parts:?}");
-        assert!(rt; written.as_slice() == output.as_bytes(), "{parts:?}");
+    for (name, parts) in table {
+        let input = joined(alloc, parts)?;
+        replays(&rt, alloc, name, &input, Status::Done, ALONE.as_bytes())?;
     }
-    let (status, written) = replayed(alloc, b"\xff\xfe\n", &[], &[])?;
-    assert_eq!(rt; status, Status::BadInput { place: 1 });
-    assert!(rt; written.is_empty());
-    Ok(())
+    let counted = joined(alloc, &[" \t\r\n\n", CLIENT, "\nx\n"])?;
+    let status = Status::BadInput { place: 4 };
+    let text = b"3 client \"A\"\n".as_slice();
+    replays(&rt, alloc, "blank lines before", &counted, status, text)
+}
+
+/// Lines that are none, alone.
+const BAD: [(&str, &str); 9] = [
+    ("no JSON", "x"),
+    ("an array", "[]"),
+    ("a number", "1"),
+    ("an open object", "{"),
+    ("an empty object", "{}"),
+    (
+        "a wrong field",
+        r#"{"event":"client","name":1,"uuid":"00000000-0000-4000-8000-000000000001"}"#,
+    ),
+    ("a field too few", r#"{"event":"client","name":"A"}"#),
+    (
+        "a field too many",
+        r#"{"event":"client","name":"A","x":1,"uuid":"00000000-0000-4000-8000-000000000001"}"#,
+    ),
+    (
+        "a name of no bytes",
+        r#"{"event":"client","name":"","uuid":"00000000-0000-4000-8000-000000000001"}"#,
+    ),
+];
+
+#[test]
+fn lines_that_are_none(rt: HostRuntime) -> Result<(), Fail> {
+    let alloc = rt.alloc();
+    let status = Status::BadInput { place: 1 };
+    for (name, line) in BAD {
+        let input = joined(alloc, &[line, "\n"])?;
+        replays(&rt, alloc, name, &input, status, b"")?;
+    }
+    replays(&rt, alloc, "no text", b"\xff\xfe\n", status, b"")
 }
 
 /// An edit line of client A with these edits.
@@ -208,10 +222,8 @@ fn refused_events_change_nothing(rt: HostRuntime) -> Result<(), Fail> {
     for (edits, line) in table {
         let mut input = joined(alloc, &[CLIENT, "\n", EDIT, "\n"])?;
         input.extend_from_slice(&edit(alloc, edits)?)?;
-        let (status, output) = replayed(alloc, &input, &[], &[])?;
-        assert_eq!(rt; status, Status::Done, "{edits}");
         let want = joined(alloc, &["1 client \"A\"\n2 made 1\n", line, REPORT])?;
-        assert!(rt; output.as_slice() == want.as_slice(), "{edits}");
+        replays(&rt, alloc, edits, &input, Status::Done, &want)?;
     }
     Ok(())
 }
@@ -234,12 +246,9 @@ fn names_uuids_and_nodes(rt: HostRuntime) -> Result<(), Fail> {
             "{\"event\":\"edit\",\"client\":\"server\",\"ms\":1,\"edits\":[]}\n",
         ],
     )?;
-    let (status, output) = replayed(alloc, &input, &[], &[])?;
-    assert_eq!(rt; status, Status::Done);
     let want =
         "1 refused NameTaken\n2 client \"A\"\n3 refused NameTaken\n4 refused UuidTaken\n5 client \"B\"\n6 refused NoNode\n7 made 1\n8 refused NoNode\nserver 0\nclient \"A\" 0 0 0\nclient \"B\" 0 0 1\n";
-    assert!(rt; output.as_slice() == want.as_bytes());
-    Ok(())
+    replays(&rt, alloc, "names", &input, Status::Done, want.as_bytes())
 }
 
 #[test]
@@ -259,80 +268,56 @@ fn a_transaction_of_too_many_instructions(rt: HostRuntime) -> Result<(), Fail> {
         input.extend_from_slice(creation.as_bytes())?;
     }
     input.extend_from_slice(b"]}\n")?;
-    let (status, output) = replayed(alloc, &input, &[], &[])?;
-    assert_eq!(rt; status, Status::Done);
     let want = "1 client \"A\"\n2 refused TooLarge\nserver 0\nclient \"A\" 0 0 0\n";
-    assert!(rt; output.as_slice() == want.as_bytes());
+    replays(
+        &rt,
+        alloc,
+        "65,537 edits",
+        &input,
+        Status::Done,
+        want.as_bytes(),
+    )
+}
+
+/// The first exchange.
+fn first(alloc: Global) -> Result<Vec<u8>, Fail> {
+    joined(alloc, &[CLIENT, "\n", EDIT, "\n"])
+}
+
+/// A replay of it, in which these reads and writes fail, ends so and prints a front of the whole.
+fn cut_short(
+    rt: &impl Abort,
+    alloc: Global,
+    reads: &[u64],
+    writes: &[u64],
+    want: Status,
+) -> Result<(), Fail> {
+    let (status, output) = replayed(alloc, &first(alloc)?, reads, writes)?;
+    ends(rt, "cut short", status, want);
+    let whole = joined(alloc, &["1 client \"A\"\n2 made 1\n", REPORT])?;
+    begins(rt, "cut short", &whole, &output);
     Ok(())
 }
 
 #[test]
 fn each_read_and_each_write_fails_in_turn(rt: HostRuntime) -> Result<(), Fail> {
-    let alloc = rt.alloc();
-    let input = joined(alloc, &[CLIENT, "\n", EDIT, "\n"])?;
-    let (_, whole) = replayed(alloc, &input, &[], &[])?;
     // two reads: the bytes, and the end
-    for call in 1..3u64 {
-        let (status, output) = replayed(alloc, &input, &[call], &[])?;
-        assert_eq!(rt; status, Status::ReadFault, "read {call}");
-        assert!(rt; whole.as_slice().starts_with(output.as_slice()));
+    for (call, want) in [
+        (1u64, Status::ReadFault),
+        (2, Status::ReadFault),
+        (3, Status::Done),
+    ] {
+        cut_short(&rt, rt.alloc(), &[call], &[], want)?;
     }
-    assert_eq!(rt; replayed(alloc, &input, &[3], &[])?.0, Status::Done);
     // three writes and a flush: the two outcome lines, and the report
-    for call in 1..5u64 {
-        let (status, output) = replayed(alloc, &input, &[], &[call])?;
-        assert_eq!(rt; status, Status::WriteFault, "write {call}");
-        assert!(rt; whole.as_slice().starts_with(output.as_slice()));
+    for (call, want) in [
+        (1u64, Status::WriteFault),
+        (2, Status::WriteFault),
+        (3, Status::WriteFault),
+        (4, Status::WriteFault),
+        (5, Status::Done),
+    ] {
+        cut_short(&rt, rt.alloc(), &[], &[call], want)?;
     }
-    assert_eq!(rt; replayed(alloc, &input, &[], &[5])?.0, Status::Done);
-    Ok(())
-}
-
-const KINDS: &str =
-    "{\"op\":\"AddTable\",\"table\":\"t\",\"key\":\"Int\"},{\"op\":\"AddColumn\",\"table\":\"t\",\"column\":\"n\",\"kind\":\"Int\",\"nullable\":false,\"shape\":\"One\"},{\"op\":\"AddColumn\",\"table\":\"t\",\"column\":\"m\",\"kind\":\"Int\",\"nullable\":true,\"shape\":\"One\"},{\"op\":\"CreateObject\",\"table\":\"t\",\"key\":1},{\"op\":\"Update\",\"table\":\"t\",\"key\":1,\"column\":\"n\",\"value\":9223372036854775807},{\"op\":\"AddInteger\",\"table\":\"t\",\"key\":1,\"column\":\"n\",\"amount\":1},{\"op\":\"AddInteger\",\"table\":\"t\",\"key\":1,\"column\":\"m\",\"amount\":1}";
-
-const ERASURE: &str = "{\"op\":\"EraseObject\",\"table\":\"t\",\"key\":2}";
-
-#[test]
-fn additions_wrap_and_leave_null(rt: HostRuntime) -> Result<(), Fail> {
-    let alloc = rt.alloc();
-    let mut input = joined(alloc, &[CLIENT, "\n"])?;
-    input.extend_from_slice(&edit(alloc, KINDS)?)?;
-    input.extend_from_slice(&edit(alloc, ERASURE)?)?;
-    let (status, output) = replayed(alloc, &input, &[], &[])?;
-    assert_eq!(rt; status, Status::Done);
-    let want =
-        "1 client \"A\"\n2 made 1\n3 refused Break 0 30\nserver 0\nclient \"A\" 0 0 1\n{\"key\":\"Int\",\"table\":\"t\"}\n{\"column\":\"m\",\"kind\":\"Int\",\"nullable\":true,\"shape\":\"One\",\"table\":\"t\"}\n{\"column\":\"n\",\"kind\":\"Int\",\"nullable\":false,\"shape\":\"One\",\"table\":\"t\"}\n{\"cells\":{\"m\":null,\"n\":-9223372036854775808},\"key\":1,\"table\":\"t\"}\n";
-    assert!(rt; output.as_slice() == want.as_bytes());
-    Ok(())
-}
-
-const COLLECTIONS: &str =
-    "{\"op\":\"AddTable\",\"table\":\"t\",\"key\":\"Int\"},{\"op\":\"AddColumn\",\"table\":\"t\",\"column\":\"l\",\"kind\":\"Text\",\"nullable\":false,\"shape\":\"List\"},{\"op\":\"AddColumn\",\"table\":\"t\",\"column\":\"u\",\"kind\":\"Int\",\"nullable\":false,\"shape\":\"Set\"},{\"op\":\"CreateObject\",\"table\":\"t\",\"key\":1}";
-
-const INSERTION: &str =
-    "{\"op\":\"ListInsert\",\"table\":\"t\",\"key\":1,\"column\":\"l\",\"place\":1,\"prior\":1,\"value\":\"x\"}";
-
-const FIVES: &str =
-    "{\"op\":\"SetErase\",\"table\":\"t\",\"key\":1,\"column\":\"u\",\"value\":5},{\"op\":\"SetInsert\",\"table\":\"t\",\"key\":1,\"column\":\"u\",\"value\":5},{\"op\":\"SetInsert\",\"table\":\"t\",\"key\":1,\"column\":\"u\",\"value\":5}";
-
-const DICTIONARY: &str =
-    "{\"op\":\"AddColumn\",\"table\":\"t\",\"column\":\"d\",\"kind\":\"Int\",\"nullable\":false,\"shape\":\"Dict\"}";
-
-const UPGRADE: &str = "{\"event\":\"upgrade\",\"client\":\"A\"}\n";
-
-#[test]
-fn lists_sets_and_the_second_form(rt: HostRuntime) -> Result<(), Fail> {
-    let alloc = rt.alloc();
-    let mut input = joined(alloc, &[CLIENT, "\n"])?;
-    for edits in [COLLECTIONS, INSERTION, FIVES, DICTIONARY] {
-        input.extend_from_slice(&edit(alloc, edits)?)?;
-    }
-    input.extend_from_slice(&joined(alloc, &[UPGRADE, UPGRADE])?)?;
-    let (status, output) = replayed(alloc, &input, &[], &[])?;
-    assert_eq!(rt; status, Status::Done);
-    let want =
-        "1 client \"A\"\n2 made 1\n3 refused Break 0 23\n4 made 2\n5 refused OldForm 0\n6 upgraded\n7 current\nserver 0\nclient \"A\" 0 0 2\n{\"key\":\"Int\",\"table\":\"t\"}\n{\"column\":\"l\",\"kind\":\"Text\",\"nullable\":false,\"shape\":\"List\",\"table\":\"t\"}\n{\"column\":\"u\",\"kind\":\"Int\",\"nullable\":false,\"shape\":\"Set\",\"table\":\"t\"}\n{\"cells\":{\"l\":[],\"u\":[5]},\"key\":1,\"table\":\"t\"}\n";
-    assert!(rt; output.as_slice() == want.as_bytes());
     Ok(())
 }

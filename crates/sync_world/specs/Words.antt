@@ -20,6 +20,10 @@ numbers_text = flat_map (λ n. codes " " ++ decimal n)
 abbrev pub said : List ℕ → List ℕ → List ℕ
 said word numbers = word ++ numbers_text numbers
 
+-- the line of an outcome: its number, a space and the words
+abbrev pub outcome_line : ℕ → List ℕ → List ℕ
+outcome_line number words = decimal number ++ codes " " ++ words ++ codes "\n"
+
 -- ---- why a client refuses: the name of the reason and its fields in their order
 abbrev pub refused : List ℕ → List ℕ → List ℕ
 refused reason fields = codes "refused " ++ said reason fields

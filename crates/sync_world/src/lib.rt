@@ -4,8 +4,6 @@
 mod deliveries;
 mod disks;
 mod edits;
-#[cfg(test)]
-mod exchanges;
 mod hub;
 mod laws;
 mod messages;
@@ -23,7 +21,7 @@ mod world;
 pub use report::{put_client, put_server, put_standing};
 pub use text::{put, put_name, put_number, put_numbers, put_said};
 pub use words::{
-    Fixed, client_words, declined_words, fixed_words, made_words, message_words, reply_words,
-    took_words,
+    Fixed, client_words, declined_words, fixed_words, made_words, message_words, outcome_line,
+    reply_words, took_words,
 };
 pub use world::World;

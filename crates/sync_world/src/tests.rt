@@ -1,3 +1,5 @@
+ghost use Rattle.sync_world.specs.Events.{IsCounted};
+
 use super::*;
 use std::alloc::Global;
 use std::process::Abort;
@@ -5,6 +7,7 @@ use std::test::Fail;
 use sync_client::ClientRefusal;
 use sync_data::{Name, NoMemory};
 use sync_disk::MemoryDisk;
+use sync_edits::Event;
 use sync_messages::message_of;
 use sync_server::Server;
 
@@ -134,4 +137,30 @@ fn an_empty_server_is_reported(rt: HostRuntime) -> Result<(), Fail> {
     put_server(alloc, &mut out, &server).map_err(|_| "no memory")?;
     assert_eq!(rt; out.as_slice(), b"server 0\n".as_slice());
     Ok(())
+}
+
+// An event comes to this.
+fn comes_to(rt: &impl Abort, world: &mut World, event: Event, want: &str) -> Result<(), Fail>
+    requires { IsCounted event }
+{
+    is_said(rt, world.step(event), want)
+}
+
+#[test]
+fn events_of_nodes_that_are_there_and_that_are_not(rt: HostRuntime) -> Result<(), Fail> {
+    let mut world = World::new(rt.alloc())?;
+    let client = Name::new("A")?;
+    comes_to(&rt, &mut world, Event::Bind { client }, "refused NoNode")?;
+    let node = Name::new("server")?;
+    comes_to(&rt, &mut world, Event::Restart { node }, "opened")?;
+    let to = Name::new("server")?;
+    let message = 1;
+    comes_to(
+        &rt,
+        &mut world,
+        Event::Deliver { message, to },
+        "refused NoMessage",
+    )?;
+    assert!(rt; world.client(&Name::new("A")?).is_none());
+    is_said(&rt, world.report(), "server 0\n")
 }

@@ -2,9 +2,9 @@ ghost use Rattle.std.specs.Prelude.{◌≡◌, ◌++◌, IfOk, OnOk};
 ghost use Rattle.sync_model.specs.Worlds as model;
 ghost use Rattle.sync_exchange.specs.Seen.{message_seen};
 ghost use Rattle.sync_client.specs.Refusals.{refusal_seen, IfSeen};
-ghost use Rattle.sync_world.specs.Words.{fixed_seen, refused, reply_text, said, words_text};
+ghost use Rattle.sync_world.specs.Words.{fixed_seen, outcome_line, refused, reply_text, said, words_text};
 
-use super::text::{put, put_name, put_said};
+use super::text::{put, put_name, put_number, put_said};
 use std::alloc::Global;
 use sync_client::ClientRefusal;
 use sync_data::{Name, NoMemory};
@@ -212,5 +212,19 @@ pub fn fixed_words(alloc: Global, said: Fixed) -> Result<Vec<u8>, NoMemory>
     };
     let mut out = Vec::new(alloc);
     put(&mut out, text)?;
+    Ok(out)
+}
+
+/// The line of an outcome: the number of its line or frame, a space and the words (docs/FORMATS.md, "Outcome lines").
+pub fn outcome_line(alloc: Global, number: u32, words: &[u8]) -> Result<Vec<u8>, NoMemory>
+    ensures { IfOk result (λ line. line.items ≡ outcome_line number words.now) }
+{
+    let mut out = Vec::new(alloc);
+    put_number(alloc, &mut out, number as u64)?;
+    put(&mut out, " ")?;
+    if out.extend_from_slice(words).is_err() {
+        return Err(NoMemory);
+    }
+    put(&mut out, "\n")?;
     Ok(out)
 }

@@ -1,6 +1,7 @@
 // What bytes from outside come to.
-use super::{CLIENT, joined, replayed};
+use super::{CLIENT, begins, ends, joined, replayed};
 use std::alloc::Global;
+use std::process::Abort;
 use std::test::Fail;
 use sync_io::Status;
 
@@ -12,27 +13,14 @@ const NAMED_TOLD: &str =
     "1 client \"A\"\n2 message 1\n3 reply 2 ident 1\n4 took 0\n5 reply 3 ident 2\n";
 
 /// What the bytes come to then.
-fn comes_to(
-    rt: &impl std::process::Abort,
-    alloc: Global,
-    hex: &str,
-    words: &str,
-) -> Result<(), Fail> {
-    let input = joined(
-        alloc,
-        &[
-            CLIENT,
-            "\n",
-            NAMED,
-            "{\"event\":\"inject\",\"message\":\"",
-            hex,
-            "\"}\n",
-        ],
-    )?;
+fn comes_to(rt: &impl Abort, alloc: Global, hex: &str, words: &str) -> Result<(), Fail> {
+    let line = ["{\"event\":\"inject\",\"message\":\"", hex, "\"}\n"];
+    let mut input = joined(alloc, &[CLIENT, "\n", NAMED])?;
+    input.extend_from_slice(&joined(alloc, &line)?)?;
     let (status, output) = replayed(alloc, &input, &[], &[])?;
-    assert_eq!(rt; status, Status::Done, "{hex}");
+    ends(rt, hex, status, Status::Done);
     let want = joined(alloc, &[NAMED_TOLD, "6 ", words, "\nserver "])?;
-    assert!(rt; output.as_slice().starts_with(want.as_slice()), "{hex}");
+    begins(rt, hex, &output, &want);
     Ok(())
 }
 

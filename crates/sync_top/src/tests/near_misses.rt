@@ -1,6 +1,7 @@
 // Lines that are no form, each a near miss of one, end the run with their number.
-use super::{CLIENT, replayed};
+use super::{CLIENT, replays};
 use std::alloc::Global;
+use std::process::Abort;
 use std::test::Fail;
 use sync_io::Status;
 
@@ -124,26 +125,33 @@ fn input(alloc: Global, blank: usize, line: &str) -> Result<String, Fail> {
     Ok(input)
 }
 
-/// Whether the line ends the run with its number, after what came before it.
-fn is_bad_input(alloc: Global, blank: usize, line: &str) -> Result<bool, Fail> {
+/// The line ends the run with its number, after what came before it.
+fn is_bad_input(rt: &impl Abort, alloc: Global, blank: usize, line: &str) -> Result<(), Fail> {
     let input = input(alloc, blank, line)?;
-    let (status, output) = replayed(alloc, input.as_str().as_bytes(), &[], &[])?;
     let place = u32::try_from(blank)?.saturating_add(2);
-    Ok(status == Status::BadInput { place } && output.as_slice() == b"1 client \"A\"\n".as_slice())
+    let status = Status::BadInput { place };
+    replays(
+        rt,
+        alloc,
+        line,
+        input.as_str().as_bytes(),
+        status,
+        b"1 client \"A\"\n",
+    )
 }
 
 #[test]
 fn near_misses_end_the_run_with_their_number(rt: HostRuntime) -> Result<(), Fail> {
     let alloc = rt.alloc();
     for (blank, line) in LINES.iter().enumerate() {
-        assert!(rt; is_bad_input(alloc, blank, line)?, "{line}");
+        is_bad_input(&rt, alloc, blank, line)?;
     }
     for (front, open, count, close, end) in LONG {
         let mut line = String::from_str(alloc, front)?;
         line.push_str(open.repeat(alloc, count)?.as_str())?;
         line.push_str(close.repeat(alloc, count)?.as_str())?;
         line.push_str(end)?;
-        assert!(rt; is_bad_input(alloc, 7, line.as_str())?, "{front}");
+        is_bad_input(&rt, alloc, 7, line.as_str())?;
     }
     Ok(())
 }

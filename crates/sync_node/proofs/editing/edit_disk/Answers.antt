@@ -1,31 +1,33 @@
-use Rattle.std.proofs.Common.{Ok, ap, sym, subst, ◌∙◌, map}
+use Rattle.std.proofs.Common.{subst, map}
 use Rattle.sync_exchange.specs.Seen.{client_bytes}
 use Rattle.sync_node.specs.Holding.{ClientStands}
 use Rattle.sync_node.specs.Items.{lines_of}
 use Rattle.sync_node.specs.Opening.{client_file}
 use Rattle.sync_node.specs.Saying.{edit_says}
 use Rattle.sync_node.specs.Steps.{edit_step}
-use Rattle.sync_node.proofs.Nodes.{err_is, leaves_now, not_both, ok_is, open_bad, open_fault, open_no_read, open_no_write, open_node, run_no_bad, run_node, unopened_exits}
+use Rattle.sync_node.proofs.Nodes.{leaves_now, open_fault, open_no_read, open_node, run_no_bad, run_node, unopened_exits}
+use Rattle.sync_node.proofs.Opened.{no_both, same_err, same_ok, tells_bad}
+use Rattle.sync_node.proofs.Telling.{open_no_write}
 use Rattle.sync_node.proofs.editing.edit_disk.Goals as goal
 
 pub returns-in-Ok-clause-exits : goal.returns-in-Ok-clause-exits
 returns-in-Ok-clause-exits g c = λ b told records file.
     let opened = c.in-Ok.ensures.opened b told in
-    let same = ok_is (client_file b) opened.records records opened.file file in
+    let same = same_ok (client_file b) opened.records records opened.file file in
     c.edit_opened.ensures.exits records c.args.disk (subst (λ rs. ClientStands rs c.in-Ok.client) same (record { client = opened.client; stored = opened.stored }))
 
 pub returns-in-Err-clause-exits : goal.returns-in-Err-clause-exits
 returns-in-Err-clause-exits g c = λ b told records file.
     let ended = c.in-Err.ended in
-    let fault = open_fault ended.status c.in-Err.ensures.only (λ place is. not_both (client_file b) records place file (c.in-Err.ensures.bad_file b told place is)) in
+    let fault = open_fault ended.status c.in-Err.ensures.only (λ place is. no_both (client_file b) records place file (c.in-Err.ensures.bad_file b told place is)) in
     unopened_exits g.D.Disk.content g.D.Disk.images client_bytes edit_step edit_says c.args.disk ended.disk records (lines_of (g.S.Source.left c.args.source.now)) ended.status (g.K.Sink.taken c.args.sink.now) fault
     (λ before image is. leaves_now g.D.Disk.moment g.D.Disk.images g.D.Disk.images_since g.met.D.Disk.counts_now c.args.disk ended.disk _ (c.in-Err.ensures.any_moment_err (map client_bytes records) b told before) image is)
 
 pub returns-in-Ok-clause-bad_place : goal.returns-in-Ok-clause-bad_place
-returns-in-Ok-clause-bad_place g c = λ b told place bad. let opened = c.in-Ok.ensures.opened b told in absurd (not_both (client_file b) opened.records place opened.file bad)
+returns-in-Ok-clause-bad_place g c = λ b told place bad. let opened = c.in-Ok.ensures.opened b told in absurd (no_both (client_file b) opened.records place opened.file bad)
 
 pub returns-in-Err-clause-bad_place : goal.returns-in-Err-clause-bad_place
-returns-in-Err-clause-bad_place g c = λ b told place bad. open_bad place c.in-Err.ended.status c.in-Err.ensures.only (λ at is. err_is (client_file b) at place (c.in-Err.ensures.bad_file b told at is) bad)
+returns-in-Err-clause-bad_place g c = λ b told place bad. tells_bad place c.in-Err.ended.status c.in-Err.ensures.only (λ at is. same_err (client_file b) at place (c.in-Err.ensures.bad_file b told at is) bad)
 
 pub returns-in-Ok-clause-bad_file : goal.returns-in-Ok-clause-bad_file
 returns-in-Ok-clause-bad_file g c = λ b told place is. absurd (run_no_bad c.edit_opened.result.status place c.edit_opened.ensures.only is)

@@ -1,4 +1,4 @@
-use Rattle.std.proofs.Common.{◌≡◌, ◌+◌, ◌++◌, ◌∷◌, [], subst, ◌∙◌, arith}
+use Rattle.std.proofs.Common.{◌≡◌, ◌++◌, ◌∷◌, [], subst, ◌∙◌, arith}
 use Rattle.std.specs.Option.{option_map}
 use Rattle.sync_io.specs.declared.status.Status.TheVariants as statuses
 use Rattle.sync_node.specs.Items.{Next, Read}

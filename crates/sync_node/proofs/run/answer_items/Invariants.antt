@@ -1,4 +1,4 @@
-use Rattle.std.proofs.Common.{◌≡◌, ◌-◌, ◌≤◌, ◌++◌, List, ℕ}
+use Rattle.std.proofs.Common.{◌≡◌, ◌-◌, ◌≤◌, ◌++◌, List}
 use Rattle.std.specs.Option.{option_map}
 use Rattle.sync_io.specs.Devices.{Took}
 use Rattle.sync_io.specs.Input.{max_input}

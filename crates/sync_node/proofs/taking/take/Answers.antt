@@ -7,7 +7,8 @@ use Rattle.sync_world.specs.Messages.{message_read}
 use Rattle.sync_node.specs.Steps.{is_message, take_answer, take_step}
 use Rattle.sync_node.specs.Items.{frames_of}
 use Rattle.sync_node.specs.Opening.{client_file}
-use Rattle.sync_node.proofs.Nodes.{complete, lent_left, lent_stored, not_both, some_goes}
+use Rattle.sync_node.proofs.Nodes.{complete, lent_left, lent_stored, some_goes}
+use Rattle.sync_node.proofs.Opened.{no_both}
 use Rattle.sync_node.proofs.taking.take.Goals as goal
 
 pub returns-clause-complete : goal.returns-clause-complete
@@ -18,7 +19,7 @@ returns-clause-complete g c = λ b told records file valid no_read no_write no_d
     complete take_step is_message (λ records number item e. some_goes (take_answer records number) (message_read item) e) ran.result.status records (frames_of (g.S.Source.left c.args.source.now)) (g.K.Sink.taken c.args.sink.now) (g.K.Sink.taken ran.new.sink)
     (ran.ensures.exits b here records file).follows valid ran.ensures.only
     (λ is. no_read (ran.ensures.read_cause is)) (λ is. no_write (ran.ensures.write_cause is)) (λ is. no_disk (cause is))
-    (λ place is. not_both (client_file b) records place file (ran.ensures.bad_file b here place is))
+    (λ place is. no_both (client_file b) records place file (ran.ensures.bad_file b here place is))
 
 pub returns-clause-stored : goal.returns-clause-stored
 returns-clause-stored g c = λ b told records file fine.

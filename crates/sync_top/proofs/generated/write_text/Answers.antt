@@ -8,5 +8,5 @@ pub returns-in-Err-flush-clause-writes : goal.returns-in-Err-flush-clause-writes
 returns-in-Err-flush-clause-writes g c =
     let old = g.K.Sink.taken c.args.sink.now in
     let new = g.K.Sink.taken c.flush.new.self in
-    subst (λ (s : Status). Writes c.args.text.now s old new) (sym c.refused_write-in-Err-flush.ensures)
+    subst (λ (s : Status). Writes c.args.text.now s old new) (sym c.write_status-in-Err-flush.ensures)
     (write_refused c.args.text.now c.in-Err-flush.refusal old new (wrote_some c.args.text.now old new (c.flush.ensures.bytes ∙ c.in_default.ensures.ok)))

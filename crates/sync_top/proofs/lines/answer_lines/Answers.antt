@@ -1,4 +1,4 @@
-use Rattle.std.proofs.Common.{◌≡◌, ◌+◌, ◌++◌, [], refl, subst, sym, arith}
+use Rattle.std.proofs.Common.{◌≡◌, ◌+◌, ◌++◌, [], subst, sym, arith}
 use Rattle.std.specs.Option.{option_map}
 use Rattle.sync_io.specs.Reading.{Gives}
 use Rattle.sync_io.specs.Readers.{readings_of}

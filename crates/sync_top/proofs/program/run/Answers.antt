@@ -1,4 +1,4 @@
-use Rattle.std.proofs.Common.{◌≡◌, ap, List, map, None, Some, refl, string_bytes, sym, ◌∙◌}
+use Rattle.std.proofs.Common.{map, None, Some, refl, string_bytes}
 use Rattle.sync_top.specs.declared.job.Job.TheVariants as jobs
 use Rattle.sync_top.proofs.Asked.{asked_is, few_turns, is_asked, none_asked, not_bad_words}
 use Rattle.sync_top.proofs.program.run.Goals as goal

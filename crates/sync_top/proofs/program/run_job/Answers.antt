@@ -3,7 +3,6 @@ use Rattle.std.specs.Option.{IfSome}
 use Rattle.sync_io.specs.Reading.{Reading}
 use Rattle.sync_io.specs.Readers.{readings}
 use Rattle.sync_model.specs.Worlds.{empty_world}
-use Rattle.sync_top.proofs.Asked.{report_done, writes_only}
 use Rattle.sync_top.proofs.Synced.{Laws, first_synced, left_synced}
 use Rattle.sync_top.proofs.Validity.{complete}
 use Rattle.sync_top.proofs.program.run_job.Goals as goal

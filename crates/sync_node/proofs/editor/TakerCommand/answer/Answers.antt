@@ -1,4 +1,4 @@
-use Rattle.std.proofs.Common.{IfOk, Some, ap, sym, subst}
+use Rattle.std.proofs.Common.{IfOk, sym, subst}
 use Rattle.std.specs.Option.{option_map}
 use Rattle.sync_exchange.specs.Seen.{message_seen, client_bytes}
 use Rattle.sync_node.specs.Holding.{ClientStands, client_keeps}

@@ -1,4 +1,4 @@
-use Rattle.std.proofs.Common.{IfOk, Some, ap, sym, subst}
+use Rattle.std.proofs.Common.{IfOk, sym, subst}
 use Rattle.std.specs.Option.{option_map}
 use Rattle.sync_model.specs.Servers.{serve, server_of}
 use Rattle.sync_exchange.specs.Profile.{the_profile}

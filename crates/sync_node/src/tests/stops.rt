@@ -1,9 +1,10 @@
 //! Files whose disk stops at each write and sync of a command in turn.
-use super::tests_of_exchanges::{Call, FIRST_ENTRY, Files, ends, joined, shows, tells, writes};
+use super::exchanges::{FIRST_ENTRY, join, new_files};
+use super::{Call, disk_of, ends, file, shows, tells, writes};
 use std::alloc::Global;
 use std::process::Abort;
 use std::test::Fail;
-use sync_disk::{Disk, Leaves, MemoryDisk};
+use sync_disk::{Leaves, MemoryDisk};
 use sync_io::Status;
 
 /// Three transactions of one addition each.
@@ -60,6 +61,17 @@ struct Stop {
     answered: usize,
     lost: usize,
     kept: usize,
+}
+
+impl Stop {
+    /// What a crash leaves, and how many transactions stand after it.
+    fn crashes(&self) -> [(Leaves, usize); 3] {
+        [
+            (Leaves::Drop, self.lost),
+            (Leaves::Torn, self.lost),
+            (Leaves::Keep, self.kept),
+        ]
+    }
 }
 
 /// The command's own sync, and then of each transaction the write of the record, its sync, the write of the open gate, and
@@ -145,22 +157,6 @@ const STOPS: [Stop; 13] = [
     },
 ];
 
-/// What a read gives of the whole file.
-fn file(alloc: Global, disk: &mut MemoryDisk) -> Result<Vec<u8>, Fail> {
-    let len = disk.len()? as usize;
-    let mut bytes = vec![in alloc; 0u8; len]?;
-    disk.read_at(0, &mut bytes)?;
-    Ok(bytes)
-}
-
-/// A disk that holds these bytes, which are synced.
-fn disk_of(alloc: Global, bytes: &[u8]) -> Result<MemoryDisk, Fail> {
-    let mut disk = MemoryDisk::new(alloc)?;
-    disk.write_at(0, bytes)?;
-    disk.sync()?;
-    Ok(disk)
-}
-
 /// One of four texts.
 fn text_of<'a>(texts: &[&'a str; 4], place: usize) -> Result<&'a str, Fail> {
     match texts.get(place) {
@@ -169,65 +165,75 @@ fn text_of<'a>(texts: &[&'a str; 4], place: usize) -> Result<&'a str, Fail> {
     }
 }
 
-/// A command over a file of these bytes whose disk stops ends so, and writes this; the file after a crash of it.
-fn stopped(
+/// A command over a file whose disk stops ends so, and writes this; then the disk crashes.
+fn stops(
     rt: &impl Abort,
     alloc: Global,
-    what: Call,
-    bytes: &[u8],
+    call: Call,
+    disk: &mut MemoryDisk,
     input: &[u8],
     stop: (u32, Leaves),
     text: &str,
-) -> Result<MemoryDisk, Fail> {
+) -> Result<(), Fail> {
     let (at, leaves) = stop;
-    let mut disk = disk_of(alloc, bytes)?;
     disk.arm(at.max(1), leaves);
-    let (status, written) = ends(alloc, what, &mut disk, input)?;
-    assert_eq!(rt; status, Status::DiskFault, "{what:?}, {at}, {leaves:?}");
-    assert_eq!(rt;
-        written.as_slice(),
+    ends(
+        rt,
+        alloc,
+        call,
+        disk,
+        input,
+        Status::DiskFault,
         text.as_bytes(),
-        "{what:?}, {at}, {leaves:?}"
-    );
+    )?;
     disk.crash();
-    Ok(disk)
+    Ok(())
 }
 
 /// A client commits the three transactions, and its disk stops: each answer tells a transaction that stands.
 fn commits_stop(
     rt: &impl Abort,
     alloc: Global,
-    bytes: &[u8],
-    stop: Stop,
-    leaves: Leaves,
+    disk: &mut MemoryDisk,
+    answered: usize,
+    stop: (u32, Leaves),
     stand: usize,
 ) -> Result<(), Fail> {
-    let told = text_of(&TOLD, stop.answered)?;
-    let place = (stop.at, leaves);
-    let mut disk = stopped(rt, alloc, Call::Edit, bytes, ADDITIONS, place, told)?;
+    let told = text_of(&TOLD, answered)?;
+    stops(rt, alloc, Call::Edit, disk, ADDITIONS, stop, told)?;
     let line = text_of(&CLIENTS, stand)?;
     let object = text_of(&OBJECTS, stand)?;
-    shows(rt, alloc, &mut disk, &[line, TABLE, object])
+    shows(rt, alloc, disk, &[line, TABLE, object])
 }
+
+/// The same of each stop, and of what a crash leaves.
+fn each_commit_stops(rt: &impl Abort, alloc: Global, bytes: &[u8]) -> Result<(), Fail> {
+    for stop in STOPS {
+        for (leaves, stand) in stop.crashes() {
+            let mut disk = disk_of(alloc, bytes)?;
+            commits_stop(
+                rt,
+                alloc,
+                &mut disk,
+                stop.answered,
+                (stop.at, leaves),
+                stand,
+            )?;
+        }
+    }
+    Ok(())
+}
+
+/// All three are told where nothing stops.
+const ALL_MADE: &[u8] = b"1 made 2\n2 made 3\n3 made 4\n";
 
 #[test]
 fn each_stroke_of_three_commits_stops(rt: HostRuntime) -> Result<(), Fail> {
     let alloc = rt.alloc();
-    let mut files = joined(&rt, alloc)?;
-    let bytes = file(alloc, &mut files.a)?;
-    for stop in STOPS {
-        commits_stop(&rt, alloc, &bytes, stop, Leaves::Drop, stop.lost)?;
-        commits_stop(&rt, alloc, &bytes, stop, Leaves::Torn, stop.lost)?;
-        commits_stop(&rt, alloc, &bytes, stop, Leaves::Keep, stop.kept)?;
-    }
-    tells(
-        &rt,
-        alloc,
-        Call::Edit,
-        &mut files.a,
-        ADDITIONS,
-        b"1 made 2\n2 made 3\n3 made 4\n",
-    )
+    let mut files = new_files(alloc)?;
+    join(&rt, alloc, &mut files)?;
+    each_commit_stops(&rt, alloc, &file(alloc, &mut files.a)?)?;
+    tells(&rt, alloc, Call::Edit, &mut files.a, ADDITIONS, ALL_MADE)
 }
 
 /// What is shown of the server of a file that has so many of the transactions.
@@ -250,60 +256,40 @@ fn server_shows(
 fn upload_stops(
     rt: &impl Abort,
     alloc: Global,
-    bytes: &[u8],
+    disk: &mut MemoryDisk,
     upload: &[u8],
     stop: (u32, Leaves),
     stand: usize,
 ) -> Result<(), Fail> {
-    let mut disk = stopped(rt, alloc, Call::Serve, bytes, upload, stop, "")?;
-    server_shows(rt, alloc, &mut disk, stand)?;
-    tells(
-        rt,
-        alloc,
-        Call::Serve,
-        &mut disk,
-        upload,
-        b"\0\0\0\x03\x07\x01\x04",
-    )?;
-    server_shows(rt, alloc, &mut disk, 3)
+    stops(rt, alloc, Call::Serve, disk, upload, stop, "")?;
+    server_shows(rt, alloc, disk, stand)?;
+    let reply = b"\0\0\0\x03\x07\x01\x04";
+    tells(rt, alloc, Call::Serve, disk, upload, reply)?;
+    server_shows(rt, alloc, disk, 3)
+}
+
+/// The same of each stop, and of what a crash leaves.
+fn each_upload_stops(
+    rt: &impl Abort,
+    alloc: Global,
+    bytes: &[u8],
+    upload: &[u8],
+) -> Result<(), Fail> {
+    for stop in STOPS {
+        for (leaves, stand) in stop.crashes() {
+            let mut disk = disk_of(alloc, bytes)?;
+            upload_stops(rt, alloc, &mut disk, upload, (stop.at, leaves), stand)?;
+        }
+    }
+    Ok(())
 }
 
 #[test]
 fn each_stroke_of_an_upload_stops(rt: HostRuntime) -> Result<(), Fail> {
     let alloc = rt.alloc();
-    let Files {
-        mut a,
-        mut server,
-        ..
-    } = joined(&rt, alloc)?;
-    writes(&rt, alloc, Call::Edit, &mut a, ADDITIONS)?;
-    let upload = writes(&rt, alloc, Call::Send, &mut a, b"")?;
-    let bytes = file(alloc, &mut server)?;
-    for stop in STOPS {
-        upload_stops(
-            &rt,
-            alloc,
-            &bytes,
-            &upload,
-            (stop.at, Leaves::Drop),
-            stop.lost,
-        )?;
-        upload_stops(
-            &rt,
-            alloc,
-            &bytes,
-            &upload,
-            (stop.at, Leaves::Torn),
-            stop.lost,
-        )?;
-        upload_stops(
-            &rt,
-            alloc,
-            &bytes,
-            &upload,
-            (stop.at, Leaves::Keep),
-            stop.kept,
-        )?;
-    }
-    Ok(())
+    let mut files = new_files(alloc)?;
+    join(&rt, alloc, &mut files)?;
+    tells(&rt, alloc, Call::Edit, &mut files.a, ADDITIONS, ALL_MADE)?;
+    let upload = writes(&rt, alloc, Call::Send, &mut files.a, b"")?;
+    each_upload_stops(&rt, alloc, &file(alloc, &mut files.server)?, &upload)
 }

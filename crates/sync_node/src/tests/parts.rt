@@ -1,16 +1,10 @@
 //! Frames and changesets that end early.
-use super::tests_of_exchanges::{Call, ends, shows, tells};
+use super::{BIND, BIRTH, Call, IDENT, called, ends, has_ended, shows, tells};
 use std::alloc::Global;
 use std::process::Abort;
 use std::test::Fail;
 use sync_disk::MemoryDisk;
 use sync_io::Status;
-
-const BIRTH: &[u8] = b"{\"uuid\":\"00000000-0000-4000-8000-000000000001\"}\n";
-
-const BIND: &[u8] = b"\0\0\0\x11\x01\0\0\0\0\0\0\x40\0\x80\0\0\0\0\0\0\x01";
-
-const IDENT: &[u8] = b"\0\0\0\x12\x02\0\0\0\0\0\0\x40\0\x80\0\0\0\0\0\0\x01\x01";
 
 /// A frame of each kind of message, in the order of their tags.
 const FRAMES: [&[u8]; 8] = [
@@ -28,21 +22,39 @@ const FRAMES: [&[u8]; 8] = [
 fn ends_early(
     rt: &impl Abort,
     alloc: Global,
-    what: Call,
+    call: Call,
+    disk: &mut MemoryDisk,
     whole: &[u8],
     part: &[u8],
     text: &[u8],
 ) -> Result<(), Fail> {
-    let mut disk = MemoryDisk::new(alloc)?;
-    if matches!(what, Call::Take) {
-        tells(rt, alloc, Call::Edit, &mut disk, BIRTH, b"1 born\n")?;
-    }
     let mut input = Vec::from_slice(alloc, whole)?;
     input.extend_from_slice(part)?;
-    let (status, written) = ends(alloc, what, &mut disk, &input)?;
-    assert_eq!(rt; status, Status::BadInput { place: 2 }, "{what:?}, {part:?}");
-    assert_eq!(rt; written.as_slice(), text, "{what:?}, {part:?}");
-    Ok(())
+    let status = Status::BadInput { place: 2 };
+    ends(rt, alloc, call, disk, &input, status, text)
+}
+
+/// A server takes a Bind, and then this part of a frame.
+fn serves_early(rt: &impl Abort, alloc: Global, part: &[u8]) -> Result<(), Fail> {
+    let disk = &mut MemoryDisk::new(alloc)?;
+    ends_early(rt, alloc, Call::Serve, disk, BIND, part, IDENT)
+}
+
+/// A client is born, and takes its ident and then this part of a frame.
+fn takes_early(
+    rt: &impl Abort,
+    alloc: Global,
+    disk: &mut MemoryDisk,
+    part: &[u8],
+) -> Result<(), Fail> {
+    tells(rt, alloc, Call::Edit, disk, BIRTH, b"1 born\n")?;
+    ends_early(rt, alloc, Call::Take, disk, IDENT, part, b"1 took 0\n")
+}
+
+/// Both refuse it.
+fn is_refused(rt: &impl Abort, alloc: Global, part: &[u8]) -> Result<(), Fail> {
+    serves_early(rt, alloc, part)?;
+    takes_early(rt, alloc, &mut MemoryDisk::new(alloc)?, part)
 }
 
 /// The same frame, whose length is that of the part.
@@ -61,12 +73,9 @@ fn each_part_is_refused(rt: &impl Abort, alloc: Global, frame: &[u8]) -> Result<
         let Some(part) = frame.get(..end) else {
             return Err("no part".into());
         };
-        ends_early(rt, alloc, Call::Serve, BIND, part, IDENT)?;
-        ends_early(rt, alloc, Call::Take, IDENT, part, b"1 took 0\n")?;
+        is_refused(rt, alloc, part)?;
         if end >= 4 {
-            let short = shortened(alloc, frame, end)?;
-            ends_early(rt, alloc, Call::Serve, BIND, &short, IDENT)?;
-            ends_early(rt, alloc, Call::Take, IDENT, &short, b"1 took 0\n")?;
+            is_refused(rt, alloc, &shortened(alloc, frame, end)?)?;
         }
     }
     Ok(())
@@ -74,9 +83,8 @@ fn each_part_is_refused(rt: &impl Abort, alloc: Global, frame: &[u8]) -> Result<
 
 /// The whole frame is a message.
 fn is_taken_whole(rt: &impl Abort, alloc: Global, frame: &[u8]) -> Result<(), Fail> {
-    let mut disk = MemoryDisk::new(alloc)?;
-    let (status, _) = ends(alloc, Call::Serve, &mut disk, frame)?;
-    assert_eq!(rt; status, Status::Done, "{frame:?}");
+    let (status, _) = called(alloc, Call::Serve, &mut MemoryDisk::new(alloc)?, frame)?;
+    has_ended(rt, Call::Serve, status, Status::Done);
     Ok(())
 }
 
@@ -106,27 +114,33 @@ fn frame_with(alloc: Global, head: &[u8], body: &[u8]) -> Result<Vec<u8>, Fail> 
     Ok(frame)
 }
 
-/// A server and a client refuse a changeset that ends early at its end, and stand as before.
-fn changes_end_early(rt: &impl Abort, alloc: Global, part: &[u8], line: &str) -> Result<(), Fail> {
-    let mut server = MemoryDisk::new(alloc)?;
-    tells(rt, alloc, Call::Serve, &mut server, BIND, IDENT)?;
+/// A server refuses a changeset that ends early at its end, and stands as before.
+fn server_refuses(
+    rt: &impl Abort,
+    alloc: Global,
+    server: &mut MemoryDisk,
+    part: &[u8],
+) -> Result<(), Fail> {
+    tells(rt, alloc, Call::Serve, server, BIND, IDENT)?;
     let upload = frame_with(alloc, b"\x03\x01\x01\x01\0\x05", part)?;
     let reply = [0, 0, 0, 5, 6, 1, 1, 40, part.len().min(127) as u8];
-    tells(rt, alloc, Call::Serve, &mut server, &upload, &reply)?;
-    shows(rt, alloc, &mut server, &["server 0\n"])?;
-    let mut client = MemoryDisk::new(alloc)?;
-    tells(rt, alloc, Call::Edit, &mut client, BIRTH, b"1 born\n")?;
-    tells(rt, alloc, Call::Take, &mut client, IDENT, b"1 took 0\n")?;
+    tells(rt, alloc, Call::Serve, server, &upload, &reply)?;
+    shows(rt, alloc, server, &["server 0\n"])
+}
+
+/// A client does, and says this.
+fn client_refuses(
+    rt: &impl Abort,
+    alloc: Global,
+    client: &mut MemoryDisk,
+    part: &[u8],
+    line: &str,
+) -> Result<(), Fail> {
+    tells(rt, alloc, Call::Edit, client, BIRTH, b"1 born\n")?;
+    tells(rt, alloc, Call::Take, client, IDENT, b"1 took 0\n")?;
     let download = frame_with(alloc, b"\x05\x01\0\x01\x02\x01\x05", part)?;
-    tells(
-        rt,
-        alloc,
-        Call::Take,
-        &mut client,
-        &download,
-        line.as_bytes(),
-    )?;
-    shows(rt, alloc, &mut client, &["client 1 0 0\n"])
+    tells(rt, alloc, Call::Take, client, &download, line.as_bytes())?;
+    shows(rt, alloc, client, &["client 1 0 0\n"])
 }
 
 #[test]
@@ -142,11 +156,13 @@ fn each_proper_part_of_a_changeset(rt: HostRuntime) -> Result<(), Fail> {
         "1 refused BadBody 0 7 40\n",
         "1 refused BadBody 0 8 40\n",
     ];
+    let alloc = rt.alloc();
     for (end, line) in table.into_iter().enumerate() {
         let Some(part) = CHANGES.get(..end) else {
             return Err("no part".into());
         };
-        changes_end_early(&rt, rt.alloc(), part, line)?;
+        server_refuses(&rt, alloc, &mut MemoryDisk::new(alloc)?, part)?;
+        client_refuses(&rt, alloc, &mut MemoryDisk::new(alloc)?, part, line)?;
     }
     Ok(())
 }

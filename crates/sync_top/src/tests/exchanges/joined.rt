@@ -22,7 +22,7 @@ pub const JOINED: &str =
 {"event":"deliver","message":10,"to":"B"}
 "#;
 
-/// What they print, but for the report.
+/// What they come to, up to the report.
 pub const JOINED_TOLD: &str = r#"1 client "A"
 2 message 1
 3 reply 2 ident 1

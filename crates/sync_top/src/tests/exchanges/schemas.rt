@@ -1,29 +1,20 @@
-//! Columns, links and values at their limits.
+//! Tables, columns, objects and links.
+use super::Exchange;
+use sync_io::Status;
 
-/// A client alone makes a table with an object.
-pub const FIRST_TRANSACTION: &str =
-    r#"{"event":"client","name":"A","uuid":"00000000-0000-4000-8000-000000000001"}
-{"event":"edit","client":"A","ms":5,"edits":[{"op":"AddTable","table":"t","key":"Int"},{"op":"AddColumn","table":"t","column":"f","kind":"Int","nullable":false,"shape":"One"},{"op":"CreateObject","table":"t","key":1},{"op":"Update","table":"t","key":1,"column":"f","value":3}]}
-"#;
-
-/// What they print.
-pub const FIRST_TRANSACTION_TOLD: &str = r#"1 client "A"
-2 made 1
-server 0
-client "A" 0 0 1
-{"key":"Int","table":"t"}
-{"column":"f","kind":"Int","nullable":false,"shape":"One","table":"t"}
-{"cells":{"f":3},"key":1,"table":"t"}
-"#;
-
-/// An addition past the greatest number, and one to null.
-pub const ADDITION_WRAPS: &str =
-    r#"{"event":"edit","client":"A","ms":5,"edits":[{"op":"Update","table":"t","key":1,"column":"n","value":9223372036854775807},{"op":"AddInteger","table":"t","key":1,"column":"n","amount":1},{"op":"AddInteger","table":"t","key":1,"column":"m","amount":1}]}
-"#;
-
-/// What they print.
-pub const ADDITION_WRAPS_TOLD: &str = r#"19 made 2
-server 1
+pub const SCHEMAS: [Exchange; 8] = [
+    Exchange {
+        name: "no events",
+        joined: false,
+        events: "",
+        told: "server 0\n",
+        ends: Status::Done,
+    },
+    Exchange {
+        name: "two clients share a table",
+        joined: true,
+        events: "",
+        told: r#"server 1
 entry 0 1 1 1 01070174016e016d0173016c0175016b080100000200010100000200020101000200030301000200040300010200050100020200060701000003000002
 {"key":"Int","table":"t"}
 {"column":"k","kind":"Link","nullable":true,"shape":"One","table":"t","target":"t"}
@@ -33,7 +24,7 @@ entry 0 1 1 1 01070174016e016d0173016c0175016b0801000002000101000002000201010002
 {"column":"s","kind":"Text","nullable":true,"shape":"One","table":"t"}
 {"column":"u","kind":"Int","nullable":false,"shape":"Set","table":"t"}
 {"cells":{"k":null,"l":[],"m":null,"n":0,"s":null,"u":[]},"key":1,"table":"t"}
-client "A" 1 1 1
+client "A" 1 1 0
 {"key":"Int","table":"t"}
 {"column":"k","kind":"Link","nullable":true,"shape":"One","table":"t","target":"t"}
 {"column":"l","kind":"Text","nullable":false,"shape":"List","table":"t"}
@@ -41,7 +32,7 @@ client "A" 1 1 1
 {"column":"n","kind":"Int","nullable":false,"shape":"One","table":"t"}
 {"column":"s","kind":"Text","nullable":true,"shape":"One","table":"t"}
 {"column":"u","kind":"Int","nullable":false,"shape":"Set","table":"t"}
-{"cells":{"k":null,"l":[],"m":null,"n":-9223372036854775808,"s":null,"u":[]},"key":1,"table":"t"}
+{"cells":{"k":null,"l":[],"m":null,"n":0,"s":null,"u":[]},"key":1,"table":"t"}
 client "B" 2 1 0
 {"key":"Int","table":"t"}
 {"column":"k","kind":"Link","nullable":true,"shape":"One","table":"t","target":"t"}
@@ -51,11 +42,159 @@ client "B" 2 1 0
 {"column":"s","kind":"Text","nullable":true,"shape":"One","table":"t"}
 {"column":"u","kind":"Int","nullable":false,"shape":"Set","table":"t"}
 {"cells":{"k":null,"l":[],"m":null,"n":0,"s":null,"u":[]},"key":1,"table":"t"}
-"#;
-
-/// A link to an object that is erased and created again.
-pub const LINKS: &str =
-    r#"{"event":"edit","client":"A","ms":2,"edits":[{"op":"CreateObject","table":"t","key":2}]}
+"#,
+        ends: Status::Done,
+    },
+    Exchange {
+        name: "one client makes a table with an object",
+        joined: false,
+        events: r#"{"event":"client","name":"A","uuid":"00000000-0000-4000-8000-000000000001"}
+{"event":"edit","client":"A","ms":5,"edits":[{"op":"AddTable","table":"t","key":"Int"},{"op":"AddColumn","table":"t","column":"f","kind":"Int","nullable":false,"shape":"One"},{"op":"CreateObject","table":"t","key":1},{"op":"Update","table":"t","key":1,"column":"f","value":3}]}
+"#,
+        told: r#"1 client "A"
+2 made 1
+server 0
+client "A" 0 0 1
+{"key":"Int","table":"t"}
+{"column":"f","kind":"Int","nullable":false,"shape":"One","table":"t"}
+{"cells":{"f":3},"key":1,"table":"t"}
+"#,
+        ends: Status::Done,
+    },
+    Exchange {
+        name: "an object is erased and created again before an update",
+        joined: true,
+        events: r#"{"event":"edit","client":"A","ms":20,"edits":[{"op":"EraseObject","table":"t","key":1},{"op":"CreateObject","table":"t","key":1}]}
+{"event":"edit","client":"B","ms":30,"edits":[{"op":"Update","table":"t","key":1,"column":"n","value":7}]}
+{"event":"upload","client":"A"}
+{"event":"deliver","message":11,"to":"server"}
+{"event":"deliver","message":12,"to":"A"}
+{"event":"upload","client":"B"}
+{"event":"deliver","message":13,"to":"server"}
+{"event":"deliver","message":14,"to":"B"}
+{"event":"ask","client":"A"}
+{"event":"deliver","message":15,"to":"server"}
+{"event":"deliver","message":16,"to":"A"}
+{"event":"ask","client":"B"}
+{"event":"deliver","message":17,"to":"server"}
+{"event":"deliver","message":18,"to":"B"}
+"#,
+        told: r#"19 made 2
+20 made 1
+21 message 11
+22 reply 12 stored 1 2
+23 took 1
+24 message 13
+25 reply 14 stored 2 1
+26 took 1
+27 message 15
+28 reply 16 download 1 1 2
+29 took 3
+30 message 17
+31 reply 18 download 2 1 2
+32 took 3
+server 3
+entry 0 1 1 1 01070174016e016d0173016c0175016b080100000200010100000200020101000200030301000200040300010200050100020200060701000003000002
+entry 1 1 2 20 01010174020400000203000002
+entry 2 2 1 30 010000
+{"key":"Int","table":"t"}
+{"column":"k","kind":"Link","nullable":true,"shape":"One","table":"t","target":"t"}
+{"column":"l","kind":"Text","nullable":false,"shape":"List","table":"t"}
+{"column":"m","kind":"Int","nullable":true,"shape":"One","table":"t"}
+{"column":"n","kind":"Int","nullable":false,"shape":"One","table":"t"}
+{"column":"s","kind":"Text","nullable":true,"shape":"One","table":"t"}
+{"column":"u","kind":"Int","nullable":false,"shape":"Set","table":"t"}
+{"cells":{"k":null,"l":[],"m":null,"n":0,"s":null,"u":[]},"key":1,"table":"t"}
+client "A" 1 3 0
+{"key":"Int","table":"t"}
+{"column":"k","kind":"Link","nullable":true,"shape":"One","table":"t","target":"t"}
+{"column":"l","kind":"Text","nullable":false,"shape":"List","table":"t"}
+{"column":"m","kind":"Int","nullable":true,"shape":"One","table":"t"}
+{"column":"n","kind":"Int","nullable":false,"shape":"One","table":"t"}
+{"column":"s","kind":"Text","nullable":true,"shape":"One","table":"t"}
+{"column":"u","kind":"Int","nullable":false,"shape":"Set","table":"t"}
+{"cells":{"k":null,"l":[],"m":null,"n":0,"s":null,"u":[]},"key":1,"table":"t"}
+client "B" 2 3 0
+{"key":"Int","table":"t"}
+{"column":"k","kind":"Link","nullable":true,"shape":"One","table":"t","target":"t"}
+{"column":"l","kind":"Text","nullable":false,"shape":"List","table":"t"}
+{"column":"m","kind":"Int","nullable":true,"shape":"One","table":"t"}
+{"column":"n","kind":"Int","nullable":false,"shape":"One","table":"t"}
+{"column":"s","kind":"Text","nullable":true,"shape":"One","table":"t"}
+{"column":"u","kind":"Int","nullable":false,"shape":"Set","table":"t"}
+{"cells":{"k":null,"l":[],"m":null,"n":0,"s":null,"u":[]},"key":1,"table":"t"}
+"#,
+        ends: Status::Done,
+    },
+    Exchange {
+        name: "an object is erased and created again after an update",
+        joined: true,
+        events: r#"{"event":"edit","client":"A","ms":20,"edits":[{"op":"EraseObject","table":"t","key":1},{"op":"CreateObject","table":"t","key":1}]}
+{"event":"edit","client":"B","ms":30,"edits":[{"op":"Update","table":"t","key":1,"column":"n","value":7}]}
+{"event":"upload","client":"B"}
+{"event":"deliver","message":11,"to":"server"}
+{"event":"deliver","message":12,"to":"B"}
+{"event":"upload","client":"A"}
+{"event":"deliver","message":13,"to":"server"}
+{"event":"deliver","message":14,"to":"A"}
+{"event":"ask","client":"A"}
+{"event":"deliver","message":15,"to":"server"}
+{"event":"deliver","message":16,"to":"A"}
+{"event":"ask","client":"B"}
+{"event":"deliver","message":17,"to":"server"}
+{"event":"deliver","message":18,"to":"B"}
+"#,
+        told: r#"19 made 2
+20 made 1
+21 message 11
+22 reply 12 stored 2 1
+23 took 1
+24 message 13
+25 reply 14 stored 1 2
+26 took 1
+27 message 15
+28 reply 16 download 1 1 2
+29 took 3
+30 message 17
+31 reply 18 download 2 1 2
+32 took 3
+server 3
+entry 0 1 1 1 01070174016e016d0173016c0175016b080100000200010100000200020101000200030301000200040300010200050100020200060701000003000002
+entry 1 2 1 30 01020174016e010500000201010e
+entry 2 1 2 20 01010174020400000203000002
+{"key":"Int","table":"t"}
+{"column":"k","kind":"Link","nullable":true,"shape":"One","table":"t","target":"t"}
+{"column":"l","kind":"Text","nullable":false,"shape":"List","table":"t"}
+{"column":"m","kind":"Int","nullable":true,"shape":"One","table":"t"}
+{"column":"n","kind":"Int","nullable":false,"shape":"One","table":"t"}
+{"column":"s","kind":"Text","nullable":true,"shape":"One","table":"t"}
+{"column":"u","kind":"Int","nullable":false,"shape":"Set","table":"t"}
+{"cells":{"k":null,"l":[],"m":null,"n":0,"s":null,"u":[]},"key":1,"table":"t"}
+client "A" 1 3 0
+{"key":"Int","table":"t"}
+{"column":"k","kind":"Link","nullable":true,"shape":"One","table":"t","target":"t"}
+{"column":"l","kind":"Text","nullable":false,"shape":"List","table":"t"}
+{"column":"m","kind":"Int","nullable":true,"shape":"One","table":"t"}
+{"column":"n","kind":"Int","nullable":false,"shape":"One","table":"t"}
+{"column":"s","kind":"Text","nullable":true,"shape":"One","table":"t"}
+{"column":"u","kind":"Int","nullable":false,"shape":"Set","table":"t"}
+{"cells":{"k":null,"l":[],"m":null,"n":0,"s":null,"u":[]},"key":1,"table":"t"}
+client "B" 2 3 0
+{"key":"Int","table":"t"}
+{"column":"k","kind":"Link","nullable":true,"shape":"One","table":"t","target":"t"}
+{"column":"l","kind":"Text","nullable":false,"shape":"List","table":"t"}
+{"column":"m","kind":"Int","nullable":true,"shape":"One","table":"t"}
+{"column":"n","kind":"Int","nullable":false,"shape":"One","table":"t"}
+{"column":"s","kind":"Text","nullable":true,"shape":"One","table":"t"}
+{"column":"u","kind":"Int","nullable":false,"shape":"Set","table":"t"}
+{"cells":{"k":null,"l":[],"m":null,"n":0,"s":null,"u":[]},"key":1,"table":"t"}
+"#,
+        ends: Status::Done,
+    },
+    Exchange {
+        name: "a link to an object that is erased and created again",
+        joined: true,
+        events: r#"{"event":"edit","client":"A","ms":2,"edits":[{"op":"CreateObject","table":"t","key":2}]}
 {"event":"upload","client":"A"}
 {"event":"deliver","message":11,"to":"server"}
 {"event":"deliver","message":12,"to":"A"}
@@ -89,10 +228,8 @@ pub const LINKS: &str =
 {"event":"ask","client":"B"}
 {"event":"deliver","message":29,"to":"server"}
 {"event":"deliver","message":30,"to":"B"}
-"#;
-
-/// What they print.
-pub const LINKS_TOLD: &str = r#"19 made 2
+"#,
+        told: r#"19 made 2
 20 message 11
 21 reply 12 stored 1 2
 22 took 1
@@ -161,11 +298,13 @@ client "B" 2 5 0
 {"column":"u","kind":"Int","nullable":false,"shape":"Set","table":"t"}
 {"cells":{"k":{"key":2,"link":"t","resolved":true},"l":[],"m":null,"n":0,"s":null,"u":[]},"key":1,"table":"t"}
 {"cells":{"k":null,"l":[],"m":null,"n":0,"s":null,"u":[]},"key":2,"table":"t"}
-"#;
-
-/// Both add the same column.
-pub const COLUMNS_THAT_AGREE: &str =
-    r#"{"event":"edit","client":"A","ms":50,"edits":[{"op":"AddColumn","table":"t","column":"age","kind":"Int","nullable":false,"shape":"One"}]}
+"#,
+        ends: Status::Done,
+    },
+    Exchange {
+        name: "columns that agree",
+        joined: true,
+        events: r#"{"event":"edit","client":"A","ms":50,"edits":[{"op":"AddColumn","table":"t","column":"age","kind":"Int","nullable":false,"shape":"One"}]}
 {"event":"edit","client":"B","ms":60,"edits":[{"op":"AddColumn","table":"t","column":"age","kind":"Int","nullable":false,"shape":"One"}]}
 {"event":"upload","client":"A"}
 {"event":"deliver","message":11,"to":"server"}
@@ -176,10 +315,8 @@ pub const COLUMNS_THAT_AGREE: &str =
 {"event":"ask","client":"B"}
 {"event":"deliver","message":15,"to":"server"}
 {"event":"deliver","message":16,"to":"B"}
-"#;
-
-/// What they print.
-pub const COLUMNS_THAT_AGREE_TOLD: &str = r#"19 made 2
+"#,
+        told: r#"19 made 2
 20 made 1
 21 message 11
 22 reply 12 stored 1 2
@@ -223,11 +360,13 @@ client "B" 2 3 0
 {"column":"s","kind":"Text","nullable":true,"shape":"One","table":"t"}
 {"column":"u","kind":"Int","nullable":false,"shape":"Set","table":"t"}
 {"cells":{"age":0,"k":null,"l":[],"m":null,"n":0,"s":null,"u":[]},"key":1,"table":"t"}
-"#;
-
-/// Both add a column of one name, of two kinds.
-pub const COLUMNS_THAT_DIFFER: &str =
-    r#"{"event":"edit","client":"A","ms":50,"edits":[{"op":"AddColumn","table":"t","column":"age","kind":"Int","nullable":false,"shape":"One"}]}
+"#,
+        ends: Status::Done,
+    },
+    Exchange {
+        name: "columns that differ",
+        joined: true,
+        events: r#"{"event":"edit","client":"A","ms":50,"edits":[{"op":"AddColumn","table":"t","column":"age","kind":"Int","nullable":false,"shape":"One"}]}
 {"event":"edit","client":"B","ms":60,"edits":[{"op":"AddColumn","table":"t","column":"age","kind":"Text","nullable":false,"shape":"One"}]}
 {"event":"upload","client":"A"}
 {"event":"deliver","message":11,"to":"server"}
@@ -238,10 +377,8 @@ pub const COLUMNS_THAT_DIFFER: &str =
 {"event":"ask","client":"B"}
 {"event":"deliver","message":15,"to":"server"}
 {"event":"deliver","message":16,"to":"B"}
-"#;
-
-/// What they print.
-pub const COLUMNS_THAT_DIFFER_TOLD: &str = r#"19 made 2
+"#,
+        told: r#"19 made 2
 20 made 1
 21 message 11
 22 reply 12 stored 1 2
@@ -284,44 +421,7 @@ client "B" 2 1 1
 {"column":"s","kind":"Text","nullable":true,"shape":"One","table":"t"}
 {"column":"u","kind":"Int","nullable":false,"shape":"Set","table":"t"}
 {"cells":{"age":"","k":null,"l":[],"m":null,"n":0,"s":null,"u":[]},"key":1,"table":"t"}
-"#;
-
-/// Additions and an erasure of nothing, offline.
-pub const ADDITIONS_OFFLINE: &str =
-    r#"{"event":"client","name":"A","uuid":"00000000-0000-4000-8000-000000000001"}
-{"event":"edit","client":"A","ms":5,"edits":[{"op":"AddTable","table":"t","key":"Int"},{"op":"AddColumn","table":"t","column":"n","kind":"Int","nullable":false,"shape":"One"},{"op":"AddColumn","table":"t","column":"m","kind":"Int","nullable":true,"shape":"One"},{"op":"CreateObject","table":"t","key":1},{"op":"Update","table":"t","key":1,"column":"n","value":9223372036854775807},{"op":"AddInteger","table":"t","key":1,"column":"n","amount":1},{"op":"AddInteger","table":"t","key":1,"column":"m","amount":1}]}
-{"event":"edit","client":"A","ms":6,"edits":[{"op":"EraseObject","table":"t","key":2}]}
-"#;
-
-/// What they print.
-pub const ADDITIONS_OFFLINE_TOLD: &str = r#"1 client "A"
-2 made 1
-3 refused Break 0 30
-server 0
-client "A" 0 0 1
-{"key":"Int","table":"t"}
-{"column":"m","kind":"Int","nullable":true,"shape":"One","table":"t"}
-{"column":"n","kind":"Int","nullable":false,"shape":"One","table":"t"}
-{"cells":{"m":null,"n":-9223372036854775808},"key":1,"table":"t"}
-"#;
-
-/// A place past the end of a list, and a set, offline.
-pub const LISTS_AND_SETS_OFFLINE: &str =
-    r#"{"event":"client","name":"A","uuid":"00000000-0000-4000-8000-000000000001"}
-{"event":"edit","client":"A","ms":1,"edits":[{"op":"AddTable","table":"t","key":"Int"},{"op":"AddColumn","table":"t","column":"l","kind":"Text","nullable":false,"shape":"List"},{"op":"AddColumn","table":"t","column":"u","kind":"Int","nullable":false,"shape":"Set"},{"op":"CreateObject","table":"t","key":1}]}
-{"event":"edit","client":"A","ms":2,"edits":[{"op":"ListInsert","table":"t","key":1,"column":"l","place":1,"prior":1,"value":"x"}]}
-{"event":"edit","client":"A","ms":3,"edits":[{"op":"SetErase","table":"t","key":1,"column":"u","value":5},{"op":"SetInsert","table":"t","key":1,"column":"u","value":5},{"op":"SetInsert","table":"t","key":1,"column":"u","value":5}]}
-"#;
-
-/// What they print.
-pub const LISTS_AND_SETS_OFFLINE_TOLD: &str = r#"1 client "A"
-2 made 1
-3 refused Break 0 23
-4 made 2
-server 0
-client "A" 0 0 2
-{"key":"Int","table":"t"}
-{"column":"l","kind":"Text","nullable":false,"shape":"List","table":"t"}
-{"column":"u","kind":"Int","nullable":false,"shape":"Set","table":"t"}
-{"cells":{"l":[],"u":[5]},"key":1,"table":"t"}
-"#;
+"#,
+        ends: Status::Done,
+    },
+];

@@ -1,8 +1,12 @@
-//! Messages that come twice, late or from elsewhere, restarts and stops.
+//! Messages that come twice, late or from elsewhere, and a line that is no event.
+use super::Exchange;
+use sync_io::Status;
 
-/// Uploads that come twice.
-pub const REPEATED_UPLOADS: &str =
-    r#"{"event":"edit","client":"A","ms":20,"edits":[{"op":"AddInteger","table":"t","key":1,"column":"n","amount":1}]}
+pub const FAULTS: [Exchange; 5] = [
+    Exchange {
+        name: "repeated uploads",
+        joined: true,
+        events: r#"{"event":"edit","client":"A","ms":20,"edits":[{"op":"AddInteger","table":"t","key":1,"column":"n","amount":1}]}
 {"event":"upload","client":"A"}
 {"event":"deliver","message":11,"to":"server"}
 {"event":"edit","client":"A","ms":21,"edits":[{"op":"AddInteger","table":"t","key":1,"column":"n","amount":1}]}
@@ -10,10 +14,8 @@ pub const REPEATED_UPLOADS: &str =
 {"event":"deliver","message":13,"to":"server"}
 {"event":"deliver","message":11,"to":"server"}
 {"event":"deliver","message":11,"to":"server"}
-"#;
-
-/// What they print.
-pub const REPEATED_UPLOADS_TOLD: &str = r#"19 made 2
+"#,
+        told: r#"19 made 2
 20 message 11
 21 reply 12 stored 1 2
 22 made 3
@@ -51,11 +53,13 @@ client "B" 2 1 0
 {"column":"s","kind":"Text","nullable":true,"shape":"One","table":"t"}
 {"column":"u","kind":"Int","nullable":false,"shape":"Set","table":"t"}
 {"cells":{"k":null,"l":[],"m":null,"n":0,"s":null,"u":[]},"key":1,"table":"t"}
-"#;
-
-/// A client that is opened again, and a download that comes late.
-pub const RESTART_AND_LATE_DOWNLOAD: &str =
-    r#"{"event":"edit","client":"A","ms":20,"edits":[{"op":"AddInteger","table":"t","key":1,"column":"n","amount":1}]}
+"#,
+        ends: Status::Done,
+    },
+    Exchange {
+        name: "a restart and a late download",
+        joined: true,
+        events: r#"{"event":"edit","client":"A","ms":20,"edits":[{"op":"AddInteger","table":"t","key":1,"column":"n","amount":1}]}
 {"event":"upload","client":"A"}
 {"event":"deliver","message":11,"to":"server"}
 {"event":"restart","node":"A"}
@@ -72,10 +76,8 @@ pub const RESTART_AND_LATE_DOWNLOAD: &str =
 {"event":"deliver","message":19,"to":"server"}
 {"event":"deliver","message":20,"to":"A"}
 {"event":"deliver","message":16,"to":"A"}
-"#;
-
-/// What they print.
-pub const RESTART_AND_LATE_DOWNLOAD_TOLD: &str = r#"19 made 2
+"#,
+        told: r#"19 made 2
 20 message 11
 21 reply 12 stored 1 2
 22 opened
@@ -122,68 +124,16 @@ client "B" 2 1 1
 {"column":"s","kind":"Text","nullable":true,"shape":"One","table":"t"}
 {"column":"u","kind":"Int","nullable":false,"shape":"Set","table":"t"}
 {"cells":{"k":null,"l":[],"m":null,"n":1,"s":null,"u":[]},"key":1,"table":"t"}
-"#;
-
-/// The server's disk stops in an upload.
-pub const SERVER_STOPS_IN_AN_UPLOAD: &str =
-    r#"{"event":"edit","client":"A","ms":20,"edits":[{"op":"AddInteger","table":"t","key":1,"column":"n","amount":1}]}
-{"event":"edit","client":"A","ms":21,"edits":[{"op":"AddInteger","table":"t","key":1,"column":"n","amount":1}]}
-{"event":"edit","client":"A","ms":22,"edits":[{"op":"AddInteger","table":"t","key":1,"column":"n","amount":1}]}
-{"event":"upload","client":"A"}
-{"event":"stop","node":"server","at":9,"leaves":"drop"}
-{"event":"deliver","message":11,"to":"server"}
-{"event":"deliver","message":11,"to":"server"}
-"#;
-
-/// What they print.
-pub const SERVER_STOPS_IN_AN_UPLOAD_TOLD: &str = r#"19 made 2
-20 made 3
-21 made 4
-22 message 11
-23 armed
-24 stopped
-25 reply 12 stored 1 4
-server 4
-entry 0 1 1 1 01070174016e016d0173016c0175016b080100000200010100000200020101000200030301000200040300010200050100020200060701000003000002
-entry 1 1 2 20 01020174016e01060000020102
-entry 2 1 3 21 01020174016e01060000020102
-entry 3 1 4 22 01020174016e01060000020102
-{"key":"Int","table":"t"}
-{"column":"k","kind":"Link","nullable":true,"shape":"One","table":"t","target":"t"}
-{"column":"l","kind":"Text","nullable":false,"shape":"List","table":"t"}
-{"column":"m","kind":"Int","nullable":true,"shape":"One","table":"t"}
-{"column":"n","kind":"Int","nullable":false,"shape":"One","table":"t"}
-{"column":"s","kind":"Text","nullable":true,"shape":"One","table":"t"}
-{"column":"u","kind":"Int","nullable":false,"shape":"Set","table":"t"}
-{"cells":{"k":null,"l":[],"m":null,"n":3,"s":null,"u":[]},"key":1,"table":"t"}
-client "A" 1 1 3
-{"key":"Int","table":"t"}
-{"column":"k","kind":"Link","nullable":true,"shape":"One","table":"t","target":"t"}
-{"column":"l","kind":"Text","nullable":false,"shape":"List","table":"t"}
-{"column":"m","kind":"Int","nullable":true,"shape":"One","table":"t"}
-{"column":"n","kind":"Int","nullable":false,"shape":"One","table":"t"}
-{"column":"s","kind":"Text","nullable":true,"shape":"One","table":"t"}
-{"column":"u","kind":"Int","nullable":false,"shape":"Set","table":"t"}
-{"cells":{"k":null,"l":[],"m":null,"n":3,"s":null,"u":[]},"key":1,"table":"t"}
-client "B" 2 1 0
-{"key":"Int","table":"t"}
-{"column":"k","kind":"Link","nullable":true,"shape":"One","table":"t","target":"t"}
-{"column":"l","kind":"Text","nullable":false,"shape":"List","table":"t"}
-{"column":"m","kind":"Int","nullable":true,"shape":"One","table":"t"}
-{"column":"n","kind":"Int","nullable":false,"shape":"One","table":"t"}
-{"column":"s","kind":"Text","nullable":true,"shape":"One","table":"t"}
-{"column":"u","kind":"Int","nullable":false,"shape":"Set","table":"t"}
-{"cells":{"k":null,"l":[],"m":null,"n":0,"s":null,"u":[]},"key":1,"table":"t"}
-"#;
-
-/// A client of elsewhere uploads.
-pub const FOREIGN_UPLOAD: &str =
-    r#"{"event":"inject","message":"0100000000000040008000000000000009"}
+"#,
+        ends: Status::Done,
+    },
+    Exchange {
+        name: "an upload of a client from elsewhere",
+        joined: true,
+        events: r#"{"event":"inject","message":"0100000000000040008000000000000009"}
 {"event":"inject","message":"0303010101460e01020174016c0109000002010001"}
-"#;
-
-/// What they print.
-pub const FOREIGN_UPLOAD_TOLD: &str = r#"19 reply 11 ident 3
+"#,
+        told: r#"19 reply 11 ident 3
 20 reply 12 refused 3 1 23 0
 server 1
 entry 0 1 1 1 01070174016e016d0173016c0175016b080100000200010100000200020101000200030301000200040300010200050100020200060701000003000002
@@ -213,19 +163,29 @@ client "B" 2 1 0
 {"column":"s","kind":"Text","nullable":true,"shape":"One","table":"t"}
 {"column":"u","kind":"Int","nullable":false,"shape":"Set","table":"t"}
 {"cells":{"k":null,"l":[],"m":null,"n":0,"s":null,"u":[]},"key":1,"table":"t"}
-"#;
-
-/// Bytes that are no message, and messages of idents that their sender was not given.
-pub const INJECTED_BYTES: &str =
-    r#"{"event":"inject","message":"020101010000000000000000000000000000"}
+"#,
+        ends: Status::Done,
+    },
+    Exchange {
+        name: "a line that is no event",
+        joined: false,
+        events: r#"{"event":"client","name":"A","uuid":"00000000-0000-4000-8000-000000000001"}
+{"event":"fly"}
+"#,
+        told: r#"1 client "A"
+"#,
+        ends: Status::BadInput { place: 2 },
+    },
+    Exchange {
+        name: "injected bytes",
+        joined: true,
+        events: r#"{"event":"inject","message":"020101010000000000000000000000000000"}
 {"event":"inject","message":"0401010001"}
 {"event":"inject","message":"04010101"}
 {"event":"inject","message":"0409010100"}
 {"event":"inject","message":"04090101"}
-"#;
-
-/// What they print.
-pub const INJECTED_BYTES_TOLD: &str = r#"19 refused BadMessage
+"#,
+        told: r#"19 refused BadMessage
 20 refused BadMessage
 21 refused OwnIdent
 22 refused BadMessage
@@ -258,4 +218,7 @@ client "B" 2 1 0
 {"column":"s","kind":"Text","nullable":true,"shape":"One","table":"t"}
 {"column":"u","kind":"Int","nullable":false,"shape":"Set","table":"t"}
 {"cells":{"k":null,"l":[],"m":null,"n":0,"s":null,"u":[]},"key":1,"table":"t"}
-"#;
+"#,
+        ends: Status::Done,
+    },
+];
