@@ -3,6 +3,7 @@ mod families;
 mod indexed;
 mod lists;
 mod make;
+mod rules;
 mod sets;
 
 use super::*;

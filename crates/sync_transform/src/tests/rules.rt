@@ -1,3 +1,4 @@
+// The rules of sets and of dictionaries, which meet the same instructions in the same cells.
 mod clearing;
 mod dict_apart;
 mod dicts;
