@@ -1,7 +1,7 @@
 ghost use Rattle.std.specs.Prelude.{◌≡◌, ◌↔◌, ◌⊎◌, ◌≤◌, ◌++◌, ◌∷◌, [], ℕ, List, length, map, Some, IsErrOf, IfErr, IfOk, OnOk, OnErr, true, false};
 ghost use Rattle.std.specs.Result.{result_err};
 ghost use Rattle.sync_disk.specs.Disk.{LeavesOnly, Rose, SameDisk, Told};
-ghost use Rattle.sync_disk.specs.Faults.{armed, disarmed, has_stopped};
+ghost use Rattle.sync_disk.specs.Faults.{armed, begun, disarmed, has_stopped};
 ghost use Rattle.sync_model.specs.Clients as model;
 ghost use Rattle.sync_exchange.specs.Profile.{the_profile};
 ghost use Rattle.sync_exchange.specs.Seen.{client_bytes, client_seen};
@@ -219,6 +219,20 @@ impl Client<MemoryDisk> {
             → Stands ⟦<MemoryDisk as Disk>⟧.content ⟦<MemoryDisk as Disk>⟧.images records (journal_of self.new) }
     {
         self.journal.disarm();
+    }
+
+    /// The disk that it holds begins its strokes anew with what it holds, which stands synced. It is no longer armed.
+    pub fn begin_anew(&mut self)
+        ensures content { ⟦<MemoryDisk as Disk>⟧.content (disk_of (journal_of self.new)) ≡ ⟦<MemoryDisk as Disk>⟧.content (disk_of (journal_of self.old)) }
+        ensures strokes { ⟦<MemoryDisk as Disk>⟧.strokes (disk_of (journal_of self.new)) ≡ [] }
+        ensures origin { (c : List ℕ) → ⟦<MemoryDisk as Disk>⟧.content (disk_of (journal_of self.new)) ≡ Some c
+            → ⟦<MemoryDisk as Disk>⟧.origin (disk_of (journal_of self.new)) ≡ begun c (⟦<MemoryDisk as Disk>⟧.origin (disk_of (journal_of self.old))) }
+        ensures closed { is_closed self.new ≡ is_closed self.old }
+        ensures replica { replica_of self.new ≡ replica_of self.old }
+        ensures stands { (records : List (List ℕ)) → Stands ⟦<MemoryDisk as Disk>⟧.content ⟦<MemoryDisk as Disk>⟧.images records (journal_of self.old)
+            → Stands ⟦<MemoryDisk as Disk>⟧.content ⟦<MemoryDisk as Disk>⟧.images records (journal_of self.new) }
+    {
+        self.journal.begin_anew();
     }
 
     /// Whether the disk that it holds has stopped.

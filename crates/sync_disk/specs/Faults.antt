@@ -4,6 +4,7 @@ use Rattle.std.specs.List.{list_any}
 use Rattle.sync_disk.specs.declared.refusal.DiskRefusal.{DiskRefusal}
 use Rattle.sync_disk.specs.declared.refusal.DiskRefusal.TheVariants.{Failed, NoMemory}
 use Rattle.sync_disk.specs.declared.leaves.Leaves.{Leaves}
+use Rattle.sync_disk.specs.declared.leaves.Leaves.TheVariants.{Keep}
 use Rattle.sync_disk.specs.Strokes.{Act, Stroke}
 use Rattle.sync_disk.specs.Strokes.Act.{Write, Sync}
 use Rattle.sync_disk.specs.Origin.{Origin}
@@ -65,6 +66,10 @@ armed at leaves o n = record { start = o.start; stop = if has_stopped o.stop n t
 
 abbrev pub disarmed : Origin → ℕ → Origin
 disarmed o n = record { start = o.start; stop = if has_stopped o.stop n then o.stop else None; leaves = o.leaves; listed = o.listed }
+
+-- the origin after a disk begins anew with this content
+abbrev pub begun : List ℕ → Origin → Origin
+begun content o = record { start = content; stop = None; leaves = Keep; listed = o.listed }
 
 -- no call fails
 pub record IsSound (o : Origin) : Type 0 where

@@ -2,7 +2,7 @@ ghost use Rattle.std.specs.Prelude.{◌≡◌, ◌↔◌, ◌⊎◌, ◌≤◌, 
 ghost use Rattle.std.specs.Option.{option_map};
 ghost use Rattle.sync_data.specs.declared.instr.Instr.{Instr};
 ghost use Rattle.sync_disk.specs.Disk.{LeavesOnly, Rose, SameDisk, Told};
-ghost use Rattle.sync_disk.specs.Faults.{armed, disarmed, has_stopped};
+ghost use Rattle.sync_disk.specs.Faults.{armed, begun, disarmed, has_stopped};
 ghost use Rattle.sync_journal.specs.Records.{StandsForPrefix};
 ghost use Rattle.sync_journal.specs.Stands.{Stands, disk_of};
 ghost use Rattle.sync_model.specs.Servers as model;
@@ -407,6 +407,20 @@ impl Server<MemoryDisk> {
             → Stands ⟦<MemoryDisk as Disk>⟧.content ⟦<MemoryDisk as Disk>⟧.images records (journal_of self.new) }
     {
         self.journal.disarm();
+    }
+
+    /// The disk that it holds begins its strokes anew with what it holds, which stands synced. It is no longer armed.
+    pub fn begin_anew(&mut self)
+        ensures content { ⟦<MemoryDisk as Disk>⟧.content (disk_of (journal_of self.new)) ≡ ⟦<MemoryDisk as Disk>⟧.content (disk_of (journal_of self.old)) }
+        ensures strokes { ⟦<MemoryDisk as Disk>⟧.strokes (disk_of (journal_of self.new)) ≡ [] }
+        ensures origin { (c : List ℕ) → ⟦<MemoryDisk as Disk>⟧.content (disk_of (journal_of self.new)) ≡ Some c
+            → ⟦<MemoryDisk as Disk>⟧.origin (disk_of (journal_of self.new)) ≡ begun c (⟦<MemoryDisk as Disk>⟧.origin (disk_of (journal_of self.old))) }
+        ensures closed { is_closed self.new ≡ is_closed self.old }
+        ensures kept { kept_of self.new ≡ kept_of self.old }
+        ensures stands { (records : List (List ℕ)) → Stands ⟦<MemoryDisk as Disk>⟧.content ⟦<MemoryDisk as Disk>⟧.images records (journal_of self.old)
+            → Stands ⟦<MemoryDisk as Disk>⟧.content ⟦<MemoryDisk as Disk>⟧.images records (journal_of self.new) }
+    {
+        self.journal.begin_anew();
     }
 
     /// Whether the disk that it holds has stopped.

@@ -1,7 +1,7 @@
--- A node whose disk is armed, or no longer.
+-- A node whose disk is armed, or is not.
 use Rattle.std.proofs.Common.{◌≡◌, ℕ, ◌+◌, ◌-◌, ◌≤◌, Bool, false, nat_lt, if◌then◌else◌, List, length, Option, None, Some, refl, sym, ◌∙◌, ap, subst, arith}
 use Rattle.std.proofs.lemmas.Bool.Decides.{nat_tests}
-use Rattle.sync_disk.specs.Faults.{armed, disarmed, has_stopped}
+use Rattle.sync_disk.specs.Faults.{armed, has_stopped}
 use Rattle.sync_disk.specs.Origin.{Origin}
 use Rattle.sync_disk.specs.declared.disk.Disk.{Ghosts}
 use Rattle.sync_journal.specs.Stands.{disk_of}
@@ -26,14 +26,6 @@ not_stopped (Some s) o n a = ap (λ (stop : Option ℕ). has_stopped stop n) a.s
     before : (n k : ℕ) → nat_lt (n + k) n ≡ false
     before n k = grind (arith, nat_tests)
 
-pub none_armed : (o new : Origin) (n m : ℕ) → new ≡ disarmed o n → o.listed ≡ 0 → has_stopped o.stop n ≡ false → IsArmed None new m
-none_armed o new n m is listed open_ = record {
-  listed = ap (λ (x : Origin). x.listed) is ∙ listed;
-  stop = ap (λ (x : Origin). x.stop) is ∙ ap (λ (b : Bool). if b then o.stop else None) open_;
-  leaves = tt;
-  counted = tt;
-}
-
 pub one_armed : (stop : CodeStop) (o new : Origin) (n m : ℕ) → new ≡ armed stop.at stop.leaves o n → o.listed ≡ 0 → has_stopped o.stop n ≡ false → m ≡ n → 1 ≤ stop.at → IsArmed (Some (stop_seen stop)) new m
 one_armed stop o new n m is listed open_ same counted =
     let place : n + stop.at - 1 ≡ m + (stop.at - 1) = omega (arith, same, counted) in
@@ -47,17 +39,6 @@ one_armed stop o new n m is listed open_ same counted =
 module _ {D : Type 0} {G : Ghosts D} where
   pub client_kept : (records : List ClientRecord) (old new : Client D G) → clients.IsClientOf records old → clients.is_closed new ≡ clients.is_closed old → clients.replica_of new ≡ clients.replica_of old → clients.IsClientOf records new
   client_kept records old new is closed replica = record { kept = subst (Keeps records) (sym replica) is.kept; open_ = closed ∙ is.open_ }
-
-  pub disarmed_client : (records : List ClientRecord) (old new : Client D G) → clients.IsClientOf records new → clients.IsStored G.content G.images records new
-      → G.origin (disk_of (clients.journal_of new)) ≡ disarmed (G.origin (disk_of (clients.journal_of old))) (length (G.strokes (disk_of (clients.journal_of old))))
-      → (G.origin (disk_of (clients.journal_of old))).listed ≡ 0 → has_stopped (G.origin (disk_of (clients.journal_of old))).stop (length (G.strokes (disk_of (clients.journal_of old)))) ≡ false
-      → HoldsClient records None None new
-  disarmed_client records old new is stored origin listed open_ = record {
-    client = is;
-    stored = stored;
-    armed = none_armed (G.origin (disk_of (clients.journal_of old))) (G.origin (disk_of (clients.journal_of new))) (length (G.strokes (disk_of (clients.journal_of old)))) (length (G.strokes (disk_of (clients.journal_of new)))) origin listed open_;
-    kept_is = refl;
-  }
 
   pub armed_client : (records : List ClientRecord) (s : Option Stop) (kept : Option CodeStop) (stop : CodeStop) (old new : Client D G) → HoldsClient records s kept old → clients.IsClientOf records new → clients.IsStored G.content G.images records new
       → G.origin (disk_of (clients.journal_of new)) ≡ armed stop.at stop.leaves (G.origin (disk_of (clients.journal_of old))) (length (G.strokes (disk_of (clients.journal_of old))))
@@ -83,17 +64,6 @@ module _ {D : Type 0} {G : Ghosts D} where
   -- ---- the same of a server
   pub server_kept : (records : List ServerRecord) (old new : Server D G) → servers.IsServerOf records old → servers.is_closed new ≡ servers.is_closed old → servers.kept_of new ≡ servers.kept_of old → servers.IsServerOf records new
   server_kept records old new is closed kept = record { opens = is.opens; keeps = is.keeps ∙ ap parts (sym kept); open_ = closed ∙ is.open_ }
-
-  pub disarmed_server : (records : List ServerRecord) (old new : Server D G) → servers.IsServerOf records new → servers.IsStored G.content G.images records new
-      → G.origin (disk_of (servers.journal_of new)) ≡ disarmed (G.origin (disk_of (servers.journal_of old))) (length (G.strokes (disk_of (servers.journal_of old))))
-      → (G.origin (disk_of (servers.journal_of old))).listed ≡ 0 → has_stopped (G.origin (disk_of (servers.journal_of old))).stop (length (G.strokes (disk_of (servers.journal_of old)))) ≡ false
-      → HoldsServer records None None new
-  disarmed_server records old new is stored origin listed open_ = record {
-    server = is;
-    stored = stored;
-    armed = none_armed (G.origin (disk_of (servers.journal_of old))) (G.origin (disk_of (servers.journal_of new))) (length (G.strokes (disk_of (servers.journal_of old)))) (length (G.strokes (disk_of (servers.journal_of new)))) origin listed open_;
-    kept_is = refl;
-  }
 
   pub armed_server : (records : List ServerRecord) (s : Option Stop) (kept : Option CodeStop) (stop : CodeStop) (old new : Server D G) → HoldsServer records s kept old → servers.IsServerOf records new → servers.IsStored G.content G.images records new
       → G.origin (disk_of (servers.journal_of new)) ≡ armed stop.at stop.leaves (G.origin (disk_of (servers.journal_of old))) (length (G.strokes (disk_of (servers.journal_of old))))

@@ -1,5 +1,4 @@
 ghost use Rattle.std.specs.Prelude.{◌≡◌, List, ℕ, [], map, length, false, None, Some, Option, IfOk, OnOk};
-ghost use Rattle.sync_disk.specs.Faults.{has_stopped};
 ghost use Rattle.sync_disk.specs.Images.{state};
 ghost use Rattle.sync_disk.specs.Leaving.{left_by};
 ghost use Rattle.sync_journal.specs.Records.{records_of};
@@ -73,15 +72,14 @@ impl Hub {
         Ok(())
     }
 
-    /// Takes the stop back, where the disk hasn't stopped.
+    /// Takes the stop back. What was asked of the disk is forgotten with it.
     fn disarm(&mut self)
         ensures { (records : List model.ServerRecord) → IsServerOf records self.old.server
             → IsStored ⟦<MemoryDisk as Disk>⟧.content ⟦<MemoryDisk as Disk>⟧.images records self.old.server
             → (⟦<MemoryDisk as Disk>⟧.origin (disk_of (journal_of self.old.server))).listed ≡ 0
-            → has_stopped (⟦<MemoryDisk as Disk>⟧.origin (disk_of (journal_of self.old.server))).stop (length (⟦<MemoryDisk as Disk>⟧.strokes (disk_of (journal_of self.old.server)))) ≡ false
             → HoldsServer records None self.new.stop self.new.server }
     {
-        self.server.disarm();
+        self.server.begin_anew();
         self.stop = None;
     }
 

@@ -1,5 +1,4 @@
 ghost use Rattle.std.specs.Prelude.{◌≡◌, List, ℕ, [], ◌∷◌, map, length, false, None, Some, Option, Err, IfOk, OnOk};
-ghost use Rattle.sync_disk.specs.Faults.{has_stopped};
 ghost use Rattle.sync_disk.specs.Images.{state};
 ghost use Rattle.sync_disk.specs.Leaving.{left_by};
 ghost use Rattle.sync_journal.specs.Records.{records_of};
@@ -111,16 +110,15 @@ impl Node {
         Ok(())
     }
 
-    /// Takes the stop back, where the disk hasn't stopped.
+    /// Takes the stop back. What was asked of the disk is forgotten with it.
     fn disarm(&mut self)
         ensures client { (records : List model.ClientRecord) → IsClientOf records self.old.client
             → IsStored ⟦<MemoryDisk as Disk>⟧.content ⟦<MemoryDisk as Disk>⟧.images records self.old.client
             → (⟦<MemoryDisk as Disk>⟧.origin (disk_of (journal_of self.old.client))).listed ≡ 0
-            → has_stopped (⟦<MemoryDisk as Disk>⟧.origin (disk_of (journal_of self.old.client))).stop (length (⟦<MemoryDisk as Disk>⟧.strokes (disk_of (journal_of self.old.client)))) ≡ false
             → HoldsClient records None self.new.stop self.new.client }
         ensures name { self.new.name ≡ self.old.name }
     {
-        self.client.disarm();
+        self.client.begin_anew();
         self.stop = None;
     }
 

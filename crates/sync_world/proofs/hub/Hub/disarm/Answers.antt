@@ -1,9 +1,11 @@
-use Rattle.std.proofs.Common.{map}
+use Rattle.std.proofs.Common.{map, refl}
 use Rattle.sync_exchange.specs.Seen.{server_bytes}
-use Rattle.sync_world.proofs.Arming.{disarmed_server, server_kept}
+use Rattle.sync_world.proofs.Arming.{opened_server, server_kept}
 use Rattle.sync_world.proofs.hub.Hub.disarm.Goals as goal
 
 pub returns : goal.returns
-returns c records is stored listed open_ =
-    let e = c.disarm.ensures in
-    disarmed_server records c.args.self.now.server c.disarm.new.self (server_kept records c.args.self.now.server c.disarm.new.self is e.closed e.kept) (e.stands (map server_bytes records) stored) e.origin listed open_
+returns c records is stored listed =
+    let e = c.begin_anew.ensures in
+    let new = c.begin_anew.new.self in
+    let holds = e.stands (map server_bytes records) stored in
+    opened_server records new _ (server_kept records c.args.self.now.server new is e.closed e.kept) holds (e.origin _ holds.settled.told) refl listed

@@ -4,12 +4,12 @@ use Rattle.sync_disk.specs.contracts.memory.MemoryDiskDisk.TheImpl.{ghosts}
 use Rattle.sync_disk.specs.declared.memory.MemoryDisk.{MemoryDisk}
 use Rattle.sync_model.specs.Worlds.{Stop}
 use Rattle.sync_world.specs.Nodes.{HoldsServer, stop_seen}
-use Rattle.sync_world.proofs.Arming.{not_stopped, opened_server}
+use Rattle.sync_world.proofs.Arming.{opened_server}
 use Rattle.sync_world.proofs.hub.Hub.restart.Goals as goal
 
 pub returns-in-Some : goal.returns-in-Some
 returns-in-Some c records s h back =
-    let before = c.disarm.ensures records h.server h.stored h.armed.listed (not_stopped s _ _ h.armed) in
+    let before = c.disarm.ensures records h.server h.stored h.armed.listed in
     let same = c.in_ok-disk.ensures in
     let told = ap (λ (d : MemoryDisk). ghosts.content d) same ∙ before.stored.settled.told in
     let e = c.in_ok-self.ensures in
@@ -20,7 +20,7 @@ returns-in-Some c records s h back =
 
 pub returns-in-None : goal.returns-in-None
 returns-in-None c records s h back =
-    let before = c.disarm.ensures records h.server h.stored h.armed.listed (not_stopped s _ _ h.armed) in
+    let before = c.disarm.ensures records h.server h.stored h.armed.listed in
     let same = c.in_ok-disk.ensures in
     let told = ap (λ (d : MemoryDisk). ghosts.content d) same ∙ before.stored.settled.told in
     let e = c.in_ok-self.ensures in

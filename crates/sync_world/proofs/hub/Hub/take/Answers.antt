@@ -22,7 +22,7 @@ returns-in-Ok c records s h reads =
     let step = e.step records h.server in
     let listed = ap (λ (o : Origin). o.listed) e.origin in
     subst (λ (stand : Option (List model.ServerRecord)). ServeDone did records stand (Some c.in-Ok.reply) c.disarm.new.self) (sym far.0)
-    (record { said = sym step.reply_is; server = c.disarm.ensures (records ++ did.records) step.server (e.stored records h.server h.stored) (listed ∙ h.armed.listed) far.1 })
+    (record { said = sym step.reply_is; server = c.disarm.ensures (records ++ did.records) step.server (e.stored records h.server h.stored) (listed ∙ h.armed.listed) })
 
 pub returns-in-Ok-crash : goal.returns-in-Ok-crash
 returns-in-Ok-crash c records s h reads =

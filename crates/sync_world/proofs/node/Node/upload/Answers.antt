@@ -1,5 +1,4 @@
-use Rattle.sync_world.proofs.Arming.{not_stopped}
 use Rattle.sync_world.proofs.node.Node.upload.Goals as goal
 
 pub returns-clause-client : goal.returns-clause-client
-returns-clause-client c records s h = c.disarm.ensures.client records h.client h.stored h.armed.listed (not_stopped s _ _ h.armed)
+returns-clause-client c records s h = c.disarm.ensures.client records h.client h.stored h.armed.listed
