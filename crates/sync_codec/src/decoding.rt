@@ -97,7 +97,7 @@ fn take_instrs(alloc: Global, count: u32, reader: &mut Reader) -> Result<Vec<Ins
     ensures taken { Gives (λ is. (is.items, reader.new)) result (instrs_at count [] reader.old) }
     ensures small { IfOk result (λ is. (length is.items ≡ count) × (payload_all is.items ≤ 4194304)) }
 {
-    let mut instrs = Vec::new(alloc);
+    let mut instrs = Vec::with_capacity(alloc, (count as usize).min(reader.rest().len()))?;
     let mut payload = 0;
     for _ in 0..count {
         match take_instr(alloc, reader, &mut instrs, payload) {

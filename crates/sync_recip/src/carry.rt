@@ -79,11 +79,26 @@ fn cross_one(
             place: stop.left_place,
             kind: stop.kind,
         }),
-        Ok((left, right)) => match with_changes(alloc, entry, right) {
-            Ok(crossed) => Ok((left, Some(crossed))),
+        Ok((left, right)) => match changed(alloc, entry, right) {
+            Ok(crossed) => Ok((left, crossed)),
             Err(NoMemory) => Err(RecipRefusal::NoMemory),
         },
     }
+}
+
+/// The entry with the changes that it became; none where they are the ones that it has.
+fn changed(
+    alloc: Global,
+    entry: &Entry,
+    changes: Changeset,
+) -> Result<Option<SharedEntry>, NoMemory>
+    ensures { IfOk result (λ crossed. crossed_entry crossed (entry_of entry.now) ≡ made_by entry.now.origin entry.now.number changes) }
+{
+    if changes == entry.changes {
+        return Ok(None);
+    }
+    let crossed = with_changes(alloc, entry, changes)?;
+    Ok(Some(crossed))
 }
 
 /// The entry of the same number with other changes.

@@ -17,7 +17,8 @@ pub(crate) fn keep(
     ensures number { (ms : List model.Message) → AreSpelled ms (lists made.old.items) → IfOk result (λ number. number ≡ suc (length ms)) }
     ensures kept { (ms : List model.Message) → AreSpelled ms (lists made.old.items) → OnOk result (AreSpelled (ms ++ message_seen message.now ∷ []) (lists made.new.items)) }
 {
-    let bytes = message_bytes(alloc, message)?;
+    let mut bytes = message_bytes(alloc, message)?;
+    bytes.shrink_to_fit();
     match made.push(bytes) {
         Ok(()) => {}
         Err(_) => return Err(NoMemory),

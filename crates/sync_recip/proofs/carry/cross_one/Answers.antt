@@ -11,7 +11,7 @@ returns-then-is_apart-clause-ok c = λ number.
     let right = entry_of c.args.entry.now in
     ap (with_lists left right) (c.stays_apart-is_apart.ensures.right c.if-is_apart.true c.args.changes.instrs c.requires.indexed (is_later left right))
 
-pub returns-in-Ok-with_changes-clause-indexed : goal.returns-in-Ok-with_changes-clause-indexed
-returns-in-Ok-with_changes-clause-indexed c =
+pub returns-in-Ok-changed-clause-indexed : goal.returns-in-Ok-changed-clause-indexed
+returns-in-Ok-changed-clause-indexed c =
     left_covered c.args.index.now (made_by c.args.own 0 c.args.changes) (made_by c.args.entry.now.origin 0 c.in-Ok.right) (made_by c.args.own 0 c.in-Ok-cross_sets.left) (made_by c.args.entry.now.origin 0 c.in-Ok-cross_sets.right)
     (c.in-Ok-cross_sets.ensures.ok 0 0) c.requires.indexed
