@@ -1,4 +1,4 @@
-ghost use Rattle.std.specs.Prelude.{◌≡◌, ◌≢◌, ◌<◌, ◌+◌, ◌≤◌, ◌&&◌, not, List, length, Some, IfOk, IfErr, OnOk, OnErr};
+ghost use Rattle.std.specs.Prelude.{◌≡◌, ◌≢◌, ◌<◌, ◌+◌, ◌≤◌, ◌&&◌, not, List, [], length, Some, IfOk, IfErr, OnOk, OnErr};
 ghost use Rattle.sync_theory.specs.Grid.{tail};
 ghost use Rattle.sync_base.specs.Checks.{act_all};
 ghost use Rattle.sync_data.specs.declared.instr.Instr.{Instr};
@@ -125,6 +125,9 @@ impl Replica {
         ensures refused { IfErr result (RefusesOther self.old self.new entry.now) }
         ensures plain { IfErr result IsPlain }
     {
+        if self.unsent.is_empty() {
+            return self.take_alone(entry);
+        }
         let carried = match self.unsent.carry(alloc, self.ident, entry) {
             Ok(carried) => carried,
             Err(refusal) => return Err(self.carry_refusal(refusal)),
@@ -134,6 +137,25 @@ impl Replica {
             Err(refusal) => return Err(refusal),
         }
         let_go(self.unsent.settle(carried));
+        self.cursor += 1;
+        Ok(())
+    }
+
+    /// The same where nothing is unsent, so that there is nothing to carry it over and it needs no copy.
+    fn take_alone(&mut self, entry: &Entry) -> Result<(), ClientRefusal>
+        requires room { self.old.cursor < 4294967295 }
+        requires none { self.old.unsent ≡ [] }
+        ensures took { OnOk result (TookOther self.old self.new entry.now) }
+        ensures ident { self.new.ident ≡ self.old.ident }
+        ensures count { self.new.count ≡ self.old.count }
+        ensures cursor { OnOk result (self.new.cursor ≡ self.old.cursor + 1) }
+        ensures refused { IfErr result (RefusesOther self.old self.new entry.now) }
+        ensures plain { IfErr result IsPlain }
+    {
+        match self.apply_carried(&entry.changes) {
+            Ok(()) => {}
+            Err(refusal) => return Err(refusal),
+        }
         self.cursor += 1;
         Ok(())
     }
