@@ -29,9 +29,9 @@ pub(crate) fn insertion(length: u32) -> Result<Instr, Failure> {
     }))
 }
 
-/// An addition to a number of the object with that key.
+/// An addition to a number of the object with that key, in a list without spare room, as decoding makes it.
 pub(crate) fn addition(alloc: Global, key: u32, ms: u64) -> Result<Changeset, Failure> {
-    let mut instrs = Vec::new(alloc);
+    let mut instrs = Vec::with_capacity(alloc, 1)?;
     instrs.push(Instr::AddInteger(AddInteger {
         cell: cell(key, "votes")?,
         amount: 1,

@@ -55,6 +55,7 @@ impl Index {
     /// Whether the instruction may touch an instruction of the list: its object is there or, where it adds a table or a
     /// column, another of the list does so too. Where it may not, it meets none of them, and none that is left of them:
     /// all stay as they are. It takes no memory.
+    #[inline(always)]
     pub fn may_touch(&self, instr: &Instr) -> bool
         ensures value { result ≡ may_touch self.now instr.now }
         ensures apart { result ≡ false → (instrs : List Instr) → Covers self.now instrs → ApartFromAll instr.now instrs }
@@ -65,6 +66,7 @@ impl Index {
         }
     }
 
+    #[inline(always)]
     fn has_object(&self, table: &Name, key: &Key) -> bool
         ensures { result ≡ has_object self.now (table.now, key.now) }
     {
