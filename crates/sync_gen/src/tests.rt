@@ -1,5 +1,8 @@
 use super::*;
 use TurnKind::{Edit, Pull, Push, Restart};
+use Wanted::{
+    Added, Created, Erased, Inserted, Joined, Left, Linked, Number, Removed, Replaced, Texts,
+};
 use std::alloc::Global;
 use std::test::Fail;
 use sync_base::{
@@ -138,11 +141,28 @@ fn kinds_change_at_their_bounds(rt: HostRuntime) {
     }
 }
 
+/// An edit of the object 5, or of an object that is created.
+#[derive(Clone, Copy)]
+enum Wanted {
+    Created(i64),
+    Erased,
+    Number(i64),
+    Added(i64),
+    Texts(&'static str),
+    Linked(i64),
+    Inserted(u32, &'static str),
+    Removed(u32),
+    Replaced(u32, &'static str),
+    Joined(i64),
+    Left(i64),
+}
+
 /// A store with the table and its columns, and in it the object 5 with a list of some length.
 #[derive(Drop)]
 struct Example {
     alloc: Global,
     store: Store,
+    length: u32,
 }
 
 fn apply(store: &mut Store, instr: Instr) -> Result<(), Fail> {
@@ -159,7 +179,11 @@ impl Example {
         for instr in first_edits(alloc)? {
             apply(&mut store, instr)?;
         }
-        Ok(Example { alloc, store })
+        Ok(Example {
+            alloc,
+            store,
+            length: 0,
+        })
     }
 
     fn with_list(alloc: Global, length: u32) -> Result<Example, Fail> {
@@ -169,12 +193,19 @@ impl Example {
             let instr = insert(alloc, 0, prior, "x")?;
             apply(&mut example.store, instr)?;
         }
+        example.length = length;
         Ok(example)
     }
 
-    /// Whether the first edit of the seed is this.
-    fn draws(&self, seed: u64, wanted: Instr) -> Result<bool, Fail> {
-        Ok(Gen::new(seed).edit(self.alloc, &self.store)? == wanted)
+    /// The first of these seeds whose first edit is another than the one beside it.
+    fn first_wrong(&self, wanted: &[(u64, Wanted)]) -> Result<Option<u64>, Fail> {
+        for (seed, edit) in wanted {
+            let edit = instr(self.alloc, self.length, *edit)?;
+            if Gen::new(*seed).edit(self.alloc, &self.store)? != edit {
+                return Ok(Some(*seed));
+            }
+        }
+        Ok(None)
     }
 }
 
@@ -182,6 +213,12 @@ fn create(key: i64) -> Result<Instr, Fail> {
     let table = Name::new("t")?;
     let key = Key::Int(key);
     Ok(Instr::CreateObject(CreateObject { table, key }))
+}
+
+fn erased() -> Result<Instr, Fail> {
+    let table = Name::new("t")?;
+    let key = Key::Int(5);
+    Ok(Instr::EraseObject(EraseObject { table, key }))
 }
 
 /// A cell of the object 5.
@@ -197,9 +234,20 @@ fn text(alloc: Global, text: &str) -> Result<Value, Fail> {
     Ok(Value::Text(Text::new(alloc, text)?))
 }
 
+fn link(key: i64) -> Result<Value, Fail> {
+    let table = Name::new("t")?;
+    let key = Key::Int(key);
+    Ok(Value::Link { table, key })
+}
+
 fn update(column: &str, value: Value) -> Result<Instr, Fail> {
     let cell = cell(column)?;
     Ok(Instr::Update(Update { cell, value }))
+}
+
+fn add(amount: i64) -> Result<Instr, Fail> {
+    let cell = cell("n")?;
+    Ok(Instr::AddInteger(AddInteger { cell, amount }))
 }
 
 fn insert(alloc: Global, place: u32, prior: u32, element: &str) -> Result<Instr, Fail> {
@@ -222,99 +270,88 @@ fn replace(alloc: Global, place: u32, prior: u32, element: &str) -> Result<Instr
     Ok(Instr::ListUpdate(ListUpdate { cell, spot, value }))
 }
 
+fn join(member: i64) -> Result<Instr, Fail> {
+    let cell = cell("u")?;
+    let value = Value::Int(member);
+    Ok(Instr::SetInsert(SetInsert { cell, value }))
+}
+
+fn leave(member: i64) -> Result<Instr, Fail> {
+    let cell = cell("u")?;
+    let value = Value::Int(member);
+    Ok(Instr::SetErase(SetErase { cell, value }))
+}
+
+/// The edit, where the list has so many elements.
+fn instr(alloc: Global, length: u32, wanted: Wanted) -> Result<Instr, Fail> {
+    match wanted {
+        Created(key) => create(key),
+        Erased => erased(),
+        Number(number) => update("n", Value::Int(number)),
+        Added(amount) => add(amount),
+        Texts(value) => update("s", text(alloc, value)?),
+        Linked(key) => update("k", link(key)?),
+        Inserted(place, element) => insert(alloc, place, length, element),
+        Removed(place) => erase(place, length),
+        Replaced(place, element) => replace(alloc, place, length, element),
+        Joined(member) => join(member),
+        Left(member) => leave(member),
+    }
+}
+
 #[test]
 fn absent_objects_are_created(rt: HostRuntime) -> Result<(), Fail> {
-    let empty = Store::new(rt.alloc())?;
-    for (seed, key) in [(1, 6), (2, 12), (5, 0), (8, 4), (0, 15)] {
-        let instr = Gen::new(seed).edit(rt.alloc(), &empty)?;
-        assert!(rt; instr == create(key)?, "seed {seed}");
-    }
-    let one = Example::with_list(rt.alloc(), 0)?;
-    assert!(rt; one.draws(1, create(6)?)?);
-    Ok(())
-}
-
-#[test]
-fn numbers_and_texts(rt: HostRuntime) -> Result<(), Fail> {
-    let alloc = rt.alloc();
-    let example = Example::with_list(alloc, 3)?;
-    assert!(rt; example.draws(345, update("n", Value::Int(735))?)?);
-    let cell = cell("n")?;
-    let amount = 662;
-    assert!(rt; example.draws(13, Instr::AddInteger(AddInteger { cell, amount }))?);
-    assert!(rt; example.draws(179, update("s", text(alloc, "198")?)?)?);
-    Ok(())
-}
-
-#[test]
-fn elements_are_inserted(rt: HostRuntime) -> Result<(), Fail> {
-    let alloc = rt.alloc();
-    let example = Example::with_list(alloc, 3)?;
-    for (seed, place, element) in [
-        (114, 1, "784"),
-        (499, 2, "327"),
-        (167, 1, "23"),
-        (215, 3, "92"),
-        (600, 0, "636"),
-    ] {
-        let wanted = insert(alloc, place, 3, element)?;
-        assert!(rt; example.draws(seed, wanted)?, "seed {seed}");
-    }
-    Ok(())
-}
-
-#[test]
-fn elements_are_erased_and_updated(rt: HostRuntime) -> Result<(), Fail> {
-    let alloc = rt.alloc();
-    let three = Example::with_list(alloc, 3)?;
-    assert!(rt; three.draws(49, erase(1, 3)?)?);
-    assert!(rt; three.draws(102, erase(2, 3)?)?);
-    assert!(rt; three.draws(203, replace(alloc, 2, 3, "487")?)?);
-    assert!(rt; three.draws(588, replace(alloc, 1, 3, "30")?)?);
-    let one = Example::with_list(alloc, 1)?;
-    assert!(rt; one.draws(102, erase(0, 1)?)?);
-    assert!(rt; one.draws(588, replace(alloc, 0, 1, "30")?)?);
-    Ok(())
-}
-
-#[test]
-fn an_empty_list_gets_an_element(rt: HostRuntime) -> Result<(), Fail> {
-    let alloc = rt.alloc();
-    let example = Example::with_list(alloc, 0)?;
-    for (seed, element) in [(114, "784"), (49, "0"), (102, "0"), (203, "0"), (588, "0")] {
-        let wanted = insert(alloc, 0, 0, element)?;
-        assert!(rt; example.draws(seed, wanted)?, "seed {seed}");
-    }
-    Ok(())
-}
-
-#[test]
-fn members_of_the_set(rt: HostRuntime) -> Result<(), Fail> {
-    let example = Example::with_list(rt.alloc(), 3)?;
-    let inserted = SetInsert {
-        cell: cell("u")?,
-        value: Value::Int(17),
+    let empty = Example {
+        alloc: rt.alloc(),
+        store: Store::new(rt.alloc())?,
+        length: 0,
     };
-    assert!(rt; example.draws(90, Instr::SetInsert(inserted))?);
-    let erased = SetErase {
-        cell: cell("u")?,
-        value: Value::Int(12),
-    };
-    assert!(rt; example.draws(191, Instr::SetErase(erased))?);
+    let wanted = [
+        (1, Created(6)),
+        (2, Created(12)),
+        (5, Created(0)),
+        (8, Created(4)),
+        (0, Created(15)),
+    ];
+    assert_eq!(rt; empty.first_wrong(&wanted)?, None);
     Ok(())
 }
 
+/// Beside the object 5, with a list of none, one and three elements.
 #[test]
-fn links_and_erased_objects(rt: HostRuntime) -> Result<(), Fail> {
-    let example = Example::with_list(rt.alloc(), 3)?;
-    let value = Value::Link {
-        table: Name::new("t")?,
-        key: Key::Int(10),
-    };
-    assert!(rt; example.draws(523, update("k", value)?)?);
-    let table = Name::new("t")?;
-    let key = Key::Int(5);
-    assert!(rt; example.draws(138, Instr::EraseObject(EraseObject { table, key }))?);
+fn edits_of_an_object(rt: HostRuntime) -> Result<(), Fail> {
+    let none = [
+        (1, Created(6)),
+        (114, Inserted(0, "784")),
+        (49, Inserted(0, "0")),
+        (102, Inserted(0, "0")),
+        (203, Inserted(0, "0")),
+        (588, Inserted(0, "0")),
+    ];
+    let one = [(102, Removed(0)), (588, Replaced(0, "30"))];
+    let three = [
+        (345, Number(735)),
+        (13, Added(662)),
+        (179, Texts("198")),
+        (114, Inserted(1, "784")),
+        (499, Inserted(2, "327")),
+        (167, Inserted(1, "23")),
+        (215, Inserted(3, "92")),
+        (600, Inserted(0, "636")),
+        (49, Removed(1)),
+        (102, Removed(2)),
+        (203, Replaced(2, "487")),
+        (588, Replaced(1, "30")),
+        (90, Joined(17)),
+        (191, Left(12)),
+        (523, Linked(10)),
+        (138, Erased),
+    ];
+    let tables: [(u32, &[(u64, Wanted)]); 3] = [(0, &none), (1, &one), (3, &three)];
+    for (length, wanted) in tables {
+        let example = Example::with_list(rt.alloc(), length)?;
+        assert_eq!(rt; example.first_wrong(wanted)?, None, "length {length}");
+    }
     Ok(())
 }
 

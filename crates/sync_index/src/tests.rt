@@ -1,10 +1,23 @@
 use super::*;
+use About::{Adding, Clearing, Creating, Erasing, Table, Updating};
 use std::alloc::Global;
 use std::test::Fail;
 use sync_base::{
     AddInteger, AddTable, CellName, Clear, CreateObject, EraseObject, Instr, Key, KeyKind, KeyText,
     Name, Update, Value,
 };
+
+/// An instruction by what it is about: a table, or an object of a table with a number, a text or the first and the last byte
+/// of a uuid as its key.
+#[derive(Clone, Copy)]
+enum About {
+    Table(&'static str),
+    Creating(&'static str, i64),
+    Updating(&'static str, i64),
+    Adding(&'static str, i64),
+    Clearing(&'static str, &'static str),
+    Erasing(&'static str, u8, u8),
+}
 
 fn cell(table: &str, key: Key) -> Result<CellName, Fail> {
     Ok(CellName {
@@ -35,80 +48,116 @@ fn create(table: &str, key: i64) -> Result<Instr, Fail> {
     }))
 }
 
-fn clear_of_text_key(alloc: Global, key: &str) -> Result<Instr, Fail> {
+fn clear(alloc: Global, table: &str, key: &str) -> Result<Instr, Fail> {
     let key = Key::Text(KeyText::new(alloc, key)?);
     Ok(Instr::Clear(Clear {
-        cell: cell("t", key)?,
+        cell: cell(table, key)?,
     }))
 }
 
-fn erase_of_uuid(first: u8, last: u8) -> Result<Instr, Fail> {
+fn erase(table: &str, first: u8, last: u8) -> Result<Instr, Fail> {
     let mut id = [0; 16];
     id[0] = first;
     id[15] = last;
     Ok(Instr::EraseObject(EraseObject {
-        table: Name::new("t")?,
+        table: Name::new(table)?,
         key: Key::Uuid(id),
     }))
 }
 
-fn table(name: &str) -> Result<Instr, Fail> {
+fn add_table(name: &str) -> Result<Instr, Fail> {
     Ok(Instr::AddTable(AddTable {
         table: Name::new(name)?,
         key: KeyKind::Int,
     }))
 }
 
+fn instr(alloc: Global, about: About) -> Result<Instr, Fail> {
+    match about {
+        Table(name) => add_table(name),
+        Creating(table, key) => create(table, key),
+        Updating(table, key) => update(table, key),
+        Adding(table, key) => add(table, key),
+        Clearing(table, key) => clear(alloc, table, key),
+        Erasing(table, first, last) => erase(table, first, last),
+    }
+}
+
+fn index_of(alloc: Global, listed: &[About]) -> Result<Index, Fail> {
+    let mut list = Vec::new(alloc);
+    for about in listed {
+        list.push(instr(alloc, *about)?)?;
+    }
+    Ok(Index::of(alloc, &list)?)
+}
+
+/// The place of the first instruction of which an index of the list doesn't say what stands beside it.
+fn first_wrong(
+    alloc: Global,
+    listed: &[About],
+    asked: &[(About, bool)],
+) -> Result<Option<usize>, Fail> {
+    let index = index_of(alloc, listed)?;
+    for (place, (about, touches)) in asked.iter().enumerate() {
+        if index.may_touch(&instr(alloc, *about)?) != *touches {
+            return Ok(Some(place));
+        }
+    }
+    Ok(None)
+}
+
 #[test]
 fn an_update_is_touched_by_its_object_alone(rt: HostRuntime) -> Result<(), Fail> {
-    let index = Index::of(rt.alloc(), &[update("t", 1)?])?;
-    assert!(rt; !index.may_touch(&create("t", 2)?));
-    assert!(rt; index.may_touch(&add("t", 1)?));
-    assert!(rt; !index.may_touch(&add("u", 1)?));
-    assert!(rt; !index.may_touch(&table("t")?));
+    let asked = [
+        (Creating("t", 2), false),
+        (Adding("t", 1), true),
+        (Adding("u", 1), false),
+        (Table("t"), false),
+    ];
+    assert_eq!(rt; first_wrong(rt.alloc(), &[Updating("t", 1)], &asked)?, None);
     Ok(())
 }
 
 #[test]
 fn objects_of_many_tables_are_found(rt: HostRuntime) -> Result<(), Fail> {
-    let alloc = rt.alloc();
-    let list = [
-        create("t", 1)?,
-        update("u", 2)?,
-        add("t", 3)?,
-        clear_of_text_key(alloc, "k")?,
+    let listed = [
+        Creating("t", 1),
+        Updating("u", 2),
+        Adding("t", 3),
+        Clearing("t", "k"),
     ];
-    let index = Index::of(alloc, &list)?;
-    for (name, key, is_there) in [
-        ("t", 1, true),
-        ("t", 2, false),
-        ("t", 3, true),
-        ("u", 1, false),
-        ("u", 2, true),
-    ] {
-        assert!(rt; index.may_touch(&update(name, key)?) == is_there);
-    }
-    assert!(rt; index.may_touch(&clear_of_text_key(alloc, "k")?));
-    assert!(rt; !index.may_touch(&clear_of_text_key(alloc, "")?));
+    let asked = [
+        (Updating("t", 1), true),
+        (Updating("t", 2), false),
+        (Updating("t", 3), true),
+        (Updating("u", 1), false),
+        (Updating("u", 2), true),
+        (Clearing("t", "k"), true),
+        (Clearing("t", ""), false),
+    ];
+    assert_eq!(rt; first_wrong(rt.alloc(), &listed, &asked)?, None);
     Ok(())
 }
 
 #[test]
-fn uuids_of_one_last_byte_are_told_apart(rt: HostRuntime) -> Result<(), Fail> {
-    let index = Index::of(rt.alloc(), &[erase_of_uuid(1, 7)?])?;
-    for (first, last, is_there) in [(1, 7, true), (2, 7, false), (1, 8, false)] {
-        assert!(rt; index.may_touch(&erase_of_uuid(first, last)?) == is_there);
-    }
+fn keys_of_one_last_byte_are_told_apart(rt: HostRuntime) -> Result<(), Fail> {
+    let listed = [Erasing("t", 1, 7), Creating("t", 1), Clearing("t", "ak")];
+    let asked = [
+        (Erasing("t", 1, 7), true),
+        (Erasing("t", 2, 7), false),
+        (Erasing("t", 1, 8), false),
+        (Creating("t", 257), false),
+        (Clearing("t", "bk"), false),
+    ];
+    assert_eq!(rt; first_wrong(rt.alloc(), &listed, &asked)?, None);
     Ok(())
 }
 
 #[test]
 fn schema_instructions_touch_each_other(rt: HostRuntime) -> Result<(), Fail> {
-    let index = Index::of(rt.alloc(), &[table("t")?])?;
-    assert!(rt; index.may_touch(&table("u")?));
-    assert!(rt; !index.may_touch(&create("t", 1)?));
-    let nothing = Index::of(rt.alloc(), &[])?;
-    assert!(rt; !nothing.may_touch(&table("t")?));
-    assert!(rt; !nothing.may_touch(&create("t", 1)?));
+    let asked = [(Table("u"), true), (Creating("t", 1), false)];
+    assert_eq!(rt; first_wrong(rt.alloc(), &[Table("t")], &asked)?, None);
+    let never = [(Table("t"), false), (Creating("t", 1), false)];
+    assert_eq!(rt; first_wrong(rt.alloc(), &[], &never)?, None);
     Ok(())
 }
