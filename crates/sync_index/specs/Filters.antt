@@ -18,8 +18,11 @@ spot_of (keys.Int number) = cast_unsigned w64 number % 256
 spot_of (keys.Text text) = last_byte text
 spot_of (keys.Uuid id) = slice_index id 15
 
+abbrev pub is_marked : List Bool → ℕ → Bool
+is_marked marks spot = slice_index_or marks spot false
+
 abbrev pub may_hold : List Bool → Key → Bool
-may_hold marks key = slice_index_or marks (spot_of key) false
+may_hold marks key = is_marked marks (spot_of key)
 
 -- the key of each object that is held passes
 abbrev pub PassesAll : List Bool → map.FinMap name_cmp (set.FinSet key_cmp) → Type 0

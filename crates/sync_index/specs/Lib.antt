@@ -2,4 +2,5 @@ pub mod Codes
 pub mod Cells
 pub mod Touched
 pub mod Filters
+pub mod Spots
 pub mod Lemmas

@@ -1,7 +1,8 @@
 ghost use Rattle.std.specs.Prelude.{◌≡◌, ℕ, ◌||◌, ◌==◌, false};
 ghost use Rattle.sync_data.specs.declared.key.Key.{Key};
-ghost use Rattle.sync_index.specs.Filters.{last_byte, spot_of, may_hold};
+ghost use Rattle.sync_index.specs.Filters.{is_marked, spot_of, may_hold};
 
+use super::spot::spot_of;
 use std::marker::Model;
 use sync_base::Key;
 
@@ -35,7 +36,15 @@ impl Filter {
     pub(crate) fn may_hold(&self, key: &Key) -> bool
         ensures { result ≡ may_hold self.now key.now }
     {
-        self.marks[spot_of(key) as usize]
+        self.is_marked(spot_of(key))
+    }
+
+    /// Whether the spot is marked.
+    #[inline(always)]
+    pub(crate) fn is_marked(&self, spot: u8) -> bool
+        ensures { result ≡ is_marked self.now spot }
+    {
+        self.marks[spot as usize]
     }
 
     /// Marks the key's spot.
@@ -43,26 +52,5 @@ impl Filter {
         ensures { (other : Key) → may_hold self.new other ≡ ((spot_of other == spot_of key.now) || may_hold self.old other) }
     {
         self.marks[spot_of(key) as usize] = true;
-    }
-}
-
-/// The spot of a key: the last byte of a number, a text or a uuid.
-#[inline(always)]
-fn spot_of(key: &Key) -> u8
-    ensures { result ≡ spot_of key.now }
-{
-    match key {
-        Key::Int(number) => (number.cast_unsigned() % 256) as u8,
-        Key::Text(text) => last_byte(text.text().as_bytes()),
-        Key::Uuid(id) => id[15],
-    }
-}
-
-fn last_byte(bytes: &[u8]) -> u8
-    ensures { result ≡ last_byte bytes.now }
-{
-    match bytes.last() {
-        Some(byte) => *byte,
-        None => 0,
     }
 }

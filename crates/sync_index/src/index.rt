@@ -3,6 +3,7 @@ ghost use Rattle.std.specs.List.{list_any};
 ghost use Rattle.sync_data.specs.declared.instr.Instr.{Instr};
 ghost use Rattle.sync_base.specs.Effects.{ObjectName};
 ghost use Rattle.sync_index.specs.Touched.{has_object, may_touch, is_about, is_of_schema, with_object, with_instr, Covers, ApartFromAll};
+ghost use Rattle.sync_index.specs.Spots.{LieAt, Misses};
 
 use super::filter::Filter;
 use super::object::object_of;
@@ -63,6 +64,18 @@ impl Index {
         match object_of(instr) {
             Some((table, key)) => self.has_object(table, key),
             None => self.schema,
+        }
+    }
+
+    /// Whether it is plain that none of a list may be touched, by the spot at which all its objects lie: no object is there.
+    /// It takes no memory.
+    #[inline(always)]
+    pub fn passes_over(&self, spot: Option<u8>) -> bool
+        ensures { result ≡ true → (instrs : List Instr) → LieAt spot instrs → Misses self.now instrs }
+    {
+        match spot {
+            Some(spot) => !self.filter.is_marked(spot),
+            None => false,
         }
     }
 

@@ -6,8 +6,10 @@ mod index;
 mod keys;
 mod object;
 mod objects;
+mod spot;
 #[cfg(test)]
 mod tests;
 
 pub use index::Index;
 pub use object::{are_apart, cell_of};
+pub use spot::shared_spot;

@@ -83,12 +83,16 @@ fn instr(alloc: Global, about: About) -> Result<Instr, Fail> {
     }
 }
 
-fn index_of(alloc: Global, listed: &[About]) -> Result<Index, Fail> {
+fn list_of(alloc: Global, listed: &[About]) -> Result<Vec<Instr>, Fail> {
     let mut list = Vec::new(alloc);
     for about in listed {
         list.push(instr(alloc, *about)?)?;
     }
-    Ok(Index::of(alloc, &list)?)
+    Ok(list)
+}
+
+fn index_of(alloc: Global, listed: &[About]) -> Result<Index, Fail> {
+    Ok(Index::of(alloc, &list_of(alloc, listed)?)?)
 }
 
 /// The place of the first instruction of which an index of the list doesn't say what stands beside it.
@@ -159,5 +163,40 @@ fn schema_instructions_touch_each_other(rt: HostRuntime) -> Result<(), Fail> {
     assert_eq!(rt; first_wrong(rt.alloc(), &[Table("t")], &asked)?, None);
     let never = [(Table("t"), false), (Creating("t", 1), false)];
     assert_eq!(rt; first_wrong(rt.alloc(), &[], &never)?, None);
+    Ok(())
+}
+
+/// The place of the first list of which an index of another doesn't say whether it passes it over by its spot alone.
+fn first_not_told(
+    alloc: Global,
+    listed: &[About],
+    asked: &[(&[About], bool)],
+) -> Result<Option<usize>, Fail> {
+    let index = index_of(alloc, listed)?;
+    for (place, (list, passes)) in asked.iter().enumerate() {
+        if index.passes_over(shared_spot(&list_of(alloc, *list)?)) != *passes {
+            return Ok(Some(place));
+        }
+    }
+    Ok(None)
+}
+
+#[test]
+fn lists_at_unmarked_spots_are_passed_over(rt: HostRuntime) -> Result<(), Fail> {
+    let asked: [(&[About], bool); 8] = [
+        (&[Updating("t", 2)], true),
+        (
+            &[Adding("u", 258), Creating("t", 2), Erasing("t", 1, 2)],
+            true,
+        ),
+        (&[Clearing("t", "b")], true),
+        (&[Updating("t", 257)], false),
+        (&[Clearing("t", "bk")], false),
+        (&[Updating("t", 2), Updating("t", 3)], false),
+        (&[Updating("t", 2), Table("t")], false),
+        (&[], false),
+    ];
+    let listed = [Updating("t", 1), Clearing("t", "ak")];
+    assert_eq!(rt; first_not_told(rt.alloc(), &listed, &asked)?, None);
     Ok(())
 }
