@@ -56,7 +56,7 @@ fn walk(
     let mut crossed = Vec::new(alloc);
     for place in 0..items.len() {
         let unsent = &items[place];
-        if stays_apart(unsent.current(), index) {
+        if stays_apart(unsent.spot(), unsent.current(), index) {
             continue;
         }
         match pass(unsent, own, changes, entry.origin, index) {

@@ -1,10 +1,12 @@
 ghost use Rattle.std.specs.Prelude.{◌≡◌, ◌≤◌, ◌↔◌, IfOk, IsTrue};
 ghost use Rattle.sync_data.specs.Payload.{IsSmall};
+ghost use Rattle.sync_index.specs.Spots.{LieAt};
 ghost use Rattle.sync_model.specs.Clients.{as_made};
 ghost use Rattle.sync_rebase.specs.Taking.{IsEntryOf};
 
 use std::marker::Model;
 use sync_data::{Changeset, Entry, NoMemory, equality_is_exact};
+use sync_index::shared_spot;
 
 /// A changeset that the server hasn't acknowledged: its number, at least 1, among the client's, the version of the history on which
 /// it was made, and its instructions as they were made and as they were rebased since.
@@ -12,6 +14,7 @@ use sync_data::{Changeset, Entry, NoMemory, equality_is_exact};
 pub struct Unsent {
     number: u32,
     base: u32,
+    spot: Option<u8>,
     original: Changeset,
     current: Changeset,
 }
@@ -25,7 +28,9 @@ impl Model for Unsent {
 
     ghost view = { λ a. record { original = record { base = a.base; number = a.number; ms = a.original.ms; instrs = a.original.instrs }; current = a.current.instrs } };
 
-    ghost invariant = { λ a. (1 ≤ a.number) × (a.current.ms ≡ a.original.ms) };
+    ghost use Rattle.sync_index.specs.Spots.{LieAt};
+
+    ghost invariant = { λ a. (1 ≤ a.number) × (a.current.ms ≡ a.original.ms) × LieAt a.spot a.current.instrs };
 }
 
 impl Unsent {
@@ -38,6 +43,7 @@ impl Unsent {
         Unsent {
             number,
             base,
+            spot: shared_spot(current.instrs()),
             original,
             current,
         }
@@ -49,12 +55,7 @@ impl Unsent {
         ensures { IfOk result (λ unsent. unsent ≡ as_made (record { base = base; number = number; ms = changes.ms; instrs = changes.instrs })) }
     {
         match changes.copy() {
-            Ok(current) => Ok(Unsent {
-                number,
-                base,
-                original: changes,
-                current,
-            }),
+            Ok(current) => Ok(Unsent::new(number, base, changes, current)),
             Err(refusal) => Err(refusal),
         }
     }
@@ -94,6 +95,14 @@ impl Unsent {
         current
     }
 
+    /// The spot of a filter at which all objects of its instructions as rebased lie, where it is known.
+    #[inline(always)]
+    pub(crate) fn spot(&self) -> Option<u8>
+        ensures { LieAt result self.now.current }
+    {
+        self.spot
+    }
+
     /// An equal one.
     pub fn copy(&self) -> Result<Unsent, NoMemory>
         ensures { IfOk result (λ copy. copy ≡ self.now) }
@@ -106,6 +115,7 @@ impl Unsent {
             Ok(current) => Ok(Unsent {
                 number: self.number,
                 base: self.base,
+                spot: self.spot,
                 original,
                 current,
             }),
@@ -126,6 +136,7 @@ impl Unsent {
         requires { current.ms ≡ self.old.original.ms }
         ensures { self.new ≡ record self.old { current = current.instrs } }
     {
+        self.spot = shared_spot(current.instrs());
         self.current = current;
     }
 }

@@ -36,7 +36,11 @@ pub(crate) fn carry_over(
     let mut left = changes;
     let mut crossed = Vec::new(alloc);
     for (place, one) in kept.iter().enumerate() {
-        match cross_one(alloc, left, own, one.item.entry(), index) {
+        let entry = one.item.entry();
+        if stays_apart(one.item.spot(), &entry.changes, index) {
+            continue;
+        }
+        match cross_one(alloc, left, own, entry) {
             Err(refusal) => return Err(refusal),
             Ok((next, entry)) => {
                 left = next;
@@ -53,24 +57,17 @@ pub(crate) fn carry_over(
     })
 }
 
-/// What is left of a change as it crosses an entry of another, and what the entry became where it may have changed.
+/// What is left of a change as it crosses an entry of another, and what the entry became where it changed.
 fn cross_one(
     alloc: Global,
     changes: Changeset,
     own: Ident,
     entry: &Entry,
-    index: &Index,
 ) -> Result<(Changeset, Option<SharedEntry>), RecipRefusal>
-    requires other { entry.now.origin ≢ own }
-    requires indexed { Covers index.now changes.instrs }
+    requires { entry.now.origin ≢ own }
     ensures ok { IfOk result (λ p. (number : ℕ) → crossed_sets meet (made_by own number changes) (entry_of entry.now) ≡ Ok (made_by own number p.0, crossed_entry p.1 (entry_of entry.now))) }
-    ensures indexed { IfOk result (λ p. Covers index.now p.0.instrs) }
     ensures stuck { IfErr result (λ e. (number : ℕ) → IsStuckBy e (crossed_sets meet (made_by own number changes) (entry_of entry.now))) }
 {
-    let is_apart = stays_apart(&entry.changes, index);
-    if is_apart {
-        return Ok((changes, None));
-    }
     let Ok(right) = entry.changes.copy() else {
         return Err(RecipRefusal::NoMemory);
     };
@@ -97,23 +94,18 @@ fn changed(
     if changes == entry.changes {
         return Ok(None);
     }
-    let crossed = with_changes(alloc, entry, changes)?;
-    Ok(Some(crossed))
-}
-
-/// The entry of the same number with other changes.
-fn with_changes(alloc: Global, entry: &Entry, changes: Changeset) -> Result<SharedEntry, NoMemory>
-    ensures { IfOk result (λ made. entry_of made ≡ made_by entry.now.origin entry.now.number changes) }
-{
     let changed = Entry {
         origin: entry.origin,
         number: entry.number,
         changes,
     };
-    SharedEntry::new(alloc, changed)
+    match SharedEntry::new(alloc, changed) {
+        Ok(shared) => Ok(Some(shared)),
+        Err(NoMemory) => Err(NoMemory),
+    }
 }
 
-/// Notes what the entry at a place became, where it may have changed.
+/// Notes what the entry at a place became, where it changed.
 fn note(
     crossed: &mut Vec<Crossed>,
     place: usize,

@@ -1,13 +1,16 @@
 ghost use Rattle.std.specs.Prelude.{◌≡◌, IfOk};
+ghost use Rattle.sync_index.specs.Spots.{LieAt};
 
 use std::alloc::Global;
 use std::marker::Model;
 use std::rc::Rc;
 use sync_base::{Entry, NoMemory};
+use sync_index::shared_spot;
 
 /// An entry that several lists hold without a copy. It never changes.
 #[derive(Drop)]
 pub struct SharedEntry {
+    spot: Option<u8>,
     entry: Rc<Entry>,
 }
 
@@ -17,6 +20,10 @@ impl Model for SharedEntry {
     ghost Value = { Entry };
 
     ghost view = { λ a. a.entry.value };
+
+    ghost use Rattle.sync_index.specs.Spots.{LieAt};
+
+    ghost invariant = { λ a. LieAt a.spot a.entry.value.changes.instrs };
 }
 
 impl SharedEntry {
@@ -24,8 +31,9 @@ impl SharedEntry {
     pub fn new(alloc: Global, entry: Entry) -> Result<SharedEntry, NoMemory>
         ensures { IfOk result (λ made. made ≡ entry) }
     {
+        let spot = shared_spot(entry.changes.instrs());
         match Rc::new(alloc, entry) {
-            Ok(entry) => Ok(SharedEntry { entry }),
+            Ok(entry) => Ok(SharedEntry { spot, entry }),
             Err(_) => Err(NoMemory),
         }
     }
@@ -35,9 +43,20 @@ impl SharedEntry {
         ensures { IfOk result (λ shared. shared ≡ self.now) }
     {
         match self.entry.clone() {
-            Ok(entry) => Ok(SharedEntry { entry }),
+            Ok(entry) => Ok(SharedEntry {
+                spot: self.spot,
+                entry,
+            }),
             Err(_) => Err(NoMemory),
         }
+    }
+
+    /// The spot of a filter at which all objects of its changes lie, where it is known.
+    #[inline(always)]
+    pub(crate) fn spot(&self) -> Option<u8>
+        ensures { LieAt result self.now.changes.instrs }
+    {
+        self.spot
     }
 
     /// The entry.

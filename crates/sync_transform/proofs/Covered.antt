@@ -1,5 +1,5 @@
 -- What an index knows of a list it knows of what is left of it.
-use Rattle.std.proofs.Common.{◌≡◌, Bool, true, List, [], ◌∷◌, ◌++◌, Option, Some, None, Result, Ok, Err, IfOk, refl, ap, ◌∙◌, subst}
+use Rattle.std.proofs.Common.{◌≡◌, Bool, true, false, List, [], ◌∷◌, ◌++◌, Option, Some, None, Result, Ok, Err, IfOk, refl, ap, ◌∙◌, subst}
 use Rattle.sync_data.specs.declared.instr.Instr.{Instr}
 use Rattle.sync_base.specs.declared.answers.Mismatch.{Mismatch}
 use Rattle.sync_base.specs.declared.answers.Outcome.{Outcome}
@@ -14,6 +14,8 @@ use Rattle.sync_theory.proofs.Only.{Untouched, untouched_row}
 use Rattle.sync_theory.proofs.Recip.{ok_first, ok_second}
 use Rattle.sync_law.specs.Instrs.{as_pair, meet}
 use Rattle.sync_index.specs.Touched.{Touched, touches, may_touch, Covers, ApartFromAll}
+use Rattle.sync_index.specs.Spots.{Misses}
+use Rattle.sync_index.specs.Lemmas.{apart_from_all}
 use Rattle.sync_transform.specs.Indexes.{IsCovered}
 
 -- what holds of an outcome holds of its sides
@@ -75,6 +77,11 @@ pub turned_apart : (as_ bs : List Instr) → AllApart as_ bs → AllApart bs as_
 turned_apart [] bs h = none_apart bs
 turned_apart (a ∷ as_) bs h = one_more a as_ bs h.0 (turned_apart as_ bs h.1)
 
-pub more_apart : (as_ bs : List Instr) (a : Instr) → AllApart as_ bs → ApartFromAll a bs → AllApart (as_ ++ a ∷ []) bs
-more_apart [] bs a h g = (g, tt)
-more_apart (b ∷ as_) bs a h g = (h.0, more_apart as_ bs a h.1 g)
+-- what an index knows nothing of is apart from all that it covers
+pub missed_apart : (t : Touched) (as_ bs : List Instr) → Misses t as_ → Covers t bs → AllApart as_ bs
+missed_apart t [] bs m c = tt
+missed_apart t (a ∷ as_) bs m c = (apart_from_all t a bs m.0 c, missed_apart t as_ bs m.1 c)
+
+pub more_missed : (t : Touched) (as_ : List Instr) (a : Instr) → Misses t as_ → may_touch t a ≡ false → Misses t (as_ ++ a ∷ [])
+more_missed t [] a m e = (e, tt)
+more_missed t (b ∷ as_) a m e = (m.0, more_missed t as_ a m.1 e)

@@ -1,4 +1,4 @@
-ghost use Rattle.std.specs.Prelude.{◌≡◌, ◌≢◌, ℕ, Bool, List, IsTrue, Some, Ok, Err, IfOk, IfErr};
+ghost use Rattle.std.specs.Prelude.{◌≡◌, ◌≢◌, ℕ, Bool, true, List, IsTrue, Some, Ok, Err, IfOk, IfErr};
 ghost use Rattle.std.specs.Option.{option_copied};
 ghost use Rattle.sync_data.specs.Payload.{IsSmall};
 ghost use Rattle.sync_data.specs.declared.instr.Instr.{Instr};
@@ -8,6 +8,7 @@ ghost use Rattle.sync_base.specs.Checks.{act};
 ghost use Rattle.sync_theory.specs.Changesets.{cross_sets as crossed_sets, later_stamp};
 ghost use Rattle.sync_law.specs.Instrs.{meet};
 ghost use Rattle.sync_index.specs.Touched.{Covers};
+ghost use Rattle.sync_index.specs.Spots.{LieAt, Misses};
 ghost use Rattle.sync_transform.specs.Indexes.{IsCovered};
 ghost use Rattle.sync_transform.specs.Sets.{made_by};
 
@@ -91,10 +92,19 @@ fn instrs_of(changes: Changeset) -> Vec<Instr>
 }
 
 /// Whether the index tells that a changeset meets nothing of what it is of: the two cross each other as they are, on
-/// whichever side they stand. It takes no memory.
-pub fn stays_apart(changes: &Changeset, index: &Index) -> bool
+/// whichever side they stand. Where the spot at which all its objects lie is known and the index tells by that alone, the
+/// changeset isn't looked at. It takes no memory.
+#[inline(always)]
+pub fn stays_apart(spot: Option<u8>, changes: &Changeset, index: &Index) -> bool
+    requires { LieAt spot changes.now.instrs }
     ensures left { IsTrue result → (others : List Instr) → Covers index.now others → (later : Bool) → crossed (λ a b. meet a b later) changes.now.instrs others ≡ Ok (changes.now.instrs, others) }
     ensures right { IsTrue result → (others : List Instr) → Covers index.now others → (later : Bool) → crossed (λ a b. meet a b later) others changes.now.instrs ≡ Ok (others, changes.now.instrs) }
+{
+    index.passes_over(spot) || touches_nothing(changes, index)
+}
+
+fn touches_nothing(changes: &Changeset, index: &Index) -> bool
+    ensures { result ≡ true → Misses index.now changes.now.instrs }
 {
     for instr in changes.instrs() {
         if index.may_touch(instr) {

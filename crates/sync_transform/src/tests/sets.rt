@@ -41,7 +41,7 @@ fn an_index_serves_changesets(rt: HostRuntime) -> Result<(), Fail> {
     let right = changes(alloc, 2, 1)?;
     let index = Index::of(alloc, right.instrs())?;
     let left = changes(alloc, 1, 1)?;
-    assert!(rt; !stays_apart(&left, &index));
+    assert!(rt; !stays_apart(None, &left, &index));
     assert!(rt; cross_sets_indexed(left, 1, right, 2, &index).is_ok());
     Ok(())
 }
