@@ -1,4 +1,4 @@
-ghost use Rattle.std.specs.Prelude.{◌≡◌, List, ℕ, [], map, length, false, None, Some, Option, IfOk, OnOk};
+ghost use Rattle.std.specs.Prelude.{◌≡◌, List, ℕ, [], map, None, Some, Option, IfOk, OnOk};
 ghost use Rattle.sync_disk.specs.Images.{state};
 ghost use Rattle.sync_disk.specs.Leaving.{left_by};
 ghost use Rattle.sync_journal.specs.Records.{records_of};
