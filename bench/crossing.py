@@ -20,6 +20,7 @@ LINE = re.compile(r": (\d+) runs in (\d+) nanoseconds")
 KINDS = ["lists", "unsent-apart", "unsent-touched", "entries-apart", "entries-touched"]
 COUNTS = [250, 500, 1000, 2000, 4000, 8000]
 MOST_SECONDS = 10
+ENOUGH_SECONDS = 10
 TRIES = 20
 
 
@@ -50,26 +51,31 @@ def once(kind, count):
     return nanos / 1e9 / runs, peak / 1024
 
 
-def measured(kind, count):
-    """The seconds of the best of up to twenty, and the most megabytes."""
-    rows = [once(kind, count)]
-    while len(rows) < TRIES and sum(seconds for seconds, _ in rows) < 2:
-        rows.append(once(kind, count))
-    return min(seconds for seconds, _ in rows), max(megabytes for _, megabytes in rows)
+def measured(kind):
+    """For each N the seconds of the best of up to twenty, and the most megabytes. It goes through all N in turn, so that what
+    disturbs the machine for a second doesn't meet one N alone."""
+    best = {}
+    for turn in range(TRIES):
+        for count in COUNTS:
+            if turn and (count not in best or turn * best[count][0] > ENOUGH_SECONDS):
+                continue
+            seconds, megabytes = once(kind, count)
+            before = best.get(count, (seconds, megabytes))
+            best[count] = min(before[0], seconds), max(before[1], megabytes)
+            if seconds > MOST_SECONDS:
+                break
+    return best
 
 
 def table(kind):
     before = None
-    for count in COUNTS:
-        seconds, megabytes = measured(kind, count)
+    for count, (seconds, megabytes) in measured(kind).items():
         meetings = count * count if kind == "lists" else count
         exponent = ""
         if before is not None:
             exponent = f"{math.log(seconds / before[1]) / math.log(count / before[0]):.2f}"
         each = 1e9 * seconds / meetings
         print(f"{kind:15}  {count:5d}  {seconds:11.7f}  {each:11.2f}  {exponent:>8}  {megabytes:7.1f}", flush=True)
-        if seconds > MOST_SECONDS:
-            break
         before = (count, seconds)
 
 
