@@ -53,7 +53,7 @@ def once(kind, count):
 
 def measured(kind):
     """For each N the seconds of the best of up to twenty, and the most megabytes. It goes through all N in turn, so that what
-    disturbs the machine for a second doesn't meet one N alone."""
+    disturbs the machine for a second doesn't meet one N alone. An N whose runs took ENOUGH_SECONDS is not run again."""
     best = {}
     for turn in range(TRIES):
         for count in COUNTS:
