@@ -7,8 +7,6 @@ ghost use Rattle.gap_list.specs.Gapped.{gapped};
 
 mod block;
 mod memory;
-#[cfg(test)]
-mod tests;
 
 use block::Block;
 use std::alloc::Global;

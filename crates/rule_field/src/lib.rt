@@ -6,8 +6,6 @@ ghost use Rattle.sync_base.specs.After.{added};
 ghost use Rattle.sync_base.specs.Rules.{is_summed};
 
 mod apart;
-#[cfg(test)]
-mod tests;
 
 use sync_base::{
     AddInteger, EraseObject, Meets, Mismatch, Outcome, Update, Value, erases, is_erased, keep_both,

@@ -4,8 +4,6 @@
 mod apart;
 mod places;
 mod shifts;
-#[cfg(test)]
-mod tests;
 
 use places::{common_length, erase_at, growing_length, update_at};
 pub use shifts::{shift_erasure_and_insertion, shift_insertion_and_erasure, shift_insertions};

@@ -2,8 +2,6 @@
 #![tactic(auto)]
 
 mod apart;
-#[cfg(test)]
-mod tests;
 
 use sync_base::{
     CreateObject, EraseObject, Meets, Mismatch, Outcome, keep_both, keep_neither, left_wins,

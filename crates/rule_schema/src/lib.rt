@@ -1,9 +1,6 @@
 //! What is left where additions of tables and columns meet.
 #![tactic(auto)]
 
-#[cfg(test)]
-mod tests;
-
 use sync_base::{
     AddColumn, AddTable, Meets, Mismatch, Outcome, keep_both, keep_neither, same_columns,
     same_key_kind, same_name,

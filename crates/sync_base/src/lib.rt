@@ -7,8 +7,6 @@ mod laws;
 mod meets;
 mod same;
 mod sides;
-#[cfg(test)]
-mod tests;
 
 pub use act::Act;
 pub use answers::{Break, Mismatch, Outcome};

@@ -9,8 +9,6 @@ mod inverse;
 mod list;
 mod refusal;
 mod set;
-#[cfg(test)]
-mod tests;
 
 pub use cell::Cell;
 pub use content::Content;

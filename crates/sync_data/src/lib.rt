@@ -13,8 +13,6 @@ mod memory;
 mod name;
 mod payload;
 mod places;
-#[cfg(test)]
-mod tests;
 mod text;
 mod time;
 mod value;

@@ -5,8 +5,6 @@ mod cells;
 mod dump;
 mod fields;
 mod lines;
-#[cfg(test)]
-mod tests;
 mod values;
 mod words;
 

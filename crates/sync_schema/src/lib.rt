@@ -5,8 +5,6 @@ mod kinds;
 mod refusal;
 mod schema;
 mod table;
-#[cfg(test)]
-mod tests;
 
 pub use kinds::{is_of_kind, is_sound};
 pub use refusal::SchemaRefusal;

@@ -10,8 +10,6 @@ mod put_all;
 mod refusals;
 mod rows;
 mod store;
-#[cfg(test)]
-mod tests;
 mod undo;
 mod wanted;
 

@@ -22,7 +22,7 @@ use sync_base::{Break, Changeset, Instr, Key, Name, NoMemory, Value as Held};
 use sync_cells::Cell;
 use sync_schema::Schema;
 
-/// The tables with their columns, and the objects with their cells (docs/MERGE_RULES.md, "The state").
+/// The tables with their columns, and the objects with their cells (docs/GUARANTEES.md, "The store").
 #[derive(Drop)]
 pub struct Store {
     parts: Parts,
@@ -66,7 +66,7 @@ impl Store {
         let _ = &self.parts;
     }
 
-    /// Whether an instruction acts on the state, or its first break (docs/MERGE_RULES.md, "Breaks"). It takes no memory.
+    /// Whether an instruction acts on the state, or its first break (docs/FORMATS.md, "Outcome lines"). It takes no memory.
     pub fn check(&self, instr: &Instr) -> Result<(), Break>
         ensures first_break { result ≡ verdict (break_of self.now (effect_of instr.now)) }
     {

@@ -7,8 +7,6 @@ mod pairs;
 mod row;
 mod sets;
 mod slots;
-#[cfg(test)]
-mod tests;
 
 pub use crossing::{CrossMismatch, cross, cross_indexed};
 pub use pairs::meet;
