@@ -10,8 +10,6 @@ mod opcode;
 mod reader;
 mod refusal;
 mod strings;
-#[cfg(test)]
-mod tests;
 mod values;
 mod writer;
 mod writing;

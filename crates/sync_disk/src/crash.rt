@@ -89,7 +89,7 @@ fn tear_bytes(bytes: &mut [u8], strokes: &[KeptStroke])
     }
 }
 
-// Leaves of a content what a crash does. It has been written by the strokes since the start.
+/// Leaves of a content what a crash does. It has been written by the strokes since the start.
 pub fn leave(leaves: Leaves, start: &Start, bytes: &mut Vec<u8>, strokes: &[KeptStroke])
     requires { bytes.old.items ≡ (state (start_of start.now bytes.old.items) (strokes_of strokes.now)).content }
     ensures content { bytes.new.items ≡ left_by leaves (state (start_of start.now bytes.old.items) (strokes_of strokes.now)) }

@@ -18,7 +18,7 @@ fn put_bytes(content: &mut Vec<u8>, place: usize, bytes: &[u8])
     content[from..from + inside].copy_from_slice(&bytes[..inside]);
 }
 
-// Does to the content what a stroke does, for which there is room.
+/// Does to the content what a stroke does, for which there is room.
 pub fn act(content: &mut Vec<u8>, stroke: &KeptStroke)
     requires { length (acted content.old.items (act_of stroke.now.asked) stroke.now.lost) ≤ vec_capacity content.old }
     ensures content { content.new.items ≡ acted content.old.items (act_of stroke.now.asked) stroke.now.lost }
@@ -32,7 +32,7 @@ pub fn act(content: &mut Vec<u8>, stroke: &KeptStroke)
     }
 }
 
-// Does to the content what strokes do, for all of which there is room.
+/// Does to the content what strokes do, for all of which there is room.
 pub fn replay(content: &mut Vec<u8>, strokes: &[KeptStroke])
     requires { length (content_after content.old.items (strokes_of strokes.now)) ≤ vec_capacity content.old }
     ensures content { content.new.items ≡ content_after content.old.items (strokes_of strokes.now) }

@@ -5,12 +5,8 @@ mod edits;
 mod event;
 mod events;
 mod lines;
-#[cfg(test)]
-mod near_misses;
 mod objects;
 mod refusal;
-#[cfg(test)]
-mod tests;
 
 pub use event::{Event, NodeLine};
 pub use lines::{event_of, node_line_of};

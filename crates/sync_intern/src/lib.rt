@@ -2,7 +2,5 @@
 #![tactic(auto)]
 
 mod strings;
-#[cfg(test)]
-mod tests;
 
 pub use strings::{LONGEST_STRING, NoMemory, Strings};

@@ -36,6 +36,7 @@ impl Model for Intake {
 }
 
 impl Intake {
+    /// An intake that has read nothing.
     pub fn new(alloc: Global) -> Result<Intake, NoMemory>
         ensures { IfOk result (λ made. made ≡ record { held = []; taken = 0 }) }
     {

@@ -36,6 +36,3 @@ pub use varint::{
     zigzag32, zigzag64,
 };
 pub use writing::write_all;
-
-#[cfg(test)]
-mod tests;

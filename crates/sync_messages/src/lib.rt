@@ -24,6 +24,3 @@ pub use sent::Sent;
 pub use stored::Stored;
 pub use upload::Upload;
 pub use writing::message_bytes;
-
-#[cfg(test)]
-mod tests;

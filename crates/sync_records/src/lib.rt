@@ -11,6 +11,3 @@ pub use client::ClientRecord;
 pub use named::Named;
 pub use refusal::RecordRefusal;
 pub use server::ServerRecord;
-
-#[cfg(test)]
-mod tests;

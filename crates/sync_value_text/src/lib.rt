@@ -6,8 +6,6 @@ mod fields;
 mod keys;
 mod printed;
 mod refusal;
-#[cfg(test)]
-mod tests;
 mod values;
 
 pub use columns::{column_beside, column_of};

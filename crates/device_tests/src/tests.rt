@@ -1,0 +1,7 @@
+mod disks;
+mod files;
+mod hosts;
+mod journals;
+mod sinks;
+mod sources;
+mod statuses;
