@@ -1,6 +1,8 @@
 use crate::failure::Failure;
 use std::alloc::Global;
-use sync_base::{AddInteger, Between, CellName, Changeset, Instr, Key, ListInsert, Name, Value};
+use sync_base::{
+    AddInteger, Between, CellName, Changeset, Instr, Key, ListInsert, Name, Update, Value,
+};
 
 fn name(text: &str) -> Result<Name, Failure> {
     match Name::new(text) {
@@ -31,11 +33,25 @@ pub(crate) fn insertion(length: u32) -> Result<Instr, Failure> {
 
 /// An addition to a number of the object with that key, in a list without spare room, as decoding makes it.
 pub(crate) fn addition(alloc: Global, key: u32, ms: u64) -> Result<Changeset, Failure> {
-    let mut instrs = Vec::with_capacity(alloc, 1)?;
-    instrs.push(Instr::AddInteger(AddInteger {
+    let add = AddInteger {
         cell: cell(key, "votes")?,
         amount: 1,
-    }))?;
+    };
+    changeset(alloc, Instr::AddInteger(add), ms)
+}
+
+/// An update of that number, likewise.
+pub(crate) fn update(alloc: Global, key: u32, ms: u64) -> Result<Changeset, Failure> {
+    let update = Update {
+        cell: cell(key, "votes")?,
+        value: Value::Int(1),
+    };
+    changeset(alloc, Instr::Update(update), ms)
+}
+
+fn changeset(alloc: Global, instr: Instr, ms: u64) -> Result<Changeset, Failure> {
+    let mut instrs = Vec::with_capacity(alloc, 1)?;
+    instrs.push(instr)?;
     match Changeset::checked(ms, instrs) {
         Ok(changes) => Ok(changes),
         Err(_) => Err(Failure::Crossing),

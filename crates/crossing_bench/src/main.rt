@@ -7,15 +7,19 @@
 //! - `unsent-apart`, `unsent-touched`: an entry of one instruction is taken by COUNT unsent changesets of one instruction, of
 //!   which it touches none, or each;
 //! - `entries-apart`, `entries-touched`: a change of one instruction is carried over COUNT entries of one instruction, of which
-//!   it touches none, or each.
+//!   it touches none, or each;
+//! - `disjoint`, `counter`, `update`: COUNT entries of one instruction are taken by as many unsent changesets of one
+//!   instruction, each about an object of its own, or all about one number. It is run once.
 #![tactic(auto)]
 
 mod entries;
+mod exchanges;
 mod failure;
 mod lists;
 mod made;
 mod unsent;
 
+use exchanges::About;
 use failure::Failure;
 use std::env;
 use std::process::ExitCode;
@@ -47,6 +51,9 @@ fn run(rt: &HostRuntime) -> Result<(), Failure> {
         "unsent-touched" => unsent::measured(rt, count, 1)?,
         "entries-apart" => entries::measured(rt, count, 2)?,
         "entries-touched" => entries::measured(rt, count, 1)?,
+        "disjoint" => exchanges::measured(rt, count, About::Apart)?,
+        "counter" => exchanges::measured(rt, count, About::Counter)?,
+        "update" => exchanges::measured(rt, count, About::Update)?,
         _ => return Err(Failure::Words),
     };
     println!(rt; "{kind} {count}: {runs} runs in {nanos} nanoseconds")?;

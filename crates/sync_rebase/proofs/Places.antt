@@ -1,9 +1,13 @@
 -- One unsent changeset of a list gets other instructions.
-use Rattle.std.proofs.Common.{◌≡◌, ℕ, zero, suc, ◌<◌, List, [], ◌∷◌, ◌++◌, refl, sym, ap, ◌∙◌, length, take, drop, set, get_or, map, arith}
+use Rattle.std.specs.Prelude.{OnOk, OnErr}
+use Rattle.std.proofs.lemmas.List.{map-append}
+use Rattle.std.proofs.Common.{◌≡◌, Result, Ok, Err, ℕ, zero, suc, ◌<◌, List, [], ◌∷◌, ◌++◌, refl, sym, ap, ◌∙◌, length, take, drop, set, get_or, map, subst, ◌+◌, arith}
 use Rattle.sync_data.specs.declared.instr.Instr.{Instr}
+use Rattle.sync_rivals.specs.Lists.{Indexed, Lists, StaysAt, put_list}
+use Rattle.sync_rivals.proofs.Listed.{pushed}
 use Rattle.sync_model.specs.Clients.{Original, Unsent, changeset_of, carried_to, number_at}
 use Rattle.sync_rebase.specs.declared.carried.Crossed.{Crossed}
-use Rattle.sync_rebase.specs.Settling.{put_current, settled, HasTime, Fits}
+use Rattle.sync_rebase.specs.Settling.{put_current, settled, HasTime, Fits, currents}
 
 -- those of whom they are stay
 abbrev pub originals : {I : Type 0} → List (Unsent I) → List (Original I)
@@ -79,10 +83,28 @@ pub settled_push : (cs : List Crossed) (c : Crossed) (us : List (Unsent Instr)) 
 settled_push [] c us = refl
 settled_push (d ∷ cs) c us = settled_push cs c (put_current d.place d.current.instrs us)
 
-pub fits_push : (cs : List Crossed) (c : Crossed) (us : List (Unsent Instr)) → Fits cs us → HasTime c.place c.current.ms (settled cs us) → Fits (cs ++ c ∷ []) us
-fits_push [] c us f h = (h, tt)
-fits_push (d ∷ cs) c us f h = (f.0, fits_push cs c (put_current d.place d.current.instrs us) f.1 h)
+pub fits_push : (cs : List Crossed) (c : Crossed) (us : List (Unsent Instr)) → Fits cs us → HasTime c.place c.current.ms (settled cs us) → StaysAt c.place c.current.instrs (currents (settled cs us)) → Fits (cs ++ c ∷ []) us
+fits_push [] c us f h k = (h, k, tt)
+fits_push (d ∷ cs) c us f h k = (f.0, f.1, fits_push cs c (put_current d.place d.current.instrs us) f.2 h k)
 
 pub originals_settled : (cs : List Crossed) (us : List (Unsent Instr)) → originals (settled cs us) ≡ originals us
 originals_settled [] us = refl
 originals_settled (c ∷ cs) us = originals_settled cs (put_current c.place c.current.instrs us) ∙ originals_put us c.place c.current.instrs
+
+-- ---- their instructions
+pub lists_put : (us : List (Unsent Instr)) (i : ℕ) (is : List Instr) → currents (put_current i is us) ≡ put_list i is (currents us)
+lists_put [] i is = refl
+lists_put (u ∷ us) zero is = refl
+lists_put (u ∷ us) (suc i) is = ap (λ l. u.current ∷ l) (lists_put us i is)
+
+-- an element
+pub element : (us : List (Unsent Instr)) (i : ℕ) → i < length us → (u : Unsent Instr) × (u ≡ get_or us i u)
+element [] i l = absurd (omega arith)
+element (u ∷ us) zero l = (u, refl)
+element (u ∷ us) (suc i) l = element us i (omega arith)
+
+-- after one was put at the end, or was refused
+pub listed_push : {A E : Type 0} (r : Result A E) (x : Indexed) (us vs : List (Unsent Instr)) (u : Unsent Instr) → OnOk r (vs ≡ us ++ u ∷ []) → OnErr r (vs ≡ us) → Lists x (currents us) → Lists x (currents vs)
+listed_push (Ok a) x us vs u ok err h =
+    subst (λ ws. Lists x (currents ws)) (sym ok) (subst (Lists x) (sym (map-append (λ (v : Unsent Instr). v.current) us (u ∷ []))) (pushed x.marks x.first x.listed (currents us) u.current h))
+listed_push (Err a) x us vs u ok err h = subst (λ ws. Lists x (currents ws)) (sym err) h

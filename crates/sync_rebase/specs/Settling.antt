@@ -1,8 +1,9 @@
 -- What an entry becomes over a list of unsent changesets, and the list after it.
-use Rattle.std.specs.Prelude.{◌≡◌, ℕ, zero, suc, List, [], ◌∷◌}
+use Rattle.std.specs.Prelude.{◌≡◌, ℕ, zero, suc, List, [], ◌∷◌, map}
 use Rattle.sync_data.specs.declared.instr.Instr.{Instr}
 use Rattle.sync_data.specs.Payload.{Changes}
 use Rattle.sync_model.specs.Clients.{Unsent}
+use Rattle.sync_rivals.specs.Lists.{StaysAt}
 use Rattle.sync_rebase.specs.declared.carried.Crossed.{Crossed}
 
 -- the entry's changeset as carried, and the unsent changesets that crossed it; the others stay
@@ -27,7 +28,11 @@ HasTime n ms [] = ⊥
 HasTime zero ms (u ∷ us) = ms ≡ u.original.ms
 HasTime (suc n) ms (u ∷ us) = HasTime n ms us
 
--- each of those that crossed has its place in the list
+-- the instructions as they are rebased
+abbrev pub currents : List (Unsent Instr) → List (List Instr)
+currents us = map (λ (u : Unsent Instr). u.current) us
+
+-- each of those that crossed has its place in the list, and is left of what stands there
 abbrev pub Fits : List Crossed → List (Unsent Instr) → Type 0
 Fits [] us = Unit {0}
-Fits (c ∷ cs) us = HasTime c.place c.current.ms us × Fits cs (put_current c.place c.current.instrs us)
+Fits (c ∷ cs) us = HasTime c.place c.current.ms us × StaysAt c.place c.current.instrs (currents us) × Fits cs (put_current c.place c.current.instrs us)

@@ -4,7 +4,8 @@ ghost use Rattle.sync_law.specs.Instrs.{meet};
 ghost use Rattle.sync_index.specs.Touched.{Covers};
 ghost use Rattle.sync_model.specs.Clients.{changeset_of};
 ghost use Rattle.sync_transform.specs.Sets.{made_by};
-ghost use Rattle.sync_rebase.specs.Settling.{settled, Fits};
+ghost use Rattle.sync_rivals.specs.Lists.{Lists, Serves};
+ghost use Rattle.sync_rebase.specs.Settling.{settled, Fits, currents};
 ghost use Rattle.sync_rebase.specs.Taking.{Crosses, Refuses};
 ghost use Rattle.sync_rebase.specs.Passing.{StopsAt};
 
@@ -15,17 +16,20 @@ use std::alloc::Global;
 use std::collections::VecDeque;
 use sync_data::{Changeset, Entry, Ident};
 use sync_index::Index;
+use sync_rivals::RivalIndex;
 use sync_transform::{cross_sets_indexed, stays_apart};
 
-/// Carries an entry of another client over the unsent changesets, from the first on. One that the index of the entry
-/// tells apart stays, and isn't copied. Where there are none no index is made.
+/// Carries an entry of another client over the unsent changesets, from the first on. Those alone that are listed under a
+/// place of its rivals are visited; the others stay. Where there are none no index is made.
 pub(crate) fn carry_over(
     alloc: Global,
     items: &VecDeque<Unsent>,
+    rivals: &RivalIndex,
     own: Ident,
     entry: &Entry,
 ) -> Result<Carried, RebaseRefusal>
-    requires { own ≢ entry.now.origin }
+    requires differ { own ≢ entry.now.origin }
+    requires listed { Lists rivals.now (currents items.now.items) }
     ensures crosses { IfOk result (λ carried. Crosses own items.now.items entry.now (settled carried.crossed items.now.items) carried.changes) }
     ensures fits { IfOk result (λ carried. Fits carried.crossed items.now.items) }
     ensures refused { IfErr result (Refuses own items.now.items entry.now) }
@@ -35,26 +39,38 @@ pub(crate) fn carry_over(
         return Ok(Carried::new(changes, Vec::new(alloc)));
     }
     let index = index_of(alloc, entry)?;
-    walk(alloc, items, own, entry, &index)
+    let codes = codes_of(alloc, rivals, entry)?;
+    walk(alloc, items, rivals, own, entry, &index, &codes)
 }
 
-/// The same by an index of the entry, which is one of the entry as carried, too.
+/// The same by an index of the entry and the codes of its rivals, which are those of the entry as carried, too.
 fn walk(
     alloc: Global,
     items: &VecDeque<Unsent>,
+    rivals: &RivalIndex,
     own: Ident,
     entry: &Entry,
     index: &Index,
+    codes: &[u64],
 ) -> Result<Carried, RebaseRefusal>
     requires differ { own ≢ entry.now.origin }
+    requires listed { Lists rivals.now (currents items.now.items) }
     requires indexed { Covers index.now entry.now.changes.instrs }
+    requires served { Serves rivals.now codes.now entry.now.changes.instrs }
     ensures crosses { IfOk result (λ carried. Crosses own items.now.items entry.now (settled carried.crossed items.now.items) carried.changes) }
     ensures fits { IfOk result (λ carried. Fits carried.crossed items.now.items) }
     ensures refused { IfErr result (Refuses own items.now.items entry.now) }
 {
     let mut changes = copy_of(&entry.changes)?;
     let mut crossed = Vec::new(alloc);
-    for place in 0..items.len() {
+    let end = items.len();
+    let mut from = 0;
+    while from < end {
+        let place = rivals.next(codes, changes.instrs(), from, end);
+        if place >= end {
+            return Ok(Carried::new(changes, crossed));
+        }
+        from = place + 1;
         let unsent = &items[place];
         if stays_apart(unsent.spot(), unsent.current(), index) {
             continue;
@@ -68,6 +84,16 @@ fn walk(
         }
     }
     Ok(Carried::new(changes, crossed))
+}
+
+fn codes_of(alloc: Global, rivals: &RivalIndex, entry: &Entry) -> Result<Vec<u64>, RebaseRefusal>
+    ensures served { IfOk result (λ codes. Serves rivals.now codes.items entry.now.changes.instrs) }
+    ensures memory { IfErr result (λ refusal. refusal ≡ RebaseRefusal.NoMemory) }
+{
+    match rivals.rivals_of(alloc, entry.changes.instrs()) {
+        Ok(codes) => Ok(codes),
+        Err(_) => Err(RebaseRefusal::NoMemory),
+    }
 }
 
 /// An unsent changeset crosses a changeset of another client: both as crossed.

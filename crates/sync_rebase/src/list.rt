@@ -1,18 +1,26 @@
-ghost use Rattle.std.specs.Prelude.{◌≡◌, ◌<◌, ◌↔◌, ◌++◌, ◌∷◌, [], IsTrue, IsSome, IfOk, IfSome, OnOk, OnErr, length, slice_index_or};
+ghost use Rattle.std.specs.Prelude.{◌≡◌, ◌≢◌, ◌<◌, ◌↔◌, ◌++◌, ◌∷◌, [], IsTrue, IsSome, IfOk, IfErr, IfSome, OnOk, OnErr, length, slice_index_or};
 ghost use Rattle.sync_theory.specs.Grid.{tail};
-ghost use Rattle.sync_rebase.specs.Taking.{IsHead};
-ghost use Rattle.sync_rebase.specs.Settling.{settled, Fits, put_current, HasTime};
+ghost use Rattle.sync_rivals.specs.Lists.{StaysAt};
+ghost use Rattle.sync_rebase.specs.Taking.{Crosses, IsHead, Refuses};
+ghost use Rattle.sync_rebase.specs.Settling.{settled, Fits, put_current, HasTime, currents};
 
 use super::carried::{Carried, Crossed};
+use super::carry::carry_over;
+use super::refusal::RebaseRefusal;
 use super::unsent::Unsent;
 use std::alloc::Global;
 use std::collections::VecDeque;
 use std::marker::Model;
-use sync_data::{Changeset, Entry, NoMemory};
+use sync_data::{Changeset, Entry, Ident, NoMemory};
+use sync_rivals::RivalIndex;
+
+/// After so many looks at a changeset it has paid to list it.
+const LOOKS: usize = 64;
 
 /// A client's changesets that the server hasn't acknowledged, from the oldest on.
 #[derive(Drop)]
 pub struct PendingList {
+    index: RivalIndex,
     items: VecDeque<Unsent>,
 }
 
@@ -25,7 +33,10 @@ impl Model for PendingList {
 
     ghost view = { λ a. a.items.items };
 
-    ghost invariant = { λ a. Unit {0} };
+    ghost use Rattle.sync_rivals.specs.Lists.{Lists};
+    ghost use Rattle.sync_rebase.specs.Settling.{currents};
+
+    ghost invariant = { λ a. Lists a.index (currents a.items.items) };
 }
 
 impl PendingList {
@@ -34,6 +45,7 @@ impl PendingList {
         ensures { result ≡ [] }
     {
         PendingList {
+            index: RivalIndex::new(alloc),
             items: VecDeque::new(alloc),
         }
     }
@@ -73,7 +85,10 @@ impl PendingList {
         ensures { IfOk result (λ copy. copy ≡ self.now) }
     {
         match copy_of(alloc, &self.items) {
-            Ok(items) => Ok(PendingList { items }),
+            Ok(items) => Ok(PendingList {
+                index: RivalIndex::new(alloc),
+                items,
+            }),
             Err(refusal) => Err(refusal),
         }
     }
@@ -92,25 +107,78 @@ impl PendingList {
     pub fn drop_head(&mut self)
         ensures { self.new ≡ tail self.old }
     {
-        let _ = self.items.pop_front();
+        if let Some(head) = self.items.pop_front() {
+            self.index.drop_first(head.current().instrs());
+        }
     }
 
-    /// The changesets stand as they crossed an entry that was carried over them, and the entry is answered as carried. It
-    /// takes no memory.
+    /// The changesets stand as they crossed an entry that was carried over them, and the entry is answered as carried. Where
+    /// memory runs out fewer of them are indexed.
     pub fn settle(&mut self, carried: Carried) -> Changeset
         requires { Fits carried.crossed self.old }
         ensures list { self.new ≡ settled carried.crossed self.old }
         ensures entry { result ≡ carried.changes }
     {
         let (changes, crossed) = carried.into_parts();
-        put_all(&mut self.items, crossed);
+        let count = crossed.len();
+        self.put_all(crossed);
+        self.list_more(count);
         changes
     }
 
-    pub(crate) fn items(&self) -> &VecDeque<Unsent>
-        ensures { result.now.items ≡ self.now }
+    /// An entry of another client as carried over the changesets, from the oldest on, each of them the left side with the
+    /// ident `own`; and the changesets that it may touch, as they crossed it. Err(Mismatch) where one can't cross it, with
+    /// the first such one's number. The list stays as it is; `settle` puts those that crossed in their places.
+    pub fn carry(&self, alloc: Global, own: Ident, entry: &Entry) -> Result<Carried, RebaseRefusal>
+        requires { own ≢ entry.now.origin }
+        ensures crosses { IfOk result (λ carried. Crosses own self.now entry.now (settled carried.crossed self.now) carried.changes) }
+        ensures fits { IfOk result (λ carried. Fits carried.crossed self.now) }
+        ensures refused { IfErr result (Refuses own self.now entry.now) }
     {
-        &self.items
+        carry_over(alloc, &self.items, &self.index, own, entry)
+    }
+
+    /// Lists some of the changesets that aren't: as many as crossed, and one in LOOKS of those that were looked at, so that
+    /// listing takes about as long as looking. A short list isn't listed.
+    fn list_more(&mut self, crossed: usize)
+        ensures { self.new ≡ self.old }
+    {
+        let count = self.items.len();
+        if count < LOOKS {
+            return;
+        }
+        let looked = count.saturating_sub(self.index.listed());
+        for _ in 0..(looked / LOOKS + 1).saturating_add(crossed) {
+            let place = self.index.listed();
+            if place >= count {
+                return;
+            }
+            self.index.list(self.items[place].current().instrs());
+        }
+    }
+
+    /// Puts those that crossed in their places, from the first on.
+    fn put_all(&mut self, crossed: Vec<Crossed>)
+        requires { Fits crossed.items self.old }
+        ensures { self.new ≡ settled crossed.items self.old }
+    {
+        let mut rest = crossed;
+        rest.reverse();
+        while let Some(next) = rest.pop() {
+            self.put_at(next);
+        }
+    }
+
+    fn put_at(&mut self, crossed: Crossed)
+        requires time { HasTime crossed.place crossed.current.ms self.old }
+        requires listed { StaysAt crossed.place crossed.current.instrs (currents self.old) }
+        ensures { self.new ≡ put_current crossed.place crossed.current.instrs self.old }
+    {
+        let Crossed { place, current } = crossed;
+        let before = self.items[place].current().instrs();
+        self.index.change(place, before, current.instrs());
+        let unsent = &mut self.items[place];
+        unsent.rebase(current);
     }
 }
 
@@ -136,24 +204,4 @@ fn copy_of(alloc: Global, items: &VecDeque<Unsent>) -> Result<VecDeque<Unsent>, 
         }
     }
     Ok(copy)
-}
-
-/// Puts those that crossed in their places, from the first on.
-fn put_all(items: &mut VecDeque<Unsent>, crossed: Vec<Crossed>)
-    requires { Fits crossed.items items.old.items }
-    ensures { items.new.items ≡ settled crossed.items items.old.items }
-{
-    let mut rest = crossed;
-    rest.reverse();
-    while let Some(next) = rest.pop() {
-        put_at(items, next);
-    }
-}
-
-fn put_at(items: &mut VecDeque<Unsent>, crossed: Crossed)
-    requires { HasTime crossed.place crossed.current.ms items.old.items }
-    ensures { items.new.items ≡ put_current crossed.place crossed.current.instrs items.old.items }
-{
-    let unsent = &mut items[crossed.place];
-    unsent.rebase(crossed.current);
 }

@@ -1,28 +1,13 @@
 ghost use Rattle.std.specs.Prelude.{◌≡◌, ◌≢◌, None, IfOk, IfErr, OnErr};
 ghost use Rattle.sync_theory.specs.Grid.{tail};
-ghost use Rattle.sync_rebase.specs.Settling.{settled, Fits};
-ghost use Rattle.sync_rebase.specs.Taking.{AnswersCarried, Crosses, IsHead, Refuses};
+ghost use Rattle.sync_rebase.specs.Taking.{AnswersCarried, IsHead, Refuses};
 
-use super::carried::Carried;
-use super::carry::carry_over;
 use super::list::PendingList;
 use super::refusal::RebaseRefusal;
 use std::alloc::Global;
 use sync_data::{Changeset, Entry, Ident};
 
 impl PendingList {
-    /// An entry of another client as carried over the changesets, from the oldest on, each of them the left side with the
-    /// ident `own`; and the changesets that it may touch, as they crossed it. Err(Mismatch) where one can't cross it, with
-    /// the first such one's number. The list stays as it is; `settle` puts those that crossed in their places.
-    pub fn carry(&self, alloc: Global, own: Ident, entry: &Entry) -> Result<Carried, RebaseRefusal>
-        requires { own ≢ entry.now.origin }
-        ensures crosses { IfOk result (λ carried. Crosses own self.now entry.now (settled carried.crossed self.now) carried.changes) }
-        ensures fits { IfOk result (λ carried. Fits carried.crossed self.now) }
-        ensures refused { IfErr result (Refuses own self.now entry.now) }
-    {
-        carry_over(alloc, self.items(), own, entry)
-    }
-
     /// Takes an entry of the history. One of another client is carried over the changesets, which stand as they crossed it,
     /// and is answered as carried: Err(Mismatch) where one can't cross it, with the first such one's number. An own one
     /// takes the oldest changeset out, and the answer is None: Err(Forked) where it isn't that changeset as rebased. An Err

@@ -1,12 +1,13 @@
 -- A change that was carried over entries, and these as it crossed them.
-use Rattle.std.specs.Prelude.{◌≡◌, ℕ, zero, suc, ◌<◌, List, [], ◌∷◌, Option, None, Some, Result, Err, length}
+use Rattle.std.specs.Prelude.{◌≡◌, ℕ, zero, suc, ◌<◌, List, [], ◌∷◌, ◌++◌, Option, None, Some, Result, Err, length}
 use Rattle.sync_data.specs.Payload.{Changes}
 use Rattle.sync_data.specs.declared.entry.Entry.{Entry}
 use Rattle.sync_data.specs.declared.instr.Instr.{Instr}
 use Rattle.sync_base.specs.declared.answers.Mismatch.{Mismatch}
 use Rattle.sync_theory.specs.Changesets.{Changeset}
 use Rattle.sync_theory.specs.Reciprocals.{from_base}
-use Rattle.sync_recip.specs.Lists.{entry_of}
+use Rattle.sync_rivals.specs.Lists.{Indexed, Lists, StaysAt, put_list}
+use Rattle.sync_recip.specs.Lists.{entry_of, lists_in}
 use Rattle.sync_recip.specs.declared.carried.Crossed.{Crossed}
 use Rattle.sync_recip.specs.declared.refusal.RecipRefusal.{RecipRefusal}
 use Rattle.sync_recip.specs.declared.refusal.RecipRefusal.TheVariants as refusals
@@ -33,23 +34,32 @@ with_crossed (suc place) x (e ∷ es) = e ∷ with_crossed place x es
 -- entries of which those that changed are what they became
 abbrev pub crossed_entries : List Crossed → List (Changeset Instr) → List (Changeset Instr)
 crossed_entries [] es = es
-crossed_entries (c ∷ cs) es = with_crossed c.place c.entry (crossed_entries cs es)
+crossed_entries (c ∷ cs) es = crossed_entries cs (with_crossed c.place c.entry es)
 
 -- each of them has a place below this
 abbrev pub AllWithin : ℕ → List Crossed → Type 0
 AllWithin n [] = Unit {0}
 AllWithin n (c ∷ cs) = (c.place < n) × AllWithin n cs
 
+-- each is left of what stands at its place
+abbrev pub AllLeft : List Crossed → List (List Instr) → Type 0
+AllLeft [] lists = Unit {0}
+AllLeft (c ∷ cs) lists = StaysAt c.place c.entry.changes.instrs lists × AllLeft cs (put_list c.place c.entry.changes.instrs lists)
+
 -- what is noted of an entry at a place: nothing where it stays
 abbrev pub noted : ℕ → Option Entry → List Crossed
 noted place None = []
 noted place (Some x) = record { place = place; entry = x } ∷ []
 
+-- an index of lists that end with the instructions of these entries is one of those that end with these
+abbrev pub Follows : ℕ → Indexed → List (Changeset Instr) → Indexed → List (Changeset Instr) → Type 0
+Follows first x es y fs = (front : List (List Instr)) → length front ≡ first → Lists x (front ++ lists_in es) → Lists y (front ++ lists_in fs)
+
 -- ---- of a list
 
--- a carried change is one of a list: each entry that changed is an entry of the list
+-- a carried change is one of a list: each entry that changed is an entry of the list, and is left of it
 abbrev pub Fits : Carrying → List (ℕ × Changeset Instr) → Type 0
-Fits c list = AllWithin (length (from_base c.base list)) c.crossed
+Fits c list = AllWithin (length (from_base c.base list)) c.crossed × AllLeft c.crossed (lists_in (from_base c.base list))
 
 -- the list's entries from the base on, as the change crossed them
 abbrev pub entries_of : Carrying → List (ℕ × Changeset Instr) → List (Changeset Instr)

@@ -18,6 +18,10 @@ pair_of k = (k.version, kept_entry k)
 abbrev pub versions : List Kept → List ℕ
 versions ks = map (λ k. k.version) ks
 
+-- the instructions of entries
+abbrev pub lists_in : List (Changeset Instr) → List (List Instr)
+lists_in es = map (λ (e : Changeset Instr). e.instrs) es
+
 -- each is below all after it
 abbrev pub IsRising : List ℕ → Type 0
 IsRising [] = Unit {0}

@@ -1,11 +1,13 @@
-ghost use Rattle.std.specs.Prelude.{◌≡◌, ◌<◌, length, map};
-ghost use Rattle.sync_recip.specs.Lists.{versions, kept_entry};
-ghost use Rattle.sync_recip.specs.Carrying.{AllWithin, crossed_entries, with_crossed};
+ghost use Rattle.std.specs.Prelude.{◌≡◌, ◌<◌, ◌+◌, ◌^◌, length, map};
+ghost use Rattle.sync_rivals.specs.Lists.{StaysAt};
+ghost use Rattle.sync_recip.specs.Lists.{versions, kept_entry, lists_in};
+ghost use Rattle.sync_recip.specs.Carrying.{AllLeft, AllWithin, Follows, crossed_entries, with_crossed};
 
 use super::kept::Kept;
 use super::shared::SharedEntry;
 use std::marker::Model;
 use sync_base::Changeset;
+use sync_rivals::RivalIndex;
 
 /// An entry that changed as a change crossed it: its place among the entries from the base on, and what it became.
 #[derive(Drop)]
@@ -40,23 +42,39 @@ impl Carried {
     }
 }
 
-/// Puts the entries that changed in place of what they were.
-pub(crate) fn put_crossed(kept: &mut [Kept], crossed: Vec<Crossed>)
-    requires { AllWithin (length kept.old) crossed.items }
+/// Puts the entries that changed in place of what they were, from the first on. The index follows, in which they stand from
+/// the place `first` on.
+pub(crate) fn put_crossed(
+    rivals: &mut RivalIndex,
+    kept: &mut [Kept],
+    first: usize,
+    crossed: Vec<Crossed>,
+)
+    requires within { AllWithin (length kept.old) crossed.items }
+    requires left { AllLeft crossed.items (lists_in (map kept_entry kept.old)) }
+    requires small { first + length kept.old < 2 ^ 64 }
     ensures versions { versions kept.new ≡ versions kept.old }
     ensures entries { map kept_entry kept.new ≡ crossed_entries crossed.items (map kept_entry kept.old) }
+    ensures listed { Follows first rivals.old (map kept_entry kept.old) rivals.new (map kept_entry kept.new) }
 {
     let mut rest = crossed;
+    rest.reverse();
     while let Some(one) = rest.pop() {
-        put_one(kept, one);
+        put_one(rivals, kept, first, one);
     }
 }
 
-fn put_one(kept: &mut [Kept], crossed: Crossed)
-    requires { crossed.place < length kept.old }
+fn put_one(rivals: &mut RivalIndex, kept: &mut [Kept], first: usize, crossed: Crossed)
+    requires within { crossed.place < length kept.old }
+    requires left { StaysAt crossed.place crossed.entry.changes.instrs (lists_in (map kept_entry kept.old)) }
+    requires small { first + length kept.old < 2 ^ 64 }
     ensures versions { versions kept.new ≡ versions kept.old }
     ensures entries { map kept_entry kept.new ≡ with_crossed crossed.place crossed.entry (map kept_entry kept.old) }
+    ensures listed { Follows first rivals.old (map kept_entry kept.old) rivals.new (map kept_entry kept.new) }
 {
     let Crossed { place, entry } = crossed;
+    let before = kept[place].item.entry().changes.instrs();
+    let after = entry.entry().changes.instrs();
+    rivals.change(first + place, before, after);
     kept[place].item = entry;
 }

@@ -1,11 +1,12 @@
-ghost use Rattle.std.specs.Prelude.{◌≡◌, ◌≢◌, ◌++◌, ◌∷◌, [], ℕ, Ok, OnErr, IfOk, IfErr, OnOk, length, map, All};
+ghost use Rattle.std.specs.Prelude.{◌≡◌, ◌≢◌, ◌≤◌, ◌++◌, ◌∷◌, [], ℕ, Ok, OnErr, IfOk, IfErr, OnOk, length, map, drop, All};
 ghost use Rattle.sync_theory.specs.Changesets.{cross_sets as crossed_sets};
 ghost use Rattle.sync_theory.specs.Grid.{carry};
 ghost use Rattle.sync_law.specs.Instrs.{meet};
 ghost use Rattle.sync_index.specs.Touched.{Covers};
+ghost use Rattle.sync_rivals.specs.Lists.{Lists, Serves};
 ghost use Rattle.sync_transform.specs.Sets.{made_by};
-ghost use Rattle.sync_recip.specs.Lists.{entry_of, kept_entry};
-ghost use Rattle.sync_recip.specs.Carrying.{AllWithin, crossed_entry, crossed_entries, noted, IsStuckBy};
+ghost use Rattle.sync_recip.specs.Lists.{entry_of, kept_entry, lists_in};
+ghost use Rattle.sync_recip.specs.Carrying.{AllLeft, AllWithin, crossed_entry, crossed_entries, noted, IsStuckBy};
 
 use super::carried::{Carried, Crossed};
 use super::kept::Kept;
@@ -14,37 +15,56 @@ use super::shared::SharedEntry;
 use std::alloc::Global;
 use sync_base::{Changeset, Entry, Ident, NoMemory};
 use sync_index::Index;
+use sync_rivals::RivalIndex;
 use sync_transform::{cross_sets, stays_apart};
 
-/// A change of a client is carried over entries of others, from the first on. By an index of the change, what it can't
-/// touch is passed over.
+/// A change of a client is carried over the entries of others from the place `first` on. By an index of the change and the
+/// codes of its rivals, what it can't meet is passed over.
 pub(crate) fn carry_over(
     alloc: Global,
+    rivals: &RivalIndex,
     index: &Index,
+    codes: &[u64],
     kept: &[Kept],
+    first: usize,
     own: Ident,
     base: u32,
     changes: Changeset,
 ) -> Result<Carried, RecipRefusal>
-    requires others { All (λ e. e.origin ≢ own) (map kept_entry kept.now) }
+    requires others { All (λ e. e.origin ≢ own) (map kept_entry (drop first kept.now)) }
+    requires within { first ≤ length kept.now }
+    requires listed { Lists rivals.now (lists_in (map kept_entry kept.now)) }
+    requires served { Serves rivals.now codes.now changes.instrs }
     requires indexed { Covers index.now changes.instrs }
-    ensures ok { IfOk result (λ c. (number : ℕ) → carry (crossed_sets meet) (made_by own number changes) (map kept_entry kept.now) ≡ Ok (made_by own number c.changes, crossed_entries c.crossed (map kept_entry kept.now))) }
+    ensures ok { IfOk result (λ c. (number : ℕ) → carry (crossed_sets meet) (made_by own number changes) (map kept_entry (drop first kept.now)) ≡ Ok (made_by own number c.changes, crossed_entries c.crossed (map kept_entry (drop first kept.now)))) }
     ensures base { IfOk result (λ c. c.base ≡ base) }
-    ensures fits { IfOk result (λ c. AllWithin (length (map kept_entry kept.now)) c.crossed) }
-    ensures stuck { IfErr result (λ e. (number : ℕ) → IsStuckBy e (carry (crossed_sets meet) (made_by own number changes) (map kept_entry kept.now))) }
+    ensures fits { IfOk result (λ c. AllWithin (length (map kept_entry (drop first kept.now))) c.crossed × AllLeft c.crossed (lists_in (map kept_entry (drop first kept.now)))) }
+    ensures stuck { IfErr result (λ e. (number : ℕ) → IsStuckBy e (carry (crossed_sets meet) (made_by own number changes) (map kept_entry (drop first kept.now)))) }
 {
     let mut left = changes;
     let mut crossed = Vec::new(alloc);
-    for (place, one) in kept.iter().enumerate() {
+    let end = kept.len();
+    let mut from = first;
+    while from < end {
+        let next = rivals.next(codes, left.instrs(), from, end);
+        if next >= end {
+            return Ok(Carried {
+                base,
+                changes: left,
+                crossed,
+            });
+        }
+        from = next + 1;
+        let one = &kept[next];
         let entry = one.item.entry();
         if stays_apart(one.item.spot(), &entry.changes, index) {
             continue;
         }
         match cross_one(alloc, left, own, entry) {
             Err(refusal) => return Err(refusal),
-            Ok((next, entry)) => {
-                left = next;
-                let Ok(()) = note(&mut crossed, place, entry) else {
+            Ok((rest, entry)) => {
+                left = rest;
+                let Ok(()) = note(&mut crossed, next - first, entry) else {
                     return Err(RecipRefusal::NoMemory);
                 };
             }

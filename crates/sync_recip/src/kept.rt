@@ -21,11 +21,11 @@ pub(crate) fn count_below(kept: &[Kept], base: u32) -> usize
     kept.partition_point(|kept| kept.version < base)
 }
 
-/// Those from the base on.
-pub(crate) fn kept_from(kept: &[Kept], base: u32) -> &[Kept]
+/// The place from which on they have the base or a later version.
+pub(crate) fn first_from(kept: &[Kept], base: u32) -> usize
     requires { IsRising (versions kept.now) }
-    ensures { map kept_entry result.now ≡ from_base base (map pair_of kept.now) }
+    ensures bound { result ≤ length kept.now }
+    ensures rest { map kept_entry (drop result kept.now) ≡ from_base base (map pair_of kept.now) }
 {
-    let first = count_below(kept, base);
-    &kept[first..]
+    count_below(kept, base)
 }

@@ -8,8 +8,6 @@ mod kept;
 mod recip;
 mod refusal;
 mod shared;
-#[cfg(test)]
-mod tests;
 
 pub use carried::Carried;
 pub use recip::Recip;

@@ -6,23 +6,28 @@ ghost use Rattle.sync_theory.specs.Reciprocals.{from_base, settle};
 ghost use Rattle.sync_data.specs.declared.instr.Instr.{Instr};
 ghost use Rattle.sync_law.specs.Instrs.{meet};
 ghost use Rattle.sync_transform.specs.Sets.{made_by};
-ghost use Rattle.sync_recip.specs.Lists.{entry_of};
-ghost use Rattle.sync_recip.specs.Carrying.{Fits, entries_of, IsStuckBy};
+ghost use Rattle.sync_recip.specs.Lists.{entry_of, lists_in};
+ghost use Rattle.sync_recip.specs.Carrying.{AllLeft, AllWithin, crossed_entries, Fits, entries_of, IsStuckBy};
 
-use super::carried::{Carried, put_crossed};
+use super::carried::{Carried, Crossed, put_crossed};
 use super::carry::{carry_over, keep};
-use super::kept::{Kept, count_below, kept_from};
+use super::kept::{Kept, count_below, first_from};
 use super::refusal::RecipRefusal;
 use super::shared::SharedEntry;
 use std::alloc::Global;
 use std::marker::Model;
 use sync_base::{Changeset, Entry, Ident, NoMemory};
 use sync_index::Index;
+use sync_rivals::RivalIndex;
+
+/// After so many looks at an entry it has paid to list it.
+const LOOKS: usize = 64;
 
 /// The entries of others with their versions, which rise, as one client's changes crossed them.
 #[derive(Drop)]
 pub struct Recip {
     alloc: Global,
+    rivals: RivalIndex,
     kept: Vec<Kept>,
 }
 
@@ -30,13 +35,14 @@ impl Model for Recip {
     ghost use Rattle.std.specs.Prelude.{ℕ, List, map};
     ghost use Rattle.sync_data.specs.declared.instr.Instr.{Instr};
     ghost use Rattle.sync_theory.specs.Changesets.{Changeset};
-    ghost use Rattle.sync_recip.specs.Lists.{pair_of, versions, IsRising};
+    ghost use Rattle.sync_rivals.specs.Lists.{Lists};
+    ghost use Rattle.sync_recip.specs.Lists.{kept_entry, lists_in, pair_of, versions, IsRising};
 
     ghost Value = { List (ℕ × Changeset Instr) };
 
     ghost view = { λ a. map pair_of a.kept.items };
 
-    ghost invariant = { λ a. IsRising (versions a.kept.items) };
+    ghost invariant = { λ a. IsRising (versions a.kept.items) × Lists a.rivals (lists_in (map kept_entry a.kept.items)) };
 }
 
 impl Recip {
@@ -46,6 +52,7 @@ impl Recip {
     {
         Recip {
             alloc,
+            rivals: RivalIndex::new(alloc),
             kept: Vec::new(alloc),
         }
     }
@@ -117,12 +124,26 @@ impl Recip {
         let Ok(index) = Index::of(alloc, changes.instrs()) else {
             return Err(RecipRefusal::NoMemory);
         };
-        let entries = kept_from(self.kept.as_slice(), base);
-        carry_over(alloc, &index, entries, own, base, changes)
+        let Ok(codes) = self.rivals.rivals_of(alloc, changes.instrs()) else {
+            return Err(RecipRefusal::NoMemory);
+        };
+        let kept = self.kept.as_slice();
+        let first = first_from(kept, base);
+        carry_over(
+            alloc,
+            &self.rivals,
+            &index,
+            codes.as_slice(),
+            kept,
+            first,
+            own,
+            base,
+            changes,
+        )
     }
 
-    /// Puts the entries as crossed in place of those from the base on, and hands out the change as carried. It takes no
-    /// memory.
+    /// Puts the entries as crossed in place of those from the base on, and hands out the change as carried. Where memory runs
+    /// out fewer of them are indexed.
     pub fn settle(&mut self, carried: Carried) -> Changeset
         requires { Fits carried self.old }
         ensures settled { self.new ≡ settle carried.base self.old (entries_of carried self.old) }
@@ -133,8 +154,38 @@ impl Recip {
             changes,
             crossed,
         } = carried;
-        let first = count_below(self.kept.as_slice(), base);
-        put_crossed(&mut self.kept[first..], crossed);
+        let count = crossed.len();
+        self.put_all(base, crossed);
+        self.list_more(count);
         changes
+    }
+
+    fn put_all(&mut self, base: u32, crossed: Vec<Crossed>)
+        requires within { AllWithin (length (from_base base self.old)) crossed.items }
+        requires left { AllLeft crossed.items (lists_in (from_base base self.old)) }
+        ensures { self.new ≡ settle base self.old (crossed_entries crossed.items (from_base base self.old)) }
+    {
+        let first = count_below(self.kept.as_slice(), base);
+        put_crossed(&mut self.rivals, &mut self.kept[first..], first, crossed);
+    }
+
+    /// Lists some of the entries that aren't: as many as crossed, and one in LOOKS of those that were looked at, so that
+    /// listing takes about as long as looking. A short list isn't listed.
+    fn list_more(&mut self, crossed: usize)
+        ensures { self.new ≡ self.old }
+    {
+        let count = self.kept.len();
+        if count < LOOKS {
+            return;
+        }
+        let looked = count.saturating_sub(self.rivals.listed());
+        for _ in 0..(looked / LOOKS + 1).saturating_add(crossed) {
+            let place = self.rivals.listed();
+            if place >= count {
+                return;
+            }
+            let entry = self.kept[place].item.entry();
+            self.rivals.list(entry.changes.instrs());
+        }
     }
 }

@@ -1,0 +1,12 @@
+//! An index of lists of instructions, by which an instruction finds those alone that it may meet and not leave as they are.
+#![tactic(auto)]
+
+mod codes;
+mod index;
+mod laws;
+mod listing;
+mod mark;
+mod rivals;
+
+pub use index::RivalIndex;
+pub use laws::strangers_stay;
