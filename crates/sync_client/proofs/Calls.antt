@@ -145,6 +145,9 @@ module _ {A : Type 0} where
       false_true : false ≡ true → ⊥
       false_true e = cc
 
+  pub plain_shut : {P : Type 0} (why refusal : CodeRefusal) → why ≡ refusal → IsPlain refusal → Told A why codes.Closed → P
+  plain_shut why refusal same plain e = absurd (subst IsPlain (sym same ∙ same_told why codes.Closed e) plain)
+
   pub plain_fault : {P : Type 0} (why refusal : CodeRefusal) → why ≡ refusal → IsPlain refusal → Told A why codes.DiskFault → P
   plain_fault why refusal same plain e = absurd (subst IsPlain (sym same ∙ same_told why codes.DiskFault e) plain)
 

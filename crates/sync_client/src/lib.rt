@@ -10,8 +10,6 @@ mod refusal;
 mod replica;
 mod sending;
 mod taking;
-#[cfg(test)]
-mod tests;
 mod transactions;
 
 pub use client::Client;

@@ -19,7 +19,7 @@ pub enum ClientRefusal {
     /// The file is in form 1, and the instruction at this place, counted from 0, is the first that needs form 2.
     OldForm { place: u32 },
     /// The instruction at this place, counted from 0, is the first that doesn't act on the objects; the number of its break
-    /// (docs/MERGE_RULES.md, "Breaks").
+    /// (docs/FORMATS.md, "Outcome lines").
     Break { place: u32, code: u8 },
     /// The message isn't for this client, or for no client.
     NotMine,
@@ -28,12 +28,12 @@ pub enum ClientRefusal {
     /// The Download begins after the client's cursor.
     Gap { cursor: u32, from: u32 },
     /// The bytes of the entry of this version are no changeset: the offset and the number of the first broken rule
-    /// (docs/FORMATS.md, "Faults").
+    /// (docs/FORMATS.md, "What is no changeset").
     BadBody { version: u32, offset: u32, rule: u8 },
     /// The file is in form 1, and the entry of this version needs form 2.
     OldEntry { version: u32 },
     /// The entry of this version can't cross the unsent changeset of this number, the first such one; the number of the
-    /// mismatch (docs/MERGE_RULES.md).
+    /// mismatch (docs/FORMATS.md, "Outcome lines").
     Mismatch { version: u32, number: u32, kind: u8 },
     /// The client's own entry of this number isn't its first unsent changeset.
     Forked { number: u32 },

@@ -32,6 +32,7 @@ impl<D: Disk> Client<D> {
             → LeavesOnly D.moment D.images_since (disk_of (journal_of self.old)) (disk_of (journal_of self.new)) (StandsForPrefix (map client_bytes records) (map client_bytes (model.take the_profile (model.client_of the_profile records) (message_seen message)).records)) }
         ensures strokes { (records : List model.ClientRecord) → IsClientOf records self.old → IsStored D.content D.images records self.old → Asked D.strokes (model.take the_profile (model.client_of the_profile records) (message_seen message)) self.old self.new result }
         ensures closed { IsErrOf result ClientRefusal.Closed ↔ (is_closed self.old ≡ true) }
+        ensures shut { IsErrOf result ClientRefusal.Closed → self.new ≡ self.old }
         ensures closes { IsErrOf result ClientRefusal.DiskFault ⊎ IsErrOf result ClientRefusal.NoMemory → is_closed self.new ≡ true }
         ensures later { D.faults (disk_of (journal_of self.old)) ≤ D.faults (disk_of (journal_of self.new)) }
         ensures fault { IsErrOf result ClientRefusal.DiskFault → Rose (D.faults (disk_of (journal_of self.old))) (D.faults (disk_of (journal_of self.new))) }

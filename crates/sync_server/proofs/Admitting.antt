@@ -1,5 +1,5 @@
 -- Records of a server that are read one after the other.
-use Rattle.std.proofs.Common.{◌≡◌, ℕ, zero, suc, ◌-◌, ◌≤◌, Bool, true, false, not, ◌&&◌, List, [], ◌∷◌, length, map, Option, Some, None, Result, Ok, Err, refl, ap, ◌∙◌, sym, subst, arith, ◌==◌, eqb-true}
+use Rattle.std.proofs.Common.{◌≡◌, ℕ, zero, suc, Bool, true, false, not, ◌&&◌, List, [], ◌∷◌, length, map, Option, Some, None, Result, Ok, Err, refl, ap, ◌∙◌, sym, subst, arith, ◌==◌, eqb-true}
 use Rattle.std.proofs.lemmas.Bool.{eq-eqb}
 use Rattle.std.specs.Option.{is_some}
 use Rattle.sync_data.specs.declared.instr.Instr.{Instr}
@@ -144,21 +144,21 @@ counted records kept c g k is =
     let u = parts_given the_profile real_lawful records c (given_here records kept c g k is) in
     (u.0, some_is (sym is ∙ sym (same_given records kept c k) ∙ u.1))
 
-pub change_skips : (records : List ServerRecord) (kept : Kept) (c : ℕ) (g : Given Instr) (h : Change) → Keeps records kept → at_ident c kept.history.idents ≡ Some g → 1 ≤ h.number → ¬ (h.number - 1 ≡ g.count) → server_admits the_profile (server records) (Entry c h.number h.base h.ms h.body) ≡ false
-change_skips records kept c g h k is one other =
+pub change_skips : (records : List ServerRecord) (kept : Kept) (c : ℕ) (g : Given Instr) (h : Change) → Keeps records kept → at_ident c kept.history.idents ≡ Some g → ¬ (h.number ≡ suc g.count) → server_admits the_profile (server records) (Entry c h.number h.base h.ms h.body) ≡ false
+change_skips records kept c g h k is other =
     let u = counted records kept c g k is in
     let same : g.count ≡ count (server records) c = ap (λ (x : Given Instr). x.count) u.1 in
     ap (λ b. is_given (server records) c && (b && (not (is_second the_profile (unspell h.body) && not (server records).second) && is_fine (merge the_profile (server records) c h))))
-    (differ h.number (suc (count (server records) c)) (λ e. other (omega (arith, e, same, one))))
+    (differ h.number (suc (count (server records) c)) (λ e. other (e ∙ ap suc (sym same))))
     ∙ never (is_given (server records) c)
 
 -- what merging by the parts says of merging by the log
-by_log : (records : List ServerRecord) (kept : Kept) (c : ℕ) (g : Given Instr) (h : Change) → Keeps records kept → at_ident c kept.history.idents ≡ Some g → 1 ≤ h.number → h.number - 1 ≡ g.count
+by_log : (records : List ServerRecord) (kept : Kept) (c : ℕ) (g : Given Instr) (h : Change) → Keeps records kept → at_ident c kept.history.idents ≡ Some g → h.number ≡ suc g.count
     → merged_of the_profile (server records) (merge the_profile (server records) c h) ≡ merge_by the_profile (parts kept) c g h
-by_log records kept c g h k is one next =
+by_log records kept c g h k is next =
     let u = counted records kept c g k is in
     let same : g.count ≡ count (server records) c = ap (λ (x : Given Instr). x.count) u.1 in
-    sym (parts_merge the_profile real_lawful records k.opens c h u.0 (given_here records kept c g k is) (omega (arith, same, one, next)))
+    sym (parts_merge the_profile real_lawful records k.opens c h u.0 (given_here records kept c g k is) (omega (arith, same, next)))
     ∙ ap (λ x. merge_by the_profile (parts_of the_profile (server records)) c x h) (sym u.1)
     ∙ ap (λ q. merge_by the_profile q c g h) k.keeps
 
@@ -184,25 +184,25 @@ refused_is : (s : Known) (r : Result (List ServerRecord) ServerRefusal) (why : S
 refused_is s (Ok new) why e = cc
 refused_is s (Err w) why e = refl
 
-pub change_says : (records : List ServerRecord) (old new : Kept) (c : ℕ) (g : Given Instr) (h : Change) (form : Bool) → Keeps records old → at_ident c old.history.idents ≡ Some g → 1 ≤ h.number → h.number - 1 ≡ g.count
+pub change_says : (records : List ServerRecord) (old new : Kept) (c : ℕ) (g : Given Instr) (h : Change) (form : Bool) → Keeps records old → at_ident c old.history.idents ≡ Some g → h.number ≡ suc g.count
     → Merges (Ok form) (merge_by the_profile (parts old) c g h) c h (parts old) (parts new) → form ≡ (is_second the_profile (unspell h.body) && not old.history.second)
     → Admits records new (Entry c h.number h.base h.ms h.body) (Ok (not form))
-change_says records old new c g h false k is one next merges form =
+change_says records old new c g h false k is next merges form =
     let u = counted records old c g k is in
     let same : g.count ≡ count (server records) c = ap (λ (x : Given Instr). x.count) u.1 in
-    let i = integrated_is (server records) (merge the_profile (server records) c h) (record { records = records_of false c h; parts = parts new }) (by_log records old c g h k is one next ∙ merges) in
-    more records old new (Entry c h.number h.base h.ms h.body) k (new_opens the_profile (server records) c h (Entry c h.number h.base h.ms h.body ∷ []) (given_here records old c g k is) (omega (arith, same, one, next)) i.ok) i.now
-change_says records old new c g h true k is one next merges form =
+    let i = integrated_is (server records) (merge the_profile (server records) c h) (record { records = records_of false c h; parts = parts new }) (by_log records old c g h k is next ∙ merges) in
+    more records old new (Entry c h.number h.base h.ms h.body) k (new_opens the_profile (server records) c h (Entry c h.number h.base h.ms h.body ∷ []) (given_here records old c g k is) (omega (arith, same, next)) i.ok) i.now
+change_says records old new c g h true k is next merges form =
     ap (λ b. is_given (server records) c && ((h.number == suc (count (server records) c)) && (not b && is_fine (merge the_profile (server records) c h))))
     (ap (λ b. is_second the_profile (unspell h.body) && not b) (second_is records old k) ∙ sym form)
     ∙ ap (λ b. is_given (server records) c && b) (never (h.number == suc (count (server records) c)))
     ∙ never (is_given (server records) c)
 
-pub change_refused : (records : List ServerRecord) (old : Kept) (c : ℕ) (g : Given Instr) (h : Change) (why : ServerRefusal) → Keeps records old → at_ident c old.history.idents ≡ Some g → 1 ≤ h.number → h.number - 1 ≡ g.count
+pub change_refused : (records : List ServerRecord) (old : Kept) (c : ℕ) (g : Given Instr) (h : Change) (why : ServerRefusal) → Keeps records old → at_ident c old.history.idents ≡ Some g → h.number ≡ suc g.count
     → merge_by the_profile (parts old) c g h ≡ Err why → server_admits the_profile (server records) (Entry c h.number h.base h.ms h.body) ≡ false
-change_refused records old c g h why k is one next refused =
+change_refused records old c g h why k is next refused =
     ap (λ b. is_given (server records) c && ((h.number == suc (count (server records) c)) && (not (is_second the_profile (unspell h.body) && not (server records).second) && b)))
-    (refused_is (server records) (merge the_profile (server records) c h) why (by_log records old c g h k is one next ∙ refused))
+    (refused_is (server records) (merge the_profile (server records) c h) why (by_log records old c g h k is next ∙ refused))
     ∙ ap (λ b. is_given (server records) c && ((h.number == suc (count (server records) c)) && b)) (never (not (is_second the_profile (unspell h.body) && not (server records).second)))
     ∙ ap (λ b. is_given (server records) c && b) (never (h.number == suc (count (server records) c)))
     ∙ never (is_given (server records) c)

@@ -38,7 +38,7 @@ pub record Numbers (kept : Parts Instr State) (c : ℕ) (g : Given Instr) (h : C
   pub next : h.number ≤ suc g.count
   pub room : kept.len ≢ 4294967295
 
-pub numbers_right : (kept : Parts Instr State) (c : ℕ) (g : Given Instr) (h : Change) → numbers_broken kept.len g h ≡ None → Numbers kept c g h (merge_by the_profile kept c g h)
+pub numbers_right : (kept : Parts Instr State) (c : ℕ) (g : Given Instr) (h : Change) → numbers_broken kept.len g h.number h.base ≡ None → Numbers kept c g h (merge_by the_profile kept c g h)
 numbers_right kept c g h = go (nat_lt (suc g.count) h.number) (nat_lt h.base g.last) (nat_lt kept.len h.base) (kept.len == 4294967295) refl refl
   where
     go : (a b d f : Bool) → nat_lt (suc g.count) h.number ≡ a → (kept.len == 4294967295) ≡ f
@@ -94,9 +94,9 @@ carry_keeps c x (d ∷ es) y fs e small a = go (cross_changesets the_profile x d
 stamped : (c : ℕ) (h : Change) (v : Changes) → v.ms ≡ h.ms → (entry_of c h v.instrs).change ≡ made_by c h.number v
 stamped c h v e = ap (λ t. record { origin = c; number = h.number; ms = t; instrs = v.instrs }) (sym e)
 
-module _ (kept : Parts Instr State) (c : ℕ) (found g : Given Instr) (h : Change) (v : Changes) (same : found ≡ g) (numbers : numbers_broken kept.len found h ≡ None) (read : Reads (Ok v) h) where
+module _ (kept : Parts Instr State) (c : ℕ) (found g : Given Instr) (h : Change) (v : Changes) (same : found ≡ g) (numbers : numbers_broken kept.len found h.number h.base ≡ None) (read : Reads (Ok v) h) where
   right : Numbers kept c g h (merge_by the_profile kept c g h)
-  right = numbers_right kept c g h (ap (λ d. numbers_broken kept.len d h) (sym same) ∙ numbers)
+  right = numbers_right kept c g h (ap (λ d. numbers_broken kept.len d h.number h.base) (sym same) ∙ numbers)
 
   carrying : merge_by the_profile kept c g h ≡ merge_carried_by the_profile kept c h v.instrs (crossing c h.number v h.base found.reciprocal)
   carrying =

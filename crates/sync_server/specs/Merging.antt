@@ -18,21 +18,26 @@ use Rattle.sync_server.specs.Refusals.{refusal_seen}
 use Rattle.sync_server.specs.declared.refusal.Refusal.{Refusal}
 use Rattle.sync_server.specs.declared.refusal.ChangeRefusal.{ChangeRefusal}
 use Rattle.sync_server.specs.declared.refusal.ChangeRefusal.TheVariants.{Refused, NoMemory}
+use Rattle.sync_server.specs.declared.merging.ChangeHead.{ChangeHead}
 use Rattle.sync_server.specs.declared.merging.Prepared.{Prepared}
 
 -- ---- the numbers of a change
+
+-- a change with these bytes
+abbrev pub change_of : ChangeHead → List ℕ → Change
+change_of head body = record { number = head.number; base = head.base; ms = head.ms; body = body }
 
 -- the refusal that an answer is, if it is one
 abbrev pub refused : {T : Type 0} → Result T Refusal → Option ServerRefusal
 refused (Ok t) = None
 refused (Err why) = Some (refusal_seen why)
 
--- the first rule that the numbers of a change break, where the history has this length
-abbrev pub numbers_broken : ℕ → Given Instr → Change → Option ServerRefusal
-numbers_broken len g h =
-    if nat_lt (suc g.count) h.number then Some (NumberGap (suc g.count))
-    else if nat_lt h.base g.last then Some (BaseBack g.last)
-    else if nat_lt len h.base then Some (AheadOfHistory len)
+-- the first rule that the number and the base of a change break, where the history has this length
+abbrev pub numbers_broken : ℕ → Given Instr → (number base : ℕ) → Option ServerRefusal
+numbers_broken len g number base =
+    if nat_lt (suc g.count) number then Some (NumberGap (suc g.count))
+    else if nat_lt base g.last then Some (BaseBack g.last)
+    else if nat_lt len base then Some (AheadOfHistory len)
     else if len == 4294967295 then Some (HistoryFull len)
     else None
 

@@ -1,13 +1,13 @@
-ghost use Rattle.std.specs.Prelude.{◌≡◌, ◌&&◌, not, Some, length, IfOk, OnOk};
+ghost use Rattle.std.specs.Prelude.{◌≡◌, ◌≤◌, ◌&&◌, not, Some, length, IfOk, OnOk};
 ghost use Rattle.sync_data.specs.declared.instr.Instr.{Instr};
 ghost use Rattle.sync_exchange.specs.Profile.{the_profile, unspell};
 ghost use Rattle.sync_model.specs.Files.{is_second};
 ghost use Rattle.sync_exchange.specs.Seen.{change_seen};
 ghost use Rattle.sync_model.specs.Parts.{Given as GivenParts, at_ident, merge_by};
-ghost use Rattle.sync_server.specs.Merging.{IsFresh, Merges, Prepares};
+ghost use Rattle.sync_server.specs.Merging.{IsFresh, Merges, Prepares, change_of};
 
 use crate::history::History;
-use crate::merging::{Prepared, admit, apply, carry, read};
+use crate::merging::{ChangeHead, Prepared, admit, apply, carry, read};
 use crate::refusal::ChangeRefusal;
 use crate::version::needs_second;
 use std::alloc::Global;
@@ -40,25 +40,27 @@ impl Kept {
         &self,
         alloc: Global,
         ident: Ident,
-        change: &Change,
+        head: ChangeHead,
+        body: &[u8],
     ) -> Result<Prepared, ChangeRefusal>
-        requires { IsFresh ident (change_seen change.now) self.now.history.idents }
-        ensures second { IfOk result (λ p. p.second ≡ is_second the_profile (unspell change.now.body)) }
-        ensures prepared { (g : GivenParts Instr) → at_ident ident self.now.history.idents ≡ Some g → Prepares result (parts self.now) ident g (change_seen change.now) (merge_by the_profile (parts self.now) ident g (change_seen change.now)) }
+        requires fresh { IsFresh ident (change_of head body.now) self.now.history.idents }
+        requires small { length body.now ≤ 67108864 }
+        ensures second { IfOk result (λ p. p.second ≡ is_second the_profile (unspell body.now)) }
+        ensures prepared { (g : GivenParts Instr) → at_ident ident self.now.history.idents ≡ Some g → Prepares result (parts self.now) ident g (change_of head body.now) (merge_by the_profile (parts self.now) ident g (change_of head body.now)) }
     {
         let Some(given) = self.history.at(ident) else {
             unreachable!()
         };
-        match admit(given, self.history.len(), change) {
+        match admit(given, self.history.len(), head) {
             Ok(()) => {}
             Err(why) => return Err(ChangeRefusal::Refused(why)),
         }
-        let changes = match read(alloc, change) {
+        let changes = match read(alloc, head, body) {
             Ok(changes) => changes,
             Err(refusal) => return Err(refusal),
         };
         let second = needs_second(changes.instrs());
-        match carry(alloc, ident, given, change.base(), changes) {
+        match carry(alloc, ident, given, head.base, changes) {
             Ok(carried) => Ok(Prepared { carried, second }),
             Err(refusal) => Err(refusal),
         }
@@ -76,7 +78,24 @@ impl Kept {
         ensures form { IfOk result (λ form. form ≡ (is_second the_profile (unspell change.now.body) && not self.old.history.second)) }
         ensures merged { (g : GivenParts Instr) → at_ident ident self.old.history.idents ≡ Some g → Merges result (merge_by the_profile (parts self.old) ident g (change_seen change.now)) ident (change_seen change.now) (parts self.old) (parts self.new) }
     {
-        let Prepared { carried, second } = match self.prepare(alloc, ident, change) {
+        self.merge_body(alloc, ident, ChangeHead::of(change), change.body())
+    }
+
+    /// The same of a change of which the bytes may be longer than those of any Upload.
+    pub(crate) fn merge_body(
+        &mut self,
+        alloc: Global,
+        ident: Ident,
+        head: ChangeHead,
+        body: &[u8],
+    ) -> Result<bool, ChangeRefusal>
+        requires fresh { IsFresh ident (change_of head body.now) self.old.history.idents }
+        requires small { length body.now ≤ 67108864 }
+        ensures given { OnOk result (length self.new.history.idents ≡ length self.old.history.idents) }
+        ensures form { IfOk result (λ form. form ≡ (is_second the_profile (unspell body.now) && not self.old.history.second)) }
+        ensures merged { (g : GivenParts Instr) → at_ident ident self.old.history.idents ≡ Some g → Merges result (merge_by the_profile (parts self.old) ident g (change_of head body.now)) ident (change_of head body.now) (parts self.old) (parts self.new) }
+    {
+        let Prepared { carried, second } = match self.prepare(alloc, ident, head, body) {
             Ok(prepared) => prepared,
             Err(refusal) => return Err(refusal),
         };
@@ -85,14 +104,10 @@ impl Kept {
             Err(refusal) => return Err(refusal),
         }
         let form = second & !self.history.second();
-        match self.history.integrate(
-            alloc,
-            ident,
-            change.number(),
-            change.base(),
-            second,
-            carried,
-        ) {
+        match self
+            .history
+            .integrate(alloc, ident, head.number, head.base, second, carried)
+        {
             Ok(()) => Ok(form),
             Err(NoMemory) => Err(ChangeRefusal::NoMemory),
         }

@@ -12,8 +12,6 @@ mod merging;
 mod opening;
 mod refusal;
 mod server;
-#[cfg(test)]
-mod tests;
 mod version;
 
 pub use refusal::ServerRefusal;

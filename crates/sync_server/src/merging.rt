@@ -1,8 +1,7 @@
-ghost use Rattle.std.specs.Prelude.{◌≡◌, ◌≢◌, ℕ, suc, true, All, Some};
+ghost use Rattle.std.specs.Prelude.{◌≡◌, ◌≢◌, ◌≤◌, ℕ, suc, length, true, All, Some};
 ghost use Rattle.sync_data.specs.declared.instr.Instr.{Instr};
 ghost use Rattle.sync_exchange.specs.Profile.{fits_changeset, the_profile};
-ghost use Rattle.sync_exchange.specs.Seen.{change_seen};
-ghost use Rattle.sync_server.specs.Merging.{Reads, Carries, AppliesBy, numbers_broken, refused};
+ghost use Rattle.sync_server.specs.Merging.{Reads, Carries, AppliesBy, change_of, numbers_broken, refused};
 
 use crate::given::Given;
 use crate::history::LAST;
@@ -21,20 +20,42 @@ pub(crate) struct Prepared {
     pub(crate) second: bool,
 }
 
+/// A change without its bytes: its number, at least 1, among its client's, the version of the history that it was made
+/// at, and its time in milliseconds since the epoch.
+#[derive(Clone, Copy)]
+pub(crate) struct ChangeHead {
+    pub(crate) number: u32,
+    pub(crate) base: u32,
+    pub(crate) ms: u64,
+}
+
+impl ChangeHead {
+    pub(crate) fn of(change: &Change) -> ChangeHead
+        ensures { result ≡ record { number = change.now.number; base = change.now.base; ms = change.now.ms } }
+    {
+        ChangeHead {
+            number: change.number(),
+            base: change.base(),
+            ms: change.ms(),
+        }
+    }
+}
+
 /// Whether the numbers of a change are those of its client's next one.
-pub(crate) fn admit(given: &Given, len: u32, change: &Change) -> Result<(), Refusal>
-    ensures { refused result ≡ numbers_broken len given.now (change_seen change.now) }
+pub(crate) fn admit(given: &Given, len: u32, head: ChangeHead) -> Result<(), Refusal>
+    requires { 1 ≤ head.number }
+    ensures { refused result ≡ numbers_broken len given.now head.number head.base }
 {
     let (count, last) = (given.count(), given.last());
-    if change.number() - 1 > count {
+    if head.number - 1 > count {
         return Err(Refusal::NumberGap {
             expected: count + 1,
         });
     }
-    if change.base() < last {
+    if head.base < last {
         return Err(Refusal::BaseBack { last });
     }
-    if change.base() > len {
+    if head.base > len {
         return Err(Refusal::AheadOfHistory { len });
     }
     if len == LAST {
@@ -44,10 +65,11 @@ pub(crate) fn admit(given: &Given, len: u32, change: &Change) -> Result<(), Refu
 }
 
 /// The instructions of a change.
-pub(crate) fn read(alloc: Global, change: &Change) -> Result<Changeset, ChangeRefusal>
-    ensures { Reads result (change_seen change.now) }
+pub(crate) fn read(alloc: Global, head: ChangeHead, body: &[u8]) -> Result<Changeset, ChangeRefusal>
+    requires { length body.now ≤ 67108864 }
+    ensures { Reads result (change_of head body.now) }
 {
-    match decode(alloc, change.ms(), change.body()) {
+    match decode(alloc, head.ms, body) {
         Ok(changes) => Ok(changes),
         Err(DecodeRefusal::Bad(bad)) => Err(ChangeRefusal::Refused(Refusal::BadBytes(bad))),
         Err(DecodeRefusal::NoMemory) => Err(ChangeRefusal::NoMemory),

@@ -1,5 +1,4 @@
-ghost use Rattle.std.specs.Prelude.{◌≡◌, List, Ok, Some, None};
-ghost use Rattle.sync_messages.specs.Parts.{ChangeParts};
+ghost use Rattle.std.specs.Prelude.{◌≡◌, List, Ok};
 ghost use Rattle.sync_journal.specs.Records.{lists};
 ghost use Rattle.sync_model.specs.Servers as model;
 ghost use Rattle.sync_exchange.specs.Seen.{server_seen};
@@ -8,14 +7,14 @@ ghost use Rattle.sync_server.specs.Opening.{Admits, Keeps, Reads, ReadsOne};
 
 use crate::history::LAST;
 use crate::kept::Kept;
+use crate::merging::ChangeHead;
 use crate::refusal::ChangeRefusal;
 use std::alloc::Global;
-use sync_base::{Blob, Id, Ident, NoMemory};
-use sync_messages::Change;
+use sync_base::{Id, Ident, NoMemory};
 use sync_records::{RecordRefusal, ServerRecord};
 
-/// The most bytes of a change (docs/FORMATS.md, "Messages").
-const MOST_BYTES: usize = 16_777_216;
+/// The most bytes of a record (docs/FORMATS.md, "The journal").
+const LONGEST: usize = 67_108_864;
 
 /// Why records aren't read: the first that a server wouldn't have written has that number, counted from 0; or memory ran
 /// out.
@@ -70,11 +69,14 @@ impl Kept {
                 base,
                 ms,
                 body,
-            } => match change_of(alloc, *number, *base, *ms, body.bytes()) {
-                Ok(Some(change)) => self.admit_change(alloc, *origin, &change),
-                Ok(None) => Ok(false),
-                Err(refusal) => Err(refusal),
-            },
+            } => {
+                let head = ChangeHead {
+                    number: *number,
+                    base: *base,
+                    ms: *ms,
+                };
+                self.admit_change(alloc, *origin, head, body.bytes())
+            }
             ServerRecord::Form => Ok(self.admit_form()),
         }
     }
@@ -108,45 +110,25 @@ impl Kept {
         &mut self,
         alloc: Global,
         origin: Ident,
-        change: &Change,
+        head: ChangeHead,
+        body: &[u8],
     ) -> Result<bool, NoMemory>
-        ensures { (records : List model.ServerRecord) → Keeps records self.old → Admits records self.new (model.Entry origin change.now.number change.now.base change.now.ms change.now.body) result }
+        ensures { (records : List model.ServerRecord) → Keeps records self.old → Admits records self.new (model.Entry origin head.number head.base head.ms body.now) result }
     {
         let count = match self.history.at(origin) {
             Some(given) => given.count(),
             None => return Ok(false),
         };
-        if change.number() - 1 != count {
+        if head.number as u64 != count as u64 + 1 {
             return Ok(false);
         }
-        match self.merge(alloc, origin, change) {
+        if body.len() > LONGEST {
+            return Err(NoMemory);
+        }
+        match self.merge_body(alloc, origin, head, body) {
             Ok(form) => Ok(!form),
             Err(ChangeRefusal::NoMemory) => Err(NoMemory),
             Err(ChangeRefusal::Refused(_)) => Ok(false),
         }
     }
-}
-
-/// The change of an entry; None where its number is 0, which no server writes.
-fn change_of(
-    alloc: Global,
-    number: u32,
-    base: u32,
-    ms: u64,
-    body: &[u8],
-) -> Result<Option<Change>, NoMemory>
-    ensures none { result ≡ Ok None → number ≡ 0 }
-    ensures made { (change : ChangeParts) → result ≡ Ok (Some change) → change ≡ record { number = number; base = base; ms = ms; body = body.now } }
-{
-    if number == 0 {
-        return Ok(None);
-    }
-    if body.len() > MOST_BYTES {
-        return Err(NoMemory);
-    }
-    let body = match Blob::new(alloc, body) {
-        Ok(body) => body,
-        Err(refusal) => return Err(refusal),
-    };
-    Ok(Some(Change::new(number, base, ms, body)))
 }

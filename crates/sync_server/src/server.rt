@@ -330,6 +330,7 @@ impl<D: Disk> Server<D> {
         ensures told { Told (D.content (disk_of (journal_of self.old))) (λ b. (c : List ℕ) × (D.content (disk_of (journal_of self.new)) ≡ Some c)) }
         // The refusals and their causes.
         ensures closed { IsErrOf result ServerRefusal.Closed ↔ (is_closed self.old ≡ true) }
+        ensures shut { IsErrOf result ServerRefusal.Closed → self.new ≡ self.old }
         ensures closes { OnErr result (is_closed self.new ≡ true) }
         ensures later { D.faults (disk_of (journal_of self.old)) ≤ D.faults (disk_of (journal_of self.new)) }
         ensures fault { IsErrOf result ServerRefusal.DiskFault → Rose (D.faults (disk_of (journal_of self.old))) (D.faults (disk_of (journal_of self.new))) }

@@ -3,11 +3,14 @@ use Rattle.sync_journal.specs.Stands.{disk_of}
 use Rattle.sync_model.specs.Clients.{ClientRecord, client_of, commit}
 use Rattle.sync_exchange.specs.Profile.{the_profile}
 use Rattle.sync_client.proofs.Leaving.{leaves_none, leaves_one}
-use Rattle.sync_client.proofs.Calls.{commit_is, commit_says, plain_closed, plain_closes, plain_fault}
+use Rattle.sync_client.proofs.Calls.{commit_is, commit_says, plain_closed, plain_closes, plain_fault, plain_shut}
 use Rattle.sync_client.proofs.client.Client.commit.Goals as goal
 
 pub returns-in-Err-clause-closed : goal.returns-in-Err-clause-closed
 returns-in-Err-clause-closed g c = plain_closed c.refused.result c.in-Err.refusal _ c.refused.ensures.same c.in-Err.ensures.plain c.if-self.false
+
+pub returns-in-Err-clause-shut : goal.returns-in-Err-clause-shut
+returns-in-Err-clause-shut g c = plain_shut c.refused.result c.in-Err.refusal c.refused.ensures.same c.in-Err.ensures.plain
 
 pub returns-in-Err-clause-closes : goal.returns-in-Err-clause-closes
 returns-in-Err-clause-closes g c = plain_closes c.refused.result c.in-Err.refusal _ c.refused.ensures.same c.in-Err.ensures.plain c.refused.ensures.closes
