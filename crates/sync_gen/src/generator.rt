@@ -31,7 +31,7 @@ impl Gen {
 
     /// Draws a number below `bound`.
     #[tactic(auto, unfolding(crate::specs::Draws::next, crate::specs::Draws::draw))]
-    pub(crate) fn draw(&mut self, bound: u32) -> u32
+    pub fn draw(&mut self, bound: u32) -> u32
         requires { 0 < bound }
         ensures number { result ≡ (draw bound self.old).0 }
         ensures state { self.new ≡ (draw bound self.old).1 }

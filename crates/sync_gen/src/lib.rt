@@ -6,8 +6,6 @@ mod edits;
 mod generator;
 mod instrs;
 mod lists;
-#[cfg(test)]
-mod tests;
 mod turns;
 
 pub use clients::{CLIENTS, client_id, client_name, first_edits};

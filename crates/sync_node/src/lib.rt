@@ -18,8 +18,6 @@ mod sending;
 mod serving;
 mod showing;
 mod taking;
-#[cfg(test)]
-mod tests;
 mod text;
 mod waiter;
 

@@ -90,6 +90,7 @@ fn run<K: Sink, D: Disk>(alloc: Global, sink: &mut K, disk: D, errand: Errand) -
     ensures bad_place { Told (D.content disk) (λ b. (place : ℕ) → client_file b ≡ Err place → TellsBad place result.status) }
     ensures bad_unwritten { Told (D.content disk) (λ b. (place : ℕ) → client_file b ≡ Err place → K.taken sink.new ≡ K.taken sink.old) }
     ensures bad_kept { Told (D.content disk) (λ b. (place : ℕ) → result.status ≡ Status.BadFile place → D.content result.disk ≡ Some b) }
+    ensures bad_untouched { (place : ℕ) → result.status ≡ Status.BadFile place → sink.new ≡ sink.old }
     ensures kept { Told (D.content disk) (λ b. IsMade result.status → HoldsThose D.content D.images b result.disk) }
     ensures any_moment { (records : List (List ℕ)) → Told (D.content disk) (λ b. ((c : List ℕ) → D.images disk c → records_of c ≡ Good records)
         → LeavesOnly D.moment D.images_since disk result.disk (λ c. records_of c ≡ Good records)) }
@@ -118,6 +119,7 @@ pub fn send<K: Sink, D: Disk>(alloc: Global, sink: &mut K, disk: &mut D) -> Stat
     ensures bad_place { Told (D.content disk.old) (λ b. (place : ℕ) → client_file b ≡ Err place → TellsBad place result) }
     ensures bad_unwritten { Told (D.content disk.old) (λ b. (place : ℕ) → client_file b ≡ Err place → K.taken sink.new ≡ K.taken sink.old) }
     ensures bad_kept { Told (D.content disk.old) (λ b. (place : ℕ) → result ≡ Status.BadFile place → D.content disk.new ≡ Some b) }
+    ensures bad_untouched { (place : ℕ) → result ≡ Status.BadFile place → sink.new ≡ sink.old }
 
     // No record is added: the disk holds the same ones, also after a crash. Where each crash before would have left them,
     // each since the start of the call does.
@@ -152,6 +154,7 @@ pub fn ask<K: Sink, D: Disk>(alloc: Global, sink: &mut K, disk: &mut D) -> Statu
     ensures bad_place { Told (D.content disk.old) (λ b. (place : ℕ) → client_file b ≡ Err place → TellsBad place result) }
     ensures bad_unwritten { Told (D.content disk.old) (λ b. (place : ℕ) → client_file b ≡ Err place → K.taken sink.new ≡ K.taken sink.old) }
     ensures bad_kept { Told (D.content disk.old) (λ b. (place : ℕ) → result ≡ Status.BadFile place → D.content disk.new ≡ Some b) }
+    ensures bad_untouched { (place : ℕ) → result ≡ Status.BadFile place → sink.new ≡ sink.old }
 
     // No record is added: the disk holds the same ones, also after a crash. Where each crash before would have left them,
     // each since the start of the call does.

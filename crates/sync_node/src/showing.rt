@@ -156,6 +156,7 @@ fn show_client<K: Sink, D: Disk>(alloc: Global, sink: &mut K, disk: D) -> Ended<
     ensures bad_place { Told (D.content disk) (λ b. (place : ℕ) → client_file b ≡ Err place → TellsBad place result.status) }
     ensures bad_unwritten { Told (D.content disk) (λ b. (place : ℕ) → client_file b ≡ Err place → K.taken sink.new ≡ K.taken sink.old) }
     ensures bad_kept { Told (D.content disk) (λ b. (place : ℕ) → result.status ≡ Status.BadFile place → D.content result.disk ≡ Some b) }
+    ensures bad_untouched { (place : ℕ) → result.status ≡ Status.BadFile place → sink.new ≡ sink.old }
     ensures kept { Told (D.content disk) (λ b. IsMade result.status → HoldsThose D.content D.images b result.disk) }
     ensures any_moment { (records : List (List ℕ)) → Told (D.content disk) (λ b. ((c : List ℕ) → D.images disk c → records_of c ≡ Good records)
         → LeavesOnly D.moment D.images_since disk result.disk (λ c. records_of c ≡ Good records)) }
@@ -179,6 +180,7 @@ fn show_server<K: Sink, D: Disk>(alloc: Global, sink: &mut K, disk: D) -> Ended<
     ensures bad_place { Told (D.content disk) (λ b. (place : ℕ) → server_file b ≡ Err place → TellsBad place result.status) }
     ensures bad_unwritten { Told (D.content disk) (λ b. (place : ℕ) → server_file b ≡ Err place → K.taken sink.new ≡ K.taken sink.old) }
     ensures bad_kept { Told (D.content disk) (λ b. (place : ℕ) → result.status ≡ Status.BadFile place → D.content result.disk ≡ Some b) }
+    ensures bad_untouched { (place : ℕ) → result.status ≡ Status.BadFile place → sink.new ≡ sink.old }
     ensures kept { Told (D.content disk) (λ b. IsMade result.status → HoldsThose D.content D.images b result.disk) }
     ensures any_moment { (records : List (List ℕ)) → Told (D.content disk) (λ b. ((c : List ℕ) → D.images disk c → records_of c ≡ Good records)
         → LeavesOnly D.moment D.images_since disk result.disk (λ c. records_of c ≡ Good records)) }
@@ -202,6 +204,7 @@ fn show_sorted<K: Sink, D: Disk>(alloc: Global, sink: &mut K, sorted: Sorted<D>)
     ensures bad_place { Told (D.content sorted.disk) (λ b. sorted.is_client ≡ is_client_file b → (place : ℕ) → node_file b ≡ Err place → TellsBad place result.status) }
     ensures bad_unwritten { Told (D.content sorted.disk) (λ b. sorted.is_client ≡ is_client_file b → (place : ℕ) → node_file b ≡ Err place → K.taken sink.new ≡ K.taken sink.old) }
     ensures bad_kept { Told (D.content sorted.disk) (λ b. (place : ℕ) → result.status ≡ Status.BadFile place → D.content result.disk ≡ Some b) }
+    ensures bad_untouched { (place : ℕ) → result.status ≡ Status.BadFile place → sink.new ≡ sink.old }
     ensures kept { Told (D.content sorted.disk) (λ b. IsMade result.status → HoldsThose D.content D.images b result.disk) }
     ensures any_moment { (records : List (List ℕ)) → Told (D.content sorted.disk) (λ b. ((c : List ℕ) → D.images sorted.disk c → records_of c ≡ Good records)
         → LeavesOnly D.moment D.images_since sorted.disk result.disk (λ c. records_of c ≡ Good records)) }
@@ -226,6 +229,7 @@ fn show_node<K: Sink, D: Disk>(alloc: Global, sink: &mut K, disk: D) -> Ended<D>
     ensures bad_place { Told (D.content disk) (λ b. (place : ℕ) → node_file b ≡ Err place → TellsBad place result.status) }
     ensures bad_unwritten { Told (D.content disk) (λ b. (place : ℕ) → node_file b ≡ Err place → K.taken sink.new ≡ K.taken sink.old) }
     ensures bad_kept { Told (D.content disk) (λ b. (place : ℕ) → result.status ≡ Status.BadFile place → D.content result.disk ≡ Some b) }
+    ensures bad_untouched { (place : ℕ) → result.status ≡ Status.BadFile place → sink.new ≡ sink.old }
     ensures kept { Told (D.content disk) (λ b. IsMade result.status → HoldsThose D.content D.images b result.disk) }
     ensures any_moment { (records : List (List ℕ)) → Told (D.content disk) (λ b. ((c : List ℕ) → D.images disk c → records_of c ≡ Good records)
         → LeavesOnly D.moment D.images_since disk result.disk (λ c. records_of c ≡ Good records)) }
@@ -257,6 +261,7 @@ pub fn show<K: Sink, D: Disk>(alloc: Global, sink: &mut K, disk: &mut D) -> Stat
     ensures bad_place { Told (D.content disk.old) (λ b. (place : ℕ) → node_file b ≡ Err place → TellsBad place result) }
     ensures bad_unwritten { Told (D.content disk.old) (λ b. (place : ℕ) → node_file b ≡ Err place → K.taken sink.new ≡ K.taken sink.old) }
     ensures bad_kept { Told (D.content disk.old) (λ b. (place : ℕ) → result ≡ Status.BadFile place → D.content disk.new ≡ Some b) }
+    ensures bad_untouched { (place : ℕ) → result ≡ Status.BadFile place → sink.new ≡ sink.old }
 
     // No record is added: the disk holds the same ones, also after a crash. Where each crash before would have left them,
     // each since the start of the call does.

@@ -10,7 +10,7 @@ use Rattle.sync_top.specs.Jobs.{AsksFor, most_turns}
 use Rattle.sync_top.specs.Statuses.{IsJobStatus}
 use Rattle.sync_top.specs.Commands.{IsFileStatus}
 use Rattle.sync_top.specs.Playing.{Writes}
-use Rattle.sync_top.specs.Runs.{IsDoneOrNoMemory, IsReportStatus}
+use Rattle.sync_top.specs.Runs.{IsDoneOrNoMemory, IsReportStatus, IsRunStatus}
 
 module _ (o : Option Job) (words : List (List ℕ)) (exact : (job : Job) → (o ≡ Some job) ↔ AsksFor job words) where
   pub asked_is : (job wanted : Job) → o ≡ Some job → AsksFor wanted words → job ≡ wanted
@@ -65,3 +65,10 @@ report_done statuses.ReadFault only write = absurd only
 report_done statuses.DiskFault only write = absurd only
 report_done (statuses.BadFile place) only write = absurd only
 report_done statuses.InputTooLong only write = absurd only
+
+-- a replay, and a text that is written, have no bad file
+pub replay_no_bad : (status : Status) (place : ℕ) → IsRunStatus status → status ≡ statuses.BadFile place → ⊥
+replay_no_bad status place only is = subst IsRunStatus is only
+
+pub written_no_bad : (text : List ℕ) (status : Status) (place : ℕ) (old new : Option (List ℕ)) → Writes text status old new → status ≡ statuses.BadFile place → ⊥
+written_no_bad text status place old new writes is = subst IsReportStatus is (writes_only text status old new writes)

@@ -1,7 +1,9 @@
 pub mod Asked
+pub mod Born
 pub mod Counted
 pub mod Events
 pub mod Jobs
+pub mod Named
 pub mod Places
 pub mod Planning
 pub mod Playing

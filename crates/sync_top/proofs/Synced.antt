@@ -11,7 +11,9 @@ use Rattle.sync_exchange.specs.Profile.{the_profile}
 use Rattle.sync_top.specs.Runs.{Passes, run_from}
 use Rattle.sync_top.specs.Exchange.{answers, report, events_of}
 use Rattle.sync_top.specs.Synced.{IsSynced, first}
+use Rattle.sync_top.proofs.Born.{events_born}
 use Rattle.sync_top.proofs.Events.{events_left, first_left}
+use Rattle.sync_top.proofs.Named.{event_named}
 
 -- what the laws of worlds say
 pub record Laws : Type 0 where
@@ -35,6 +37,7 @@ module _ (laws : Laws) where
     acknowledged = λ before after name ms number edits split made.
         subst (λ v. Stands the_profile v name number ms edits) (sym (made_by ∙ ap (world_after the_profile empty_world) split ∙ after_both before (Edits name ms edits ∷ after) empty_world))
         (laws.acknowledged (world_after the_profile empty_world before) name ms number edits after made);
+    named = λ before after e split. event_named (world_after the_profile empty_world before) (events_born the_profile before) (laws.facts (world_after the_profile empty_world before) (before, refl)) e;
   }
 
   -- what a replay leaves, and the world behind its first lines

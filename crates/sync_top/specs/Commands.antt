@@ -85,3 +85,12 @@ IsFileStatus commands.Serve status = IsNodeStatus status
 IsFileStatus commands.Send status = IsTellStatus status
 IsFileStatus commands.Ask status = IsTellStatus status
 IsFileStatus commands.Show status = IsTellStatus status
+
+-- the commands that read no input
+abbrev pub ReadsNothing : FileCommand → Type 0
+ReadsNothing commands.Edit = ⊥
+ReadsNothing commands.Take = ⊥
+ReadsNothing commands.Serve = ⊥
+ReadsNothing commands.Send = Unit {0}
+ReadsNothing commands.Ask = Unit {0}
+ReadsNothing commands.Show = Unit {0}

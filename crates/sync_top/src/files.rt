@@ -1,7 +1,7 @@
-ghost use Rattle.std.specs.Prelude.{◌≡◌, ◌≤◌};
+ghost use Rattle.std.specs.Prelude.{◌≡◌, ◌≤◌, ℕ};
 ghost use Rattle.sync_disk.specs.Disk.{Rose, Told};
 ghost use Rattle.sync_io.specs.Faults.{HasRisen};
-ghost use Rattle.sync_top.specs.Commands.{Does, IsFileFor, IsFileStatus, IsInputFor};
+ghost use Rattle.sync_top.specs.Commands.{Does, IsFileFor, IsFileStatus, IsInputFor, ReadsNothing};
 ghost use Rattle.sync_top.specs.Runs.{IsDoneOrNoMemory};
 
 use super::job::FileCommand;
@@ -19,6 +19,8 @@ pub(crate) fn run_file<S: Source, K: Sink, D: Disk>(
     disk: &mut D,
 ) -> Status
     ensures does { Does D.content D.images D.moment D.images_since command (S.left source.old) result disk.old disk.new (K.taken sink.old) (K.taken sink.new) }
+    ensures unread { ReadsNothing command → source.new ≡ source.old }
+    ensures bad_untouched { (place : ℕ) → result ≡ Status.BadFile place → (source.new ≡ source.old) × (sink.new ≡ sink.old) }
     ensures source_faults { S.faults source.old ≤ S.faults source.new }
     ensures sink_faults { K.faults sink.old ≤ K.faults sink.new }
     ensures disk_faults { D.faults disk.old ≤ D.faults disk.new }

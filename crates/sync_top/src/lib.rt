@@ -19,12 +19,3 @@ pub use generated::generate;
 pub use job::{FileCommand, Job, MOST_TURNS, job_of};
 pub use lines::run_lines;
 pub use program::run;
-
-#[cfg(test)]
-mod file_tests;
-#[cfg(test)]
-mod generated_tests;
-#[cfg(test)]
-mod stop_tests;
-#[cfg(test)]
-mod tests;

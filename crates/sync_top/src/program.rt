@@ -5,7 +5,7 @@ ghost use Rattle.sync_io.specs.Readers.{readings};
 ghost use Rattle.sync_io.specs.Reading.{Reading};
 ghost use Rattle.sync_model.specs.Worlds as model;
 ghost use Rattle.sync_world.specs.Holding.{Holds};
-ghost use Rattle.sync_top.specs.Commands.{Does, IsFileFor, IsInputFor};
+ghost use Rattle.sync_top.specs.Commands.{Does, IsFileFor, IsInputFor, ReadsNothing};
 ghost use Rattle.sync_top.specs.Exchange.{IsValidInput, answers, events_of, report};
 ghost use Rattle.sync_top.specs.Generated.{events_of as drawn_events, world_by};
 ghost use Rattle.sync_top.specs.Jobs.{AsksFor, most_turns};
@@ -53,6 +53,8 @@ fn run_job<S: Source, K: Sink, D: Disk>(
     ensures disk_aside { job ≡ Job.Replay → disk.new ≡ disk.old }
     ensures all_aside { (seed count : ℕ) → job ≡ Job.Generate seed count → (source.new ≡ source.old) × (disk.new ≡ disk.old) }
     ensures world_aside { (command : FileCommand) → job ≡ Job.File command → world.new ≡ world.old }
+    ensures unread { (command : FileCommand) → job ≡ Job.File command → ReadsNothing command → source.new ≡ source.old }
+    ensures bad_untouched { (place : ℕ) → result ≡ Status.BadFile place → (source.new ≡ source.old) × (sink.new ≡ sink.old) }
     ensures source_faults { S.faults source.old ≤ S.faults source.new }
     ensures sink_faults { K.faults sink.old ≤ K.faults sink.new }
     ensures disk_faults { D.faults disk.old ≤ D.faults disk.new }
@@ -128,6 +130,10 @@ pub fn run<S: Source, K: Sink, D: Disk>(
     ensures disk_aside { AsksFor Job.Replay (map string_bytes words.now) → disk.new ≡ disk.old }
     ensures all_aside { (seed count : ℕ) → AsksFor (Job.Generate seed count) (map string_bytes words.now) → (source.new ≡ source.old) × (disk.new ≡ disk.old) }
     ensures world_aside { (command : FileCommand) → AsksFor (Job.File command) (map string_bytes words.now) → world.new ≡ world.old }
+    ensures unread { (command : FileCommand) → AsksFor (Job.File command) (map string_bytes words.now) → ReadsNothing command → source.new ≡ source.old }
+
+    // Where the file is bad, nothing is read or written, whether the disk tells what it holds or not.
+    ensures bad_untouched { (place : ℕ) → result ≡ Status.BadFile place → (source.new ≡ source.old) × (sink.new ≡ sink.old) }
 
     // Each fault has its cause.
     ensures source_faults { S.faults source.old ≤ S.faults source.new }

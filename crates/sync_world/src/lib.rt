@@ -12,8 +12,6 @@ mod report;
 mod sends;
 mod stop;
 mod stopping;
-#[cfg(test)]
-mod tests;
 mod text;
 mod words;
 mod world;

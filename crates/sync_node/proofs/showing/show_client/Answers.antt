@@ -58,3 +58,6 @@ returns-in-Ok-clause-only g c = text_tells c.tell_client.result.status c.tell_cl
 
 pub returns-in-Err-clause-only : goal.returns-in-Err-clause-only
 returns-in-Err-clause-only g c = open_tells c.in-Err.ended.status c.in-Err.ensures.only
+
+pub returns-in-Ok-clause-bad_untouched : goal.returns-in-Ok-clause-bad_untouched
+returns-in-Ok-clause-bad_untouched g c = λ place is. absurd (text_no_bad c.tell_client.result.status place c.tell_client.ensures.only is)

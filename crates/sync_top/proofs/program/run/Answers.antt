@@ -79,3 +79,9 @@ returns-in-None-clause-complete_generate g c = λ seed count asks. absurd (none_
 
 pub returns-in-None-clause-complete_file : goal.returns-in-None-clause-complete_file
 returns-in-None-clause-complete_file g c = λ command asks. absurd (none_asked None (map string_bytes c.args.words.now) c.in-None.ensures (jobs.File command) refl asks)
+
+pub returns-in-Some-clause-unread : goal.returns-in-Some-clause-unread
+returns-in-Some-clause-unread g c = λ command asks. c.run_job.ensures.unread command (asked_is (Some c.in-Some.job) (map string_bytes c.args.words.now) c.in-Some.ensures c.in-Some.job (jobs.File command) refl asks)
+
+pub returns-in-None-clause-unread : goal.returns-in-None-clause-unread
+returns-in-None-clause-unread g c = λ command asks. absurd (none_asked None (map string_bytes c.args.words.now) c.in-None.ensures (jobs.File command) refl asks)

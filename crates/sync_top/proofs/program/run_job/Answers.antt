@@ -3,6 +3,7 @@ use Rattle.std.specs.Option.{IfSome}
 use Rattle.sync_io.specs.Reading.{Reading}
 use Rattle.sync_io.specs.Readers.{readings}
 use Rattle.sync_model.specs.Worlds.{empty_world}
+use Rattle.sync_top.proofs.Asked.{replay_no_bad, written_no_bad}
 use Rattle.sync_top.proofs.Synced.{Laws, first_synced, left_synced}
 use Rattle.sync_top.proofs.Validity.{complete}
 use Rattle.sync_top.proofs.program.run_job.Goals as goal
@@ -28,3 +29,9 @@ returns-in-Replay-clause-headline_after_faults g c =
 
 pub returns-in-Replay-clause-world : goal.returns-in-Replay-clause-world
 returns-in-Replay-clause-world g c = λ job. (c.run_lines.ensures.run empty_world c.requires.fresh).leaves
+
+pub returns-in-Replay-clause-bad_untouched : goal.returns-in-Replay-clause-bad_untouched
+returns-in-Replay-clause-bad_untouched g c = λ place is. absurd (replay_no_bad c.run_lines.result place c.run_lines.ensures.only is)
+
+pub returns-in-Generate-clause-bad_untouched : goal.returns-in-Generate-clause-bad_untouched
+returns-in-Generate-clause-bad_untouched g c = λ place is. absurd (written_no_bad _ c.generate.result place _ _ c.generate.ensures.generated is)

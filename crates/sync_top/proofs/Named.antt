@@ -1,0 +1,216 @@
+-- Each event of an exchange is refused by a named rule alone.
+use Rattle.std.proofs.Common.{◌≡◌, ◌≤◌, ◌<◌, ◌⊎◌, ⊎_elim, ℕ, zero, suc, Bool, true, false, not, ◌&&◌, ◌||◌, if◌then◌else◌, nat_lt, List, [], ◌∷◌, ◌++◌, length, Option, None, Some, Result, Ok, Err, refl, sym, ap, subst, ◌∙◌, arith}
+use Rattle.std.specs.Prelude.{bytes_eq, ◌==◌, ◌-◌}
+use Rattle.sync_data.specs.declared.instr.Instr.{Instr}
+use Rattle.sync_base.specs.States.{IsState}
+use Rattle.sync_exchange.specs.Profile.{the_profile}
+use Rattle.sync_theory.specs.Changesets.{Changeset}
+use Rattle.sync_model.specs.Bytes.{Name, Uuid}
+use Rattle.sync_model.specs.Profile.{Profile, IsNamedKind, apply_all, first_need, is_small, needs}
+use Rattle.sync_model.specs.Log.{IsFair, MayDecline, MayRefuse, WorldFacts}
+use Rattle.sync_model.specs.Messages.{Message, Bind, Ident, Upload, Ask, Download, Refused, Stored, Ask2}
+use Rattle.sync_model.specs.Clients as clients
+use Rattle.sync_model.specs.Clients.{Client, ClientRecord, ClientRefusal, ClientStep, answers, appends, ask, bind, change_of, client_of, commit, commit_applied, commit_born, if_born, if_named, refuse, settled_from, take as take_message, to_upload, upgrade, upload}
+use Rattle.sync_model.specs.Servers as servers
+use Rattle.sync_model.specs.Servers.{Server, ServerRecord, ServerRefusal, ServerStep, code_of, download, download_first, entries_from, first_form, if_there, is_given, place_of, refuses, replies, serve, server_of}
+use Rattle.sync_model.specs.Worlds as worlds
+use Rattle.sync_model.specs.Worlds.{World, Node, Event, Joins, Edits, Binds, Uploads, Asks, Upgrades, Delivers, Restarts, Stops, Injects, Outcome, Words, arm, at, client_called, client_calls, client_ends, client_moved, delivers, empty_world, happens, has_id, has_name, is_node, is_there, made_words, message_at, message_words, named_by, names_own, says, seek, server_called, server_ends, server_moved, server_name, stopped, took_words, upgrade_words}
+use Rattle.sync_model.proofs.Lists.{seek_found}
+use Rattle.sync_model.proofs.Limits.{each_at}
+use Rattle.sync_top.specs.Named.{IsNamedOutcome, IsNamedReply, IsReplyTo, MayNotCommit, MayNotSend, RefusesBy, SaysOnly}
+use Rattle.sync_top.proofs.Born.{AllBorn, born_id}
+
+-- a fair reply has none of the codes from 60 to 63
+fair_code : (n : ℕ) → 60 ≤ n → n ≤ 63 → (why : ServerRefusal) → n ≡ code_of why → MayRefuse why → ⊥
+fair_code n low high (servers.NumberGap k) is may = may
+fair_code n low high (servers.BaseBack k) is may = may
+fair_code n low high (servers.AheadOfHistory k) is may = may
+fair_code n low high (servers.HistoryFull k) is may = omega (arith, low, high, is)
+fair_code n low high (servers.BadBytes offset rule) is may = may
+fair_code n low high (servers.Mismatch place kind) is may =
+    ⊎_elim (λ e. ⊎_elim (λ one. omega (arith, low, high, is, one)) (λ two. omega (arith, low, high, is, two)) e) (λ four. omega (arith, low, high, is, four)) may
+fair_code n low high (servers.Break place code) is may = may
+fair_code n low high (servers.NoSuchIdent k) is may = may
+fair_code n low high (servers.IdentsFull k) is may = omega (arith, low, high, is)
+fair_code n low high servers.NotForServer is may = omega (arith, low, high, is)
+fair_code n low high (servers.NeedsForm2 k) is may = omega (arith, low, high, is)
+
+module _ {I S : Type 0} (p : Profile I S) where
+  -- ---- calls of clients
+  module _ (c : Client I S) (u : Uuid) (born : c.id ≡ Some u) where
+    commit_named : (ms : ℕ) (edits : List I) (why : ClientRefusal) → (commit p c ms edits).answer ≡ Err why → MayNotCommit why
+    commit_named ms edits why e = on c.id born e
+      where
+        number : ℕ
+        number = suc (length c.made)
+
+        applied : (r : Result S (ℕ × ℕ)) → (commit_applied number (clients.Made number ms (p.spell edits)) r).answer ≡ Err why → MayNotCommit why
+        applied (Ok s) f = cc
+        applied (Err b) f = let same : clients.Break b.0 b.1 ≡ why = cc in subst MayNotCommit same tt
+
+        go : (a b d : Bool) → (if not a then refuse clients.TooLarge else if b then refuse clients.NumbersFull else if d then refuse (clients.OldForm (first_need p edits)) else commit_applied number (clients.Made number ms (p.spell edits)) (apply_all p edits c.objects)).answer ≡ Err why → MayNotCommit why
+        go false b d f = let same : clients.TooLarge ≡ why = cc in subst MayNotCommit same tt
+        go true true d f = let same : clients.NumbersFull ≡ why = cc in subst MayNotCommit same tt
+        go true false true f = let same : clients.OldForm (first_need p edits) ≡ why = cc in subst MayNotCommit same tt
+        go true false false f = applied (apply_all p edits c.objects) f
+
+        on : (o : Option Uuid) → o ≡ Some u → (if_born o (λ id. commit_born p c ms edits)).answer ≡ Err why → MayNotCommit why
+        on None is f = cc
+        on (Some id) is f = go (is_small p edits) (length c.made == p.full) (needs p edits && not c.second) f
+
+    named_call : (did : Message) (why : ClientRefusal) → (if_named c (answers did)).answer ≡ Err why → MayNotSend why
+    named_call did why e = on c.id born e
+      where
+        go : (b : Bool) → (if b then refuse clients.NotNamed else answers did).answer ≡ Err why → MayNotSend why
+        go true f = let same : clients.NotNamed ≡ why = cc in subst MayNotSend same tt
+        go false f = cc
+
+        on : (o : Option Uuid) → o ≡ Some u → (if_born o (λ id. if c.ident == 0 then refuse clients.NotNamed else answers did)).answer ≡ Err why → MayNotSend why
+        on None is f = cc
+        on (Some id) is f = go (c.ident == 0) f
+
+    bind_named : (why : ClientRefusal) → (bind c).answer ≡ Err why → ⊥
+    bind_named why e = on c.id born e
+      where
+        on : (o : Option Uuid) → o ≡ Some u → (if_born o (λ id. answers (Bind id))).answer ≡ Err why → ⊥
+        on None is f = cc
+        on (Some id) is f = cc
+
+    upgrade_named : (why : ClientRefusal) → (upgrade c).answer ≡ Err why → ⊥
+    upgrade_named why e = on c.id born e
+      where
+        go : (b : Bool) → (if b then answers false else appends clients.Form true).answer ≡ Err why → ⊥
+        go true f = cc
+        go false f = cc
+
+        on : (o : Option Uuid) → o ≡ Some u → (if_born o (λ id. if c.second then answers false else appends clients.Form true)).answer ≡ Err why → ⊥
+        on None is f = cc
+        on (Some id) is f = go c.second f
+
+  -- ---- the words of a client's call
+  module _ (P : ClientRefusal → Type 0) (Q : Message → Type 0) where
+    made_named : (a : Result ℕ ClientRefusal) → ((why : ClientRefusal) → a ≡ Err why → P why) → (v : World) → SaysOnly P Q (made_words v a).words
+    made_named (Ok n) h v = tt
+    made_named (Err r) h v = h r refl
+
+    took_named : (a : Result ℕ ClientRefusal) → ((why : ClientRefusal) → a ≡ Err why → P why) → (v : World) → SaysOnly P Q (took_words v a).words
+    took_named (Ok n) h v = tt
+    took_named (Err r) h v = h r refl
+
+    message_named : (a : Result Message ClientRefusal) → ((why : ClientRefusal) → a ≡ Err why → P why) → (v : World) → SaysOnly P Q (message_words v a).words
+    message_named (Ok m) h v = tt
+    message_named (Err r) h v = h r refl
+
+    upgraded_named : (a : Result Bool ClientRefusal) → ((why : ClientRefusal) → a ≡ Err why → P why) → (v : World) → SaysOnly P Q (upgrade_words v a).words
+    upgraded_named (Ok true) h v = tt
+    upgraded_named (Ok false) h v = tt
+    upgraded_named (Err r) h v = h r refl
+
+    ends_named : {A : Type 0} (w : World) (place : ℕ) (nd : Node) (did : ClientStep A) (words : World → Result A ClientRefusal → Outcome) → ((v : World) → SaysOnly P Q (words v did.answer).words)
+        → (o : Option (List ClientRecord)) → SaysOnly P Q (client_ends w place nd did words o).words
+    ends_named w place nd did words each None = each (client_moved w place nd did.records)
+    ends_named w place nd did words each (Some stand) = tt
+
+    calls_named : {A : Type 0} (w : World) (name : Name) (call : Client I S → ClientStep A) (words : World → Result A ClientRefusal → Outcome)
+        → ((place : ℕ) (nd : Node) → at w.clients place ≡ Some nd → (v : World) → SaysOnly P Q (words v (call (client_of p nd.records)).answer).words) → SaysOnly P Q (client_calls p w name call words).words
+    calls_named w name call words each = on (seek (has_name name) w.clients) refl
+      where
+        on : (o : Option (ℕ × Node)) → seek (has_name name) w.clients ≡ o → SaysOnly P Q (client_called p w call words o).words
+        on None is = tt
+        on (Some q) is = let f = seek_found (has_name name) w.clients q is in ends_named w q.0 q.1 (call (client_of p q.1.records)) words (each q.0 q.1 f.here) (stopped (w.stops q.1.name) (call (client_of p q.1.records)).records)
+
+    server_named : (w : World) (m : Message) → Q (serve p (server_of p w.server) m).answer → SaysOnly P Q (server_called p w m).words
+    server_named w m reply = on (stopped (w.stops server_name) (serve p (server_of p w.server) m).records)
+      where
+        on : (o : Option (List ServerRecord)) → SaysOnly P Q (server_ends w (serve p (server_of p w.server) m) o).words
+        on None = reply
+        on (Some stand) = tt
+
+  -- ---- replies
+  there_named : (Code : ℕ → Type 0) (s : Server I) (c cursor : ℕ) (go : List (Changeset I) → ServerStep) → ((xs : List (Changeset I)) → RefusesBy Code (go xs).answer)
+      → IsFair (if_there p s c cursor go).answer → RefusesBy Code (if_there p s c cursor go).answer
+  there_named Code s c cursor go each = on (is_given s c) (nat_lt (length s.log) cursor)
+    where
+      on : (a b : Bool) → IsFair (if not a then refuses c 0 (servers.NoSuchIdent (length s.ids)) else (if b then refuses c 0 (servers.AheadOfHistory (length s.log)) else go (entries_from p s.log (length s.log - cursor) cursor))).answer
+          → RefusesBy Code (if not a then refuses c 0 (servers.NoSuchIdent (length s.ids)) else (if b then refuses c 0 (servers.AheadOfHistory (length s.log)) else go (entries_from p s.log (length s.log - cursor) cursor))).answer
+      on false b fair = absurd (fair_code 60 (omega arith) (omega arith) fair.0 fair.1 fair.3)
+      on true true fair = absurd (fair_code 63 (omega arith) (omega arith) fair.0 fair.1 fair.3)
+      on true false fair = each (entries_from p s.log (length s.log - cursor) cursor)
+
+  first_named : (c cursor : ℕ) (xs : List (Changeset I)) → RefusesBy (λ code. code ≡ 67) (download_first p c cursor xs).answer
+  first_named c cursor [] = tt
+  first_named c cursor (x ∷ xs) = go (needs p x.instrs)
+    where
+      go : (b : Bool) → RefusesBy (λ code. code ≡ 67) (if b then refuses c 0 (servers.NeedsForm2 cursor) else download p c cursor (first_form p (x ∷ xs))).answer
+      go true = refl
+      go false = tt
+
+  reply_named : (s : Server I) (m : Message) → IsFair (serve p s m).answer → IsNamedReply m (serve p s m).answer
+  reply_named s (Bind u) fair = go (place_of u s.ids == 0) (length s.ids == p.full)
+    where
+      go : (a b : Bool) → RefusesBy (λ code. code ≡ 65) (if not a then replies (Ident u (place_of u s.ids)) else (if b then refuses 0 0 (servers.IdentsFull (length s.ids)) else record { records = servers.Client u ∷ []; answer = Ident u (suc (length s.ids)) })).answer
+      go false b = tt
+      go true true = refl
+      go true false = tt
+  reply_named s (Upload c changes) fair = fair
+  reply_named s (Ask c cursor settled) fair = there_named (λ code. code ≡ 67) s c cursor (download_first p c cursor) (first_named c cursor) fair
+  reply_named s (Ask2 c cursor settled) fair = there_named (λ code. ⊥) s c cursor (download p c cursor) (λ xs. tt) fair
+  reply_named s (Ident u c) fair = refl
+  reply_named s (Download c from entries) fair = refl
+  reply_named s (Stored c number) fair = refl
+  reply_named s (Refused c number code place) fair = refl
+
+  there_message : (w : World) (k : ℕ) (m : Message) → message_at w k ≡ Some m → (n : ℕ) × (at w.messages n ≡ Some m)
+  there_message w zero m is = cc
+  there_message w (suc n) m is = (n, is)
+
+-- ---- events
+module _ (w : World) (all : AllBorn w) (facts : WorldFacts the_profile IsState w) where
+  born : (place : ℕ) (nd : Node) → at w.clients place ≡ Some nd → (v : Uuid) × ((client_of the_profile nd.records).id ≡ Some v)
+  born place nd here = born_id the_profile nd (each_at w.clients place nd all here)
+
+  pub event_named : (e : Event Instr) → IsNamedOutcome w e (happens the_profile w e).words
+  event_named (Joins name id) = go (is_node w name) (is_there (seek (has_id the_profile id) w.clients) || is_there (seek (λ u. bytes_eq id u) w.injected))
+    where
+      go : (a b : Bool) → SaysOnly (λ why. ⊥) (λ reply. ⊥) (if a then says w worlds.NameTaken else (if b then says w worlds.UuidTaken else says (record w { clients = w.clients ++ record { name = name; records = clients.Born id ∷ [] } ∷ [] }) (worlds.Joined name))).words
+      go true b = tt
+      go false true = tt
+      go false false = tt
+  event_named (Edits name ms edits) = calls_named the_profile MayNotCommit (λ reply. ⊥) w name (λ c. commit the_profile c ms edits) made_words
+      (λ place nd here. let b = born place nd here in made_named the_profile MayNotCommit (λ reply. ⊥) (commit the_profile (client_of the_profile nd.records) ms edits).answer (commit_named the_profile (client_of the_profile nd.records) b.0 b.1 ms edits))
+  event_named (Binds name) = calls_named the_profile (λ why. ⊥) (λ reply. ⊥) w name bind message_words
+      (λ place nd here. let b = born place nd here in message_named the_profile (λ why. ⊥) (λ reply. ⊥) (bind (client_of the_profile nd.records)).answer (bind_named the_profile (client_of the_profile nd.records) b.0 b.1))
+  event_named (Uploads name) = calls_named the_profile MayNotSend (λ reply. ⊥) w name (upload the_profile) message_words
+      (λ place nd here. let b = born place nd here in message_named the_profile MayNotSend (λ reply. ⊥) (upload the_profile (client_of the_profile nd.records)).answer (named_call the_profile (client_of the_profile nd.records) b.0 b.1 _))
+  event_named (Asks name) = calls_named the_profile MayNotSend (λ reply. ⊥) w name ask message_words
+      (λ place nd here. let b = born place nd here in message_named the_profile MayNotSend (λ reply. ⊥) (ask (client_of the_profile nd.records)).answer (named_call the_profile (client_of the_profile nd.records) b.0 b.1 _))
+  event_named (Upgrades name) = calls_named the_profile (λ why. ⊥) (λ reply. ⊥) w name upgrade upgrade_words
+      (λ place nd here. let b = born place nd here in upgraded_named the_profile (λ why. ⊥) (λ reply. ⊥) (upgrade (client_of the_profile nd.records)).answer (upgrade_named the_profile (client_of the_profile nd.records) b.0 b.1))
+  event_named (Delivers message to) = go (is_node w to) (message_at w message) refl
+    where
+      comes : (b : Bool) (m : Message) (n : ℕ) → at w.messages n ≡ Some m → SaysOnly MayDecline (IsNamedReply m) (if b then server_called the_profile w m else client_calls the_profile w to (λ c. take_message the_profile c m) took_words).words
+      comes true m n here = server_named the_profile MayDecline (IsNamedReply m) w m (reply_named the_profile (server_of the_profile w.server) m (facts.replies n m here))
+      comes false m n here = calls_named the_profile MayDecline (IsNamedReply m) w to (λ c. take_message the_profile c m) took_words
+          (λ place nd there. took_named the_profile MayDecline (IsNamedReply m) (take_message the_profile (client_of the_profile nd.records) m).answer (λ why is. facts.declines n m here place nd there why is))
+
+      go : (b : Bool) (m : Option Message) → message_at w message ≡ m → SaysOnly MayDecline (IsReplyTo m) (if b then delivers the_profile w to m else says w worlds.NoNode).words
+      go true None is = tt
+      go true (Some m) is = let at_n = there_message the_profile w message m is in comes (bytes_eq to server_name) m at_n.0 at_n.1
+      go false None is = tt
+      go false (Some m) is = tt
+  event_named (Restarts node) = go (is_node w node)
+    where
+      go : (b : Bool) → SaysOnly (λ why. ⊥) (λ reply. ⊥) (if b then worlds.Opened else worlds.NoNode)
+      go true = tt
+      go false = tt
+  event_named (Stops node k leaves) = go (is_node w node)
+    where
+      go : (b : Bool) → SaysOnly (λ why. ⊥) (λ reply. ⊥) (if b then says (record w { stops = arm node (Some (record { at = k; leaves = leaves })) w.stops }) worlds.Armed else says w worlds.NoNode).words
+      go true = tt
+      go false = tt
+  event_named (Injects None) = tt
+  event_named (Injects (Some m)) = go (names_own the_profile w m)
+    where
+      go : (b : Bool) → SaysOnly (λ why. ⊥) (λ reply. Unit {0}) (if b then says w worlds.OwnIdent else server_called the_profile (named_by w m) m).words
+      go true = tt
+      go false = server_named the_profile (λ why. ⊥) (λ reply. Unit {0}) (named_by w m) m tt
