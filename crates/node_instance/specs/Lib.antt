@@ -1,0 +1,5 @@
+pub mod Whole
+pub mod Adapting
+pub mod Profile
+pub mod Bounded
+pub mod Lemmas

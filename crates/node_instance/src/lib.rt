@@ -1,0 +1,14 @@
+//! The model of nodes at the project's own instructions, states and bytes, with client reset, subscriptions by tables,
+//! and histories that begin at a floor. Clients and servers don't do these requests yet: their messages and records have
+//! no kinds for them, so how the model sees messages and records isn't said here.
+#![tactic(auto)]
+
+mod instrs;
+mod laws;
+#[cfg(test)]
+mod tests;
+
+pub use instrs::Instrs;
+pub use laws::{
+    adapted_instructions_fit, limits_tell, parts_are_lawful, restricted_changes_cross_alike,
+};

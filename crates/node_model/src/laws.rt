@@ -1,0 +1,227 @@
+ghost use Rattle.std.specs.Prelude.{Err, IfOk, List, None, Ok, Option, Some, drop, false, length, map, take, true, ◌++◌, ◌+◌, ◌-◌, ◌<◌, ◌≤◌, ◌≢◌, ℕ, ◌≡◌};
+ghost use Rattle.sync_theory.specs.Changesets.{Changeset};
+ghost use Rattle.node_model.specs.Bytes.{Bytes, Name, Tables, Uuid};
+ghost use Rattle.node_model.specs.Clients.{ClientRecord, ClientRefusal, ask, bind, born, client_of, commit, last, no_client, subscribe, take as take_message, upgrade, upload, upload_from};
+ghost use Rattle.node_model.specs.Files.{FilesOpen, is_growing, client_opens, client_reads, server_admits, server_opens, server_reads};
+ghost use Rattle.node_model.specs.Later.{IsLater, Later, LaterEvent, LaterFacts, first_later, later};
+ghost use Rattle.node_model.specs.Limits.{ClientLists, ClientNumbers, CrossSmall, IsClientRecord, IsMessage, IsServerRecord, ServerLists, ServerNumbers, WorldNumbers};
+ghost use Rattle.node_model.specs.Each.{Each};
+ghost use Rattle.node_model.specs.Log.{Stands, WorldFacts};
+ghost use Rattle.node_model.specs.Messages.{Change, Message, Retire, Retired};
+ghost use Rattle.node_model.specs.Parts.{Given, Parts, admits_part, after_parts, as_before, ask_by, at_ident, given_of, marking_by, merge_by, merged_of, no_parts, parts_of, parts_open, serve_by, served_of};
+ghost use Rattle.node_model.specs.Profile.{cross_changesets};
+ghost use Rattle.node_model.specs.Recovery.{CountIsFinal, HeirMove, IsRecovery, KeepsFinal, ListsDrops, StopsAt, SavesNow, SavesOnce, heir_after, numbers_from, numbers_of, whole_history};
+ghost use Rattle.node_model.specs.Reports.{report_by_log, report_of};
+ghost use Rattle.node_model.specs.Resets.{ByClient, Known, SavedAs, heir, heir_says, recover};
+ghost use Rattle.node_model.specs.Servers.{IdentRetired, ServerRecord, ServerStep, Trimmed, count, heir_of, is_given, merge, no_server, refuses, serve, server_objects, server_of};
+ghost use Rattle.node_model.specs.Snapshots.{grown};
+ghost use Rattle.node_model.specs.Starts.{started, started_client};
+ghost use Rattle.node_model.specs.Trimmed.{KeptBy, TrimsAlike, trim_records};
+ghost use Rattle.node_model.specs.Fronts.{file_gives};
+ghost use Rattle.node_model.specs.Trims.{BelowFloor, KeptLess, Spans, any_trimmed, is_trimmed, kept_after, next_floor, replies_by, trimmed};
+ghost use Rattle.node_model.specs.Worlds.{ClientsGrow, Edits, Event, IsReached, Made, World, empty_world, happens, world_after};
+
+use super::exchange::Exchange;
+
+/// Whatever events come, whatever is lost, repeated, late or injected, and wherever a node stops: every world that
+/// they make of the empty one has these facts, its nodes report what the log gives, opening accepts their records,
+/// no record changes once it stands, and a transaction that was acknowledged stands at its number for ever.
+pub fn worlds_hold<E: Exchange>()
+    ensures first { IsReached E.profile empty_world }
+    ensures steps { (w : World) (e : Event E.Instr) → IsReached E.profile w → IsReached E.profile (happens E.profile w e).world }
+    ensures facts { (w : World) → IsReached E.profile w → WorldFacts E.profile E.Fits w }
+    ensures reports { (w : World) → IsReached E.profile w → report_of E.profile w ≡ report_by_log E.profile w }
+    ensures opens { (w : World) → IsReached E.profile w → FilesOpen E.profile w }
+    ensures grows { (w : World) (es : List (Event E.Instr)) → ClientsGrow w (world_after E.profile w es) }
+    ensures acknowledged { (w : World) (name : Name) (ms number : ℕ) (edits : List E.Instr) (es : List (Event E.Instr))
+        → (happens E.profile w (Edits name ms edits)).words ≡ Made number
+        → Stands E.profile (world_after E.profile (happens E.profile w (Edits name ms edits)).world es) name number ms edits }
+{}
+
+/// A server that keeps its history, objects and what it knows of each ident, and answers by these, answers each
+/// message as one that reads its records, and keeps what the records after the answer stand for.
+pub fn servers_answer_by_parts<E: Exchange>()
+    ensures change { (records : List ServerRecord) (c : ℕ) (h : Change) (uuid : Uuid) → server_opens E.profile no_server records ≡ true
+        → is_given (server_of E.profile records) c ≡ true → count (server_of E.profile records) c < h.number
+        → merge_by E.profile (parts_of E.profile (server_of E.profile records)) c (given_of E.profile (server_of E.profile records) c uuid) h ≡ merged_of E.profile (server_of E.profile records) (merge E.profile (server_of E.profile records) c h) }
+    ensures given { (records : List ServerRecord) (c : ℕ) → is_given (server_of E.profile records) c ≡ true
+        → (uuid : Uuid) × (at_ident c (parts_of E.profile (server_of E.profile records)).idents ≡ Some (given_of E.profile (server_of E.profile records) c uuid)) }
+    ensures not_given { (records : List ServerRecord) (c : ℕ) → is_given (server_of E.profile records) c ≡ false
+        → at_ident c (parts_of E.profile (server_of E.profile records)).idents ≡ None }
+    ensures message { (records : List ServerRecord) (m : Message) → server_opens E.profile no_server records ≡ true
+        → serve_by E.profile (parts_of E.profile (server_of E.profile records)) m ≡ served_of E.profile (server_of E.profile records) (serve E.profile (server_of E.profile records) m) }
+    ensures records { (records : List ServerRecord) → server_opens E.profile no_server records ≡ true
+        → after_parts E.profile (no_parts E.profile) records ≡ parts_of E.profile (server_of E.profile records) }
+    ensures admits { (records : List ServerRecord) (r : ServerRecord) → server_opens E.profile no_server records ≡ true
+        → admits_part E.profile (parts_of E.profile (server_of E.profile records)) r ≡ server_admits E.profile (server_of E.profile records) r }
+    ensures opens { (records : List ServerRecord) → parts_open E.profile (no_parts E.profile) records ≡ server_opens E.profile no_server records }
+    ensures spans { (records : List ServerRecord) → server_opens E.profile no_server records ≡ true → Spans (parts_of E.profile (server_of E.profile records)) }
+    ensures writes { (kept : Parts E.Instr E.State) (m : Message) (n : ℕ) → parts_open E.profile kept (take n (serve_by E.profile kept m).records) ≡ true }
+    ensures carries_on { (kept : Parts E.Instr E.State) (m : Message) → after_parts E.profile kept (serve_by E.profile kept m).records ≡ (serve_by E.profile kept m).parts }
+{}
+
+/// A server that gave up its history before a floor answers every list of messages as the one with the longer history,
+/// up to the first that it refuses by code 71, and keeps the same otherwise. It refuses by that code exactly what begins
+/// below its floor.
+pub fn trimmed_servers_answer_alike<E: Exchange>()
+    ensures trims { (kept : Parts E.Instr E.State) → Spans kept → KeptLess kept (trimmed E.profile kept) × Spans (trimmed E.profile kept) }
+    ensures floor { (kept : Parts E.Instr E.State) → Spans kept → (kept.floor ≤ next_floor kept) × (next_floor kept ≤ kept.len) }
+    ensures goes_on { (kept : Parts E.Instr E.State) (m : Message) → Spans kept → Spans (serve_by E.profile kept m).parts }
+    ensures alike { (whole less : Parts E.Instr E.State) (ms : List Message) → KeptLess whole less → any_trimmed (replies_by E.profile less ms) ≡ false
+        → (replies_by E.profile less ms ≡ replies_by E.profile whole ms) × KeptLess (kept_after E.profile whole ms) (kept_after E.profile less ms) }
+    ensures records { (whole less : Parts E.Instr E.State) (m : Message) → KeptLess whole less → is_trimmed (serve_by E.profile less m).answer ≡ false
+        → (serve_by E.profile less m).records ≡ (serve_by E.profile whole m).records }
+    ensures below { (kept : Parts E.Instr E.State) (c : ℕ) (g : Given E.Instr) (h : Change) → BelowFloor kept g h → merge_by E.profile kept c g h ≡ Err (Trimmed kept.floor) }
+    ensures only_below { (kept : Parts E.Instr E.State) (c : ℕ) (g : Given E.Instr) (h : Change) (n : ℕ) → merge_by E.profile kept c g h ≡ Err (Trimmed n) → (n ≡ kept.floor) × BelowFloor kept g h }
+    ensures ask_below { (kept : Parts E.Instr E.State) (c cursor settled : ℕ) (g : Given E.Instr) (go : List (Changeset E.Instr) → ServerStep) → cursor ≤ kept.len → cursor < kept.floor
+        → ask_by kept c cursor settled (Some g) go ≡ as_before kept (refuses c 0 (Trimmed kept.floor)) }
+    ensures ask_above { (kept : Parts E.Instr E.State) (c cursor settled : ℕ) (g : Given E.Instr) (go : List (Changeset E.Instr) → ServerStep) → cursor ≤ kept.len → kept.floor ≤ cursor
+        → ask_by kept c cursor settled (Some g) go ≡ marking_by kept c g.mark cursor settled (go (drop (cursor - kept.floor) kept.entries)).answer }
+{}
+
+/// A server's file gives what the server keeps: one with its whole history, and one that trimming wrote, with what the
+/// server appended since. Over a file and over its trimmed one a server gives the same replies, lengths and objects, for
+/// every list of messages up to the first that the second refuses by code 71.
+pub fn server_files_give_what_is_kept<E: Exchange>()
+    ensures whole { (records : List ServerRecord) → parts_open E.profile (no_parts E.profile) records ≡ true
+        → file_gives E.profile (map (λ r. Some r) records) ≡ Ok (after_parts E.profile (no_parts E.profile) records) }
+    ensures kept { (records : List ServerRecord) → parts_open E.profile (no_parts E.profile) records ≡ true → KeptBy E.profile (after_parts E.profile (no_parts E.profile) records) }
+    ensures goes_on { (kept : Parts E.Instr E.State) (m : Message) → KeptBy E.profile kept → KeptBy E.profile (serve_by E.profile kept m).parts }
+    ensures spans { (kept : Parts E.Instr E.State) → KeptBy E.profile kept → Spans kept }
+    ensures trimmed { (kept : Parts E.Instr E.State) (more : List ServerRecord) → KeptBy E.profile kept → parts_open E.profile (trimmed E.profile kept) more ≡ true
+        → file_gives E.profile (map (λ r. Some r) (trim_records E.profile kept ++ more)) ≡ Ok (after_parts E.profile (trimmed E.profile kept) more) }
+    ensures back { (read : Bytes → Option ServerRecord) (bytes : ServerRecord → Bytes) (kept : Parts E.Instr E.State) (more : List ServerRecord)
+        → KeptBy E.profile kept → parts_open E.profile (trimmed E.profile kept) more ≡ true → Each (λ r. read (bytes r) ≡ Some r) (trim_records E.profile kept ++ more)
+        → file_gives E.profile (map read (map bytes (trim_records E.profile kept ++ more))) ≡ Ok (after_parts E.profile (trimmed E.profile kept) more) }
+    ensures alike { (kept : Parts E.Instr E.State) (ms : List Message) → KeptBy E.profile kept → any_trimmed (replies_by E.profile (trimmed E.profile kept) ms) ≡ false
+        → TrimsAlike E.profile kept ms }
+{}
+
+/// Whatever events come, and however often the server's file is replaced by one without the history before its next
+/// floor and clients begin with the server's objects: all facts of worlds hold, by the log of all records that the
+/// server ever wrote. What it keeps is what that log gives from its floor on, and it refuses what a client made by a named
+/// rule or by its floor.
+pub fn later_worlds_hold<E: Exchange>()
+    ensures first { IsLater E.profile (first_later E.profile) }
+    ensures steps { (l : Later E.Instr E.State) (e : LaterEvent E.Instr) → IsLater E.profile l → IsLater E.profile (later E.profile l e) }
+    ensures facts { (l : Later E.Instr E.State) → IsLater E.profile l → LaterFacts E.profile E.Fits l }
+{}
+
+/// A client that begins with the server's objects has them, the length of the history as its cursor, nothing unsent and
+/// no ident; opening accepts its records. What holds of it in every later exchange is among the facts of worlds.
+pub fn started_clients_have_the_objects<E: Exchange>()
+    ensures starts { (w : World) (id : Uuid) → IsReached E.profile w
+        → client_of E.profile (started E.profile id (server_of E.profile w.server).second (length (server_of E.profile w.server).log) (server_objects E.profile (server_of E.profile w.server)))
+        ≡ started_client E.profile id (server_of E.profile w.server).second (length (server_of E.profile w.server).log) (server_objects E.profile (server_of E.profile w.server)) }
+    ensures opens { (w : World) (id : Uuid) → IsReached E.profile w
+        → client_opens E.profile (no_client E.profile) (started E.profile id (server_of E.profile w.server).second (length (server_of E.profile w.server).log) (server_objects E.profile (server_of E.profile w.server))) ≡ true }
+    ensures grown { (s : E.State) → E.Fits s → E.Bounded s → grown E.profile (E.profile.build s) ≡ Ok s }
+{}
+
+/// Opening accepts what a node appends, after what it accepted before, and any beginning of it. A client whose records
+/// opening accepts doesn't wait for the rest of the state with which its file begins.
+pub fn nodes_write_what_opens<E: Exchange>()
+    ensures born { (records : List ClientRecord) (id : Uuid) (n : ℕ) → client_opens E.profile (no_client E.profile) records ≡ true
+        → client_opens E.profile (no_client E.profile) (records ++ take n (born (client_of E.profile records) id).records) ≡ true }
+    ensures commit { (records : List ClientRecord) (ms : ℕ) (edits : List E.Instr) (n : ℕ) → client_opens E.profile (no_client E.profile) records ≡ true
+        → client_opens E.profile (no_client E.profile) (records ++ take n (commit E.profile (client_of E.profile records) ms edits).records) ≡ true }
+    ensures upgrade { (records : List ClientRecord) (n : ℕ) → client_opens E.profile (no_client E.profile) records ≡ true
+        → client_opens E.profile (no_client E.profile) (records ++ take n (upgrade (client_of E.profile records)).records) ≡ true }
+    ensures subscribe { (records : List ClientRecord) (tables : Tables) (n : ℕ) → client_opens E.profile (no_client E.profile) records ≡ true
+        → client_opens E.profile (no_client E.profile) (records ++ take n (subscribe (client_of E.profile records) tables).records) ≡ true }
+    ensures taken { (records : List ClientRecord) (m : Message) (n : ℕ) → IsMessage E.profile m → client_opens E.profile (no_client E.profile) records ≡ true
+        → client_opens E.profile (no_client E.profile) (records ++ take n (take_message E.profile (client_of E.profile records) m).records) ≡ true }
+    ensures served { (records : List ServerRecord) (m : Message) (n : ℕ) → server_opens E.profile no_server records ≡ true
+        → server_opens E.profile no_server (records ++ take n (serve E.profile (server_of E.profile records) m).records) ≡ true }
+    ensures saved { (records : List ClientRecord) (by count : ℕ) (h : Change) (n : ℕ) → client_opens E.profile (no_client E.profile) records ≡ true
+        → client_opens E.profile (no_client E.profile) (records ++ take n (heir E.profile (client_of E.profile records) by count h).records) ≡ true }
+    ensures recovered { (records : List ClientRecord) (frames : List Message) (n : ℕ) → client_opens E.profile (no_client E.profile) records ≡ true
+        → client_opens E.profile (no_client E.profile) (records ++ take n (recover E.profile (client_of E.profile records) frames).records) ≡ true }
+    ensures complete { (records : List ClientRecord) → client_opens E.profile (no_client E.profile) records ≡ true
+        → is_growing (client_of E.profile records) ≡ false }
+{}
+
+/// The numbers of nodes, of what they append and of what they send are within their limits, so that each message and
+/// each record has a spelling.
+pub fn nodes_stay_within_limits<E: Exchange>()
+    ensures worlds { (w : World) → IsReached E.profile w → WorldNumbers E.profile w }
+    ensures clients { (records : List ClientRecord) → client_opens E.profile (no_client E.profile) records ≡ true → Each (IsClientRecord E.profile) records
+        → ClientNumbers E.profile (client_of E.profile records) }
+    ensures binds { (records : List ClientRecord) → IfOk (bind (client_of E.profile records)).answer (IsMessage E.profile) }
+    ensures uploads { (records : List ClientRecord) → ClientNumbers E.profile (client_of E.profile records) → IfOk (upload E.profile (client_of E.profile records)).answer (IsMessage E.profile) }
+    ensures uploads_from { (records : List ClientRecord) (after : ℕ) → ClientNumbers E.profile (client_of E.profile records) → IfOk (upload_from E.profile (client_of E.profile records) after).answer (IsMessage E.profile) }
+    ensures asks { (records : List ClientRecord) → ClientNumbers E.profile (client_of E.profile records) → IfOk (ask (client_of E.profile records)).answer (IsMessage E.profile) }
+    ensures commits { (records : List ClientRecord) (ms : ℕ) (edits : List E.Instr) → ClientNumbers E.profile (client_of E.profile records)
+        → Each (IsClientRecord E.profile) (commit E.profile (client_of E.profile records) ms edits).records }
+    ensures saves { (records : List ClientRecord) (by count : ℕ) (h : Change) → ClientNumbers E.profile (client_of E.profile records)
+        → Each (IsClientRecord E.profile) (heir E.profile (client_of E.profile records) by count h).records }
+    ensures recovers { (records : List ClientRecord) (frames : List Message) → client_opens E.profile (no_client E.profile) records ≡ true
+        → ClientNumbers E.profile (client_of E.profile records) → Each (IsClientRecord E.profile) (recover E.profile (client_of E.profile records) frames).records }
+    ensures takes { (records : List ClientRecord) (m : Message) → IsMessage E.profile m → Each (IsClientRecord E.profile) (take_message E.profile (client_of E.profile records) m).records }
+    ensures servers { (records : List ServerRecord) → server_opens E.profile no_server records ≡ true → ServerNumbers E.profile (server_of E.profile records) }
+    ensures entries { (records : List ServerRecord) → server_opens E.profile no_server records ≡ true → Each (IsServerRecord E.profile) records }
+    ensures replies { (records : List ServerRecord) (m : Message) → server_opens E.profile no_server records ≡ true → IsMessage E.profile (serve E.profile (server_of E.profile records) m).answer }
+{}
+
+/// Every list that a node spells is within the limits of a changeset, so that its bytes are read back: what clients
+/// made, what they have unsent as it was carried since, and the server's history. Crossing keeps lists within them.
+pub fn lists_stay_small<E: Exchange>()
+    ensures clients { (records : List ClientRecord) → ClientLists E.profile (client_of E.profile records) }
+    ensures servers { (records : List ServerRecord) → ServerLists E.profile (server_of E.profile records) }
+    ensures crossings { (a b x y : Changeset E.Instr) → cross_changesets E.profile a b ≡ Ok (x, y) → CrossSmall E.profile a b x y }
+{}
+
+/// A file that is read gives records that opening accepts, and records that opening accepts are read back from their
+/// bytes.
+pub fn files_read_back<E: Exchange>()
+    ensures client_opens { (read : Bytes → Option ClientRecord) (file : List Bytes) (records : List ClientRecord)
+        → client_reads E.profile read (no_client E.profile) file ≡ Ok records → client_opens E.profile (no_client E.profile) records ≡ true }
+    ensures client_back { (read : Bytes → Option ClientRecord) (bytes : ClientRecord → Bytes) (records : List ClientRecord)
+        → client_opens E.profile (no_client E.profile) records ≡ true → Each (λ r. read (bytes r) ≡ Some r) records
+        → client_reads E.profile read (no_client E.profile) (map bytes records) ≡ Ok records }
+    ensures server_opens { (read : Bytes → Option ServerRecord) (file : List Bytes) (records : List ServerRecord)
+        → server_reads E.profile read no_server file ≡ Ok records → server_opens E.profile no_server records ≡ true }
+    ensures server_back { (read : Bytes → Option ServerRecord) (bytes : ServerRecord → Bytes) (records : List ServerRecord)
+        → server_opens E.profile no_server records ≡ true → Each (λ r. read (bytes r) ≡ Some r) records
+        → server_reads E.profile read no_server (map bytes records) ≡ Ok records }
+{}
+
+/// The entries of an ident have the numbers 1, 2, 3 and so on. Once the ident is retired there are no more of them: not
+/// now, and not after any message that comes later. A server that answers by what it keeps holds to it too, also where
+/// its history was trimmed.
+pub fn retired_counts_are_final<E: Exchange>()
+    ensures numbered { (records : List ServerRecord) (c : ℕ) → server_opens E.profile no_server records ≡ true
+        → numbers_of c (whole_history E.profile (server_of E.profile records)) ≡ numbers_from 1 (count (server_of E.profile records) c) }
+    ensures last { (records : List ServerRecord) (c by : ℕ) → server_opens E.profile no_server records ≡ true
+        → heir_of c (server_of E.profile records).retired ≡ Some by → CountIsFinal E.profile records c by }
+    ensures whole { (records : List ServerRecord) (c by : ℕ) → server_opens E.profile no_server records ≡ true
+        → heir_of c (server_of E.profile records).retired ≡ Some by → KeepsFinal (parts_of E.profile (server_of E.profile records)) c by (count (server_of E.profile records) c) }
+    ensures kept { (kept : Parts E.Instr E.State) (c by n : ℕ) (ms : List Message) → KeepsFinal kept c by n → KeepsFinal (kept_after E.profile kept ms) c by n }
+    ensures trimmed { (kept : Parts E.Instr E.State) (c by n : ℕ) → KeepsFinal kept c by n → KeepsFinal (trimmed E.profile kept) c by n }
+    ensures answered { (kept : Parts E.Instr E.State) (c by n : ℕ) → KeepsFinal kept c by n → (serve_by E.profile kept (Retire c by)).answer ≡ Retired c by n }
+    ensures refused { (kept : Parts E.Instr E.State) (c by n : ℕ) (g : Given E.Instr) (h : Change) → KeepsFinal kept c by n → at_ident c kept.idents ≡ Some g
+        → merge_by E.profile kept c g h ≡ Err (IdentRetired n) }
+{}
+
+/// What is saved of a list of instructions acts, and each instruction that meets a break is listed once, with its break.
+pub fn breaks_are_listed<E: Exchange>()
+    ensures { (s : E.State) (is : List E.Instr) → ListsDrops E.profile s is }
+{}
+
+/// Each change of an old client takes effect as itself or as one transaction of its heir, never both, however often runs
+/// of recovery are repeated and wherever they are stopped.
+pub fn heirs_save_once<E: Exchange>()
+    ensures once { (server : List ServerRecord) (ident by : ℕ) (old first : List ClientRecord) (moves : List HeirMove)
+        → IsRecovery E.profile server ident by old first moves → SavesOnce E.profile server ident by old (heir_after E.profile first moves) }
+    ensures saves { (records : List ClientRecord) (by n : ℕ) (h : Change) (number : ℕ) (dropped : List (ℕ × ℕ))
+        → (heir E.profile (client_of E.profile records) by n h).answer ≡ Ok (SavedAs number dropped) → SavesNow E.profile (client_of E.profile records) by n h number dropped }
+    ensures again { (records : List ClientRecord) (by n : ℕ) (h : Change) (number : ℕ) (dropped : List (ℕ × ℕ))
+        → (heir E.profile (client_of E.profile records) by n h).answer ≡ Ok (SavedAs number dropped)
+        → heir E.profile (client_of E.profile (records ++ (heir E.profile (client_of E.profile records) by n h).records)) by n h ≡ heir_says Known }
+    ensures known { (records : List ClientRecord) (by n : ℕ) (h : Change) → by ≡ (client_of E.profile records).ident → n < h.number → h.number ≤ n + last (client_of E.profile records)
+        → heir E.profile (client_of E.profile records) by n h ≡ heir_says Known }
+    ensures stops { (records : List ClientRecord) (by n : ℕ) (h : Change) (why : ClientRefusal) → client_opens E.profile (no_client E.profile) records ≡ true → by ≢ 0
+        → (heir E.profile (client_of E.profile records) by n h).answer ≡ Err (ByClient why) → StopsAt E.profile (client_of E.profile records) h why }
+    ensures all_unsent { (records : List ClientRecord) → ClientNumbers E.profile (client_of E.profile records)
+        → upload_from E.profile (client_of E.profile records) 0 ≡ upload E.profile (client_of E.profile records) }
+{}
