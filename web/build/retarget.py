@@ -1,0 +1,138 @@
+#!/usr/bin/env python3
+"""retarget.py MODULE.bc OUT.wasm: compiles the LLVM module that the toolchain made for x86-64 to WebAssembly.
+
+The module is taken as text, its target is changed from x86-64 to wasm64 (both are 64-bit little endian, with the same sizes
+and alignments), and it is compiled and linked with `heap.c`, `wide.c` and `start.c`. binaryen then lowers the 64-bit memory to a
+32-bit one, so that any browser runs it. It stops at whatever it doesn't know: a foreign function, an intrinsic of x86,
+inline assembly, an indirect call.
+"""
+import os
+import re
+import subprocess
+import sys
+import tempfile
+
+HERE = os.path.dirname(os.path.abspath(__file__))
+
+# What the page's host supplies (web/src/program.js); the files are never reached by `replay` and `gen`, and the host stops there.
+HOST = "read write rattle_arg rattle_env rattle_env_at rattle_errno rattle_set_errno".split()
+FILES = "open close ftruncate fchmod fsync fdatasync flock statx lseek".split()
+# What `heap.c` and `start.c` define.
+HEAP = "rattle_alloc rattle_realloc rattle_dealloc".split()
+START = ["__sysv_signal"]
+KNOWN = {*HOST, *FILES, *HEAP, *START}
+
+LAYOUT = "e-m:e-p:64:64-p10:8:8-p20:8:8-i64:64-i128:128-n32:64-S128-ni:1:10:20"
+TARGET = "--target=wasm64-unknown-unknown -mcpu=lime1".split()
+# Those with which the toolchain's own build compiles a module for wasm64.
+PASSES = """-mllvm -expand-div-rem-bits=64 -mllvm -expand-fp-convert-bits=64 -mllvm -trap-unreachable
+    -mllvm -disable-machine-licm -mllvm -disable-postra-machine-licm -mllvm -sink-common-insts=false
+    -ffunction-sections -fdata-sections --no-default-config""".split()
+STACK = 1 << 20
+# What is refused wherever it stands.
+FORMS = {
+    "foreign variable": r"^@\S+ = external\b",
+    "number of 80 bits": r"\bx86_fp80\b",
+    "inline assembly": r"\basm (?:sideeffect |alignstack |inteldialect |unwind )*\"|^module asm ",
+    "indirect call": r"\b(?:call|invoke)\b[^@\n]* %[\w.\"]+\(",
+}
+NAME = r'@(?:"((?:[^"\\]|\\.)*)"|([\w.$-]+))'
+
+
+def stop(why):
+    sys.exit(f"retarget: {why}")
+
+
+def run(*words):
+    subprocess.run(words, check=True)
+
+
+def toolchain():
+    """The folder of the toolchain's clang and linker."""
+    rt = subprocess.run(["rt", "doc"], check=True, capture_output=True, text=True).stdout
+    return os.path.join(os.path.dirname(rt.strip()), "toolchain", "bin")
+
+
+def declared(text):
+    """The names that the module declares and doesn't define."""
+    return {quoted or plain for quoted, plain in re.findall(rf"^declare [^@\n]*{NAME}\(", text, flags=re.M)}
+
+
+def line_at(text, place):
+    """The line of the text at a place, or its front."""
+    start = text.rfind("\n", 0, place) + 1
+    return text[start : start + 200].split("\n")[0].strip()
+
+
+def refusals(text):
+    """What the module has for which this script can't answer."""
+    names = declared(text)
+    intrinsics = {it for it in names if it.startswith("llvm.")}
+    found = [f"unknown foreign function: {it}" for it in sorted(names - intrinsics - KNOWN)]
+    found += [f"intrinsic of x86: {it}" for it in sorted(intrinsics) if it.startswith("llvm.x86.")]
+    for what, form in FORMS.items():
+        place = re.search(form, text, flags=re.M)
+        found += [f"{what}: {line_at(text, place.start())}"] if place else []
+    if not re.search(r"^define [^@\n]*@main\(", text, flags=re.M):
+        found.append("no main")
+    return found
+
+
+def for_wasm(text):
+    """The module's text for wasm64: its target, no attributes of x86, `main` as `program_main`, short names for the assembler."""
+    text = re.sub(r"^target datalayout = .*$", f'target datalayout = "{LAYOUT}"', text, count=1, flags=re.M)
+    text = re.sub(r"^target triple = .*$", 'target triple = "wasm64-unknown-unknown"', text, count=1, flags=re.M)
+    text = re.sub(r' "(?:probe-stack|stack-probe-size|target-cpu|target-features|tune-cpu)"="[^"]*"', "", text)
+    text = re.sub(r"@main\(", "@program_main(", text)
+    short = {}
+    return re.sub(r'@"((?:[^"\\]|\\.)*)"', lambda it: "@" + short.setdefault(it[1], f"f{len(short)}"), text)
+
+
+def compile_module(clang, module, room):
+    """Compiles the module to an object file for wasm64, by way of its text."""
+    run(clang, "-x", "ir", module, "-S", "-emit-llvm", "-Xclang", "-disable-llvm-passes", "-o", f"{room}/module.ll")
+    with open(f"{room}/module.ll", encoding="utf-8") as it:
+        text = it.read()
+    if refusals(text):
+        stop("; ".join(refusals(text)))
+    functions = len(re.findall(r"^define ", text, flags=re.M))
+    print(f"retarget: {functions} functions; foreign: {', '.join(sorted(declared(text) & KNOWN))}")
+    with open(f"{room}/wasm.ll", "w", encoding="utf-8") as it:
+        it.write(for_wasm(text))
+    run(clang, *TARGET, *PASSES, "-O3", "-x", "ir", f"{room}/wasm.ll", "-S", "-o", f"{room}/wasm.s")
+    with open(f"{room}/wasm.s", encoding="utf-8") as it:
+        if re.search(r"^\s*call_indirect\b", it.read(), flags=re.M):
+            stop("indirect call in the compiled module")
+    run(clang, *TARGET, "--no-default-config", "-c", f"{room}/wasm.s", "-o", f"{room}/module.o")
+    return f"{room}/module.o"
+
+
+def compile_c(clang, room, name):
+    """Compiles a C file of this folder to an object file for wasm64."""
+    flags = "-std=c17 -O2 -fwrapv -ffreestanding -fno-builtin -nostdinc -Wall -Wextra -Werror".split()
+    run(clang, *TARGET, *PASSES, *flags, "-c", f"{HERE}/{name}.c", "-o", f"{room}/{name}.o")
+    return f"{room}/{name}.o"
+
+
+def main():
+    if len(sys.argv) != 3:
+        stop("usage: retarget.py MODULE.bc OUT.wasm")
+    module, out = sys.argv[1:]
+    bin_ = toolchain()
+    with tempfile.TemporaryDirectory(prefix="retarget-") as room:
+        objects = [compile_c(f"{bin_}/clang", room, it) for it in ("heap", "wide", "start")]
+        objects.append(compile_module(f"{bin_}/clang", module, room))
+        imports = f"{room}/imports"
+        with open(imports, "w", encoding="utf-8") as it:
+            it.write("\n".join([*HOST, *FILES]) + "\n")
+        run(f"{bin_}/ld.lld", "-flavor", "wasm", "-mwasm64", "--no-entry", "--stack-first", "-z", f"stack-size={STACK}",
+            "--export=program_main", f"--allow-undefined-file={imports}", "--gc-sections", "--strip-debug", "--threads=1",
+            "-o", f"{room}/wide.wasm", *objects)
+        features = "memory64 bulk-memory sign-ext nontrapping-float-to-int mutable-globals multivalue".split()
+        run("wasm-opt", *[f"--enable-{it}" for it in features], "--memory64-lowering", f"{room}/wide.wasm", "-o", f"{room}/narrow.wasm")
+        run("wasm-opt", *[f"--enable-{it}" for it in features[1:]], "-O2", f"{room}/narrow.wasm", "-o", out)
+    print(f"retarget: {out}: {os.path.getsize(out)} bytes")
+
+
+if __name__ == "__main__":
+    main()

@@ -1,0 +1,50 @@
+#!/usr/bin/env python3
+"""Shows that `retarget.py` refuses what it can't answer for, and nothing else. `build.sh` runs it first."""
+import unittest
+
+import retarget
+
+PLAIN = """
+declare noundef i64 @read(i32 noundef, ptr noundef, i64 noundef)
+declare void @llvm.memmove.p0.p0.i64(ptr, ptr, i64, i1 immarg)
+declare { i64, i64 } @rattle_alloc(i64 noundef, i64 noundef)
+@"a table" = private constant [2 x ptr] [ptr @main, ptr @"f<T>"]
+define internal void @"f<T>"(ptr %0) {
+  %2 = tail call i64 @read(i32 0, ptr %0, i64 7)
+  call void @llvm.memmove.p0.p0.i64(ptr %0, ptr %0, i64 %2, i1 false)
+  ret void
+}
+define i32 @main() {
+  ret i32 0
+}
+"""
+REFUSED = {
+    "unknown foreign function: getpid": "declare i32 @getpid()",
+    "unknown foreign function: a name": 'declare void @"a name"(i32)',
+    "intrinsic of x86: llvm.x86.rdtsc": "declare i64 @llvm.x86.rdtsc()",
+    "foreign variable: @environ": "@environ = external global ptr",
+    "number of 80 bits: ": "define x86_fp80 @wide(x86_fp80 %0) {",
+    "inline assembly: ": '  call void asm sideeffect "nop", ""()',
+    "inline assembly: module asm": 'module asm "nop"',
+    "indirect call: ": "  %3 = tail call fastcc { i64, i64 } %2(ptr %0)",
+    "indirect call: call": "  call void %f(ptr @main)",
+}
+
+
+class Refusals(unittest.TestCase):
+    def test_a_known_module_passes(self):
+        self.assertEqual(retarget.refusals(PLAIN), [])
+
+    def test_what_is_unknown_is_refused(self):
+        for why, line in REFUSED.items():
+            with self.subTest(line):
+                found = retarget.refusals(PLAIN + line + "\n")
+                self.assertEqual(len(found), 1)
+                self.assertTrue(found[0].startswith(why), found)
+
+    def test_a_module_has_a_main(self):
+        self.assertEqual(retarget.refusals(PLAIN.replace("@main()", "@other()")), ["no main"])
+
+
+if __name__ == "__main__":
+    unittest.main()

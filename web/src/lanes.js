@@ -1,0 +1,116 @@
+// The lanes: a column for each event that made, carried, dropped or refused something, a row for each client and the server.
+
+import { make, unseen } from './elements.js';
+import { editWords, fateWords, plural, refusalWords, transactionWords } from './words.js';
+
+const SVG = 'http://www.w3.org/2000/svg';
+const FATES = {
+  waiting: 'made, not on the server yet',
+  kept: 'as made',
+  moved: 'carried',
+  same: 'another did the same',
+  partly: 'partly dropped',
+  dropped: 'dropped',
+  refused: 'refused',
+};
+const MARKS = { waiting: '○', kept: '●', moved: '◐', same: '=', partly: '◔', dropped: '✕', refused: '⊘' };
+
+/** A transaction as a mark of its fate and its name, in the colour of its client. */
+function chip(transaction, fate, more = '') {
+  const seen = [make('span', { class: 'mark', 'aria-hidden': 'true' }, MARKS[fate]), transaction.name];
+  return make('span', { class: `chip ${fate} ${more} ${classOf(transaction.client)}`, title: transactionWords(transaction.edits) }, seen, unseen(`, ${FATES[fate]}`));
+}
+
+const classOf = (client) => `client-${client.toLowerCase()}`;
+
+const note = (text) => make('span', { class: 'note' }, text);
+
+/** What stands in each row at one column: the cells by node, and the rows that a line joins. */
+function cellsOf(column) {
+  const { kind, node } = column;
+  if (kind === 'made') return { [node]: [note('made'), chip(column.transaction, 'waiting')] };
+  if (kind === 'broken') return { [node]: [note(column.outcome.text)] };
+  if (kind === 'stopped') return { [node]: [make('span', { class: 'chip refused' }, '⊘ stopped'), note(refusalWords(column.outcome.numbers[2]))] };
+  if (kind === 'took') return { server: [note('download')], [node]: [note('took'), ...column.transactions.map((it) => chip(it, it.fate, it.client === node ? 'own' : ''))] };
+  const refused = column.refused ? [chip(column.refused, 'refused'), note(refusalWords(column.refused.refused.code))] : [];
+  return { [node]: [note('upload')], server: [...column.transactions.map((it) => chip(it, it.fate)), ...refused] };
+}
+
+/** The table of lanes. `rows` are the nodes from the top, `server` among them. */
+function tableOf(columns, rows) {
+  const head = make('tr', {}, make('th', { scope: 'col' }, 'Event'), columns.map((it) => make('th', { scope: 'col' }, make('a', { href: `#line-${it.line}` }, String(it.line)))));
+  const cells = columns.map(cellsOf);
+  const body = rows.map((node) => {
+    const name = node === 'server' ? 'Server' : `Phone ${node}`;
+    const title = make('th', { scope: 'row', class: node === 'server' ? '' : classOf(node) }, name);
+    return make('tr', { 'data-node': node }, title, cells.map((it, at) => make('td', { 'data-column': at }, it[node] ?? [])));
+  });
+  return make('table', {}, make('caption', { class: 'unseen' }, 'What happened at each event, by phone and server'), make('thead', {}, head), make('tbody', {}, body));
+}
+
+/** Draws a line with a point between the rows of each column that a message crossed. */
+function drawLines(frame, columns) {
+  frame.querySelector('svg')?.remove();
+  const box = frame.getBoundingClientRect();
+  const svg = document.createElementNS(SVG, 'svg');
+  svg.setAttribute('aria-hidden', 'true');
+  svg.setAttribute('width', frame.scrollWidth);
+  svg.setAttribute('height', frame.scrollHeight);
+  columns.forEach((column, at) => {
+    if (column.kind !== 'stored' && column.kind !== 'took') return;
+    const [from, to] = column.kind === 'stored' ? [column.node, 'server'] : ['server', column.node];
+    const spot = (node) => frame.querySelector(`tr[data-node="${node}"] td[data-column="${at}"]`).getBoundingClientRect();
+    const [start, end] = [spot(from), spot(to)];
+    const isDown = end.top > start.top;
+    const x = start.left - box.left + start.width - 9;
+    const [y1, y2] = [start.top + 12 - box.top, end.top + 12 - box.top];
+    const path = document.createElementNS(SVG, 'path');
+    const tip = isDown ? -5 : 5;
+    path.setAttribute('d', `M${x} ${y1}V${y2}M${x - 4} ${y2 + tip}L${x} ${y2}L${x + 4} ${y2 + tip}`);
+    path.setAttribute('class', classOf(column.node));
+    svg.append(path);
+  });
+  frame.append(svg);
+}
+
+/** What became of a transaction, as lines of words. */
+function becameOf({ entry, became, refused }) {
+  if (refused) return [`refused by the server: ${refusalWords(refused.code)} (code ${refused.code})`];
+  if (!entry) return ['not on the server yet'];
+  const others = became.filter((it) => it.fate !== 'kept');
+  return others.length === 0 ? ['as made'] : others.map(fateWords);
+}
+
+/** The table of all transactions, the latest first: what each said, and what it became. */
+function transactionsTable(transactions) {
+  const head = make('tr', {}, ['Transaction', 'Made', 'Place in the history', 'What it became'].map((it) => make('th', { scope: 'col' }, it)));
+  const rows = [...transactions].reverse().map((it) =>
+    make('tr', {}, [
+      make('th', { scope: 'row' }, chip(it, it.fate)),
+      make('td', {}, it.edits.map(editWords).join('; ')),
+      make('td', {}, it.entry ? String(it.entry.version + 1) : '–'),
+      make('td', {}, becameOf(it).map((words) => make('div', {}, words))),
+    ]),
+  );
+  return make('table', { class: 'rows' }, make('thead', {}, head), make('tbody', {}, rows));
+}
+
+/** Draws the lanes and the table of transactions, and says in one sentence how many there are of each fate. */
+export function drawLanes({ frame, summary, table }, story, rows) {
+  const { columns, transactions } = story;
+  frame.replaceChildren(tableOf(columns, rows));
+  drawLines(frame, columns);
+  const count = (fate) => transactions.filter((it) => it.fate === fate).length;
+  const said = Object.keys(FATES).filter((fate) => count(fate) > 0).map((fate) => `${count(fate)} ${FATES[fate]}`);
+  summary.textContent = `${plural(transactions.length, 'transaction')}: ${said.join(', ')}.`;
+  table.replaceChildren(transactionsTable(transactions));
+  frame.parentElement.scrollLeft = frame.scrollWidth;
+}
+
+/** The lines between the rows again, after the page changed its width. */
+export const redrawLines = (frame, story) => drawLines(frame, story.columns);
+
+/** What the marks mean. */
+export function legend() {
+  return Object.keys(FATES).map((fate) => make('li', {}, make('span', { class: `chip ${fate}`, 'aria-hidden': 'true' }, MARKS[fate]), ` ${FATES[fate]}`));
+}

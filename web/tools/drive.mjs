@@ -1,0 +1,259 @@
+// Drives the page in headless Chromium as a person would, by mouse and by keyboard, and checks what it shows: offline edits on
+// two phones that agree after they come back, columns that can't be merged, labels, focus and width. Ends with status 1 at the
+// first check that fails. With a folder as its argument, pictures go there.
+
+import assert from 'node:assert/strict';
+import { execFileSync } from 'node:child_process';
+import fs from 'node:fs';
+import path from 'node:path';
+import { Browser, serve } from './browser.mjs';
+
+const top = path.resolve(import.meta.dirname, '../..');
+const pictures = process.argv[2];
+const WIDE = { width: 1280, height: 900 };
+const NARROW = { width: 360, height: 740 };
+
+let browser;
+const page = (expression) => browser.evaluate(expression);
+const check = (what, got, wanted) => {
+  assert.deepEqual(got, wanted, what);
+  console.log(`drive: ${what}`);
+};
+/** A picture of the page from its top to the end of the lanes. */
+const picture = async (name) => pictures && browser.picture(path.join(pictures, `page_${name}.png`), await page(`document.querySelector('main > section').getBoundingClientRect().bottom + scrollY + 16`));
+
+/** Clicks in the middle of an element with the mouse. */
+async function click(selector) {
+  const { x, y } = await page(`(() => {
+    const it = document.querySelector(${JSON.stringify(selector)});
+    it.scrollIntoView({ block: 'center' });
+    const { left, top, width, height } = it.getBoundingClientRect();
+    return { x: left + width / 2, y: top + height / 2 };
+  })()`);
+  for (const type of ['mousePressed', 'mouseReleased']) await browser.send('Input.dispatchMouseEvent', { type, x, y, button: 'left', clickCount: 1 });
+}
+
+/** Writes a text over what stands in a field, and ends with the Enter key. */
+async function write(selector, text) {
+  await click(selector);
+  await page(`document.querySelector(${JSON.stringify(selector)}).select()`);
+  await browser.type(text);
+  await browser.press('Enter');
+}
+
+/** Opens what more can be done with a task, does it, and closes it. */
+async function withMore(phone, key, work) {
+  await click(`#${phone}-${key}-summary`);
+  await work(`#${phone}-${key}`);
+  if (await page(`document.querySelector('#${phone}-${key}-summary') !== null`)) await click(`#${phone}-${key}-summary`);
+}
+
+const addTag = (phone, key, tag) => withMore(phone, key, (id) => write(`${id}-tag`, tag));
+
+const addNote = (phone, key, name, text) =>
+  withMore(phone, key, async (id) => {
+    await click(`${id}-at`);
+    await browser.type(name);
+    await write(`${id}-value`, text);
+  });
+
+/** What a phone shows: for each task its title, votes, whether it is done, and its tags and notes. */
+const shown = (phone) => page(`Array.from(document.querySelectorAll('.phone[aria-labelledby="${phone}-name"] .tasks > li'), (it) => ({
+  title: it.querySelector('.title').value,
+  votes: it.querySelector('.vote').textContent,
+  done: it.querySelector('input[type=checkbox]').checked,
+  chips: Array.from(it.querySelectorAll('.chips li'), (chip) => chip.firstChild.textContent),
+}))`);
+const titles = async (phone) => (await shown(phone)).map((task) => task.title);
+const text = (id) => page(`document.getElementById('${id}').textContent`);
+const fates = () => page(`Object.fromEntries(Array.from(document.querySelectorAll('#transactions tbody tr'), (row) => [row.querySelector('.chip').childNodes[1].textContent, row.lastChild.textContent]))`);
+const task = (title, votes = 0, done = false, chips = []) => ({ title, votes: `▲ ${votes}`, done, chips });
+
+async function both(what, wanted) {
+  check(`phone A ${what}`, await shown('A'), wanted);
+  check(`phone B ${what}`, await shown('B'), wanted);
+}
+
+async function editsOffline() {
+  await both('begins with three tasks', ['Buy bread', 'Water the plants', 'Call the bank'].map((title) => task(title)));
+  await picture('before');
+  await click('#A-online');
+  await click('#B-online');
+  await write('#A-A1-title', 'Buy rye bread');
+  await write('#B-A1-title', 'Buy white bread');
+  await write('#A-new', 'Wash the car');
+  await write('#B-new', 'Mow the lawn');
+  await click('#A-A2-vote');
+  await click('#B-A2-vote');
+  await addTag('A', 'A1', 'shop');
+  await addTag('B', 'A1', 'today');
+  await addNote('A', 'A2', 'where', 'balcony');
+  await addNote('B', 'A2', 'how', 'a little');
+  await click('#A-A3-done');
+  await withMore('B', 'A3', (id) => click(`${id}-erase`));
+  check('offline, phone A shows its own changes', await shown('A'), [
+    task('Buy rye bread', 0, false, ['#shop']),
+    task('Water the plants', 1, false, ['where: balcony']),
+    task('Call the bank', 0, true),
+    task('Wash the car'),
+  ]);
+  check('offline, phone B shows its own', await shown('B'), [
+    task('Buy white bread', 0, false, ['#today']),
+    task('Water the plants', 1, false, ['how: a little']),
+    task('Mow the lawn'),
+  ]);
+  check('the page says who differs', await text('agreement'), 'Phone A and Phone B differ from the server.');
+  check('phone A says what waits', await text('A-state'), 'Offline. 6 changesets made here wait. It has taken 4 changesets of the server’s.');
+  await picture('offline');
+}
+
+async function agreesAfterwards() {
+  await click('#B-online');
+  await click('#A-online');
+  await both('shows what was made on both', [
+    task('Buy white bread', 0, false, ['#shop', '#today']),
+    task('Water the plants', 2, false, ['how: a little', 'where: balcony']),
+    task('Wash the car'),
+    task('Mow the lawn'),
+  ]);
+  check('the page says that all agree', await text('agreement'), 'All phones and the server show the same.');
+  check('and tells it to a screen reader', await text('status'), 'Phone A is online. All phones and the server show the same.');
+  const { 'A·5': title, 'A·6': insertion, 'A·7': vote, 'A·10': done, 'B·1': later } = await fates();
+  check('the earlier title was dropped', title, 'dropped: title of A1 = “Buy rye bread”');
+  check('the later title stands', later, 'as made');
+  check('the vote stands', vote, 'as made');
+  check('the earlier insertion was carried to its place', insertion, 'moved: A4 put at place 3');
+  check('what was done to an erased task was dropped', done, 'dropped: done of A3 = true');
+  await picture('after');
+}
+
+/** The event lines of the page, through the program itself, where it was built. */
+async function replaysNatively() {
+  const native = process.env.REALM_SYNC ?? path.join(top, 'crates/realm_sync/out/realm_sync');
+  if (!fs.existsSync(native)) return console.log('drive: the program was not built, so its own replay of the page’s events was not compared');
+  await page(`document.getElementById('raw').open = true`);
+  await browser.until(`document.querySelectorAll('#lines tr').length > 0`);
+  const lines = await page(`Array.from(document.querySelectorAll('#lines tr'), (row) => Array.from(row.children, (cell) => cell.textContent))`);
+  const input = lines.map(([, event]) => `${event}\n`).join('');
+  const outcomes = lines.map(([line, , printed]) => `${line} ${printed}\n`).join('');
+  const wanted = execFileSync(native, ['replay'], { input, encoding: 'utf8', maxBuffer: 1 << 28 });
+  assert.equal(`${outcomes}${await text('report')}\n`, wanted);
+  console.log(`drive: the program itself prints the same for the page’s ${lines.length} events`);
+  await page(`document.getElementById('raw').open = false`);
+}
+
+async function isReadAndFits() {
+  const { nodes } = await browser.send('Accessibility.getFullAXTree');
+  const roles = new Set(['button', 'textbox', 'checkbox', 'switch', 'combobox', 'spinbutton', 'link', 'region', 'DisclosureTriangle']);
+  const controls = nodes.filter((node) => !node.ignored && roles.has(node.role?.value));
+  check(`each of ${controls.length} controls has a name`, controls.filter((node) => !node.name?.value).map((node) => node.role.value), []);
+  for (const isDark of [false, true]) {
+    await browser.look({ ...NARROW, isDark });
+    check(`nothing lies beside a window of 360 pixels, ${isDark ? 'dark' : 'light'}`, await page('document.documentElement.scrollWidth'), NARROW.width);
+    if (isDark) await picture('narrow_dark');
+  }
+  await browser.look({ ...WIDE, isDark: true });
+  await picture('after_dark');
+  await browser.look(WIDE);
+}
+
+/** By keys alone: from the top of the page on, phone A goes offline and online, and a task is added. */
+async function worksByKeyboard() {
+  await click('h1');
+  const focused = () => page('document.activeElement.id');
+  const order = [];
+  while ((await focused()) !== 'A-new' && order.length < 20) {
+    await browser.press('Tab');
+    order.push(await focused());
+    if (order.at(-1) === 'A-online') await browser.press(' ');
+  }
+  check('the Tab key goes from the top to phone A', order.slice(-2), ['A-online', 'A-new']);
+  check('the space bar took phone A offline', (await text('A-state')).startsWith('Offline.'), true);
+  await browser.type('Bake a cake');
+  await browser.press('Enter');
+  check('the Enter key added a task', (await titles('A')).at(-1), 'Bake a cake');
+  check('and the focus is where it was', await focused(), 'A-new');
+  await browser.press('Tab', 8);
+  await browser.press(' ');
+  check('back online, both have it', (await titles('B')).at(-1), 'Bake a cake');
+  await page(`document.getElementById('B-A1-vote').focus()`);
+  await browser.press('Enter');
+  check('after a vote the focus is at the same button', await focused(), 'B-A1-vote');
+}
+
+async function columnsThatDiffer() {
+  await click('#A-online');
+  await click('#B-online');
+  for (const [phone, kind] of [['A', 'Text'], ['B', 'Int']]) {
+    await page(`document.querySelector('.phone[aria-labelledby="${phone}-name"] .schema').open = true`);
+    await page(`document.getElementById('${phone}-kind').value = '${kind}'`);
+    await click(`.phone[aria-labelledby="${phone}-name"] .schema button`);
+  }
+  await click('#A-online');
+  check('the first phone’s column is taken', (await text('A-state')).startsWith('It has taken all'), true);
+  await click('#B-online');
+  check('the second phone stops, and says why', await text('B-state'), 'Stopped: two devices define one column differently. It takes nothing more, and keeps all that it made (1 changeset of its own).');
+  check('what it made was refused', (await fates())['B·8'], 'refused by the server: two devices define one column differently (code 2)');
+  await write('#B-new', 'Written on a stopped phone');
+  check('it still keeps what is made on it', (await titles('B')).at(-1), 'Written on a stopped phone');
+  await picture('stopped');
+}
+
+async function threePhones() {
+  await page(`document.getElementById('count').value = '3'`);
+  await click('#begin button');
+  check('three phones begin with the same tasks', await titles('C'), ['Buy bread', 'Water the plants', 'Call the bank']);
+  await click('#B-online');
+  await click('#B-A3-up');
+  await click('#C-A1-vote');
+  await click('#B-online');
+  check('a task that moved offline moves for the third phone', await titles('C'), ['Buy bread', 'Call the bank', 'Water the plants']);
+  check('and all agree', await text('agreement'), 'All phones and the server show the same.');
+}
+
+/** What both do is there once. */
+async function theSameOnBoth() {
+  await page(`document.getElementById('count').value = '2'`);
+  await click('#begin button');
+  await click('#A-online');
+  await click('#B-online');
+  for (const phone of ['A', 'B']) {
+    await click(`.phone[aria-labelledby="${phone}-name"] .schema summary`);
+    await click(`.phone[aria-labelledby="${phone}-name"] .schema button`);
+    await withMore(phone, 'A2', (id) => click(`${id}-erase`));
+  }
+  await click('#A-online');
+  await click('#B-online');
+  check('a column that both add, and a task that both erase, is one change', [await text('agreement'), await titles('B')], ['All phones and the server show the same.', ['Buy bread', 'Call the bank']]);
+  check('and the page says so', (await fates())['B·1'], 'another did it too: column due, Text');
+}
+
+/** A scene that the page plays by itself. */
+async function scene() {
+  await page(`document.getElementById('scene').selectedIndex = 3`);
+  await click('#play button');
+  await browser.until(`document.getElementById('length').textContent === '7 changesets in its history'`);
+  check('in a scene, an erased task is gone on both', [await titles('A'), await titles('B')], Array(2).fill(['Buy bread', 'Water the plants']));
+  check('and what was done to it was dropped', Object.values(await fates()).filter((fate) => fate.startsWith('dropped')).length, 2);
+}
+
+const server = await serve(path.join(top, 'web'));
+browser = await Browser.start();
+try {
+  await browser.look(WIDE);
+  await browser.open(`${server.origin}/index.html`, `document.documentElement.dataset.ready === 'true'`);
+  await editsOffline();
+  await agreesAfterwards();
+  await replaysNatively();
+  await isReadAndFits();
+  await worksByKeyboard();
+  await columnsThatDiffer();
+  await threePhones();
+  await theSameOnBoth();
+  await scene();
+  check('the page met no error', browser.faults, []);
+  console.log('drive: all as expected');
+} finally {
+  await browser.close();
+  server.close();
+}
