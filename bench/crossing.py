@@ -2,10 +2,11 @@
 """How long lists, unsent changesets and reciprocal lists take to cross, for growing N.
 
 For each kind and N it prints the seconds, the nanoseconds a meeting (a pair), the growth exponent from one N to the next, and
-the peak memory of the process; the best of up to twenty. `lists` has N * N meetings, all others have N. It builds the program
+the peak memory of the process; the best of up to twenty. `lists`, `disjoint`, `counter` and `update` have N * N meetings, all
+others have N. It builds the program
 where it is missing.
 
-usage: bench/crossing.py [KIND ..]      (all five where they are left out)
+usage: bench/crossing.py [KIND ..]      (all where they are left out)
 """
 import math
 import os
@@ -17,7 +18,8 @@ import time
 CRATE = os.path.join(os.path.dirname(os.path.dirname(os.path.abspath(__file__))), "crates", "crossing_bench")
 PROGRAM = os.path.join(CRATE, "out", "crossing_bench")
 LINE = re.compile(r": (\d+) runs in (\d+) nanoseconds")
-KINDS = ["lists", "unsent-apart", "unsent-touched", "entries-apart", "entries-touched"]
+KINDS = ["lists", "unsent-apart", "unsent-touched", "entries-apart", "entries-touched", "disjoint", "counter", "update"]
+SQUARE = ["lists", "disjoint", "counter", "update"]
 COUNTS = [250, 500, 1000, 2000, 4000, 8000]
 MOST_SECONDS = 10
 ENOUGH_SECONDS = 10
@@ -70,7 +72,7 @@ def measured(kind):
 def table(kind):
     before = None
     for count, (seconds, megabytes) in measured(kind).items():
-        meetings = count * count if kind == "lists" else count
+        meetings = count * count if kind in SQUARE else count
         exponent = ""
         if before is not None:
             exponent = f"{math.log(seconds / before[1]) / math.log(count / before[0]):.2f}"

@@ -1,0 +1,267 @@
+#!/usr/bin/env python3
+"""Checks README.md, docs/ and the crates' READMEs, and what the sources say of them.
+
+- Each relative link leads to a file, and each `#part` of a link to a heading.
+- Each `docs/X.md, "Section"` in a source or a script names a heading of that document, and each path of a crate in backquotes
+  is there.
+- Each crate of crates.txt is named in docs/CRATES.md.
+- Each block of commands is run, and what it prints is compared with the block of text behind it:
+
+      ```sh                    is run by sh, in a folder that has all of the repository; the blocks of one document share it
+      ```text                  what it must print; a line `...` stands for any lines
+
+  A block `sh by-hand` isn't run: it takes too long, or needs what isn't here. They are counted. Any other block `sh` without a
+  text is an error.
+- Each block ```rust FILE has only lines of that file, in their order, but for lines `// ..`.
+
+usage: .ci/docs.py [--quiet] [--links] [--program FILE]
+
+The program is crates/realm_sync/out/realm_sync, where `rt ci` and ./realm_sync leave it. Without one no command is run, which
+is an error, unless --links asks for everything else alone. --quiet tells errors alone.
+"""
+import argparse
+import os
+import re
+import signal
+import subprocess
+import sys
+import tempfile
+
+TOP = os.path.dirname(os.path.dirname(os.path.abspath(__file__)))
+BUILT = os.path.join(TOP, "crates", "realm_sync", "out", "realm_sync")
+SECONDS = 120
+
+FENCE = re.compile(r"^```(.*)$")
+HEADING = re.compile(r"^#{1,6} +(.*?) *$")
+LINK = re.compile(r"\]\(([^()\s]+)\)")
+CITED = re.compile(r'docs/([A-Z_]+\.md)(?:,? "([^"]+)")?')
+CRATE_PATH = re.compile(r"`(?:crates/)?([a-z_0-9]+/(?:src|specs|proofs|must-fail|data)(?:/[\w./]*)?)`")
+INDENTED = re.compile(r"^    (?:\./realm_sync|rt |bench/|examples/|\.ci/)")
+
+problems = []
+
+
+def problem(path, line, why):
+    problems.append(f"{os.path.relpath(path, TOP)}:{line}: {why}")
+
+
+def read(path):
+    with open(path, encoding="utf-8") as it:
+        return it.read()
+
+
+def documents():
+    """README.md, docs/*.md, and the READMEs of other folders and of crates."""
+    found = [os.path.join(TOP, "README.md")]
+    for folder in ("docs", "bench", "examples", "web"):
+        at = os.path.join(TOP, folder)
+        found += sorted(os.path.join(at, it) for it in os.listdir(at) if it.endswith(".md"))
+    for name in sorted(os.listdir(os.path.join(TOP, "crates"))):
+        path = os.path.join(TOP, "crates", name, "README.md")
+        found += [path] if os.path.isfile(path) else []
+    return found
+
+
+def sources():
+    """All texts that may speak of a document."""
+    for at, folders, files in os.walk(TOP):
+        folders[:] = sorted(it for it in folders if it not in (".git", "out", "__pycache__"))
+        for name in sorted(files):
+            if name.endswith((".rt", ".antt", ".py", ".sh", ".edit", ".txt")) or name in ("realm_sync", "run"):
+                path = os.path.join(at, name)
+                if path != os.path.abspath(__file__):
+                    yield path
+
+
+class Block:
+    """A fenced block: its words, its lines, and where it begins."""
+
+    def __init__(self, words, line):
+        self.words, self.line, self.lines = words, line, []
+
+
+def parsed(path):
+    """The prose of a document as (line, text), and its blocks in order."""
+    prose, blocks, block = [], [], None
+    for number, text in enumerate(read(path).splitlines(), 1):
+        fence = FENCE.match(text)
+        if fence and block is None:
+            block = Block(fence[1].split(), number)
+        elif fence and not fence[1]:
+            blocks.append(block)
+            block = None
+        elif block is not None:
+            block.lines.append(text)
+        else:
+            prose.append((number, text))
+    if block is not None:
+        problem(path, block.line, "a block without an end")
+    return prose, blocks
+
+
+def anchor(heading):
+    """The part of a link by which a heading is reached."""
+    plain = re.sub(r"[^\w\- ]", "", heading.lower())
+    return plain.replace(" ", "-")
+
+
+def headings(path):
+    prose, _ = parsed(path)
+    return [HEADING.match(text)[1] for _, text in prose if HEADING.match(text)]
+
+
+def check_crates():
+    """Each crate has its row in docs/CRATES.md."""
+    rows = read(os.path.join(TOP, "docs", "CRATES.md"))
+    for number, line in enumerate(read(os.path.join(TOP, "crates.txt")).splitlines(), 1):
+        name = line.split(":")[0].split()
+        if ":" in line and not line.startswith("#") and f"`{name[0]}`" not in rows:
+            problem(os.path.join(TOP, "crates.txt"), number, f"docs/CRATES.md doesn't name {name[0]}")
+
+
+def check_links(path, prose):
+    for line, text in prose:
+        for target in LINK.findall(re.sub(r"`[^`]*`", "", text)):
+            if re.match(r"[a-z]+:", target):
+                continue
+            name, _, part = target.partition("#")
+            file = os.path.normpath(os.path.join(os.path.dirname(path), name)) if name else path
+            if not os.path.exists(file):
+                problem(path, line, f"the link {target} leads nowhere")
+            elif part and part not in map(anchor, headings(file)):
+                problem(path, line, f"the link {target} names no heading")
+
+
+def check_paths(path, prose):
+    for line, text in prose:
+        for found in CRATE_PATH.findall(text):
+            at = os.path.join(TOP, "crates", found)
+            if not any(map(os.path.exists, (at, f"{at}.antt", f"{at}.rt"))):
+                problem(path, line, f"{found} isn't there")
+        if INDENTED.match(text):
+            problem(path, line, "commands stand in a block ```sh, so that they are run")
+
+
+def check_cited(path):
+    """The documents and sections that a source cites. A citation may go over two lines of a comment."""
+    whole = read(path)
+    text = re.sub(r"\n\s*(?://[/!]?|--|#)? ?", " ", whole)
+    lines = [whole[: it.start()].count("\n") + 1 for it in re.finditer(r"docs/[A-Z_]+\.md", whole)]
+    for line, found in zip(lines, CITED.finditer(text)):
+        file = os.path.join(TOP, "docs", found[1])
+        if not os.path.isfile(file):
+            problem(path, line, f"docs/{found[1]} isn't there")
+        elif found[2] and found[2] not in [it.replace("`", "") for it in headings(file)]:
+            problem(path, line, f'docs/{found[1]} has no section "{found[2]}"')
+
+
+def check_quoted(path, block):
+    """The lines of a block of code stand in the file that it names."""
+    file = os.path.join(TOP, block.words[1])
+    if not os.path.isfile(file):
+        problem(path, block.line, f"{block.words[1]} isn't there")
+        return
+    rest = iter([it.strip() for it in read(file).splitlines()])
+    for number, text in enumerate(block.lines, block.line + 1):
+        wanted = text.strip()
+        if wanted and not wanted.startswith("// ..") and wanted not in rest:
+            problem(path, number, f"this line isn't in {block.words[1]}, or not behind the line above")
+            return
+
+
+def agrees(wanted, printed):
+    """Whether the lines that were printed are the wanted ones, where `...` stands for any lines."""
+    if "..." not in wanted:
+        return wanted == printed
+    at = wanted.index("...")
+    if wanted[:at] != printed[:at]:
+        return False
+    rest = wanted[at + 1 :]
+    return any(agrees(rest, printed[begin:]) for begin in range(at, len(printed) + 1))
+
+
+def run(path, block, wanted, folder, program):
+    """Runs a block in the folder and compares what it prints."""
+    how = {"cwd": folder, "stdin": subprocess.DEVNULL, "stdout": subprocess.PIPE, "stderr": subprocess.STDOUT}
+    text = "\n".join(block.lines)
+    done = subprocess.Popen(["sh", "-c", text], env={**os.environ, "REALM_SYNC": program}, start_new_session=True, **how)
+    try:
+        out, _ = done.communicate(timeout=SECONDS)
+    except subprocess.TimeoutExpired:
+        # (with all that it started, which may hold the pipe)
+        os.killpg(done.pid, signal.SIGKILL)
+        done.communicate()
+        problem(path, block.line, f"these commands had not ended after {SECONDS} seconds")
+        return
+    printed = out.decode(errors="replace").splitlines()
+    if not agrees(wanted, printed):
+        problem(path, block.line, "\n    ".join(["these commands print something else:", *printed]))
+    elif done.returncode:
+        problem(path, block.line, f"these commands end with status {done.returncode}")
+
+
+def check_commands(path, blocks, program):
+    """Runs the blocks of a document, and gives how many were run and how many are for the reader's hand."""
+    ran = by_hand = 0
+    with tempfile.TemporaryDirectory(prefix="docs-") as folder:
+        for name in os.listdir(TOP):
+            os.symlink(os.path.join(TOP, name), os.path.join(folder, name))
+        for block, following in zip(blocks, [*blocks[1:], None]):
+            if block.words[:1] != ["sh"]:
+                continue
+            if "by-hand" in block.words:
+                by_hand += 1
+            elif following is None or following.words != ["text"]:
+                problem(path, block.line, "a block ```sh has a block ```text behind it, or is `sh by-hand`")
+            elif program:
+                run(path, block, following.lines, folder, program)
+                ran += 1
+    return ran, by_hand
+
+
+def check_examples():
+    """Each exchange of examples/, and what it prints, is a case that the gate runs, byte for byte."""
+    cases = os.path.join(TOP, "crates", "program_cases", "data")
+    for name in sorted(os.listdir(os.path.join(TOP, "examples"))):
+        if name.endswith((".jsonl", ".out")):
+            path, case = os.path.join(TOP, "examples", name), os.path.join(cases, name)
+            if not os.path.isfile(case) or read(path) != read(case):
+                problem(path, 1, f"crates/program_cases/data/{name} isn't the same, so the gate doesn't run this example")
+
+
+def main():
+    words = argparse.ArgumentParser(description=__doc__, formatter_class=argparse.RawDescriptionHelpFormatter)
+    words.add_argument("--quiet", action="store_true")
+    words.add_argument("--links", action="store_true")
+    words.add_argument("--program", metavar="FILE", default=BUILT)
+    given = words.parse_args()
+    program = os.path.abspath(given.program)
+    if given.links:
+        program = None
+    elif not os.access(program, os.X_OK):
+        problems.append(f"no command was run: there is no program {program}; ./realm_sync replay </dev/null builds it")
+        program = None
+    ran = by_hand = 0
+    for path in documents():
+        prose, blocks = parsed(path)
+        check_links(path, prose)
+        check_paths(path, prose)
+        for block in blocks:
+            if block.words[:1] == ["rust"] and len(block.words) == 2:
+                check_quoted(path, block)
+        one, two = check_commands(path, blocks, program)
+        ran, by_hand = ran + one, by_hand + two
+    check_examples()
+    for path in [*sources(), *documents()]:
+        check_cited(path)
+    check_crates()
+    for it in problems:
+        print(f".ci/docs.py: {it}")
+    if not given.quiet:
+        said = "no commands were run" if program is None else f"{ran} blocks of commands were run"
+        print(f"documents: {said}, {by_hand} are for the reader's hand; {len(problems)} problems")
+    return 1 if problems else 0
+
+
+if __name__ == "__main__":
+    sys.exit(main())
