@@ -3,7 +3,6 @@
 # It needs the toolchain (`rt`), python3 and binaryen's wasm-opt. With --trial nothing is proved, and the page says so.
 set -eu
 here=$(cd "$(dirname "$0")" && pwd)
-top=$(dirname "$here")
 room=$(mktemp -d)
 trap 'rm -rf "$room"' EXIT
 
@@ -11,10 +10,6 @@ command -v wasm-opt >/dev/null || { echo "build.sh: wasm-opt isn't here (Debian'
 
 python3 "$here/build/test_retarget.py"
 
-# Proves and builds the program and all crates below it, where that wasn't done.
-if [ "${1:-}" != --trial ]; then
-    "$top/realm_sync" replay <"$top/examples/first.jsonl" >/dev/null
-fi
 verdict=$(python3 "$here/build/module.py" "$@" "$room/module.bc")
 python3 "$here/build/retarget.py" "$room/module.bc" "$room/realm_sync.wasm"
 mv "$room/realm_sync.wasm" "$here/realm_sync.wasm"

@@ -29,14 +29,16 @@ PASSES = """-mllvm -expand-div-rem-bits=64 -mllvm -expand-fp-convert-bits=64 -ml
     -mllvm -disable-machine-licm -mllvm -disable-postra-machine-licm -mllvm -sink-common-insts=false
     -ffunction-sections -fdata-sections --no-default-config""".split()
 STACK = 1 << 20
-# What is refused wherever it stands.
+NAME = r'@(?:"((?:[^"\\]|\\.)*)"|([\w.$-]+))'
+CALL = r'^ +(?:%(?:"[^"\n]*"|[\w.$-]+) = )?(?:(?:tail|musttail|notail) )?(?:call|invoke|callbr) '
+ASSEMBLY = r'\basm (?:sideeffect |alignstack |inteldialect |unwind )*"'
+# What is refused wherever it stands. A call is indirect where the line has no name of a function with arguments behind it.
 FORMS = {
     "foreign variable": r"^@\S+ = external\b",
     "number of 80 bits": r"\bx86_fp80\b",
-    "inline assembly": r"\basm (?:sideeffect |alignstack |inteldialect |unwind )*\"|^module asm ",
-    "indirect call": r"\b(?:call|invoke)\b[^@\n]* %[\w.\"]+\(",
+    "inline assembly": rf"{ASSEMBLY}|^module asm ",
+    "indirect call": rf"{CALL}(?!.*(?:{NAME}\(|{ASSEMBLY}))",
 }
-NAME = r'@(?:"((?:[^"\\]|\\.)*)"|([\w.$-]+))'
 
 
 def stop(why):

@@ -28,6 +28,9 @@ REFUSED = {
     "inline assembly: module asm": 'module asm "nop"',
     "indirect call: ": "  %3 = tail call fastcc { i64, i64 } %2(ptr %0)",
     "indirect call: call": "  call void %f(ptr @main)",
+    "indirect call: %3 = invoke": "  %3 = invoke i32 %f(ptr getelementptr (i8, ptr @x, i64 8))",
+    'indirect call: call void %"': '  call void %"a name"(i32 1)',
+    "indirect call: musttail": "  musttail call void inttoptr (i64 5 to ptr)()",
 }
 
 

@@ -107,8 +107,11 @@ export function drawLanes({ frame, summary, table }, story, rows) {
   frame.parentElement.scrollLeft = frame.scrollWidth;
 }
 
-/** The lines between the rows again, after the page changed its width. */
-export const redrawLines = (frame, story) => drawLines(frame, story.columns);
+/** The lines between the rows again, after the page changed its width; what came last stays in sight. */
+export function redrawLines(frame, story) {
+  drawLines(frame, story.columns);
+  frame.parentElement.scrollLeft = frame.scrollWidth;
+}
 
 /** What the marks mean. */
 export function legend() {

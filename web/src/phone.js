@@ -14,7 +14,7 @@ const wholeNumber = (value) => Math.max(-Number.MAX_SAFE_INTEGER, Math.min(Numbe
 function stateWords({ isOnline, client, length, refusal }) {
   if (refusal) {
     const kept = plural(client.unsent, 'changeset');
-    return `Stopped: ${refusalWords(refusal.numbers[2])}. It takes nothing more, and keeps all that it made (${kept} of its own).`;
+    return `Stopped: ${refusalWords(refusal.numbers[2])}. It takes nothing more, and keeps all that it made (${kept} of its own). No reset brings it back yet: “Begin anew” starts over with new phones.`;
   }
   const waiting = client.unsent > 0 ? `${plural(client.unsent, 'changeset')} made here ${client.unsent === 1 ? 'waits' : 'wait'}. ` : '';
   const behind = length - client.cursor;
@@ -175,7 +175,7 @@ export class PhoneView {
       event.preventDefault();
       if (!tasks.dueKind(this.tables)) this.act(tasks.addDue(kind.value), `a column due, a ${kind.value === 'Int' ? 'number' : 'text'}`);
     };
-    const hint = 'Two phones that add it offline as the same kind agree. With two kinds the server refuses the second one, and that phone stops.';
+    const hint = 'Two phones that add it offline as the same kind agree. With two kinds the server refuses the second one, and that phone stops for good: the program has no reset yet that would bring it back.';
     return make('form', { submit, class: 'row' }, kind, this.addColumn, make('p', { class: 'hint' }, hint));
   }
 

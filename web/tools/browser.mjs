@@ -36,7 +36,7 @@ export class Browser {
     const { targetInfos } = await browser.send('Target.getTargets');
     const { targetId } = targetInfos.find((target) => target.type === 'page');
     browser.session = (await browser.send('Target.attachToTarget', { targetId, flatten: true })).sessionId;
-    for (const domain of ['Page', 'Runtime', 'Log']) await browser.send(`${domain}.enable`);
+    for (const domain of ['Page', 'Runtime', 'Log', 'Network']) await browser.send(`${domain}.enable`);
     return browser;
   }
 
@@ -44,6 +44,7 @@ export class Browser {
     this.waiting = new Map();
     this.count = 0;
     this.faults = [];
+    this.requests = [];
   }
 
   fail(error) {
@@ -62,6 +63,7 @@ export class Browser {
   }
 
   take({ id, method, params, result, error }) {
+    if (method === 'Network.requestWillBeSent') this.requests.push(params.request.url);
     if (method === 'Runtime.exceptionThrown') this.faults.push(params.exceptionDetails.exception?.description ?? params.exceptionDetails.text);
     if (method === 'Log.entryAdded' && params.entry.level === 'error') this.faults.push(`${params.entry.text} ${params.entry.url ?? ''}`);
     const waiting = this.waiting.get(id);

@@ -4,10 +4,11 @@
 import { execFileSync } from 'node:child_process';
 import fs from 'node:fs';
 import path from 'node:path';
+import { fileURLToPath } from 'node:url';
 import { runProgram } from '../src/program.js';
 import { Browser, serve } from './browser.mjs';
 
-const top = path.resolve(import.meta.dirname, '../..');
+const top = fileURLToPath(new URL('../..', import.meta.url));
 const native = process.env.REALM_SYNC ?? path.join(top, 'realm_sync');
 const TURNS = '1000';
 const SEEDS = ['1', '2', '3'];

@@ -6,14 +6,16 @@ import assert from 'node:assert/strict';
 import { execFileSync } from 'node:child_process';
 import fs from 'node:fs';
 import path from 'node:path';
+import { fileURLToPath } from 'node:url';
 import { Browser, serve } from './browser.mjs';
 
-const top = path.resolve(import.meta.dirname, '../..');
+const top = fileURLToPath(new URL('../..', import.meta.url));
 const pictures = process.argv[2];
 const WIDE = { width: 1280, height: 900 };
 const NARROW = { width: 360, height: 740 };
 
 let browser;
+let loaded;
 const page = (expression) => browser.evaluate(expression);
 const check = (what, got, wanted) => {
   assert.deepEqual(got, wanted, what);
@@ -72,6 +74,14 @@ const task = (title, votes = 0, done = false, chips = []) => ({ title, votes: `�
 async function both(what, wanted) {
   check(`phone A ${what}`, await shown('A'), wanted);
   check(`phone B ${what}`, await shown('B'), wanted);
+}
+
+/** From here on the browser has no network. Until now it asked this server alone. */
+async function leavesTheNetwork() {
+  const strangers = browser.requests.filter((url) => !url.startsWith(`${server.origin}/`) && !url.startsWith('data:'));
+  check(`the page's ${browser.requests.length} files came from its own server`, strangers, []);
+  loaded = browser.requests.length;
+  await browser.send('Network.emulateNetworkConditions', { offline: true, latency: 0, downloadThroughput: -1, uploadThroughput: -1 });
 }
 
 async function editsOffline() {
@@ -142,6 +152,36 @@ async function replaysNatively() {
   await page(`document.getElementById('raw').open = false`);
 }
 
+/** Runs in the page: the texts whose contrast with their ground is below 4.5, the least that WCAG 2 asks of plain text (AA). */
+function faintTexts() {
+  const probe = document.createElement('canvas').getContext('2d', { willReadFrequently: true });
+  const bytes = (colour) => {
+    probe.clearRect(0, 0, 1, 1);
+    probe.fillStyle = colour;
+    probe.fillRect(0, 0, 1, 1);
+    return probe.getImageData(0, 0, 1, 1).data;
+  };
+  const light = (colour) => {
+    const [red, green, blue] = Array.from(bytes(colour), (byte) => (byte <= 10 ? byte / 255 / 12.92 : ((byte / 255 + 0.055) / 1.055) ** 2.4));
+    return 0.2126 * red + 0.7152 * green + 0.0722 * blue;
+  };
+  const ground = (element) => {
+    const own = getComputedStyle(element).backgroundColor;
+    return bytes(own)[3] === 255 || !element.parentElement ? own : ground(element.parentElement);
+  };
+  const texts = document.createTreeWalker(document.body, NodeFilter.SHOW_TEXT);
+  const faint = [];
+  while (texts.nextNode()) {
+    const { parentElement: element, textContent } = texts.currentNode;
+    const isIdle = element.closest('[aria-disabled="true"], :disabled, .unseen');
+    if (!textContent.trim() || isIdle || !element.checkVisibility()) continue;
+    const [darker, lighter] = [light(getComputedStyle(element).color), light(ground(element))].sort((left, right) => left - right);
+    const contrast = (lighter + 0.05) / (darker + 0.05);
+    if (contrast < 4.5) faint.push(`${textContent.trim().slice(0, 40)}: ${contrast.toFixed(1)}`);
+  }
+  return [...new Set(faint)];
+}
+
 async function isReadAndFits() {
   const { nodes } = await browser.send('Accessibility.getFullAXTree');
   const roles = new Set(['button', 'textbox', 'checkbox', 'switch', 'combobox', 'spinbutton', 'link', 'region', 'DisclosureTriangle']);
@@ -149,6 +189,7 @@ async function isReadAndFits() {
   check(`each of ${controls.length} controls has a name`, controls.filter((node) => !node.name?.value).map((node) => node.role.value), []);
   for (const isDark of [false, true]) {
     await browser.look({ ...NARROW, isDark });
+    check(`all text stands out from its ground, ${isDark ? 'dark' : 'light'}`, await page(`(${faintTexts})()`), []);
     check(`nothing lies beside a window of 360 pixels, ${isDark ? 'dark' : 'light'}`, await page('document.documentElement.scrollWidth'), NARROW.width);
     if (isDark) await picture('narrow_dark');
   }
@@ -192,7 +233,7 @@ async function columnsThatDiffer() {
   await click('#A-online');
   check('the first phone’s column is taken', (await text('A-state')).startsWith('It has taken all'), true);
   await click('#B-online');
-  check('the second phone stops, and says why', await text('B-state'), 'Stopped: two devices define one column differently. It takes nothing more, and keeps all that it made (1 changeset of its own).');
+  check('the second phone stops, and says why, and that nothing brings it back', await text('B-state'), 'Stopped: two devices define one column differently. It takes nothing more, and keeps all that it made (1 changeset of its own). No reset brings it back yet: “Begin anew” starts over with new phones.');
   check('what it made was refused', (await fates())['B·8'], 'refused by the server: two devices define one column differently (code 2)');
   await write('#B-new', 'Written on a stopped phone');
   check('it still keeps what is made on it', (await titles('B')).at(-1), 'Written on a stopped phone');
@@ -242,6 +283,7 @@ browser = await Browser.start();
 try {
   await browser.look(WIDE);
   await browser.open(`${server.origin}/index.html`, `document.documentElement.dataset.ready === 'true'`);
+  await leavesTheNetwork();
   await editsOffline();
   await agreesAfterwards();
   await replaysNatively();
@@ -251,6 +293,7 @@ try {
   await threePhones();
   await theSameOnBoth();
   await scene();
+  check('nothing was asked of the network any more', browser.requests.slice(loaded), []);
   check('the page met no error', browser.faults, []);
   console.log('drive: all as expected');
 } finally {
