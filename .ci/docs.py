@@ -4,7 +4,7 @@
 - Each relative link leads to a file, and each `#part` of a link to a heading.
 - Each `docs/X.md, "Section"` in a source or a script names a heading of that document, and each path of a crate in backquotes
   is there.
-- Each crate of crates.txt is named in docs/CRATES.md.
+- Each crate of crates.txt is named in docs/CRATES.md, and each file that a crate's README names is there.
 - Each block of commands is run, and what it prints is compared with the block of text behind it:
 
       ```sh                    is run by sh, in a folder that has all of the repository; the blocks of one document share it
@@ -36,6 +36,7 @@ HEADING = re.compile(r"^#{1,6} +(.*?) *$")
 LINK = re.compile(r"\]\(([^()\s]+)\)")
 CITED = re.compile(r'docs/([A-Z_]+\.md)(?:,? "([^"]+)")?')
 CRATE_PATH = re.compile(r"`(?:crates/)?([a-z_0-9]+/(?:src|specs|proofs|must-fail|data)(?:/[\w./]*)?)`")
+CRATE_FILE = re.compile(r"`(?:(src|specs|proofs)/)?(\w+\.(rt|antt))`")
 INDENTED = re.compile(r"^    (?:\./realm_sync|rt |bench/|examples/|\.ci/)")
 
 problems = []
@@ -142,6 +143,15 @@ def check_paths(path, prose):
             problem(path, line, "commands stand in a block ```sh, so that they are run")
 
 
+def check_files(path):
+    """The files that the README of a crate names: one without its folder is in `src` or `specs`, by its kind."""
+    crate = os.path.dirname(path)
+    for line, text in enumerate(read(path).splitlines(), 1):
+        for folder, name, kind in CRATE_FILE.findall(text):
+            if not os.path.isfile(os.path.join(crate, folder or {"rt": "src", "antt": "specs"}[kind], name)):
+                problem(path, line, f"{name} isn't there")
+
+
 def check_cited(path):
     """The documents and sections that a source cites. A citation may go over two lines of a comment."""
     whole = read(path)
@@ -246,6 +256,8 @@ def main():
         prose, blocks = parsed(path)
         check_links(path, prose)
         check_paths(path, prose)
+        if os.path.dirname(os.path.dirname(path)) == os.path.join(TOP, "crates"):
+            check_files(path)
         for block in blocks:
             if block.words[:1] == ["rust"] and len(block.words) == 2:
                 check_quoted(path, block)
