@@ -1,12 +1,10 @@
-use std::alloc::AllocError;
 use std::io;
-use sync_disk::DiskRefusal;
-use sync_io::NoMemory;
+use sync_disk::{DiskRefusal, NoMemory};
 
 /// Why a run ends early.
 #[derive(Clone, Copy, Debug)]
-pub(crate) enum Failure {
-    /// The words are no scenario, or a size of it is too great.
+pub enum Failure {
+    /// The words are no plan, or a file of messages has none.
     Words,
     /// A node or its disk refused.
     Node,
@@ -28,12 +26,6 @@ impl From<DiskRefusal> for Failure {
 
 impl From<NoMemory> for Failure {
     fn from(_: NoMemory) -> Self {
-        Failure::System
-    }
-}
-
-impl From<AllocError> for Failure {
-    fn from(_: AllocError) -> Self {
         Failure::System
     }
 }

@@ -1,7 +1,5 @@
-use super::disks::{content, disk_with};
+use super::disks::{disk_with, holds};
 use std::alloc::Global;
-use std::process::Abort;
-use std::test::Fail;
 use sync_disk::{Disk, Leaves, MemoryDisk};
 use sync_journal::{Journal, JournalRefusal, OpenCause};
 
@@ -13,160 +11,199 @@ fn open<D: Disk>(alloc: Global, disk: D) -> Result<Journal<D>, OpenCause> {
     }
 }
 
+/// The journal of a new disk.
+fn new_journal(alloc: Global) -> Option<Journal<MemoryDisk>> {
+    match MemoryDisk::new(alloc) {
+        Ok(disk) => open(alloc, disk).ok(),
+        Err(_) => None,
+    }
+}
+
 /// An append, of which only the answer counts.
 fn append<D: Disk>(journal: &mut Journal<D>, record: &[u8]) -> Result<(), JournalRefusal> {
     journal.append(record)
 }
 
-/// The records of the journal that a disk holds, each with a slash behind it.
-fn records<D: Disk>(alloc: Global, disk: D) -> Result<Vec<u8>, Fail> {
-    let Ok((_journal, records)) = Journal::open(alloc, disk) else {
-        return Err("no journal".into());
-    };
-    let mut all = Vec::new(alloc);
-    for record in &records {
-        all.extend_from_slice(record)?;
-        all.push(b'/')?;
+fn are_records(found: &[Vec<u8>], want: &[&[u8]]) -> bool {
+    for (record, want) in found.iter().zip(want) {
+        if record.as_slice() != *want {
+            return false;
+        }
     }
-    Ok(all)
+    found.len() == want.len()
+}
+
+/// Whether the journal of a disk holds these records.
+pub(crate) fn has_records<D: Disk>(alloc: Global, disk: D, want: &[&[u8]]) -> bool {
+    match Journal::open(alloc, disk) {
+        Ok((_journal, found)) => are_records(&found, want),
+        Err(_) => false,
+    }
+}
+
+/// Whether the journal of a disk is opened, and takes a record.
+fn goes_on<D: Disk>(alloc: Global, disk: D) -> bool {
+    match open(alloc, disk) {
+        Ok(mut journal) => append(&mut journal, b"e").is_ok(),
+        Err(_) => false,
+    }
+}
+
+/// Whether the journal of a disk holds these records, and goes on.
+fn stands(alloc: Global, disk: MemoryDisk, want: &[&[u8]]) -> bool {
+    let mut disk = disk;
+    has_records(alloc, &mut disk, want) && goes_on(alloc, &mut disk)
+}
+
+fn is_too_long(alloc: Global, journal: &mut Journal<MemoryDisk>) -> bool {
+    match vec![in alloc; 0u8; 67_108_865] {
+        Ok(long) => append(journal, &long) == Err(JournalRefusal::RecordTooLong),
+        Err(_) => false,
+    }
 }
 
 #[test]
-fn a_record_of_67_108_865_bytes_is_too_long(rt: HostRuntime) -> Result<(), Fail> {
-    let alloc = rt.alloc();
-    let mut journal = open(alloc, MemoryDisk::new(alloc)?)?;
-    let long = vec![in alloc; 0u8; 67_108_865]?;
-    assert_eq!(rt;
-        append(&mut journal, &long),
-        Err(JournalRefusal::RecordTooLong)
-    );
-    assert_eq!(rt; append(&mut journal, &[7]), Ok(()));
-    Ok(())
+fn a_record_of_67_108_865_bytes_is_too_long(rt: HostRuntime) {
+    if let Some(mut journal) = new_journal(rt.alloc()) {
+        assert!(rt; is_too_long(rt.alloc(), &mut journal));
+        assert!(rt; append(&mut journal, &[7]).is_ok());
+    } else {
+        assert!(rt; false);
+    }
+}
+
+/// A record of 17 bytes, and the file that holds it alone.
+const BORN: &[u8] = b"\x01\x00\x00\x00\x00\x00\x00\x40\x00\x80\x00\x00\x00\x00\x00\x00\x01";
+
+const FILE: &[u8; 31] =
+    b"RSYNCJ01\x01\x00\x00\x00\x11\x01\x00\x00\x00\x00\x00\x00\x40\x00\x80\x00\x00\x00\x00\x00\x00\x01\x00";
+
+fn stands_in_the_file(alloc: Global) -> bool {
+    let Some(mut journal) = new_journal(alloc) else {
+        return false;
+    };
+    let is_added = append(&mut journal, BORN).is_ok();
+    is_added && holds(alloc, &mut journal.into_disk(), FILE)
 }
 
 #[test]
-fn an_append_stands_in_the_file(rt: HostRuntime) -> Result<(), Fail> {
-    let alloc = rt.alloc();
-    let born = b"\x01\x00\x00\x00\x00\x00\x00\x40\x00\x80\x00\x00\x00\x00\x00\x00\x01";
-    let mut journal = open(alloc, MemoryDisk::new(alloc)?)?;
-    assert_eq!(rt; append(&mut journal, born), Ok(()));
-    let mut disk = journal.into_disk();
-    let mut want = b"RSYNCJ01\x01\x00\x00\x00\x11".to_vec(alloc)?;
-    want.extend_from_slice(born)?;
-    want.push(0)?;
-    assert_eq!(rt; want.len(), 31);
-    assert_eq!(rt; content(alloc, &mut disk)?.as_slice(), want.as_slice());
-    Ok(())
+fn an_append_stands_in_the_file(rt: HostRuntime) {
+    assert!(rt; stands_in_the_file(rt.alloc()));
 }
 
 /// A journal with the record `a` over a disk that is armed.
-fn armed(alloc: Global, at: u32, leaves: Leaves) -> Result<Journal<MemoryDisk>, Fail> {
-    let mut journal = open(alloc, MemoryDisk::new(alloc)?)?;
-    append(&mut journal, b"a")?;
+fn armed(alloc: Global, at: u32, leaves: Leaves) -> Option<Journal<MemoryDisk>> {
+    let Some(mut journal) = new_journal(alloc) else {
+        return None;
+    };
+    if append(&mut journal, b"a").is_err() {
+        return None;
+    }
     journal.arm(at.max(1), leaves);
-    Ok(journal)
+    Some(journal)
 }
 
-/// What a journal holds after a crash of its disk.
-fn after_a_crash(alloc: Global, journal: Journal<MemoryDisk>) -> Result<Vec<u8>, Fail> {
+/// Whether an append meets a fault of the disk, and the next one a closed journal.
+fn closes(journal: &mut Journal<MemoryDisk>) -> bool {
+    append(journal, b"bc") == Err(JournalRefusal::DiskFault)
+        && append(journal, b"d") == Err(JournalRefusal::Closed)
+}
+
+/// Whether the journal has these records after a crash of its disk.
+fn stands_after_a_crash(alloc: Global, journal: Journal<MemoryDisk>, want: &[&[u8]]) -> bool {
     let mut disk = journal.into_disk();
     disk.crash();
-    let found = records(alloc, &mut disk)?;
-    let mut journal = open(alloc, disk)?;
-    append(&mut journal, b"e")?;
-    Ok(found)
+    stands(alloc, disk, want)
 }
 
-/// The disk stops at that stroke of an append: what is answered then, and what stands after the crash.
-fn stops(rt: &impl Abort, alloc: Global, at: u32, leaves: Leaves) -> Result<(), Fail> {
-    let mut journal = armed(alloc, at, leaves)?;
-    assert_eq!(rt;
-        append(&mut journal, b"bc"),
-        Err(JournalRefusal::DiskFault),
-        "at {at}"
-    );
-    assert!(rt; journal.stopped());
-    assert_eq!(rt;
-        append(&mut journal, b"d"),
-        Err(JournalRefusal::Closed),
-        "at {at}"
-    );
-    let stands = at >= 3 && leaves == Leaves::Keep;
-    let want: &[u8] = if stands { b"a/bc/" } else { b"a/" };
-    assert_eq!(rt;
-        after_a_crash(alloc, journal)?.as_slice(),
-        want,
-        "at {at}, {leaves:?}"
-    );
-    Ok(())
+/// Whether the disk stops at that stroke of an append, and what must stands after the crash.
+fn stops(alloc: Global, at: u32, leaves: Leaves) -> bool {
+    let Some(mut journal) = armed(alloc, at, leaves) else {
+        return false;
+    };
+    let is_met = closes(&mut journal) && journal.stopped();
+    let is_kept = at >= 3 && leaves == Leaves::Keep;
+    let want: &[&[u8]] = if is_kept { &[b"a", b"bc"] } else { &[b"a"] };
+    is_met && stands_after_a_crash(alloc, journal, want)
 }
 
-/// The disk would stop behind an append, and is disarmed.
-fn passes(rt: &impl Abort, alloc: Global, leaves: Leaves) -> Result<(), Fail> {
-    let mut journal = armed(alloc, 5, leaves)?;
-    assert_eq!(rt; append(&mut journal, b"bc"), Ok(()));
-    assert!(rt; !journal.stopped());
+/// Whether an append doesn't meet a stop behind it, and another one is done once the disk is disarmed.
+fn goes_past(journal: &mut Journal<MemoryDisk>) -> bool {
+    if append(journal, b"bc").is_err() || journal.stopped() {
+        return false;
+    }
     journal.disarm();
-    assert_eq!(rt; append(&mut journal, b"d"), Ok(()));
-    let found = after_a_crash(alloc, journal)?;
-    assert_eq!(rt; found.as_slice(), b"a/bc/d/".as_slice(), "{leaves:?}");
-    Ok(())
+    append(journal, b"d").is_ok()
+}
+
+fn passes(alloc: Global, leaves: Leaves) -> bool {
+    match armed(alloc, 5, leaves) {
+        Some(mut journal) => {
+            let is_past = goes_past(&mut journal);
+            is_past && stands_after_a_crash(alloc, journal, &[b"a", b"bc", b"d"])
+        }
+        None => false,
+    }
 }
 
 #[test]
-fn a_stop_at_each_stroke_of_an_append(rt: HostRuntime) -> Result<(), Fail> {
+fn a_stop_at_each_stroke_of_an_append(rt: HostRuntime) {
     for leaves in [Leaves::Drop, Leaves::Keep, Leaves::Torn] {
         for at in 1..=4 {
-            stops(&rt, rt.alloc(), at, leaves)?;
+            assert!(rt; stops(rt.alloc(), at, leaves), "at {at}, {leaves:?}");
         }
-        passes(&rt, rt.alloc(), leaves)?;
+        assert!(rt; passes(rt.alloc(), leaves), "{leaves:?}");
     }
-    Ok(())
 }
 
-/// Why an opening in which the call of that number fails is refused.
-fn open_fails(alloc: Global, file: &[u8], call: u64) -> Result<Option<OpenCause>, Fail> {
-    let mut disk = disk_with(alloc, file)?;
-    disk.fail_at(call)?;
-    Ok(open(alloc, &mut disk).err())
+/// Whether an opening in which the call of that number fails is refused, or else isn't.
+fn open_fails(alloc: Global, file: &[u8], call: u64, fails: bool) -> bool {
+    let Some(mut disk) = disk_with(alloc, file) else {
+        return false;
+    };
+    if disk.fail_at(call).is_err() {
+        return false;
+    }
+    match open(alloc, &mut disk) {
+        Ok(_) => !fails,
+        Err(cause) => fails && cause == OpenCause::DiskFault,
+    }
 }
 
-/// That stroke of an append fails. Only where the gate was written is the record there afterwards.
-fn append_fails(rt: &impl Abort, alloc: Global, stroke: u64) -> Result<(), Fail> {
-    let mut disk = disk_with(alloc, b"RSYNCJ01\x00\x00")?;
-    disk.fail_at(stroke.saturating_add(3))?;
-    let mut journal = open(alloc, disk)?;
-    assert_eq!(rt;
-        append(&mut journal, b"a"),
-        Err(JournalRefusal::DiskFault),
-        "at {stroke}"
-    );
-    assert_eq!(rt;
-        append(&mut journal, b"b"),
-        Err(JournalRefusal::Closed),
-        "at {stroke}"
-    );
-    let mut disk = journal.into_disk();
-    let want: &[u8] = if stroke == 4 { b"a/" } else { b"" };
-    assert_eq!(rt; records(alloc, &mut disk)?.as_slice(), want, "at {stroke}");
-    let mut journal = open(alloc, disk)?;
-    assert_eq!(rt; append(&mut journal, b"c"), Ok(()));
-    Ok(())
+/// The journal of a disk with an empty journal, of which that stroke of an append fails.
+fn failing(alloc: Global, stroke: u64) -> Option<Journal<MemoryDisk>> {
+    let Some(mut disk) = disk_with(alloc, b"RSYNCJ01\x00\x00") else {
+        return None;
+    };
+    if disk.fail_at(stroke.saturating_add(3)).is_err() {
+        return None;
+    }
+    open(alloc, disk).ok()
 }
+
+/// Whether that stroke of an append fails. Only where the gate was written is the record there afterwards.
+fn append_fails(alloc: Global, stroke: u64) -> bool {
+    match failing(alloc, stroke) {
+        Some(mut journal) => {
+            let is_closed = closes(&mut journal);
+            let want: &[&[u8]] = if stroke == 4 { &[b"bc"] } else { &[] };
+            is_closed && stands(alloc, journal.into_disk(), want)
+        }
+        None => false,
+    }
+}
+
+/// A journal with the record of no bytes.
+const OTHER: &[u8] = b"RSYNCJ01\x01\x00\x00\x00\x00\x00";
 
 #[test]
-fn a_fault_at_each_disk_call(rt: HostRuntime) -> Result<(), Fail> {
-    let alloc = rt.alloc();
-    let fault = Some(OpenCause::DiskFault);
+fn a_fault_at_each_disk_call(rt: HostRuntime) {
     // A small file is synced, measured, read, written and synced, and any other one isn't written.
     for call in 1..=6 {
-        let small = open_fails(alloc, b"", call)?;
-        assert_eq!(rt; small, if call <= 5 { fault } else { None }, "at {call}");
-        let other = open_fails(alloc, b"RSYNCJ01\x01\x00\x00\x00\x00\x00", call)?;
-        assert_eq!(rt; other, if call <= 3 { fault } else { None }, "at {call}");
+        assert!(rt; open_fails(rt.alloc(), b"", call, call <= 5), "at {call}");
+        assert!(rt; open_fails(rt.alloc(), OTHER, call, call <= 3), "at {call}");
     }
     for stroke in 1..=4 {
-        append_fails(&rt, alloc, stroke)?;
+        assert!(rt; append_fails(rt.alloc(), stroke), "at {stroke}");
     }
-    Ok(())
 }

@@ -1,6 +1,6 @@
+use std::alloc::Global;
 use std::io;
 use std::io::Write;
-use std::test::Fail;
 use sync_io::{MemorySink, Sink, SinkRefusal, StdSink, write_all};
 
 /// A writer of the host that takes at most so many bytes at a time. Its calls, flushes among them, are counted from 1, and one
@@ -45,62 +45,73 @@ fn written<K: Sink>(sink: &mut K, bytes: &[u8]) -> Result<(), SinkRefusal> {
     sink.flush()
 }
 
+fn hose_into<'a>(
+    taken: &'a mut Vec<u8>,
+    flushes: &'a mut u64,
+    most: usize,
+    failing: u64,
+) -> StdSink<Hose<'a>> {
+    StdSink::new(Hose {
+        taken,
+        flushes,
+        most,
+        calls: 0,
+        failing,
+    })
+}
+
+/// Whether a writer of which that call fails takes so many of three bytes. Two at a time they are two writes, and then comes the
+/// flush.
+fn takes(alloc: Global, failing: u64, want: usize) -> bool {
+    let mut taken = Vec::new(alloc);
+    let mut flushes = 0;
+    let mut sink = hose_into(&mut taken, &mut flushes, 2, failing);
+    let done = written(&mut sink, b"abc");
+    let fails = failing >= 1 && failing <= 3;
+    let ended = if fails {
+        done == Err(SinkRefusal::Failed)
+    } else {
+        done == Ok(())
+    };
+    ended && b"abc".starts_with(&taken) && taken.len() == want && flushes == !fails as u64
+}
+
 #[test]
-fn a_writer_that_fails_is_a_sink_that_fails(rt: HostRuntime) -> Result<(), Fail> {
-    // Three bytes, two at a time, are two writes, and then comes the flush.
+fn a_writer_that_fails_is_a_sink_that_fails(rt: HostRuntime) {
     for (failing, want) in [(0, 3), (1, 0), (2, 2), (3, 3), (4, 3)] {
-        let mut taken = Vec::new(rt.alloc());
-        let mut flushes = 0;
-        let mut sink = StdSink::new(Hose {
-            taken: &mut taken,
-            flushes: &mut flushes,
-            most: 2,
-            calls: 0,
-            failing,
-        });
-        let done = written(&mut sink, b"abc");
-        let fails = failing >= 1 && failing <= 3;
-        assert_eq!(rt;
-            done.err(),
-            if fails {
-                Some(SinkRefusal::Failed)
-            } else {
-                None
-            }
-        );
-        assert!(rt;
-            b"abc".starts_with(&taken) && taken.len() == want,
-            "{failing}"
-        );
-        assert_eq!(rt; flushes, if fails { 0 } else { 1 }, "{failing}");
+        assert!(rt; takes(rt.alloc(), failing, want), "{failing}");
     }
-    Ok(())
+}
+
+fn fails_where_nothing_is_taken<K: Sink>(sink: &mut K) -> bool {
+    sink.write(b"abc") == Err(SinkRefusal::Failed)
+        && sink.write(b"") == Ok(0)
+        && write_all(sink, b"abc") == Err(SinkRefusal::Failed)
 }
 
 #[test]
 fn a_writer_that_takes_nothing_is_a_sink_that_fails(rt: HostRuntime) {
     let mut taken = Vec::new(rt.alloc());
     let mut flushes = 0;
-    let mut sink = StdSink::new(Hose {
-        taken: &mut taken,
-        flushes: &mut flushes,
-        most: 0,
-        calls: 0,
-        failing: 0,
-    });
-    assert_eq!(rt; sink.write(b"abc"), Err(SinkRefusal::Failed));
-    assert_eq!(rt; sink.write(b""), Ok(0));
-    assert_eq!(rt; write_all(&mut sink, b"abc"), Err(SinkRefusal::Failed));
+    let mut sink = hose_into(&mut taken, &mut flushes, 0, 0);
+    assert!(rt; fails_where_nothing_is_taken(&mut sink));
+}
+
+/// Whether the second write and the second flush of a sink fail, which are its calls 2 and 4.
+fn fails_in_turn(sink: &mut MemorySink) -> bool {
+    write_all(sink, b"ab") == Ok(())
+        && write_all(sink, b"cd") == Err(SinkRefusal::Failed)
+        && write_all(sink, b"") == Ok(())
+        && sink.flush() == Ok(())
+        && sink.flush() == Err(SinkRefusal::Failed)
+        && sink.bytes() == b"ab".as_slice()
 }
 
 #[test]
-fn each_call_of_a_sink_fails_in_turn(rt: HostRuntime) -> Result<(), Fail> {
-    let mut sink = MemorySink::new(rt.alloc(), Vec::from_slice(rt.alloc(), &[2, 4])?);
-    assert_eq!(rt; write_all(&mut sink, b"ab"), Ok(()));
-    assert_eq!(rt; write_all(&mut sink, b"cd"), Err(SinkRefusal::Failed));
-    assert_eq!(rt; write_all(&mut sink, b""), Ok(()));
-    assert_eq!(rt; sink.flush(), Ok(()));
-    assert_eq!(rt; sink.flush(), Err(SinkRefusal::Failed));
-    assert!(rt; sink.bytes() == b"ab".as_slice());
-    Ok(())
+fn each_call_of_a_sink_fails_in_turn(rt: HostRuntime) {
+    if let Ok(failing) = Vec::from_slice(rt.alloc(), &[2, 4]) {
+        assert!(rt; fails_in_turn(&mut MemorySink::new(rt.alloc(), failing)));
+    } else {
+        assert!(rt; false);
+    }
 }
