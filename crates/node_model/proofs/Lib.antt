@@ -15,6 +15,7 @@ pub mod Starting
 pub mod Mismatches
 pub mod Taking
 pub mod Serving
+pub mod Fair
 pub mod Calling
 pub mod Holding
 pub mod Facts
