@@ -45,3 +45,4 @@ pub mod Saving
 pub mod Heirs
 pub mod Recovering
 pub mod Running
+pub mod Progress

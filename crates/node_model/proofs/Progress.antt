@@ -1,0 +1,15 @@
+-- The laws of progress.
+pub mod Quiet
+pub mod Serves
+pub mod Catching
+pub mod Rounds
+pub mod Names
+pub mod Growing
+pub mod CatchUp
+pub mod Sweeps
+pub mod Interrupted
+pub mod Staying
+pub mod Late
+pub mod Laws
+mod Examples
+
