@@ -4,6 +4,7 @@ pub mod Serves
 pub mod Catching
 pub mod Rounds
 pub mod Names
+pub mod Valid
 pub mod Growing
 pub mod CatchUp
 pub mod Sweeps

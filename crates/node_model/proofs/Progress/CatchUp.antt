@@ -8,13 +8,14 @@ use Rattle.node_model.specs.Profile.{Profile, Lawful}
 use Rattle.node_model.specs.Snapshots.{Buildable}
 use Rattle.node_model.specs.Clients.{Client, Unsent, client_of}
 use Rattle.node_model.specs.Servers.{Server, server_of, place_of, count}
-use Rattle.node_model.specs.Worlds.{Node, World, Event, seek, has_name, server_name, outcomes, world_after, IsReached}
+use Rattle.node_model.specs.Worlds.{Node, World, Event, seek, has_name, server_name, outcomes, world_after}
 use Rattle.node_model.specs.Log.{ident_by, ident_of}
 use Rattle.node_model.specs.Progress.{Comes, IsException, IsArmed, IsRoomy, HasCaughtUp, enough, rounds, after_rounds, binds_at, catches_up}
 use Rattle.node_model.proofs.Lists.{place_old}
 use Rattle.node_model.proofs.Progress.Serves.{SameClient}
 use Rattle.node_model.proofs.Progress.Catching.{Goes, Here, holds, at_node, Facts, facts}
 use Rattle.node_model.proofs.Progress.Rounds.{Within, Onward, Bound, bound, caught}
+use Rattle.node_model.proofs.Progress.Valid.{Valid}
 
 -- nothing is left to do
 pub record Done {I S : Type 0} (s : Server I) (st : Client I S) : Type 0 where
@@ -123,7 +124,7 @@ module _ {I S : Type 0} (p : Profile I S) {Fits Bounded Old : S → Type 0} (law
             some : (x y : Uuid) → Some x ≡ Some y → x ≡ y
             some x y e = cc
 
-    pub start_at : IsReached p w0 → seek (has_name name) w0.clients ≡ Some (place, nd0) → (n : ℕ) → length w0.messages ≡ n → At w0 (server_of p w0.server) (client_of p nd0.records) n
+    pub start_at : Valid p w0 → seek (has_name name) w0.clients ≡ Some (place, nd0) → (n : ℕ) → length w0.messages ≡ n → At w0 (server_of p w0.server) (client_of p nd0.records) n
     start_at reached found n n_is = record { reached = reached; node = nd0; found = found; name_is = refl; stops = λ x e. e; others = λ j ne. refl; names = refl; client = refl; server = refl; messages = n_is }
 
     -- a client that is bound, and then does so many rounds
@@ -136,7 +137,7 @@ module _ {I S : Type 0} (p : Profile I S) {Fits Bounded Old : S → Type 0} (law
         caught p law built armed unnamed old w0 name place nd0 not_server arms arms_server roomy k h1 b.named (λ z. old_is (sym b.second ∙ z)) (still_left h h1 id born b k left) rest r (λ v2 s2 st2 h2 same on none.
         then_ v2 s1 s2 st1 st2 h2 b same on (done h2 (λ z. b.named (sym same.ident ∙ z)) none)))
 
-  module _ (w : World) (reached : IsReached p w) (name : Name) (not_server : bytes_eq name server_name ≡ false) (place : ℕ) (nd : Node) (found : seek (has_name name) w.clients ≡ Some (place, nd)) where
+  module _ (w : World) (reached : Valid p w) (name : Name) (not_server : bytes_eq name server_name ≡ false) (place : ℕ) (nd : Node) (found : seek (has_name name) w.clients ≡ Some (place, nd)) where
     start : Here p law built (IsArmed p w nd) (ident_of p w nd ≡ 0) ((client_of p nd.records).second ≡ false) w name place nd not_server (λ h. inl h) (λ h. inr h) w (server_of p w.server) (client_of p nd.records) (length w.messages)
     start = record { reached = reached; node = nd; found = found; name_is = refl; stops = λ x e. e; others = λ j ne. refl; names = refl; client = refl; server = refl; messages = refl }
 

@@ -9,7 +9,7 @@ use Rattle.node_model.specs.Snapshots.{Buildable}
 use Rattle.node_model.specs.Messages.{Message, Upload}
 use Rattle.node_model.specs.Clients.{Client, ClientRecord, ClientRefusal, ClientStep, Original, Unsent, answers, if_born, if_named, refuse, NotNamed, client_of, after_records, take as take_message}
 use Rattle.node_model.specs.Servers.{Server, ServerRecord, ServerStep, no_server, server_of, after_all, place_of, count, is_given, serve, serve_changes}
-use Rattle.node_model.specs.Worlds.{Node, World, Event, Delivers, Outcome, Words, says, Stop, Stopped, Replied, Took, Declined, at, put, seek, further, is_there, stopped, has_name, server_name, messaged, message_words, took_words, reply_words, client_moved, client_ends, client_called, client_calls, server_moved, server_ends, server_called, is_node, delivers, message_at, happens, world_after, outcomes, IsReached}
+use Rattle.node_model.specs.Worlds.{Node, World, Event, Delivers, Outcome, Words, says, Stop, Stopped, Replied, Took, Declined, at, put, seek, further, is_there, stopped, has_name, server_name, messaged, message_words, took_words, reply_words, client_moved, client_ends, client_called, client_calls, server_moved, server_ends, server_called, is_node, delivers, message_at, happens, world_after, outcomes}
 use Rattle.node_model.specs.Log.{MayDecline}
 use Rattle.node_model.specs.Progress.{IsException, Comes, comes_now, comes_later}
 use Rattle.node_model.specs.Each.{Each, and_each}
@@ -20,8 +20,8 @@ use Rattle.node_model.proofs.Calling.{NamedAs, named_as, mine}
 use Rattle.node_model.proofs.Fair.{given_so, own_answers, IsUploadFair}
 use Rattle.node_model.proofs.Serving.{numbered_at}
 use Rattle.node_model.proofs.Small.{client_lists}
-use Rattle.node_model.proofs.Holding.{Holds, all_hold, server_append}
-use Rattle.node_model.proofs.Reached.{reached_step, reached_facts}
+use Rattle.node_model.proofs.Holding.{Holds, server_append}
+use Rattle.node_model.proofs.Progress.Valid.{Valid, valid_step, valid_facts}
 
 pub seek_put : {A : Type 0} (test : A → Bool) (xs : List A) (i : ℕ) (x y : A) → seek test xs ≡ Some (i, x) → test y ≡ true → seek test (put xs i y) ≡ Some (i, y)
 seek_put test [] i x y e t = cc
@@ -77,7 +77,7 @@ module _ {I S : Type 0} (p : Profile I S) where
 
     -- a world since w0 in which the client stands for st and the server for s, and so many messages were made
     pub record Here (v : World) (s : Server I) (st : Client I S) (n : ℕ) : Type 0 where
-      pub reached : IsReached p v
+      pub reached : Valid p v
       pub node : Node
       pub found : seek (has_name name) v.clients ≡ Some (place, node)
       pub name_is : node.name ≡ nd0.name
@@ -94,7 +94,7 @@ module _ {I S : Type 0} (p : Profile I S) where
     arm_none true o e = refl
     arm_none false o e = e
 
-    moved_here : {v : World} {s : Server I} {st : Client I S} {n : ℕ} (h : Here v s st n) (rs : List ClientRecord) (msgs : List Message) (m : ℕ) → length msgs ≡ m → IsReached p (record (client_moved v place h.node rs) { messages = msgs }) → Here (record (client_moved v place h.node rs) { messages = msgs }) s (after_records p st rs) m
+    moved_here : {v : World} {s : Server I} {st : Client I S} {n : ℕ} (h : Here v s st n) (rs : List ClientRecord) (msgs : List Message) (m : ℕ) → length msgs ≡ m → Valid p (record (client_moved v place h.node rs) { messages = msgs }) → Here (record (client_moved v place h.node rs) { messages = msgs }) s (after_records p st rs) m
     moved_here {v} h rs msgs m count reached =
         let nd2 : Node = record { name = h.node.name; records = h.node.records ++ rs } in
         record {
@@ -132,7 +132,7 @@ module _ {I S : Type 0} (p : Profile I S) where
         on (Some stand) o_is = goes_on q v e es r (says (client_moved v place h.node stand) Stopped) (ends ∙ ap (client_ends v place h.node (answers m) message_words) o_is) (inl (stop_of_client h (stop_armed (v.stops h.node.name) [] stand o_is)))
         on None o_is =
             let to : happens p v e ≡ messaged (client_moved v place h.node []) m = ends ∙ ap (client_ends v place h.node (answers m) message_words) o_is in
-            let reached : IsReached p (messaged (client_moved v place h.node []) m).world = subst (λ o. IsReached p o.world) to (reached_step p v e h.reached) in
+            let reached : Valid p (messaged (client_moved v place h.node []) m).world = subst (λ o. Valid p o.world) to (valid_step p law built v e h.reached) in
             goes_on q v e es r (messaged (client_moved v place h.node []) m) to
             (inr (then_ (messaged (client_moved v place h.node []) m).world
             (moved_here h [] (v.messages ++ m ∷ []) (suc n) (Rattle.sync_theory.proofs.Logs.length_snoc v.messages m ∙ ap suc h.messages) reached)
@@ -176,7 +176,7 @@ module _ {I S : Type 0} (p : Profile I S) where
                 goes_on q v (Delivers k name) es r (says (client_moved v place h.node did.records) (Declined why)) (ends ∙ ap (client_ends v place h.node did took_words) o_is ∙ ap (took_words (client_moved v place h.node did.records)) a_is) (inl (refused why a_is))
             answered (Ok j) a_is =
                 let to : happens p v (Delivers k name) ≡ says (client_moved v place h.node did.records) (Took j) = ends ∙ ap (client_ends v place h.node did took_words) o_is ∙ ap (took_words (client_moved v place h.node did.records)) a_is in
-                let reached : IsReached p (client_moved v place h.node did.records) = subst (λ o. IsReached p o.world) to (reached_step p v (Delivers k name) h.reached) in
+                let reached : Valid p (client_moved v place h.node did.records) = subst (λ o. Valid p o.world) to (valid_step p law built v (Delivers k name) h.reached) in
                 goes_on q v (Delivers k name) es r (says (client_moved v place h.node did.records) (Took j)) to
                 (inr (then_ j (client_moved v place h.node did.records) a_is (moved_here h did.records v.messages n h.messages reached)))
 
@@ -194,7 +194,7 @@ module _ {I S : Type 0} (p : Profile I S) where
         on (Some stand) o_is = goes_on q v (Delivers k server_name) es r (says (server_moved v stand) Stopped) (ends ∙ ap (server_ends v did) o_is) (inl (stop_of_server h (stop_armed (v.stops server_name) did.records stand o_is)))
         on None o_is =
             let to : happens p v (Delivers k server_name) ≡ reply_words (server_moved v did.records) did.answer = ends ∙ ap (server_ends v did) o_is in
-            let reached : IsReached p (reply_words (server_moved v did.records) did.answer).world = subst (λ o. IsReached p o.world) to (reached_step p v (Delivers k server_name) h.reached) in
+            let reached : Valid p (reply_words (server_moved v did.records) did.answer).world = subst (λ o. Valid p o.world) to (valid_step p law built v (Delivers k server_name) h.reached) in
             let here : Here (reply_words (server_moved v did.records) did.answer).world (after_all p s did.records) st (suc n) = record {
               reached = reached;
               node = h.node;
@@ -213,14 +213,14 @@ module _ {I S : Type 0} (p : Profile I S) where
     -- ---- what holds there
 
     pub holds : {v : World} {s : Server I} {st : Client I S} {n : ℕ} → Here v s st n → Holds p v
-    holds h = subst (Holds p) h.reached.1 (all_hold p law built h.reached.0)
+    holds h = h.reached.holds
 
     pub at_node : {v : World} {s : Server I} {st : Client I S} {n : ℕ} (h : Here v s st n) → at v.clients place ≡ Some h.node
     at_node {v} h = (seek_found (has_name name) v.clients (place, h.node) h.found).here
 
     -- it declines what it may
     pub declined : {v : World} {s : Server I} {st : Client I S} {n : ℕ} (h : Here v s st n) (k : ℕ) (m : Message) → message_at v (suc k) ≡ Some m → (why : ClientRefusal) → (take_message p st m).answer ≡ Err why → MayDecline why
-    declined {v} h k m there why e = (reached_facts p law built v h.reached).declines k m there place h.node (at_node h) why (ap (λ c. (take_message p c m).answer) h.client ∙ e)
+    declined {v} h k m there why e = (valid_facts p law built v h.reached).declines k m there place h.node (at_node h) why (ap (λ c. (take_message p c m).answer) h.client ∙ e)
 
     -- and the server refuses of an upload what it may
     pub upload_refused : {v : World} {s : Server I} {st : Client I S} {n : ℕ} (h : Here v s st n) (k c : ℕ) (hs : List Rattle.node_model.specs.Messages.Change) → message_at v (suc k) ≡ Some (Upload c hs) → IsUploadFair (serve_changes p s c hs).answer

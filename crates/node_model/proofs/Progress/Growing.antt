@@ -11,13 +11,13 @@ use Rattle.node_model.specs.Messages.{Message, Bind, Ident, Upload, Ask, Downloa
 use Rattle.node_model.specs.Clients.{Client, ClientRecord, Born, Named, Made, Took, Form, ClientRefusal, ClientStep, ok_list, no_client, client_of, after_record, after_records, commit, upgrade, bind, upload, ask, take as take_message, Subset, subscribe}
 use Rattle.node_model.specs.Servers.{Server, ServerRecord, Entry, no_server, server_of, after_server, after_all, entry_of, place_of, count, serve, server_objects}
 use Rattle.node_model.specs.Files.{client_admits, client_opens, is_growing, is_blank, is_fine}
-use Rattle.node_model.specs.Worlds.{Node, World, Event, Joins, Edits, Binds, Uploads, Asks, Upgrades, Delivers, Restarts, Stops, Injects, Outcome, says, NoNode, NameTaken, UuidTaken, Joined, Armed, OwnIdent, at, seek, is_there, stopped, has_name, has_id, server_name, message_words, made_words, took_words, upgrade_words, client_moved, client_ends, client_called, client_calls, server_ends, server_called, is_node, delivers, named_by, names_own, message_at, arm, happens, world_after, IsReached, Starts, Subscribes, subscribe_words}
+use Rattle.node_model.specs.Worlds.{Node, World, Event, Joins, Edits, Binds, Uploads, Asks, Upgrades, Delivers, Restarts, Stops, Injects, Outcome, says, NoNode, NameTaken, UuidTaken, Joined, Armed, OwnIdent, at, seek, is_there, stopped, has_name, has_id, server_name, message_words, made_words, took_words, upgrade_words, client_moved, client_ends, client_called, client_calls, server_ends, server_called, is_node, delivers, named_by, names_own, message_at, arm, happens, world_after, Starts, Subscribes, subscribe_words}
 use Rattle.node_model.specs.Log.{ident_by, ident_of}
 use Rattle.node_model.proofs.Lists.{place_old}
 use Rattle.node_model.proofs.Own.{after_append}
 use Rattle.node_model.proofs.Holding.{server_append}
 use Rattle.node_model.proofs.Acknowledged.{events_grow}
-use Rattle.node_model.proofs.Reached.{reached_open, reached_step}
+use Rattle.node_model.proofs.Progress.Valid.{Valid, valid_after}
 use Rattle.node_model.proofs.Progress.Serves.{takes_same}
 use Rattle.node_model.specs.Starts.{started}
 use Rattle.sync_theory.proofs.Server.{test_true}
@@ -248,10 +248,6 @@ module _ {I S : Type 0} (p : Profile I S) where
       let b = events_append es (happens p w e).world in
       (a.0 ++ b.0, b.1 ∙ ap (λ l. l ++ b.0) a.1 ∙ append_assoc w.server a.0 b.0)
 
-  pub reached_after : (es : List (Event I)) (w : World) → IsReached p w → IsReached p (world_after p w es)
-  reached_after [] w r = r
-  reached_after (e ∷ es) w r = reached_after es (happens p w e).world (reached_step p w e r)
-
   -- ---- both, from a world to a later one
 
   pub record LaterNode (w v : World) (i : ℕ) (nd : Node) : Type 0 where
@@ -260,7 +256,7 @@ module _ {I S : Type 0} (p : Profile I S) where
     pub name : node.name ≡ nd.name
     pub client : Onto (client_of p nd.records) (client_of p node.records)
 
-  module _ {Fits Bounded Old : S → Type 0} (law : Lawful p Fits) (built : Buildable p Fits Bounded Old) (es : List (Event I)) (w : World) (reached : IsReached p w) where
+  module _ {Fits Bounded Old : S → Type 0} (law : Lawful p Fits) (built : Buildable p Fits Bounded Old) (es : List (Event I)) (w : World) (reached : Valid p w) where
     pub server_later : ServerOnto (server_of p w.server) (server_of p (world_after p w es).server)
     server_later =
         let a = events_append es w in
@@ -269,12 +265,12 @@ module _ {I S : Type 0} (p : Profile I S) where
     pub node_later : (i : ℕ) (nd : Node) → at w.clients i ≡ Some nd → LaterNode w (world_after p w es) i nd
     node_later i nd h =
         let g = events_grow p es w i nd h in
-        let open_ : client_opens p (no_client p) (nd.records ++ g.2.more) ≡ true = ap (client_opens p (no_client p)) (sym g.2.records) ∙ (reached_open p law built (world_after p w es) (reached_after es w reached)).clients i g.0 g.1 in
+        let open_ : client_opens p (no_client p) (nd.records ++ g.2.more) ≡ true = ap (client_opens p (no_client p)) (sym g.2.records) ∙ (valid_after p law built es w reached).opens.clients i g.0 g.1 in
         record {
           node = g.0;
           here = g.1;
           name = g.2.name;
-          client = subst (Onto (client_of p nd.records)) (sym (ap (client_of p) g.2.records ∙ after_append p (no_client p) nd.records g.2.more)) (onto g.2.more (client_of p nd.records) (opens_rest nd.records g.2.more (no_client p) open_) (first_all nd.records (no_client p) ((reached_open p law built w reached).clients i nd h) (λ z n. refl)));
+          client = subst (Onto (client_of p nd.records)) (sym (ap (client_of p) g.2.records ∙ after_append p (no_client p) nd.records g.2.more)) (onto g.2.more (client_of p nd.records) (opens_rest nd.records g.2.more (no_client p) open_) (first_all nd.records (no_client p) (reached.opens.clients i nd h) (λ z n. refl)));
         }
 
     pub log_longer : length (server_of p w.server).log ≤ length (server_of p (world_after p w es).server).log

@@ -8,16 +8,16 @@ use Rattle.node_model.specs.Profile.{Profile, Lawful}
 use Rattle.node_model.specs.Snapshots.{Buildable}
 use Rattle.node_model.specs.Clients.{Client, client_of}
 use Rattle.node_model.specs.Servers.{Server, server_of, place_of, count}
-use Rattle.node_model.specs.Worlds.{Node, World, Event, Words, at, seek, has_name, server_name, outcomes, world_after, IsReached}
+use Rattle.node_model.specs.Worlds.{Node, World, Event, Words, at, seek, has_name, server_name, outcomes, world_after}
 use Rattle.node_model.specs.Log.{as_log, ident_by, ident_of, log}
 use Rattle.node_model.specs.Progress.{IsException, IsRoomy, IsCurrent, rounds, turn, after_turn, after_turns, turns, Gets, gets_exception, gets_current, gets_later}
 use Rattle.node_model.proofs.Lists.{length_map}
-use Rattle.node_model.proofs.Holding.{Holds, all_hold}
+use Rattle.node_model.proofs.Holding.{Holds}
 use Rattle.node_model.proofs.Progress.Catching.{Goes, Here, at_node}
 use Rattle.node_model.proofs.Progress.Rounds.{Within, Bound, bound, round_gains}
-use Rattle.node_model.proofs.Progress.Names.{names_apart}
-use Rattle.node_model.proofs.Progress.Growing.{LaterNode, node_later, count_longer, ident_later, reached_after}
+use Rattle.node_model.proofs.Progress.Growing.{LaterNode, node_later, count_longer, ident_later}
 use Rattle.node_model.proofs.Progress.CatchUp.{done, start_at, born_of, still_count, ident_named}
+use Rattle.node_model.proofs.Progress.Valid.{Valid, valid_after}
 
 module _ {I S : Type 0} (p : Profile I S) where
   pub after_append : (es fs : List (Event I)) (w : World) → world_after p w (es ++ fs) ≡ world_after p (world_after p w es) fs
@@ -37,7 +37,7 @@ module _ {I S : Type 0} (p : Profile I S) where
   reach_of v nd = (client_of p nd.records).cursor + count (server_of p v.server) (ident_of p v nd)
 
   pub record Turned (v v2 : World) (i : ℕ) (nd : Node) : Type 0 where
-    pub reached : IsReached p v2
+    pub reached : Valid p v2
     pub node : Node
     pub here : at v2.clients i ≡ Some node
     pub name : node.name ≡ nd.name
@@ -46,7 +46,7 @@ module _ {I S : Type 0} (p : Profile I S) where
     pub gains : (reach_of v nd < reach_of v2 node) ⊎ IsCurrent p v2 node
 
   module _ {Fits Bounded Old : S → Type 0} (law : Lawful p Fits) (built : Buildable p Fits Bounded Old) (roomy : IsRoomy p) where
-    module _ (A U O : Type 0) (v : World) (reached : IsReached p v) (i : ℕ) (nd : Node) (found : seek (has_name nd.name) v.clients ≡ Some (i, nd)) (not_server : bytes_eq nd.name server_name ≡ false) (arms : (x : Name) → v.stops x ≢ None → A) where
+    module _ (A U O : Type 0) (v : World) (reached : Valid p v) (i : ℕ) (nd : Node) (found : seek (has_name nd.name) v.clients ≡ Some (i, nd)) (not_server : bytes_eq nd.name server_name ≡ false) (arms : (x : Name) → v.stops x ≢ None → A) where
       abbrev At : World → Server I → Client I S → ℕ → Type 0
       At v2 s st n = Here p law built A U O v nd.name i nd not_server (arms nd.name) (arms server_name) v2 s st n
 
@@ -88,7 +88,7 @@ module _ {I S : Type 0} (p : Profile I S) where
           inr (turned h2 b.0 b.1 bd (still_count p law built roomy A U O v nd.name i nd not_server (arms nd.name) (arms server_name) start h1 b.0 b.1 bd) same gain)))
 
     -- how far a client may be
-    within_all : (w : World) → IsReached p w → (i : ℕ) (nd : Node) → at w.clients i ≡ Some nd → reach_of w nd ≤ length (server_of p w.server).log + length (client_of p nd.records).made
+    within_all : (w : World) → Valid p w → (i : ℕ) (nd : Node) → at w.clients i ≡ Some nd → reach_of w nd ≤ length (server_of p w.server).log + length (client_of p nd.records).made
     within_all w r i nd h = ⊎_elim
         (λ f.
         let cursor = f.1.at_start in
@@ -108,7 +108,7 @@ module _ {I S : Type 0} (p : Profile I S) where
         k.is
       where
         hs : Holds p w
-        hs = subst (Holds p) r.1 (all_hold p law built r.0)
+        hs = r.holds
 
         k : Rattle.node_model.proofs.Sim.ClientIs p hs.n (server_of p w.server).ids nd.records
         k = hs.sim.clients i nd h
@@ -125,7 +125,7 @@ module _ {I S : Type 0} (p : Profile I S) where
             omega arith
 
     -- whatever happens it never falls back
-    reach_later : (es : List (Event I)) (w : World) (r : IsReached p w) (i : ℕ) (nd : Node) (h : at w.clients i ≡ Some nd) → reach_of w nd ≤ reach_of (world_after p w es) (node_later p law built es w r i nd h).node
+    reach_later : (es : List (Event I)) (w : World) (r : Valid p w) (i : ℕ) (nd : Node) (h : at w.clients i ≡ Some nd) → reach_of w nd ≤ reach_of (world_after p w es) (node_later p law built es w r i nd h).node
     reach_later es w r i nd h = ⊎_elim
         (λ z.
         let a = within_all_zero z in
@@ -140,7 +140,7 @@ module _ {I S : Type 0} (p : Profile I S) where
       where
         within_all_zero : ident_of p w nd ≡ 0 → count (server_of p w.server) (ident_of p w nd) ≡ 0
         within_all_zero z =
-            let hs : Holds p w = subst (Holds p) r.1 (all_hold p law built r.0) in
+            let hs : Holds p w = r.holds in
             let a = hs.sim.ahead 0 in
             let b = ap length (sym a.1 ∙ hs.sim.blank_mades 0 (inl refl)) in
             let l = length-append (of_origin 0 hs.n.log) a.0 in
@@ -149,12 +149,12 @@ module _ {I S : Type 0} (p : Profile I S) where
             omega arith
 
     -- more turns than there are entries and own changes in the end
-    pub gets : (O : Type 0) (name : Name) (i most : ℕ) (ess : List (List (Event I))) (w : World) → IsReached p w → (nd : Node) → at w.clients i ≡ Some nd → nd.name ≡ name → ((client_of p nd.records).second ≡ false → O)
+    pub gets : (O : Type 0) (name : Name) (i most : ℕ) (ess : List (List (Event I))) (w : World) → Valid p w → (nd : Node) → at w.clients i ≡ Some nd → nd.name ≡ name → ((client_of p nd.records).second ≡ false → O)
         → ((y : Node) → at (after_turns p name w ess).clients i ≡ Some y → length (log p (after_turns p name w ess)) + length (client_of p y.records).made ≤ most) → most < reach_of w nd + length ess → Gets p (IsException (Unit {0}) (Unit {0}) O) name w ess
     gets O name i most [] w r nd h name_is olding bounded lt = let a = bounded nd h in let b = within_all w r i nd h in absurd (omega arith)
     gets O name i most (es ∷ ess) w r nd h name_is olding bounded lt =
         on (subst (λ x. Goes p (IsException (Unit {0}) (Unit {0}) O) v (turn p x v) (λ v2. Turned v v2 i nd1)) (later.name ∙ name_is)
-        (one_turn (Unit {0}) (Unit {0}) O v (reached_after p es w r) i nd1 apart.0 apart.1 (λ x ne. tt) (λ z. tt) old_now))
+        (one_turn (Unit {0}) (Unit {0}) O v (valid_after p law built es w r) i nd1 apart.0 apart.1 (λ x ne. tt) (λ z. tt) old_now))
         (λ t gain. gets O name i most ess (after_turn p name w es) t.reached t.node t.here (t.name ∙ later.name ∙ name_is) (λ z. old_now (sym t.second ∙ z)) bounded (further t gain))
       where
         v : World
@@ -167,7 +167,7 @@ module _ {I S : Type 0} (p : Profile I S) where
         nd1 = later.node
 
         apart : (seek (has_name later.node.name) (world_after p w es).clients ≡ Some (i, later.node)) × (bytes_eq later.node.name server_name ≡ false)
-        apart = names_apart p (world_after p w es) (reached_after p es w r) i later.node later.here
+        apart = (valid_after p law built es w r).apart i later.node later.here
 
         old_now : (client_of p later.node.records).second ≡ false → O
         old_now z = on (client_of p nd.records).second refl
@@ -189,6 +189,6 @@ module _ {I S : Type 0} (p : Profile I S) where
         on (inr t) rec = ⊎_elim
             (λ gain. gets_later (rec t gain))
             (λ cur.
-            let a = names_apart p (after_turn p name w es) t.reached i t.node t.here in
+            let a = t.reached.apart i t.node t.here in
             gets_current (record { place = i; node = t.node; found = subst (λ x. seek (has_name x) (after_turn p name w es).clients ≡ Some (i, t.node)) (t.name ∙ later.name ∙ name_is) a.0; named = t.named; current = cur }))
             t.gains

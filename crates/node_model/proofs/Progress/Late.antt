@@ -12,15 +12,15 @@ use Rattle.node_model.specs.Messages.{Change, Sent, Message, Bind, Ident, Upload
 use Rattle.node_model.specs.Clients.{Client, ClientRecord, Born, Named, Made, Took, Form, ClientRefusal, ClientStep, NotMine, WasRefused, IdentDiffers, Gap, Unsent, answers, appends, refuse, if_born, ok_list, client_of, after_record, after_records, entry_refusal, take_one, took, take_entries, take_ident, take_born, take as take_message, Subset}
 use Rattle.node_model.specs.Servers.{Server, ServerRecord, Entry, ServerStep, IdentsFull, NoSuchIdent, AheadOfHistory, server_of, after_server, after_all, place_of, count, is_given, serve, serve_changes, merge, merged, download, download_first, if_there, entries_from, refuses, replies, no_server, Settled, marking, marks_new, heir_of, retire_for, SelfRetire, RetiredBy, download_tables}
 use Rattle.node_model.specs.Each.{Each, no_more, and_each}
-use Rattle.node_model.specs.Worlds.{Node, World, Delivers, says, NoNode, at, put, seek, has_name, stopped, server_name, took_words, client_moved, client_ends, client_called, client_calls, server_ends, server_called, is_node, delivers, message_at, happens, world_after, IsReached}
+use Rattle.node_model.specs.Worlds.{Node, World, Delivers, says, NoNode, at, put, seek, has_name, stopped, server_name, took_words, client_moved, client_ends, client_called, client_calls, server_ends, server_called, is_node, delivers, message_at, happens, world_after}
 use Rattle.node_model.specs.Log.{as_log, ident_of, log, NamedFacts}
 use Rattle.node_model.specs.Progress.{IsCurrent, AllCurrent}
 use Rattle.node_model.proofs.Lists.{at_put, at_put_other, at_below, at_there, at_of_map, seek_found, own_class, own_not_zero, length_map, take_all}
 use Rattle.node_model.proofs.Own.{after_append}
 use Rattle.node_model.proofs.Sim.{uuid_of, uuids, Uploaded, no_changes, a_change, Tells}
 use Rattle.node_model.proofs.Serving.{numbered_at}
-use Rattle.node_model.proofs.Holding.{Holds, all_hold, server_append, cut_by}
-use Rattle.node_model.proofs.Reached.{reached_step}
+use Rattle.node_model.proofs.Holding.{Holds, server_append, cut_by}
+use Rattle.node_model.proofs.Progress.Valid.{Valid, valid_step}
 use Rattle.node_model.proofs.Progress.Serves.{takes_same}
 use Rattle.node_model.proofs.Progress.Names.{names_of, delivers_names}
 use Rattle.node_model.proofs.Progress.Growing.{node_later}
@@ -236,9 +236,9 @@ module _ {I S : Type 0} (p : Profile I S) where
           let c = cut_by (w.stops server_name) (serve p (server_of p w.server) m).records stand r_is in
           record { log_is = ap (λ (s : Server I). s.log) (server_append p no_server w.server stand) ∙ log_same stand (server_of p w.server) (subst (Each NoEntry) c.1 (each_take c.0 none)); made = (same_world w).made }
 
-  module _ {Fits Bounded Old : S → Type 0} (law : Lawful p Fits) (built : Buildable p Fits Bounded Old) (w : World) (r : IsReached p w) (all : AllCurrent p w) where
+  module _ {Fits Bounded Old : S → Type 0} (law : Lawful p Fits) (built : Buildable p Fits Bounded Old) (w : World) (r : Valid p w) (all : AllCurrent p w) where
     hs_ : Holds p w
-    hs_ = subst (Holds p) r.1 (all_hold p law built r.0)
+    hs_ = r.holds
 
     -- all that was uploaded is integrated
     whole : (c : ℕ) → Rattle.node_model.proofs.Lists.class (server_of p w.server).ids (uuids p w.clients) c ≡ true → length (hs_.n.mades c) ≤ count (server_of p w.server) c
@@ -323,9 +323,9 @@ module _ {I S : Type 0} (p : Profile I S) where
         same : (a b : Node) → Some a ≡ Some b → a ≡ b
         same a b e = cc
 
-  pub late : {Fits Bounded Old : S → Type 0} → Lawful p Fits → Buildable p Fits Bounded Old → (ds : List (ℕ × Name)) (w : World) → IsReached p w → AllCurrent p w
+  pub late : {Fits Bounded Old : S → Type 0} → Lawful p Fits → Buildable p Fits Bounded Old → (ds : List (ℕ × Name)) (w : World) → Valid p w → AllCurrent p w
       → AllCurrent p (world_after p w (map (λ d. Delivers d.0 d.1) ds)) × (log p (world_after p w (map (λ d. Delivers d.0 d.1) ds)) ≡ log p w)
   late law built [] w r all = (all, refl)
   late law built (d ∷ ds) w r all =
-      let rest = late law built ds (happens p w (Delivers d.0 d.1)).world (reached_step p w (Delivers d.0 d.1) r) (delivered_current law built w r all d.0 d.1) in
+      let rest = late law built ds (happens p w (Delivers d.0 d.1)).world (valid_step p law built w (Delivers d.0 d.1) r) (delivered_current law built w r all d.0 d.1) in
       (rest.0, rest.1 ∙ (delivered_still law built w r all d.0 d.1).log_is)

@@ -4,21 +4,21 @@ use Rattle.node_model.specs.Profile.{Profile, Lawful}
 use Rattle.node_model.specs.Snapshots.{Buildable}
 use Rattle.node_model.specs.Clients.{client_of}
 use Rattle.node_model.specs.Servers.{server_of}
-use Rattle.node_model.specs.Worlds.{Node, World, Event, at, outcomes, world_after, IsReached}
+use Rattle.node_model.specs.Worlds.{Node, World, Event, at, outcomes, world_after}
 use Rattle.node_model.specs.Log.{ident_of, log}
 use Rattle.node_model.specs.Progress.{Comes, IsException, IsArmed, IsRoomy, HasCaughtUp, enough, catches_up, sweep, after_sweep, all_catch_up, made_by_all, enough_for_all, AnyArmed, AnyUnnamed, AnyOld, AllCurrent, after_turns, Gets}
 use Rattle.node_model.proofs.Lists.{at_map, length_map}
 use Rattle.node_model.proofs.Progress.Catching.{Goes}
-use Rattle.node_model.proofs.Progress.Names.{names_apart}
 use Rattle.node_model.proofs.Progress.CatchUp.{one_catches_up}
 use Rattle.node_model.proofs.Progress.Interrupted.{gets}
 use Rattle.node_model.proofs.Progress.Sweeps.{goes_append, goes_map, Swept, SameNode, Flushed, Ended, StandsFor, made_within, flushed_stays, flushed_now, ended_stays, ident_at, sweeps}
+use Rattle.node_model.proofs.Progress.Valid.{Valid}
 
-module _ {I S : Type 0} (p : Profile I S) {Fits Bounded Old : S → Type 0} (law : Lawful p Fits) (built : Buildable p Fits Bounded Old) (roomy : IsRoomy p) (w : World) (reached : IsReached p w) where
+module _ {I S : Type 0} (p : Profile I S) {Fits Bounded Old : S → Type 0} (law : Lawful p Fits) (built : Buildable p Fits Bounded Old) (roomy : IsRoomy p) (w : World) (reached : Valid p w) where
   -- one client catches up, or a named exception comes
   pub catches_up_law : (i : ℕ) (nd : Node) → at w.clients i ≡ Some nd → (k : ℕ) → enough p w nd ≤ k
       → Comes (IsException (IsArmed p w nd) (ident_of p w nd ≡ 0) ((client_of p nd.records).second ≡ false)) (outcomes p w (catches_up nd.name (length w.messages) k)) ⊎ HasCaughtUp p (world_after p w (catches_up nd.name (length w.messages) k)) nd.name
-  catches_up_law i nd here k le = let a = names_apart p w reached i nd here in one_catches_up p law built roomy w reached nd.name a.1 i nd a.0 k le
+  catches_up_law i nd here k le = let a = reached.apart i nd here in one_catches_up p law built roomy w reached nd.name a.1 i nd a.0 k le
 
   -- ---- all of them
 

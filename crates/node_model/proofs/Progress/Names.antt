@@ -185,7 +185,7 @@ module _ {I S : Type 0} (p : Profile I S) where
       go true = refl
       go false = ap names_of (serve_same (named_by w m) m ∙ named_same w m)
 
-  happens_apart : (w : World) (e : Event I) → Apart w.clients → Apart (happens p w e).world.clients
+  pub happens_apart : (w : World) (e : Event I) → Apart w.clients → Apart (happens p w e).world.clients
   happens_apart w (Joins name id) a = joins_apart w name id (Born id ∷ []) a
   happens_apart w (Starts name id) a = joins_apart w name id (started p id (server_of p w.server).second (length (server_of p w.server).log) (server_objects p (server_of p w.server))) a
   happens_apart w (Subscribes name tables) a = apart_names w.clients _ (sym (called w name (λ c. subscribe c tables) subscribe_words (subscribe_same w))) a

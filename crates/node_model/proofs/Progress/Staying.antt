@@ -4,12 +4,12 @@ use Rattle.sync_theory.specs.Logs.{of_origin}
 use Rattle.node_model.specs.Profile.{Profile, Lawful}
 use Rattle.node_model.specs.Snapshots.{Buildable}
 use Rattle.node_model.specs.Clients.{Unsent, client_of}
-use Rattle.node_model.specs.Worlds.{Node, World, Event, at, world_after, IsReached}
+use Rattle.node_model.specs.Worlds.{Node, World, Event, at, world_after}
 use Rattle.node_model.specs.Log.{ident_of, log, NamedFacts}
 use Rattle.node_model.specs.Progress.{IsCurrent}
 use Rattle.node_model.proofs.Lists.{take_all}
-use Rattle.node_model.proofs.Reached.{reached_facts}
-use Rattle.node_model.proofs.Progress.Growing.{node_later, count_longer, ident_later, reached_after}
+use Rattle.node_model.proofs.Progress.Valid.{Valid, valid_after, valid_facts}
+use Rattle.node_model.proofs.Progress.Growing.{node_later, count_longer, ident_later}
 
 drop_all : {A : Type 0} (n : ℕ) (xs : List A) → length xs ≤ n → drop n xs ≡ []
 drop_all zero [] le = refl
@@ -27,17 +27,17 @@ no_map f [] e = refl
 no_map f (x ∷ xs) e = cc
 
 module _ {I S : Type 0} (p : Profile I S) {Fits Bounded Old : S → Type 0} (law : Lawful p Fits) (built : Buildable p Fits Bounded Old) where
-  pub named : (w : World) → IsReached p w → (i : ℕ) (nd : Node) → at w.clients i ≡ Some nd → ident_of p w nd ≢ 0 → NamedFacts p w nd
-  named w r i nd h ne = ⊎_elim (λ f. f.1) (λ f. absurd (ne f.0)) ((reached_facts p law built w r).clients i nd h)
+  pub named : (w : World) → Valid p w → (i : ℕ) (nd : Node) → at w.clients i ≡ Some nd → ident_of p w nd ≢ 0 → NamedFacts p w nd
+  named w r i nd h ne = ⊎_elim (λ f. f.1) (λ f. absurd (ne f.0)) ((valid_facts p law built w r).clients i nd h)
 
-  pub stays_current : (w : World) (r : IsReached p w) (es : List (Event I)) (i : ℕ) (nd : Node) (h : at w.clients i ≡ Some nd) → ident_of p w nd ≢ 0 → IsCurrent p w nd
+  pub stays_current : (w : World) (r : Valid p w) (es : List (Event I)) (i : ℕ) (nd : Node) (h : at w.clients i ≡ Some nd) → ident_of p w nd ≢ 0 → IsCurrent p w nd
       → length (log p (world_after p w es)) ≡ length (log p w) → length (client_of p (node_later p law built es w r i nd h).node.records).made ≡ length (client_of p nd.records).made
       → IsCurrent p (world_after p w es) (node_later p law built es w r i nd h).node
   stays_current w r es i nd h ne cur same_log same_made =
       let l = node_later p law built es w r i nd h in
       let is = ident_later p law built es w r i nd h ne in
       let f = named w r i nd h ne in
-      let g = named (world_after p w es) (reached_after p es w r) i l.node l.here (λ z. ne (sym is ∙ z)) in
+      let g = named (world_after p w es) (valid_after p law built es w r) i l.node l.here (λ z. ne (sym is ∙ z)) in
       let within = g.within in
       let onward = l.client.cursor in
       let was = cur.cursor in
@@ -53,7 +53,7 @@ module _ {I S : Type 0} (p : Profile I S) {Fits Bounded Old : S → Type 0} (law
       }
 
   -- the same of the node that stands there
-  pub stays_at : (w : World) (r : IsReached p w) (es : List (Event I)) (i : ℕ) (nd end : Node) (h : at w.clients i ≡ Some nd) → at (world_after p w es).clients i ≡ Some end → ident_of p w nd ≢ 0 → IsCurrent p w nd
+  pub stays_at : (w : World) (r : Valid p w) (es : List (Event I)) (i : ℕ) (nd end : Node) (h : at w.clients i ≡ Some nd) → at (world_after p w es).clients i ≡ Some end → ident_of p w nd ≢ 0 → IsCurrent p w nd
       → length (log p (world_after p w es)) ≡ length (log p w) → length (client_of p end.records).made ≡ length (client_of p nd.records).made → IsCurrent p (world_after p w es) end
   stays_at w r es i nd end h there ne cur same_log same_made =
       let l = node_later p law built es w r i nd h in

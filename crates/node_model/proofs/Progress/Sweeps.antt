@@ -8,17 +8,18 @@ use Rattle.node_model.specs.Profile.{Profile, Lawful}
 use Rattle.node_model.specs.Snapshots.{Buildable}
 use Rattle.node_model.specs.Clients.{Client, client_of}
 use Rattle.node_model.specs.Servers.{Server, server_of, place_of, count}
-use Rattle.node_model.specs.Worlds.{Node, World, Event, Words, at, seek, has_name, server_name, happens, world_after, IsReached}
+use Rattle.node_model.specs.Worlds.{Node, World, Event, Words, at, seek, has_name, server_name, happens, world_after}
 use Rattle.node_model.specs.Log.{ident_by, ident_of}
 use Rattle.node_model.specs.Progress.{Comes, comes_now, comes_later, IsException, IsRoomy, enough, rounds, after_rounds, binds_at, catches_up, sweep, after_sweep, made_by_all}
 use Rattle.node_model.proofs.Lists.{place_old, place_one, at_map, at_below, length_map}
 use Rattle.node_model.proofs.Sim.{uuid_of}
 use Rattle.node_model.proofs.Calling.{named_as}
-use Rattle.node_model.proofs.Holding.{Holds, all_hold}
+use Rattle.node_model.proofs.Holding.{Holds}
 use Rattle.node_model.proofs.Progress.Catching.{Goes, Here, at_node}
 use Rattle.node_model.proofs.Progress.Rounds.{Onward, Bound}
-use Rattle.node_model.proofs.Progress.Names.{names_of, names_apart}
+use Rattle.node_model.proofs.Progress.Names.{names_of}
 use Rattle.node_model.proofs.Progress.CatchUp.{Done, start_at, born_of, catching}
+use Rattle.node_model.proofs.Progress.Valid.{Valid}
 
 none_comes : (q : Words → Type 0) → Comes q [] → ⊥
 none_comes q c = elim c [ ]
@@ -50,7 +51,7 @@ module _ {I S : Type 0} (p : Profile I S) where
   of_server v = server_of p v.server
 
   pub record Stepped (v v2 : World) (i : ℕ) (nd nd2 : Node) : Type 0 where
-    pub reached : IsReached p v2
+    pub reached : Valid p v2
     pub stops : (x : Name) → v.stops x ≡ None → v2.stops x ≡ None
     pub names : names_of v2.clients ≡ names_of v.clients
     pub others : (j : ℕ) → j ≢ i → at v2.clients j ≡ at v.clients j
@@ -73,10 +74,10 @@ module _ {I S : Type 0} (p : Profile I S) where
     pub stepped : Stepped v v2 i nd node
 
   module _ {Fits Bounded Old : S → Type 0} (law : Lawful p Fits) (built : Buildable p Fits Bounded Old) (roomy : IsRoomy p) where
-    holds_at : (v : World) → IsReached p v → Holds p v
-    holds_at v r = subst (Holds p) r.1 (all_hold p law built r.0)
+    holds_at : (v : World) → Valid p v → Holds p v
+    holds_at v r = r.holds
 
-    module _ (A U O : Type 0) (v : World) (reached : IsReached p v) (i : ℕ) (nd : Node) (found : seek (has_name nd.name) v.clients ≡ Some (i, nd)) (not_server : bytes_eq nd.name server_name ≡ false) (arms : (x : Name) → v.stops x ≢ None → A) where
+    module _ (A U O : Type 0) (v : World) (reached : Valid p v) (i : ℕ) (nd : Node) (found : seek (has_name nd.name) v.clients ≡ Some (i, nd)) (not_server : bytes_eq nd.name server_name ≡ false) (arms : (x : Name) → v.stops x ≢ None → A) where
       abbrev At : World → Server I → Client I S → ℕ → Type 0
       At v2 s st n = Here p law built A U O v nd.name i nd not_server (arms nd.name) (arms server_name) v2 s st n
 
@@ -125,16 +126,16 @@ module _ {I S : Type 0} (p : Profile I S) where
     abbrev pub Ended : World → Node → Type 0
     Ended v nd = Done (server_of p v.server) (client_of p nd.records)
 
-    named_at : (v : World) (r : IsReached p v) (j : ℕ) (x : Node) → at v.clients j ≡ Some x → (client_of p x.records).ident ≢ 0 → (id : Uuid) × ((client_of p x.records).id ≡ Some id) × (place_of id (server_of p v.server).ids ≡ (client_of p x.records).ident)
+    named_at : (v : World) (r : Valid p v) (j : ℕ) (x : Node) → at v.clients j ≡ Some x → (client_of p x.records).ident ≢ 0 → (id : Uuid) × ((client_of p x.records).id ≡ Some id) × (place_of id (server_of p v.server).ids ≡ (client_of p x.records).ident)
     named_at v r j x h ne =
         let i = holds_at v r in
         let a = named_as p law (server_of p v.server) v.injected v.clients i.n i.sim j x h ne in
         (a.id, a.born, a.place)
 
-    pub ident_at : (v : World) (r : IsReached p v) (j : ℕ) (x : Node) → at v.clients j ≡ Some x → (client_of p x.records).ident ≢ 0 → ident_of p v x ≡ (client_of p x.records).ident
+    pub ident_at : (v : World) (r : Valid p v) (j : ℕ) (x : Node) → at v.clients j ≡ Some x → (client_of p x.records).ident ≢ 0 → ident_of p v x ≡ (client_of p x.records).ident
     ident_at v r j x h ne = let a = named_at v r j x h ne in ap (ident_by (server_of p v.server).ids) a.1 ∙ a.2
 
-    idents_differ : (v : World) (r : IsReached p v) (i j : ℕ) (x y : Node) → at v.clients i ≡ Some x → at v.clients j ≡ Some y → i ≢ j → (client_of p x.records).ident ≢ 0 → (client_of p y.records).ident ≢ 0 → (client_of p x.records).ident ≢ (client_of p y.records).ident
+    idents_differ : (v : World) (r : Valid p v) (i j : ℕ) (x y : Node) → at v.clients i ≡ Some x → at v.clients j ≡ Some y → i ≢ j → (client_of p x.records).ident ≢ 0 → (client_of p y.records).ident ≢ 0 → (client_of p x.records).ident ≢ (client_of p y.records).ident
     idents_differ v r i j x y hx hy ne nx ny e =
         let h = holds_at v r in
         let a = named_at v r i x hx nx in
@@ -198,7 +199,7 @@ module _ {I S : Type 0} (p : Profile I S) where
       pub second : (client_of p node.records).second ≡ (client_of p x.records).second
 
     pub record Swept (Inv : World → Type 0) (P : World → Node → Type 0) (v v2 : World) (n extra : ℕ) : Type 0 where
-      pub reached : IsReached p v2
+      pub reached : Valid p v2
       pub stops : (x : Name) → v.stops x ≡ None → v2.stops x ≡ None
       pub names : names_of v2.clients ≡ names_of v.clients
       pub messages : length v2.messages ≡ n
@@ -233,7 +234,7 @@ module _ {I S : Type 0} (p : Profile I S) where
       same_then_ v j x a v2 b = record { node = b.node; here = b.here; made = b.made ∙ a.made; second = b.second ∙ a.second }
 
       -- clients from place i on catch up; those before are as wanted
-      pub sweeps : (nds : List Node) (i : ℕ) (v : World) (n : ℕ) → IsReached p v → length v.messages ≡ n → ((x : Name) → v.stops x ≢ None → A) → Inv v → ((j : ℕ) (x : Node) → at nds j ≡ Some x → StandsFor U O v (i + j) x) → length v.clients ≡ i + length nds
+      pub sweeps : (nds : List Node) (i : ℕ) (v : World) (n : ℕ) → Valid p v → length v.messages ≡ n → ((x : Name) → v.stops x ≢ None → A) → Inv v → ((j : ℕ) (x : Node) → at nds j ≡ Some x → StandsFor U O v (i + j) x) → length v.clients ≡ i + length nds
           → length (server_of p v.server).log + (made_by_all p nds + total) ≤ k → ((j : ℕ) (x : Node) → at nds j ≡ Some x → length (client_of p x.records).made ≤ total)
           → ((j : ℕ) (y : Node) → j < i → at v.clients j ≡ Some y → P v y)
           → Goes p (IsException A U O) v (sweep nds n k) (λ v2. Swept Inv P v v2 (after_sweep nds n k) (made_by_all p nds))
@@ -265,7 +266,7 @@ module _ {I S : Type 0} (p : Profile I S) where
           s = let z : i + 0 ≡ i = omega arith in subst (λ j. StandsFor U O v j x) z (left 0 x refl)
 
           apart : (seek (has_name s.node.name) v.clients ≡ Some (i, s.node)) × (bytes_eq s.node.name server_name ≡ false)
-          apart = names_apart p v reached i s.node s.here
+          apart = reached.apart i s.node s.here
 
           enough_ : enough p v s.node ≤ k
           enough_ = let m = s.made in let le = small 0 x refl in omega arith
