@@ -24,7 +24,8 @@ use Rattle.node_model.proofs.Restarting.{event_opens}
 use Rattle.node_model.proofs.Serving.{Comes, Served as ServedAs, served}
 use Rattle.node_model.proofs.Fair.{fair}
 use Rattle.node_model.proofs.Sim.{Tells, Inv, inv_later}
-use Rattle.node_model.proofs.Trims.{trims_less, less_then, span_less, less_records, served_same, serve_begins}
+use Rattle.node_model.proofs.Alike.{served_same}
+use Rattle.node_model.proofs.Trims.{trims_less, less_then, span_less, less_records, serve_begins}
 use Rattle.node_model.proofs.Written.{open_cut, serve_writes}
 
 -- a refusal tells nothing

@@ -28,6 +28,7 @@ pub mod Alone
 pub mod Keeping
 pub mod Parts
 pub mod Reached
+pub mod Alike
 pub mod Trims
 pub mod Folding
 pub mod Written
