@@ -175,6 +175,18 @@ same_after f c base es version x k (an_ident {a = a} {b = b} s r) h l =
     on true is = let e = Rattle.std.proofs.Common.eqb-true k c is in same_settled f base es a b s h (l 0 a refl (omega arith))
     on false is = same_extended f version x a b s
 
+-- some change has its base below a floor, and so does a message, or it asks from below
+abbrev pub LowChange : ℕ → List Change → Type 0
+LowChange floor [] = ⊥
+LowChange floor (h ∷ hs) = (h.base < floor) ⊎ LowChange floor hs
+
+abbrev pub IsLow : ℕ → Message → Type 0
+IsLow floor (Upload c hs) = LowChange floor hs
+IsLow floor (Ask c cursor n) = cursor < floor
+IsLow floor (Ask2 c cursor n) = cursor < floor
+IsLow floor (AskTables c cursor n second tables) = cursor < floor
+IsLow floor m = ⊥
+
 module _ {I S : Type 0} (p : Profile I S) where
   -- the records of a change, or a refusal: the same, unless the second refuses by 71 what is below
   unfoldable pub SameMerge : Type 0 → Result (Merged I S) ServerRefusal → Result (Merged I S) ServerRefusal → Type 0
@@ -313,18 +325,6 @@ module _ {I S : Type 0} (p : Profile I S) where
                 (if_same (h.base < fb) (a.len == p.full) (HistoryFull a.len) _ _ (λ e. read (p.unspell h.body) f l))
 
   -- ---- one message
-
-  -- some change has its base below a floor, and so does a message, or it asks from below
-  abbrev pub LowChange : ℕ → List Change → Type 0
-  LowChange floor [] = ⊥
-  LowChange floor (h ∷ hs) = (h.base < floor) ⊎ LowChange floor hs
-
-  abbrev pub IsLow : ℕ → Message → Type 0
-  IsLow floor (Upload c hs) = LowChange floor hs
-  IsLow floor (Ask c cursor n) = cursor < floor
-  IsLow floor (Ask2 c cursor n) = cursor < floor
-  IsLow floor (AskTables c cursor n second tables) = cursor < floor
-  IsLow floor m = ⊥
 
   -- the same answer and records, unless the second refuses by 71 what is below
   unfoldable pub SameServed : Type 0 → Served I S → Served I S → Type 0

@@ -11,6 +11,8 @@ pub mod Sweeps
 pub mod Interrupted
 pub mod Staying
 pub mod Late
+pub mod Above
+pub mod Alongside
 pub mod Laws
 mod Examples
 

@@ -1,13 +1,16 @@
--- Progress: quiet worlds, the events by which a client catches up, and what may keep it from that.
-use Rattle.std.specs.Prelude.{◌≡◌, ◌≢◌, ◌⊎◌, ◌≤◌, ℕ, zero, suc, ◌+◌, ◌-◌, Bool, false, List, [], ◌∷◌, ◌++◌, Some, None, length}
+-- Quiet worlds, the events by which a client catches up, and what may keep it from that.
+use Rattle.std.specs.Prelude.{bytes_eq, ◌≡◌, ◌≢◌, ◌⊎◌, ◌≤◌, ◌<◌, ℕ, zero, suc, ◌+◌, ◌-◌, Bool, false, true, List, [], ◌∷◌, ◌++◌, Option, Some, None, if◌then◌else◌, length, map}
 use Rattle.sync_theory.specs.Logs.{of_origin}
 use Rattle.node_model.specs.Bytes.{Name}
 use Rattle.node_model.specs.Profile.{Profile, IsNamedKind, is_small}
-use Rattle.node_model.specs.Messages.{Refused}
-use Rattle.node_model.specs.Clients.{ClientRefusal, Mismatch, client_of}
-use Rattle.node_model.specs.Servers.{ServerRefusal, HistoryFull, IdentsFull, NeedsForm2, code_of, at_place}
-use Rattle.node_model.specs.Worlds.{Node, World, Words, Declined, Replied, Stopped, Event, Binds, Uploads, Asks, Delivers, at, has_name, seek, server_name, outcomes, world_after}
+use Rattle.node_model.specs.Messages.{Message, Refused}
+use Rattle.node_model.specs.Clients.{ClientRefusal, Mismatch, client_of, settled_from}
+use Rattle.node_model.specs.Servers.{ServerRecord, ServerRefusal, HistoryFull, IdentsFull, NeedsForm2, code_of, at_place}
+use Rattle.node_model.specs.Worlds.{Node, World, Words, Declined, Replied, Stopped, NoMessage, BadMessage, OwnIdent, Event, Binds, Uploads, Asks, Delivers, Injects, at, has_name, seek, server_name, stopped, message_at, names_own, named_by, happens, outcomes, world_after}
 use Rattle.node_model.specs.Log.{ident_of, log}
+use Rattle.node_model.specs.Parts.{Parts, Served, serve_by}
+use Rattle.node_model.specs.Trims.{is_trimmed}
+use Rattle.node_model.specs.Later.{Later, Happens, later_after, all_later}
 
 -- ---- what may keep a client from the end of the history
 
@@ -30,6 +33,11 @@ IsException armed unnamed old (Declined why) = MayStop why
 IsException armed unnamed old (Replied place (Refused ident number code spot)) = (why : ServerRefusal) × (code ≡ code_of why) × (spot ≡ at_place why) × MayHinder unnamed old why
 IsException armed unnamed old Stopped = armed
 IsException armed unnamed old words = ⊥
+
+-- code 71, where what a client settled lies before the server's floor
+abbrev pub IsBelowFloor : Type 0 → Words → Type 0
+IsBelowFloor below (Replied place m) = (is_trimmed m ≡ true) × below
+IsBelowFloor below words = ⊥
 
 -- one of these words is such a one
 pub data Comes (q : Words → Type 0) : List Words → Type 0 where
@@ -77,6 +85,11 @@ after_sweep (nd ∷ nds) n k = after_sweep nds (after_rounds (suc (suc n)) k) k
 -- all clients of a world catch up one after another, and then each once more
 abbrev pub all_catch_up : {I : Type 0} → World → ℕ → List (Event I)
 all_catch_up w k = sweep w.clients (length w.messages) k ++ sweep w.clients (after_sweep w.clients (length w.messages) k) k
+
+-- what is said of a server's answer, or of a stop before it
+abbrev pub answered_words : {I S : Type 0} → World → Served I S → Option (List ServerRecord) → Words
+answered_words w did None = Replied (suc (length w.messages)) did.answer
+answered_words w did (Some stand) = Stopped
 
 module _ {I S : Type 0} (p : Profile I S) where
   -- a message bears at least one changeset, whichever it is
@@ -167,3 +180,42 @@ module _ {I S : Type 0} (p : Profile I S) where
     gets_exception : {w : World} {es : List (Event I)} {ess : List (List (Event I))} → Comes q (outcomes p (world_after p w es) (turn name (world_after p w es))) → Gets q name w (es ∷ ess)
     gets_current : {w : World} {es : List (Event I)} {ess : List (List (Event I))} → HasCaughtUp (after_turn name w es) name → Gets q name w (es ∷ ess)
     gets_later : {w : World} {es : List (Event I)} {ess : List (List (Event I))} → Gets q name (after_turn name w es) ess → Gets q name w (es ∷ ess)
+
+  -- ---- where the server gives up history
+
+  -- what is said of a message to a server that answers by what it keeps
+  abbrev pub served_words : World → Parts I S → Message → Words
+  served_words w kept m = answered_words w (serve_by p kept m) (stopped (w.stops server_name) (serve_by p kept m).records)
+
+  -- of one of those that were made, if it is there
+  abbrev pub delivered_words : Later I S → Option Message → Words
+  delivered_words l None = NoMessage
+  delivered_words l (Some m) = served_words l.world l.kept m
+
+  -- of any bytes
+  abbrev pub injected_words : Later I S → Option Message → Words
+  injected_words l None = BadMessage
+  injected_words l (Some m) = if names_own p l.world m then OwnIdent else served_words (named_by l.world m) l.kept m
+
+  -- of an event
+  abbrev pub later_words : Later I S → Event I → Words
+  later_words l (Delivers message to) = if bytes_eq to server_name then delivered_words l (message_at l.world message) else (happens p l.world (Delivers message to)).words
+  later_words l (Injects m) = injected_words l m
+  later_words l e = (happens p l.world e).words
+
+  -- of several
+  abbrev pub later_outcomes : Later I S → List (Event I) → List Words
+  later_outcomes l [] = []
+  later_outcomes l (e ∷ es) = later_words l e ∷ later_outcomes (later_after p l e) es
+
+  -- and what they make
+  abbrev pub after_events : Later I S → List (Event I) → Later I S
+  after_events l es = all_later p l (map (λ e. Happens e) es)
+
+  -- what a client settled lies before the floor
+  abbrev pub IsBelow : Later I S → Node → Type 0
+  IsBelow l nd = settled_from (client_of p nd.records).cursor (client_of p nd.records).unsent < l.kept.floor
+
+  -- so it does for some client
+  abbrev pub AnyBelow : Later I S → Type 0
+  AnyBelow l = (i : ℕ) × (nd : Node) × (at l.world.clients i ≡ Some nd) × IsBelow l nd

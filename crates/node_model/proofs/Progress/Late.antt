@@ -26,12 +26,12 @@ use Rattle.node_model.proofs.Progress.Names.{names_of, delivers_names}
 use Rattle.node_model.proofs.Progress.Growing.{node_later}
 use Rattle.node_model.proofs.Progress.Staying.{named, stays_current, all_dropped}
 
-each_take : {A : Type 0} {P : A → Type 0} (n : ℕ) {xs : List A} → Each P xs → Each P (take n xs)
+pub each_take : {A : Type 0} {P : A → Type 0} (n : ℕ) {xs : List A} → Each P xs → Each P (take n xs)
 each_take zero e = no_more
 each_take (suc n) no_more = no_more
 each_take (suc n) (and_each h e) = and_each h (each_take n e)
 
--- records that add nothing to the history, and such as make nothing
+-- records that add nothing to the history
 abbrev NoEntry : ServerRecord → Type 0
 NoEntry (ServerRecord.Client id) = Unit {0}
 NoEntry (Entry origin number base ms body) = ⊥
@@ -44,15 +44,16 @@ NoEntry (ServerRecord.Count c number base settled) = Unit {0}
 NoEntry (ServerRecord.Carried origin number base ms body) = Unit {0}
 NoEntry (ServerRecord.Past c version ms body) = Unit {0}
 
-abbrev NoMade : ClientRecord → Type 0
-NoMade (Born id) = Unit {0}
-NoMade (Named ident) = Unit {0}
-NoMade (Made number ms body) = ⊥
-NoMade (Took origin number ms body) = Unit {0}
-NoMade Form = Unit {0}
-NoMade (Subset tables) = Unit {0}
-NoMade (ClientRecord.Part body) = Unit {0}
-NoMade (ClientRecord.Floor version) = Unit {0}
+-- what a client appends where it takes a message
+abbrev pub IsTold : ClientRecord → Type 0
+IsTold (Born id) = ⊥
+IsTold (Named ident) = Unit {0}
+IsTold (Made number ms body) = ⊥
+IsTold (Took origin number ms body) = Unit {0}
+IsTold Form = ⊥
+IsTold (Subset tables) = ⊥
+IsTold (ClientRecord.Part body) = ⊥
+IsTold (ClientRecord.Floor version) = ⊥
 
 at_suc : {A : Type 0} (xs : List A) (i : ℕ) (x : A) → at xs i ≡ Some x → i < length xs
 at_suc xs i x h = at_below xs i x h
@@ -71,34 +72,33 @@ module _ {I S : Type 0} (p : Profile I S) where
   log_same (ServerRecord.Carried origin number base ms body ∷ rs) s (and_each h e) = log_same rs s e
   log_same (ServerRecord.Past c version ms body ∷ rs) s (and_each h e) = log_same rs s e
 
-  made_same : (rs : List ClientRecord) (c : Client I S) → Each NoMade rs → (after_records p c rs).made ≡ c.made
+  made_same : (rs : List ClientRecord) (c : Client I S) → Each IsTold rs → (after_records p c rs).made ≡ c.made
   made_same [] c e = refl
-  made_same (Born id ∷ rs) c (and_each h e) = made_same rs (after_record p c (Born id)) e
+  made_same (Born id ∷ rs) c (and_each h e) = absurd h
   made_same (Named ident ∷ rs) c (and_each h e) = made_same rs (after_record p c (Named ident)) e
   made_same (Made number ms body ∷ rs) c (and_each h e) = absurd h
   made_same (Took origin number ms body ∷ rs) c (and_each h e) = made_same rs (after_record p c (Took origin number ms body)) e ∙ (takes_same p c (record { origin = origin; number = number; ms = ms; instrs = ok_list (p.unspell body) })).0.made
-  made_same (Form ∷ rs) c (and_each h e) = made_same rs (after_record p c Form) e
-  made_same (Subset tables ∷ rs) c (and_each h e) = made_same rs (after_record p c (Subset tables)) e
-  made_same (ClientRecord.Part body ∷ rs) c (and_each h e) = made_same rs (after_record p c (ClientRecord.Part body)) e
-  made_same (ClientRecord.Floor version ∷ rs) c (and_each h e) = made_same rs (after_record p c (ClientRecord.Floor version)) e
+  made_same (Form ∷ rs) c (and_each h e) = absurd h
+  made_same (Subset tables ∷ rs) c (and_each h e) = absurd h
+  made_same (ClientRecord.Part body ∷ rs) c (and_each h e) = absurd h
+  made_same (ClientRecord.Floor version ∷ rs) c (and_each h e) = absurd h
 
-  -- what a client appends where it takes a message
-  tooks : (es : List Sent) (c : Client I S) → Each NoMade (take_entries p c es).records
+  tooks : (es : List Sent) (c : Client I S) → Each IsTold (take_entries p c es).records
   tooks [] c = no_more
   tooks (e ∷ es) c = go (entry_refusal p c e) (tooks es (after_record p c (took e)))
     where
-      go : (r : Option ClientRefusal) → Each NoMade (take_entries p (after_record p c (took e)) es).records → Each NoMade (take_one r (took e) (take_entries p (after_record p c (took e)) es)).records
+      go : (r : Option ClientRefusal) → Each IsTold (take_entries p (after_record p c (took e)) es).records → Each IsTold (take_one r (took e) (take_entries p (after_record p c (took e)) es)).records
       go (Some why) rec = no_more
       go None rec = and_each tt rec
 
-  takes_none : (c : Client I S) (m : Message) → Each NoMade (take_message p c m).records
-  takes_none c m = at_id c.id
+  pub takes_told : (c : Client I S) (m : Message) → Each IsTold (take_message p c m).records
+  takes_told c m = at_id c.id
     where
-      choose : {A : Type 0} (b : Bool) (x y : ClientStep A) → Each NoMade x.records → Each NoMade y.records → Each NoMade (if b then x else y).records
+      choose : {A : Type 0} (b : Bool) (x y : ClientStep A) → Each IsTold x.records → Each IsTold y.records → Each IsTold (if b then x else y).records
       choose true x y e f = e
       choose false x y e f = f
 
-      on : (m : Message) (id : Uuid) → Each NoMade (take_born p c m id).records
+      on : (m : Message) (id : Uuid) → Each IsTold (take_born p c m id).records
       on (Bind u) id = no_more
       on (Upload d hs) id = no_more
       on (Ask d k s) id = no_more
@@ -111,7 +111,7 @@ module _ {I S : Type 0} (p : Profile I S) where
       on (Refused d number code place) id = choose {A = ℕ} (d == c.ident) (refuse (WasRefused number code)) (refuse NotMine) no_more no_more
       on (Download d from es) id = choose (d == c.ident) (if nat_lt c.cursor from then refuse (Gap c.cursor from) else take_entries p c (drop (Rattle.std.proofs.Common.◌-◌ c.cursor from) es)) (refuse NotMine) (choose (nat_lt c.cursor from) (refuse (Gap c.cursor from)) (take_entries p c (drop (Rattle.std.proofs.Common.◌-◌ c.cursor from) es)) no_more (tooks (drop (Rattle.std.proofs.Common.◌-◌ c.cursor from) es) c)) no_more
 
-      at_id : (o : Option Uuid) → Each NoMade (if_born o (take_born p c m)).records
+      at_id : (o : Option Uuid) → Each IsTold (if_born o (take_born p c m)).records
       at_id None = no_more
       at_id (Some id) = on m id
 
@@ -186,7 +186,7 @@ module _ {I S : Type 0} (p : Profile I S) where
   same_world : (w : World) → Still w w
   same_world w = record { log_is = refl; made = λ i nd end h g. let one : nd ≡ end = cc in ap (λ (x : Node). (client_of p x.records).made) (sym one) }
 
-  moved_still : (w : World) (q : ℕ × Node) (rs : List ClientRecord) → at w.clients q.0 ≡ Some q.1 → Each NoMade rs → (i : ℕ) (nd end : Node) → at w.clients i ≡ Some nd → at (client_moved w q.0 q.1 rs).clients i ≡ Some end → (client_of p end.records).made ≡ (client_of p nd.records).made
+  moved_still : (w : World) (q : ℕ × Node) (rs : List ClientRecord) → at w.clients q.0 ≡ Some q.1 → Each IsTold rs → (i : ℕ) (nd end : Node) → at w.clients i ≡ Some nd → at (client_moved w q.0 q.1 rs).clients i ≡ Some end → (client_of p end.records).made ≡ (client_of p nd.records).made
   moved_still w q rs here none i nd end h g = ⊎_elim
       (λ is.
       let now = at_put w.clients q.0 q.1 (record { name = q.1.name; records = q.1.records ++ rs }) here in
@@ -219,10 +219,10 @@ module _ {I S : Type 0} (p : Profile I S) where
           told (Err r) v s = s
 
           ends : (r : Option (List ClientRecord)) → stopped (w.stops q.1.name) (take_message p (client_of p q.1.records) m).records ≡ r → Still w (client_ends w q.0 q.1 (take_message p (client_of p q.1.records) m) took_words r).world
-          ends None r_is = told (take_message p (client_of p q.1.records) m).answer (client_moved w q.0 q.1 (take_message p (client_of p q.1.records) m).records) (record { log_is = refl; made = moved_still w q (take_message p (client_of p q.1.records) m).records here (takes_none (client_of p q.1.records) m) })
+          ends None r_is = told (take_message p (client_of p q.1.records) m).answer (client_moved w q.0 q.1 (take_message p (client_of p q.1.records) m).records) (record { log_is = refl; made = moved_still w q (take_message p (client_of p q.1.records) m).records here (takes_told (client_of p q.1.records) m) })
           ends (Some stand) r_is =
               let c = cut_by (w.stops q.1.name) (take_message p (client_of p q.1.records) m).records stand r_is in
-              record { log_is = refl; made = moved_still w q stand here (subst (Each NoMade) c.1 (each_take c.0 (takes_none (client_of p q.1.records) m))) }
+              record { log_is = refl; made = moved_still w q stand here (subst (Each IsTold) c.1 (each_take c.0 (takes_told (client_of p q.1.records) m))) }
 
   served_still : (w : World) (m : Message) → Repeats (server_of p w.server) m → Still w (server_called p w m).world
   served_still w m e = ends (stopped (w.stops server_name) (serve p (server_of p w.server) m).records) refl
