@@ -14,5 +14,6 @@ pub mod Late
 pub mod Above
 pub mod Alongside
 pub mod Laws
+pub mod LaterLaws
 mod Examples
 

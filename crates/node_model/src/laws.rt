@@ -10,7 +10,7 @@ ghost use Rattle.node_model.specs.Log.{Stands, WorldFacts, ident_of, log, subset
 ghost use Rattle.node_model.specs.Messages.{Change, Message, Retire, Retired};
 ghost use Rattle.node_model.specs.Parts.{Given, Parts, admits_part, after_parts, as_before, ask_by, at_ident, given_of, marking_by, merge_by, merged_of, no_parts, parts_of, parts_open, serve_by, served_of};
 ghost use Rattle.node_model.specs.Profile.{cross_changesets, only_by};
-ghost use Rattle.node_model.specs.Progress.{AllCurrent, AnyArmed, AnyOld, AnyUnnamed, Comes, Gets, HasCaughtUp, IsArmed, IsCurrent, IsException, IsQuiet, IsRoomy, after_turns, all_catch_up, catches_up, enough, enough_for_all, turns};
+ghost use Rattle.node_model.specs.Progress.{AllCurrent, AnyArmed, AnyBelow, AnyOld, AnyUnnamed, Comes, Gets, HasCaughtUp, IsArmed, IsBelow, IsBelowFloor, IsCurrent, IsException, IsQuiet, IsRoomy, after_events, after_turns, all_catch_up, catches_up, enough, enough_for_all, later_outcomes, turns};
 ghost use Rattle.node_model.specs.Recovery.{CountIsFinal, HeirMove, IsRecovery, KeepsFinal, ListsDrops, StopsAt, SavesNow, SavesOnce, heir_after, numbers_from, numbers_of, whole_history};
 ghost use Rattle.node_model.specs.Reports.{report_by_log, report_of};
 ghost use Rattle.node_model.specs.Resets.{ByClient, Known, SavedAs, heir, heir_says, recover};
@@ -253,4 +253,21 @@ pub fn worlds_make_progress<E: Exchange>()
     ensures late { (w : World) → IsReached E.profile w → AllCurrent E.profile w → (late : List (ℕ × Name))
         → AllCurrent E.profile (world_after E.profile w (map (λ d. Delivers d.0 d.1) late)) × (log E.profile (world_after E.profile w (map (λ d. Delivers d.0 d.1) late)) ≡ log E.profile w) }
     ensures turns { (name : Name) (w : World) (between : List (List (Event E.Instr))) → world_after E.profile w (turns E.profile name w between) ≡ after_turns E.profile name w between }
+{}
+
+/// The same where the server gave up history, as often as it may: in a quiet exchange all clients that the server knows
+/// have their part of the objects that it keeps, and from every such exchange a client gets there, and so do all of them,
+/// or one of the outcomes on the way is a named exception. There is one more of those: a client whose settled number lies
+/// before the server's floor may be refused by code 71.
+pub fn later_worlds_make_progress<E: Exchange>()
+    ensures quiet { (l : Later E.Instr E.State) → IsLater E.profile l → IsQuiet E.profile l.world → (i : ℕ) (nd : Node) → at l.world.clients i ≡ Some nd → ident_of E.profile l.world nd ≢ 0
+        → (client_of E.profile nd.records).objects ≡ only_by E.profile (subset_of E.profile nd) l.kept.objects }
+    ensures current { (l : Later E.Instr E.State) → IsLater E.profile l → (i : ℕ) (nd : Node) → at l.world.clients i ≡ Some nd → ident_of E.profile l.world nd ≢ 0 → IsCurrent E.profile l.world nd
+        → (client_of E.profile nd.records).objects ≡ only_by E.profile (subset_of E.profile nd) l.kept.objects }
+    ensures one { IsRoomy E.profile → (l : Later E.Instr E.State) → IsLater E.profile l → (i : ℕ) (nd : Node) → at l.world.clients i ≡ Some nd → (rounds : ℕ) → enough E.profile l.world nd ≤ rounds
+        → Comes (λ x. IsException (IsArmed E.profile l.world nd) (ident_of E.profile l.world nd ≡ 0) ((client_of E.profile nd.records).second ≡ false) x ⊎ IsBelowFloor (IsBelow E.profile l nd) x) (later_outcomes E.profile l (catches_up nd.name (length l.world.messages) rounds))
+        ⊎ HasCaughtUp E.profile (after_events E.profile l (catches_up nd.name (length l.world.messages) rounds)).world nd.name }
+    ensures all { IsRoomy E.profile → (l : Later E.Instr E.State) → IsLater E.profile l → (rounds : ℕ) → enough_for_all E.profile l.world ≤ rounds
+        → Comes (λ x. IsException (AnyArmed E.profile l.world) (AnyUnnamed E.profile l.world) (AnyOld E.profile l.world) x ⊎ IsBelowFloor (AnyBelow E.profile l) x) (later_outcomes E.profile l (all_catch_up l.world rounds))
+        ⊎ AllCurrent E.profile (after_events E.profile l (all_catch_up l.world rounds)).world }
 {}

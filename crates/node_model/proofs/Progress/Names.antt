@@ -141,13 +141,13 @@ module _ {I S : Type 0} (p : Profile I S) where
       on (Some stand) = refl
 
   -- a new client of these records
-  abbrev new_client : World → Name → Uuid → List ClientRecord → Outcome
+  abbrev pub new_client : World → Name → Uuid → List ClientRecord → Outcome
   new_client w name id rs =
       if is_node w name then says w NameTaken
       else if is_there (seek (has_id p id) w.clients) || is_there (seek (λ u. bytes_eq id u) w.injected) then says w UuidTaken
       else says (record w { clients = w.clients ++ record { name = name; records = rs } ∷ [] }) (Joined name)
 
-  joins_apart : (w : World) (name : Name) (id : Uuid) (rs : List ClientRecord) → Apart w.clients → Apart (new_client w name id rs).world.clients
+  pub joins_apart : (w : World) (name : Name) (id : Uuid) (rs : List ClientRecord) → Apart w.clients → Apart (new_client w name id rs).world.clients
   joins_apart w name id rs a = go (bytes_eq name server_name) refl (is_there (seek (has_name name) w.clients)) refl (is_there (seek (has_id p id) w.clients) || is_there (seek (λ u. bytes_eq id u) w.injected))
     where
       go : (x : Bool) → bytes_eq name server_name ≡ x → (y : Bool) → is_there (seek (has_name name) w.clients) ≡ y → (t : Bool) → Apart (if x || y then says w NameTaken else (if t then says w UuidTaken else says (record w { clients = w.clients ++ record { name = name; records = rs } ∷ [] }) (Joined name))).world.clients
@@ -164,7 +164,7 @@ module _ {I S : Type 0} (p : Profile I S) where
       go true = ap names_of (serve_same w m)
       go false = called w to (λ c. take_message p c m) took_words (took_same w)
 
-  named_same : (w : World) (m : Message) → (named_by w m).clients ≡ w.clients
+  pub named_same : (w : World) (m : Message) → (named_by w m).clients ≡ w.clients
   named_same w (Bind u) = refl
   named_same w (Ident u c) = refl
   named_same w (Upload c hs) = refl
