@@ -70,13 +70,13 @@ module _ {I S : Type 0} (p : Profile I S) where
 
   module _ {Fits : S → Type 0} (law : Lawful p Fits) (s : Server I) (inj : List Uuid) where
     -- a client that is named
-    record NamedAs (n : Nodes (Changeset I) S) (st : Client I S) : Type 0 where
-      id : Uuid
-      born : st.id ≡ Some id
-      place : place_of id s.ids ≡ st.ident
-      given : Given p n st.ident st
+    pub record NamedAs (n : Nodes (Changeset I) S) (st : Client I S) : Type 0 where
+      pub id : Uuid
+      pub born : st.id ≡ Some id
+      pub place : place_of id s.ids ≡ st.ident
+      pub given : Given p n st.ident st
 
-    named_as : (cls : List Node) (n : Nodes (Changeset I) S) (sim : Sim p s cls inj n) (i : ℕ) (nd : Node) → at cls i ≡ Some nd → (client_of p nd.records).ident ≢ 0 → NamedAs n (client_of p nd.records)
+    pub named_as : (cls : List Node) (n : Nodes (Changeset I) S) (sim : Sim p s cls inj n) (i : ℕ) (nd : Node) → at cls i ≡ Some nd → (client_of p nd.records).ident ≢ 0 → NamedAs n (client_of p nd.records)
     named_as cls n sim i nd e ne =
         let w = sim.clients i nd e in
         ⊎_elim (λ h. absurd (ne h.1.unnamed))
@@ -391,7 +391,7 @@ module _ {I S : Type 0} (p : Profile I S) where
               let same : Bind id ≡ m = cc in
               subst (λ x. Tells p n s.ids cls x) same (i, at_map (uuid_of p) cls i nd e ∙ ap (λ x. Some x) is)
 
-      mine : (v : NamedAs n st) → st.ident ≢ 0 → Mine p s.ids (uuids p cls) st.ident
+      pub mine : (v : NamedAs n st) → st.ident ≢ 0 → Mine p s.ids (uuids p cls) st.ident
       mine v ne = record {
         given = ne;
         there = let h = place_within v.id s.ids in let f = v.place in omega arith;

@@ -24,7 +24,7 @@ use Rattle.node_model.proofs.Sim.{uuid_of, uuids, Bears, no_entries, an_entry, G
 use Rattle.node_model.proofs.Restricting.{unsent_are, sets_on_part, only_fits}
 use Rattle.node_model.proofs.Own.{good_of}
 use Rattle.node_model.proofs.Starting.{at_listed}
-use Rattle.node_model.proofs.Serving.{fair}
+use Rattle.node_model.proofs.Fair.{fair}
 use Rattle.node_model.proofs.Calling.{message_declined}
 use Rattle.node_model.proofs.Holding.{Holds, all_hold}
 

@@ -289,7 +289,7 @@ module _ {I S : Type 0} (p : Profile I S) (second : Bool) (floor : ℕ) (xs : Li
   tracks_from : {c k : ℕ} {ys : List (Changeset I)} {qs : List (ℕ × Changeset I)} (m : ℕ) → Tracks p second c k ys qs → m ≤ k → pairs_from m qs ≡ qs
   tracks_from m no_pairs h = refl
   tracks_from m (own_entry o t) h = tracks_from m t (omega arith)
-  tracks_from {k = k} m (other_entry {x = x} {is = is} {qs = qs} o w v t) h = put_unless (nat_lt k m) (pairs_from m qs) ((k, record x { instrs = is }) ∷ pairs_from m qs) (Rattle.node_model.proofs.Trims.not_below k m h) ∙ ap (λ l. (k, record x { instrs = is }) ∷ l) (tracks_from m t (omega arith))
+  tracks_from {k = k} m (other_entry {x = x} {is = is} {qs = qs} o w v t) h = put_unless (nat_lt k m) (pairs_from m qs) ((k, record x { instrs = is }) ∷ pairs_from m qs) (Rattle.node_model.proofs.Alike.not_below k m h) ∙ ap (λ l. (k, record x { instrs = is }) ∷ l) (tracks_from m t (omega arith))
 
   -- ---- the records are read
 
@@ -464,7 +464,7 @@ module _ {I S : Type 0} (p : Profile I S) (second : Bool) (floor : ℕ) (xs : Li
       where
         on : (b : Bool) → pairs_from m (pairs_of c (suc k) zs P) ≡ pairs_of c (suc k) zs P → pairs_from m ((if b then [] else (k, record z { instrs = instrs_at c k P z.instrs }) ∷ []) ++ pairs_of c (suc k) zs P) ≡ (if b then [] else (k, record z { instrs = instrs_at c k P z.instrs }) ∷ []) ++ pairs_of c (suc k) zs P
         on true r = r
-        on false r = put_unless (nat_lt k m) (pairs_from m (pairs_of c (suc k) zs P)) ((k, record z { instrs = instrs_at c k P z.instrs }) ∷ pairs_from m (pairs_of c (suc k) zs P)) (Rattle.node_model.proofs.Trims.not_below k m h) ∙ ap (λ l. (k, record z { instrs = instrs_at c k P z.instrs }) ∷ l) r
+        on false r = put_unless (nat_lt k m) (pairs_from m (pairs_of c (suc k) zs P)) ((k, record z { instrs = instrs_at c k P z.instrs }) ∷ pairs_from m (pairs_of c (suc k) zs P)) (Rattle.node_model.proofs.Alike.not_below k m h) ∙ ap (λ l. (k, record z { instrs = instrs_at c k P z.instrs }) ∷ l) r
 
     pairs_cut : (c k d m : ℕ) (zs : List (Changeset I)) → k + d ≡ m → pairs_from m (pairs_of c k zs P) ≡ pairs_of c m (drop d zs) P
     pairs_cut c k zero m zs e = let z : k ≡ m = omega arith in pairs_high c k m zs (omega arith) ∙ ap (λ j. pairs_of c j zs P) z
@@ -705,7 +705,7 @@ module _ {I S : Type 0} (p : Profile I S) {Fits Bounded Old : S → Type 0} (law
         here j g e = let z : 1 + j ≡ suc j = omega arith in ap (λ d. at_ident d (map bare t.idents)) z ∙ at_bare t.idents j g e
 
     not_less : (a b : ℕ) → b ≤ a → nat_lt a b ≡ false
-    not_less a b h = Rattle.node_model.proofs.Trims.not_below a b h
+    not_less a b h = Rattle.node_model.proofs.Alike.not_below a b h
 
     in_entries : (k : ℕ) → front_entries p t.second t.below t.floor t.len t.retired (map bare t.idents) k es (read_all (X ++ later)) ≡ Ok (record { parts = t; size = k + length es + length ch })
     in_entries k =

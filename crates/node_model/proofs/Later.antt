@@ -21,9 +21,11 @@ use Rattle.node_model.proofs.Opening.{server_opens_on, server_opens_cut, serve_o
 use Rattle.node_model.proofs.Parts.{serve_is}
 use Rattle.node_model.proofs.Replies.{server_first, server_records}
 use Rattle.node_model.proofs.Restarting.{event_opens}
-use Rattle.node_model.proofs.Serving.{Comes, Served as ServedAs, served, fair}
+use Rattle.node_model.proofs.Serving.{Comes, Served as ServedAs, served}
+use Rattle.node_model.proofs.Fair.{fair}
 use Rattle.node_model.proofs.Sim.{Tells, Inv, inv_later}
-use Rattle.node_model.proofs.Trims.{trims_less, less_then, span_less, less_records, served_same, serve_begins}
+use Rattle.node_model.proofs.Alike.{served_same}
+use Rattle.node_model.proofs.Trims.{trims_less, less_then, span_less, less_records, serve_begins}
 use Rattle.node_model.proofs.Written.{open_cut, serve_writes}
 
 -- a refusal tells nothing
@@ -126,7 +128,7 @@ module _ {I S : Type 0} (p : Profile I S) where
     pub less : KeptLess (full l.world) l.kept
 
   module _ {Fits Bounded Old : S → Type 0} (law : Lawful p Fits) (built : Buildable p Fits Bounded Old) where
-    opened_of : (w : World) → FilesOpen p w → Opened p (server_of p w.server)
+    pub opened_of : (w : World) → FilesOpen p w → Opened p (server_of p w.server)
     opened_of w f = opened_more p law w.server no_server f.server (opened_first p)
 
     full_spans : (w : World) → FilesOpen p w → Spans (full w)
@@ -253,7 +255,7 @@ module _ {I S : Type 0} (p : Profile I S) where
         let e : starts_at p l.world name id l.kept.second l.kept.len l.kept.objects ≡ starts_at p l.world name id (full l.world).second (full l.world).len (full l.world).objects = λ i. starts_at p l.world name id (k.second i) (k.len i) (k.objects i) in
         subst (λ o. Held (record l { world = o.world })) (sym e) (beside_held l h (Starts name id) (starts_leave l.world name id (full l.world).second (full l.world).len (full l.world).objects))
 
-    event_held : (l : Later I S) → Held l → (e : Event I) → Held (later_after p l e)
+    pub event_held : (l : Later I S) → Held l → (e : Event I) → Held (later_after p l e)
     event_held l h (Joins name id) = beside_held l h (Joins name id) (joins_leave l.world name id)
     event_held l h (Starts name id) = starts_held l h name id
     event_held l h (Edits name ms edits) = beside_held l h (Edits name ms edits) (calls_leave l.world name (λ c. commit p c ms edits) made_words made_leave)
@@ -276,7 +278,7 @@ module _ {I S : Type 0} (p : Profile I S) where
     later_held l h (Happens e) = event_held l h e
     later_held l h Trims = record { holds = h.holds; opens = h.opens; less = less_then (full l.world) l.kept (trimmed p l.kept) h.less (trims_less p l.kept (span_less (full l.world) l.kept (full_spans l.world h.opens) h.less)) }
 
-    first_held : Held (first_later p)
+    pub first_held : Held (first_later p)
     first_held = record {
       holds = empty_holds p law built;
       opens = record { clients = λ i nd e. absurd (nothing i nd e); server = refl };
@@ -286,7 +288,7 @@ module _ {I S : Type 0} (p : Profile I S) where
         nothing : (i : ℕ) (nd : Node) → at [] i ≡ Some nd → ⊥
         nothing i nd e = cc
 
-    all_held : (es : List (LaterEvent I)) (l : Later I S) → Held l → Held (all_later p l es)
+    pub all_held : (es : List (LaterEvent I)) (l : Later I S) → Held l → Held (all_later p l es)
     all_held [] l h = h
     all_held (e ∷ es) l h = all_held es (later p l e) (later_held l h e)
 

@@ -15,6 +15,7 @@ pub mod Starting
 pub mod Mismatches
 pub mod Taking
 pub mod Serving
+pub mod Fair
 pub mod Calling
 pub mod Holding
 pub mod Facts
@@ -27,6 +28,7 @@ pub mod Alone
 pub mod Keeping
 pub mod Parts
 pub mod Reached
+pub mod Alike
 pub mod Trims
 pub mod Folding
 pub mod Written
@@ -44,3 +46,4 @@ pub mod Saving
 pub mod Heirs
 pub mod Recovering
 pub mod Running
+pub mod Progress

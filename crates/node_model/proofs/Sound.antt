@@ -23,7 +23,8 @@ use Rattle.node_model.specs.Fronts.{Kept, further_on, walk, walk_on, uuid_step, 
 use Rattle.node_model.proofs.Whole.{Writable, Tracks, no_pairs, own_entry, other_entry, bare, kept_of, AllTrack, none_track, one_retired, one_tracks, AllHeirs, no_heirs, one_heir, Whole}
 use Rattle.node_model.proofs.Limits.{each_append}
 use Rattle.node_model.proofs.Lists.{at_map, heir_new, heir_other}
-use Rattle.node_model.proofs.Trims.{not_below, pairs_twice, pairs_append, pairs_settle, drop_drop, drop_snoc, drop_length_is}
+use Rattle.node_model.proofs.Alike.{not_below, pairs_twice, pairs_append, pairs_settle, drop_drop, drop_snoc}
+use Rattle.node_model.proofs.Trims.{drop_length_is}
 
 -- ---- lists
 
@@ -733,7 +734,7 @@ module _ {I S : Type 0} (p : Profile I S) where
 
       carried : Writable p second x.instrs × Tracks p second c h.base (drop (h.base - kept.floor) kept.entries) (settle h.base (pairs_from h.base g.reciprocal) es)
       carried = carried_tracks h.base c from_here (le_refl h.base) (entry_of c h is).change x es original
-          (ap (carry (cross_changesets p) (entry_of c h is).change) (sym (base_tracks h.base from_here (le_refl h.base)) ∙ sym (Rattle.node_model.proofs.Trims.base_of_pairs h.base g.reciprocal)) ∙ carries)
+          (ap (carry (cross_changesets p) (entry_of c h is).change) (sym (base_tracks h.base from_here (le_refl h.base)) ∙ sym (Rattle.node_model.proofs.Alike.base_of_pairs h.base g.reciprocal)) ∙ carries)
 
       stamps : Rattle.node_model.specs.Log.SameStamp (entry_of c h is).change x
       stamps = Rattle.node_model.proofs.Stamps.carry_stamp p (from_base h.base g.reciprocal) (entry_of c h is).change x es carries
@@ -1301,5 +1302,5 @@ module _ {I S : Type 0} (p : Profile I S) where
   pub trims_alike : {Fits Bounded Old : S → Type 0} → Lawful p Fits → Buildable p Fits Bounded Old → (kept : Parts I S) → KeptBy p kept → (ms : List Rattle.node_model.specs.Messages.Message) → Rattle.node_model.specs.Trims.any_trimmed (Rattle.node_model.specs.Trims.replies_by p (trimmed p kept) ms) ≡ false → TrimsAlike p kept ms
   trims_alike law built kept k ms e =
       let a = all_kept law built k in
-      let r = Rattle.node_model.proofs.Trims.all_same p ms kept (trimmed p kept) (Rattle.node_model.proofs.Trims.trims_less p kept a.sound.spans) e in
+      let r = Rattle.node_model.proofs.Alike.all_same p ms kept (trimmed p kept) (Rattle.node_model.proofs.Trims.trims_less p kept a.sound.spans) e in
       record { file = ap (λ l. Rattle.node_model.specs.Fronts.file_gives p (map (λ r. Some r) l)) (sym (append-nil (Rattle.node_model.specs.Trimmed.trim_records p kept))) ∙ trims_back law built kept k [] refl; replies = r.0; lengths = r.1.len; objects = r.1.objects }

@@ -19,6 +19,7 @@ pub mod Recovery
 pub mod Fronts
 pub mod Trimmed
 pub mod Later
+pub mod Progress
 pub mod Toy
 pub mod ToyLaw
 pub mod Lemmas

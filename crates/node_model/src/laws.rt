@@ -1,4 +1,4 @@
-ghost use Rattle.std.specs.Prelude.{Err, IfOk, List, None, Ok, Option, Some, drop, false, length, map, take, true, ◌++◌, ◌+◌, ◌-◌, ◌<◌, ◌≤◌, ◌≢◌, ℕ, ◌≡◌};
+ghost use Rattle.std.specs.Prelude.{Err, IfOk, List, None, Ok, Option, Some, drop, false, length, map, take, true, ◌++◌, ◌+◌, ◌-◌, ◌<◌, ◌≤◌, ◌≢◌, ◌⊎◌, ℕ, ◌≡◌};
 ghost use Rattle.sync_theory.specs.Changesets.{Changeset};
 ghost use Rattle.node_model.specs.Bytes.{Bytes, Name, Tables, Uuid};
 ghost use Rattle.node_model.specs.Clients.{ClientRecord, ClientRefusal, ask, bind, born, client_of, commit, last, no_client, subscribe, take as take_message, upgrade, upload, upload_from};
@@ -6,10 +6,11 @@ ghost use Rattle.node_model.specs.Files.{FilesOpen, is_growing, client_opens, cl
 ghost use Rattle.node_model.specs.Later.{IsLater, Later, LaterEvent, LaterFacts, first_later, later};
 ghost use Rattle.node_model.specs.Limits.{ClientLists, ClientNumbers, CrossSmall, IsClientRecord, IsMessage, IsServerRecord, ServerLists, ServerNumbers, WorldNumbers};
 ghost use Rattle.node_model.specs.Each.{Each};
-ghost use Rattle.node_model.specs.Log.{Stands, WorldFacts};
+ghost use Rattle.node_model.specs.Log.{Stands, WorldFacts, ident_of, log, subset_of};
 ghost use Rattle.node_model.specs.Messages.{Change, Message, Retire, Retired};
 ghost use Rattle.node_model.specs.Parts.{Given, Parts, admits_part, after_parts, as_before, ask_by, at_ident, given_of, marking_by, merge_by, merged_of, no_parts, parts_of, parts_open, serve_by, served_of};
-ghost use Rattle.node_model.specs.Profile.{cross_changesets};
+ghost use Rattle.node_model.specs.Profile.{cross_changesets, only_by};
+ghost use Rattle.node_model.specs.Progress.{AllCurrent, AnyArmed, AnyBelow, AnyOld, AnyUnnamed, Comes, Gets, HasCaughtUp, IsArmed, IsBelow, IsBelowFloor, IsCurrent, IsException, IsQuiet, IsRoomy, after_events, after_turns, all_catch_up, catches_up, enough, enough_for_all, later_outcomes, turns};
 ghost use Rattle.node_model.specs.Recovery.{CountIsFinal, HeirMove, IsRecovery, KeepsFinal, ListsDrops, StopsAt, SavesNow, SavesOnce, heir_after, numbers_from, numbers_of, whole_history};
 ghost use Rattle.node_model.specs.Reports.{report_by_log, report_of};
 ghost use Rattle.node_model.specs.Resets.{ByClient, Known, SavedAs, heir, heir_says, recover};
@@ -19,7 +20,7 @@ ghost use Rattle.node_model.specs.Starts.{started, started_client};
 ghost use Rattle.node_model.specs.Trimmed.{KeptBy, TrimsAlike, trim_records};
 ghost use Rattle.node_model.specs.Fronts.{file_gives};
 ghost use Rattle.node_model.specs.Trims.{BelowFloor, KeptLess, Spans, any_trimmed, is_trimmed, kept_after, next_floor, replies_by, trimmed};
-ghost use Rattle.node_model.specs.Worlds.{ClientsGrow, Edits, Event, IsReached, Made, World, empty_world, happens, world_after};
+ghost use Rattle.node_model.specs.Worlds.{ClientsGrow, Delivers, Edits, Event, IsReached, Made, Node, World, at, empty_world, happens, outcomes, world_after};
 
 use super::exchange::Exchange;
 
@@ -224,4 +225,49 @@ pub fn heirs_save_once<E: Exchange>()
         → (heir E.profile (client_of E.profile records) by n h).answer ≡ Err (ByClient why) → StopsAt E.profile (client_of E.profile records) h why }
     ensures all_unsent { (records : List ClientRecord) → ClientNumbers E.profile (client_of E.profile records)
         → upload_from E.profile (client_of E.profile records) 0 ≡ upload E.profile (client_of E.profile records) }
+{}
+
+/// In a quiet world all clients that the server knows have its objects. From every world that events make a client
+/// gets there in so many rounds, and so do all of them, one after another and then each once more, or one of the
+/// outcomes on the way is a named exception. Whatever happens between a client's turns: once it took more turns than
+/// the history has entries and it made changes, it was there after one of them, or such an exception came in one.
+pub fn worlds_make_progress<E: Exchange>()
+    ensures quiet { (w : World) → IsReached E.profile w → IsQuiet E.profile w → (i : ℕ) (nd : Node) → at w.clients i ≡ Some nd → ident_of E.profile w nd ≢ 0
+        → (client_of E.profile nd.records).objects ≡ only_by E.profile (subset_of E.profile nd) (server_objects E.profile (server_of E.profile w.server)) }
+    ensures agree { (w : World) → IsReached E.profile w → IsQuiet E.profile w → (i j : ℕ) (a b : Node) → at w.clients i ≡ Some a → at w.clients j ≡ Some b
+        → ident_of E.profile w a ≢ 0 → ident_of E.profile w b ≢ 0 → subset_of E.profile a ≡ subset_of E.profile b → (client_of E.profile a.records).objects ≡ (client_of E.profile b.records).objects }
+    ensures current { (w : World) → IsReached E.profile w → (i : ℕ) (nd : Node) → at w.clients i ≡ Some nd → ident_of E.profile w nd ≢ 0 → IsCurrent E.profile w nd
+        → (client_of E.profile nd.records).objects ≡ only_by E.profile (subset_of E.profile nd) (server_objects E.profile (server_of E.profile w.server)) }
+    ensures one { IsRoomy E.profile → (w : World) → IsReached E.profile w → (i : ℕ) (nd : Node) → at w.clients i ≡ Some nd → (rounds : ℕ) → enough E.profile w nd ≤ rounds
+        → Comes (IsException (IsArmed E.profile w nd) (ident_of E.profile w nd ≡ 0) ((client_of E.profile nd.records).second ≡ false)) (outcomes E.profile w (catches_up nd.name (length w.messages) rounds))
+        ⊎ HasCaughtUp E.profile (world_after E.profile w (catches_up nd.name (length w.messages) rounds)) nd.name }
+    ensures all { IsRoomy E.profile → (w : World) → IsReached E.profile w → (rounds : ℕ) → enough_for_all E.profile w ≤ rounds
+        → Comes (IsException (AnyArmed E.profile w) (AnyUnnamed E.profile w) (AnyOld E.profile w)) (outcomes E.profile w (all_catch_up w rounds))
+        ⊎ AllCurrent E.profile (world_after E.profile w (all_catch_up w rounds)) }
+    ensures between { IsRoomy E.profile → (w : World) → IsReached E.profile w → (i : ℕ) (nd : Node) → at w.clients i ≡ Some nd → (between : List (List (Event E.Instr))) (most : ℕ)
+        → ((end : Node) → at (after_turns E.profile nd.name w between).clients i ≡ Some end → length (log E.profile (after_turns E.profile nd.name w between)) + length (client_of E.profile end.records).made ≤ most) → most < length between
+        → Gets E.profile (IsException (Unit {0}) (Unit {0}) ((client_of E.profile nd.records).second ≡ false)) nd.name w between }
+    ensures stays { (w : World) → IsReached E.profile w → (es : List (Event E.Instr)) (i : ℕ) (nd end : Node) → at w.clients i ≡ Some nd → at (world_after E.profile w es).clients i ≡ Some end
+        → ident_of E.profile w nd ≢ 0 → IsCurrent E.profile w nd → length (log E.profile (world_after E.profile w es)) ≡ length (log E.profile w)
+        → length (client_of E.profile end.records).made ≡ length (client_of E.profile nd.records).made → IsCurrent E.profile (world_after E.profile w es) end }
+    ensures late { (w : World) → IsReached E.profile w → AllCurrent E.profile w → (late : List (ℕ × Name))
+        → AllCurrent E.profile (world_after E.profile w (map (λ d. Delivers d.0 d.1) late)) × (log E.profile (world_after E.profile w (map (λ d. Delivers d.0 d.1) late)) ≡ log E.profile w) }
+    ensures turns { (name : Name) (w : World) (between : List (List (Event E.Instr))) → world_after E.profile w (turns E.profile name w between) ≡ after_turns E.profile name w between }
+{}
+
+/// The same where the server gave up history, as often as it may: in a quiet exchange all clients that the server knows
+/// have their part of the objects that it keeps, and from every such exchange a client gets there, and so do all of them,
+/// or one of the outcomes on the way is a named exception. There is one more of those: a client whose settled number lies
+/// before the server's floor may be refused by code 71.
+pub fn later_worlds_make_progress<E: Exchange>()
+    ensures quiet { (l : Later E.Instr E.State) → IsLater E.profile l → IsQuiet E.profile l.world → (i : ℕ) (nd : Node) → at l.world.clients i ≡ Some nd → ident_of E.profile l.world nd ≢ 0
+        → (client_of E.profile nd.records).objects ≡ only_by E.profile (subset_of E.profile nd) l.kept.objects }
+    ensures current { (l : Later E.Instr E.State) → IsLater E.profile l → (i : ℕ) (nd : Node) → at l.world.clients i ≡ Some nd → ident_of E.profile l.world nd ≢ 0 → IsCurrent E.profile l.world nd
+        → (client_of E.profile nd.records).objects ≡ only_by E.profile (subset_of E.profile nd) l.kept.objects }
+    ensures one { IsRoomy E.profile → (l : Later E.Instr E.State) → IsLater E.profile l → (i : ℕ) (nd : Node) → at l.world.clients i ≡ Some nd → (rounds : ℕ) → enough E.profile l.world nd ≤ rounds
+        → Comes (λ x. IsException (IsArmed E.profile l.world nd) (ident_of E.profile l.world nd ≡ 0) ((client_of E.profile nd.records).second ≡ false) x ⊎ IsBelowFloor (IsBelow E.profile l nd) x) (later_outcomes E.profile l (catches_up nd.name (length l.world.messages) rounds))
+        ⊎ HasCaughtUp E.profile (after_events E.profile l (catches_up nd.name (length l.world.messages) rounds)).world nd.name }
+    ensures all { IsRoomy E.profile → (l : Later E.Instr E.State) → IsLater E.profile l → (rounds : ℕ) → enough_for_all E.profile l.world ≤ rounds
+        → Comes (λ x. IsException (AnyArmed E.profile l.world) (AnyUnnamed E.profile l.world) (AnyOld E.profile l.world) x ⊎ IsBelowFloor (AnyBelow E.profile l) x) (later_outcomes E.profile l (all_catch_up l.world rounds))
+        ⊎ AllCurrent E.profile (after_events E.profile l (all_catch_up l.world rounds)).world }
 {}

@@ -1,0 +1,19 @@
+-- The laws of progress.
+pub mod Quiet
+pub mod Serves
+pub mod Catching
+pub mod Rounds
+pub mod Names
+pub mod Valid
+pub mod Growing
+pub mod CatchUp
+pub mod Sweeps
+pub mod Interrupted
+pub mod Staying
+pub mod Late
+pub mod Above
+pub mod Alongside
+pub mod Laws
+pub mod LaterLaws
+mod Examples
+

@@ -1,0 +1,14 @@
+use Rattle.node_model.proofs.Progress.LaterLaws.{later_current, later_one, later_all}
+use Rattle.node_model.proofs.laws.later_worlds_make_progress.Goals as goal
+
+pub returns : goal.returns
+returns g c =
+    let p = g.E.Exchange.profile in
+    let law = g.E.Exchange.lawful in
+    let built = g.E.Exchange.buildable in
+    record {
+      quiet = λ l r q i nd here ne. later_current p law built l r i nd here ne (q i nd here ne);
+      current = λ l r i nd here ne cur. later_current p law built l r i nd here ne cur;
+      one = λ roomy l r i nd here k le. later_one p law built l r roomy i nd here k le;
+      all = λ roomy l r k le. later_all p law built l r roomy k le;
+    }
