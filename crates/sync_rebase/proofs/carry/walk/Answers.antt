@@ -5,7 +5,7 @@ use Rattle.sync_law.specs.Instrs.{meet}
 use Rattle.sync_rivals.specs.Lists.{Pass, Serves}
 use Rattle.sync_rebase.specs.Taking.{Crosses}
 use Rattle.sync_rebase.specs.Settling.{Carried, settled, currents}
-use Rattle.sync_rebase.proofs.Walk.{Walked, walk_start, walk_stays, walk_crosses, walk_on, walk_stops, walk_ends}
+use Rattle.sync_rebase.proofs.Walk.{Walked, walk_start, walk_stays, walk_moves, walk_crosses, walk_on, walk_stops, walk_ends}
 use Rattle.sync_rebase.proofs.carry.walk.Goals as goal
 
 pub loop-from-init : goal.loop-from-init
@@ -57,7 +57,20 @@ loop-from-preserved c =
     record {
       walked = subst (λ l. Walked c.args.index.now c.args.rivals.now c.args.codes.now c.args.own c.args.items.now.items c.args.entry.now (c.next-place.result + 1) l c.in-Ok.carried) (sym c.in_ok-push-in-Ok.ensures.ok)
           (walk_crosses c.args.index.now c.args.rivals.now c.args.codes.now c.args.own c.args.items.now.items c.args.entry.now c.next-place.result c.loop-from.crossed.items c.loop-from.changes there c.index-unsent.result.now within c.index-unsent.ensures
-          (record { place = c.next-place.result; current = c.in-Ok.current }) c.in-Ok.carried refl (c.in-Ok.ensures.ok c.args.entry.now.number) c.in-Ok.ensures.indexed);
+          c.in-Ok.current c.in-Ok.carried (c.in-Ok.ensures.ok c.args.entry.now.number) c.in-Ok.ensures.indexed);
+      within = omega (arith, within);
+    }
+
+pub loop-from-preserved-in-Some : goal.loop-from-preserved-in-Some
+loop-from-preserved-in-Some c =
+    let end : c.next-place.result ≤ length c.args.items.now.items = omega (arith, c.args.items.now.ok.0, c.next-place.ensures.order.1, c.len-end.ensures) in
+    let pass = subst (Pass c.loop-from.from c.next-place.result (currents c.args.items.now.items)) c.instrs.ensures.listed (c.next-place.ensures.pass (currents c.args.items.now.items) c.requires.listed) in
+    let there = walk_on c.args.index.now c.args.rivals.now c.args.codes.now c.args.own c.args.items.now.items c.args.entry.now c.loop-from.crossed.items c.loop-from.changes c.loop-from.from c.next-place.result c.next-place.ensures.order.0 end pass c.loop-from.invariant.walked in
+    let within : c.next-place.result < length c.args.items.now.items = omega (arith, c.args.items.now.ok.0, c.if-place-end.false, c.len-end.ensures) in
+    record {
+      walked = subst (λ l. Walked c.args.index.now c.args.rivals.now c.args.codes.now c.args.own c.args.items.now.items c.args.entry.now (c.next-place.result + 1) l c.moved_to.result) (sym c.in_ok-push.ensures.ok)
+          (walk_moves c.args.index.now c.args.rivals.now c.args.codes.now c.args.own c.args.items.now.items c.args.entry.now c.next-place.result c.loop-from.crossed.items c.loop-from.changes there c.index-unsent.result.now within c.index-unsent.ensures
+          c.in-Some.moves.left c.moved_to.result hole hole);
       within = omega (arith, within);
     }
 
