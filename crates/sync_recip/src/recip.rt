@@ -74,6 +74,23 @@ impl Recip {
         }
     }
 
+    /// The entry with a version, as the client's changes crossed it; none where no entry has it. It takes no memory.
+    pub fn at(&self, version: u32) -> Option<&Entry>
+        ensures entry { IfSome result (λ e. Contains (version, entry_of e.now) self.now) }
+        ensures none { result ≡ None → All (λ pair. pair.0 ≢ version) self.now }
+    {
+        let kept = self.kept.as_slice();
+        let place = first_from(kept, version);
+        if place >= kept.len() {
+            return None;
+        }
+        let found = &kept[place];
+        if found.version != version {
+            return None;
+        }
+        Some(found.item.entry())
+    }
+
     /// Adds an entry at the end, whose version is above all others.
     pub fn push(&mut self, version: u32, entry: Entry) -> Result<(), NoMemory>
         requires { All (λ pair. pair.0 < version) self.old }

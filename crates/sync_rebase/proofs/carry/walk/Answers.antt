@@ -1,7 +1,12 @@
-use Rattle.std.proofs.Common.{◌≡◌, ◌<◌, ◌≤◌, ◌+◌, Ok, refl, sym, subst, length, arith}
+use Rattle.std.proofs.Common.{◌≡◌, ◌<◌, ◌≤◌, ◌+◌, Ok, refl, sym, ap, ◌∙◌, subst, length, arith}
 use Rattle.sync_data.specs.Payload.{Changes}
 use Rattle.sync_theory.specs.Lists.{cross}
+use Rattle.sync_theory.specs.Changesets.{cross_sets}
 use Rattle.sync_law.specs.Instrs.{meet}
+use Rattle.sync_index.specs.Touched.{Covers}
+use Rattle.sync_transform.specs.Sets.{made_by}
+use Rattle.sync_transform.specs.Moves.{moved_changes}
+use Rattle.sync_transform.proofs.Stands.{moved_covered}
 use Rattle.sync_rivals.specs.Lists.{Pass, Serves}
 use Rattle.sync_rebase.specs.Taking.{Crosses}
 use Rattle.sync_rebase.specs.Settling.{Carried, settled, currents}
@@ -35,7 +40,7 @@ loop-from-preserved-then-stays_apart c =
     let within : c.next-place.result < length c.args.items.now.items = omega (arith, c.args.items.now.ok.0, c.if-place-end.false, c.len-end.ensures) in
     record {
       walked = walk_stays c.args.index.now c.args.rivals.now c.args.codes.now c.args.own c.args.items.now.items c.args.entry.now c.next-place.result c.loop-from.crossed.items c.loop-from.changes there c.index-unsent.result.now within c.index-unsent.ensures
-          (λ later. subst (λ (x : Changes). cross (λ a b. meet a b later) x.instrs c.loop-from.changes.instrs ≡ Ok (x.instrs, c.loop-from.changes.instrs)) c.current.ensures.changes
+          (λ later. subst (λ (x : Changes). cross (λ a b. meet a b later) x.instrs c.loop-from.changes.instrs ≡ Ok (x.instrs, c.loop-from.changes.instrs)) c.current-in-loop-from.ensures.changes
           (c.if-stays_apart.ensures.left refl c.loop-from.changes.instrs c.loop-from.invariant.walked.indexed later));
       within = omega (arith, within);
     }
@@ -68,9 +73,13 @@ loop-from-preserved-in-Some c =
     let there = walk_on c.args.index.now c.args.rivals.now c.args.codes.now c.args.own c.args.items.now.items c.args.entry.now c.loop-from.crossed.items c.loop-from.changes c.loop-from.from c.next-place.result c.next-place.ensures.order.0 end pass c.loop-from.invariant.walked in
     let within : c.next-place.result < length c.args.items.now.items = omega (arith, c.args.items.now.ok.0, c.if-place-end.false, c.len-end.ensures) in
     record {
-      walked = subst (λ l. Walked c.args.index.now c.args.rivals.now c.args.codes.now c.args.own c.args.items.now.items c.args.entry.now (c.next-place.result + 1) l c.moved_to.result) (sym c.in_ok-push.ensures.ok)
+      walked = subst (λ l. Walked c.args.index.now c.args.rivals.now c.args.codes.now c.args.own c.args.items.now.items c.args.entry.now (c.next-place.result + 1) l c.moved_to-changes.result) (sym c.in_ok-push.ensures.ok)
           (walk_moves c.args.index.now c.args.rivals.now c.args.codes.now c.args.own c.args.items.now.items c.args.entry.now c.next-place.result c.loop-from.crossed.items c.loop-from.changes there c.index-unsent.result.now within c.index-unsent.ensures
-          c.in-Some.moves.left c.moved_to.result hole hole);
+          c.in-Some.moves.left c.moved_to-changes.result
+          (subst (λ (y : Changes). cross_sets meet (made_by c.args.own c.index-unsent.result.now.original.number y) (made_by c.args.entry.now.origin c.args.entry.now.number c.loop-from.changes) ≡ Ok (made_by c.args.own c.index-unsent.result.now.original.number (moved_changes c.in-Some.moves.left y), made_by c.args.entry.now.origin c.args.entry.now.number (moved_changes c.in-Some.moves.right c.loop-from.changes))) c.current.ensures.changes
+          (c.in-Some.ensures c.index-unsent.result.now.original.number c.args.entry.now.number)
+          ∙ ap (λ y. Ok (made_by c.args.own c.index-unsent.result.now.original.number (moved_changes c.in-Some.moves.left (record { ms = c.index-unsent.result.now.original.ms; instrs = c.index-unsent.result.now.current })), made_by c.args.entry.now.origin c.args.entry.now.number y)) (sym c.moved_to-changes.ensures))
+          (subst (λ (y : Changes). Covers c.args.index.now y.instrs) (sym c.moved_to-changes.ensures) (moved_covered c.args.index.now c.in-Some.moves.right c.loop-from.changes.instrs c.loop-from.invariant.walked.indexed)));
       within = omega (arith, within);
     }
 
