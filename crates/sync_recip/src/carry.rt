@@ -94,12 +94,23 @@ fn entry_moved(alloc: Global, entry: &Entry, spot: Spot) -> Result<SharedEntry, 
     ensures { IfOk result (λ moved. moved ≡ record entry.now { changes = moved_changes spot entry.now.changes }) }
 {
     let changes = moved_to(entry.changes.copy()?, spot);
-    let moved = Entry {
+    entry_with(alloc, entry, changes)
+}
+
+/// The entry with other changes.
+fn entry_with(
+    alloc: Global,
+    entry: &Entry,
+    changes: Changeset,
+) -> Result<SharedEntry, NoMemory>
+    ensures { IfOk result (λ made. made ≡ record entry.now { changes = changes }) }
+{
+    let changed = Entry {
         origin: entry.origin,
         number: entry.number,
         changes,
     };
-    SharedEntry::new(alloc, moved)
+    SharedEntry::new(alloc, changed)
 }
 
 /// What is left of a change as it crosses an entry of another, and what the entry became where it changed.
@@ -139,12 +150,7 @@ fn changed(
     if changes == entry.changes {
         return Ok(None);
     }
-    let changed = Entry {
-        origin: entry.origin,
-        number: entry.number,
-        changes,
-    };
-    match SharedEntry::new(alloc, changed) {
+    match entry_with(alloc, entry, changes) {
         Ok(shared) => Ok(Some(shared)),
         Err(NoMemory) => Err(NoMemory),
     }

@@ -6,7 +6,7 @@ ghost use Rattle.sync_theory.specs.Reciprocals.{from_base, settle};
 ghost use Rattle.sync_data.specs.declared.instr.Instr.{Instr};
 ghost use Rattle.sync_law.specs.Instrs.{meet};
 ghost use Rattle.sync_transform.specs.Sets.{made_by};
-ghost use Rattle.sync_recip.specs.Lists.{entry_of, lists_in};
+ghost use Rattle.sync_recip.specs.Lists.{entry_at, entry_of, lists_in};
 ghost use Rattle.sync_recip.specs.Carrying.{AllLeft, AllWithin, crossed_entries, Fits, entries_of, IsStuckBy};
 
 use super::carried::{Carried, Crossed, put_crossed};
@@ -76,11 +76,10 @@ impl Recip {
 
     /// The entry with a version, as the client's changes crossed it; none where no entry has it. It takes no memory.
     pub fn at(&self, version: u32) -> Option<&Entry>
-        ensures entry { IfSome result (λ e. Contains (version, entry_of e.now) self.now) }
-        ensures none { result ≡ None → All (λ pair. pair.0 ≢ version) self.now }
+        ensures { option_map (λ e. entry_of e.now) result ≡ entry_at version self.now }
     {
         let kept = self.kept.as_slice();
-        let place = first_from(kept, version);
+        let place = count_below(kept, version);
         if place >= kept.len() {
             return None;
         }
