@@ -1,8 +1,10 @@
 -- Kept entries by their versions: those before a base and those from it on.
-use Rattle.std.proofs.Common.{◌≡◌, ℕ, zero, suc, ◌<◌, ◌≤◌, true, false, List, [], ◌∷◌, ◌++◌, length, map, take, drop, get_or, set, refl, sym, ap, ◌∙◌, subst, if◌then◌else◌, nat_lt, All, Result, Ok, Err, OnOk, OnErr, ◌-◌, Vec, append-nil, length-append, length-drop, arith}
+use Rattle.std.proofs.Common.{◌≡◌, ◌≢◌, cond, ◌+◌, Option, None, Some, ℕ, zero, suc, ◌<◌, ◌≤◌, true, false, List, [], ◌∷◌, ◌++◌, length, map, take, drop, get_or, set, refl, sym, ap, ◌∙◌, subst, if◌then◌else◌, nat_lt, All, Result, Ok, Err, OnOk, OnErr, ◌-◌, Vec, append-nil, length-append, length-drop, arith}
 use Rattle.std.specs.List.Sorted.{IsNonDecreasingBy}
-use Rattle.std.proofs.lemmas.Bool.{lt-ltb, le-ltb}
-use Rattle.std.proofs.lemmas.List.{map-append, take-append-drop, length-map, length-take-le, with_items_is}
+use Rattle.std.specs.Prelude.{◌==◌}
+use Rattle.std.proofs.lemmas.Bool.{lt-ltb, le-ltb, eq-eqb}
+use Rattle.std.proofs.lemmas.Bool.Decides.{nat_tests}
+use Rattle.std.proofs.lemmas.List.{drop_all, drop_more, map-append, take-append-drop, length-map, length-take-le, with_items_is}
 use Rattle.std.proofs.Math.ListN.{drop_of_length-le}
 use Rattle.std.specs.Vec.{with_items}
 use borrow.Rule.Slice.PartMut.{put_mid}
@@ -12,7 +14,7 @@ use Rattle.sync_theory.specs.Grid.{tail}
 use Rattle.sync_theory.specs.Reciprocals.{from_base, put_first, settle}
 use Rattle.sync_theory.proofs.World.{put_if, put_unless}
 use Rattle.sync_recip.specs.declared.kept.Kept.{Kept}
-use Rattle.sync_recip.specs.Lists.{kept_entry, pair_of, versions, IsRising}
+use Rattle.sync_recip.specs.Lists.{entry_at, kept_entry, pair_of, versions, IsRising}
 use Rattle.sync_recip.specs.declared.carried.Crossed.{Crossed}
 use Rattle.sync_recip.specs.Carrying.{with_crossed, crossed_entries, AllWithin}
 
@@ -81,6 +83,60 @@ settle_is b (k ∷ ks) (suc n) ns f g e =
 pub versions_same : (ks : List Kept) (n : ℕ) (ns : List Kept) → versions ns ≡ versions (drop n ks) → versions (take n ks ++ ns) ≡ versions ks
 versions_same ks n ns e =
     map-append (λ k. k.version) (take n ks) ns ∙ ap (λ l. versions (take n ks) ++ l) e ∙ sym (map-append (λ k. k.version) (take n ks) (drop n ks)) ∙ ap versions (take-append-drop n ks)
+
+-- ---- the entry of a version
+not_below : (m n : ℕ) → m < n → (m == n) ≡ false
+not_below m n h = grind (arith, nat_tests, h)
+
+not_above : (m n : ℕ) → n < m → (m == n) ≡ false
+not_above m n h = grind (arith, nat_tests, h)
+
+-- those before it don't count
+pub before_at : (v : ℕ) (ks : List Kept) (n : ℕ) → All (λ k. k.version < v) (take n ks) → entry_at v (map pair_of ks) ≡ entry_at v (map pair_of (drop n ks))
+before_at v [] zero a = refl
+before_at v [] (suc n) a = refl
+before_at v (k ∷ ks) zero a = refl
+before_at v (k ∷ ks) (suc n) a =
+    ap (λ t. cond t (Some (kept_entry k)) (entry_at v (map pair_of ks))) (not_below k.version v (All-head (λ k. k.version < v) k (take n ks) a))
+    ∙ before_at v ks n (All-tail (λ k. k.version < v) k (take n ks) a)
+
+none_at : (v : ℕ) (ks : List Kept) → All (λ w. v < w) (versions ks) → entry_at v (map pair_of ks) ≡ None
+none_at v [] a = refl
+none_at v (k ∷ ks) a =
+    ap (λ t. cond t (Some (kept_entry k)) (entry_at v (map pair_of ks))) (not_above k.version v (All-head (λ w. v < w) k.version (versions ks) a))
+    ∙ none_at v ks (All-tail (λ w. v < w) k.version (versions ks) a)
+
+all_above : (v u : ℕ) (vs : List ℕ) → v < u → All (λ w. u < w) vs → All (λ w. v < w) vs
+all_above v u [] h a = All-nil (λ w. v < w)
+all_above v u (w ∷ vs) h a =
+    let g = All-head (λ w. u < w) w vs a in All-cons (λ w. v < w) w vs (omega (arith, g, h)) (all_above v u vs h (All-tail (λ w. u < w) w vs a))
+
+rising_drop : (ks : List Kept) (n : ℕ) → IsRising (versions ks) → IsRising (versions (drop n ks))
+rising_drop [] zero r = r
+rising_drop [] (suc n) r = r
+rising_drop (k ∷ ks) zero r = r
+rising_drop (k ∷ ks) (suc n) r = rising_drop ks n r.1
+
+module _ (v : ℕ) (ks : List Kept) (n : ℕ) (rising : IsRising (versions ks)) (below : All (λ k. k.version < v) (take n ks)) (above : All (λ k. v ≤ k.version) (drop n ks)) where
+  pub at_end : length ks ≤ n → entry_at v (map pair_of ks) ≡ None
+  at_end h = before_at v ks n below ∙ ap (λ l. entry_at v (map pair_of l)) (drop_all n ks h)
+
+  module _ (k : Kept) (within : n < length ks) (here : k ≡ get_or ks n k) where
+    opened : drop n ks ≡ k ∷ drop (n + 1) ks
+    opened = drop_more ks n k within ∙ ap (λ q. q ∷ drop (n + 1) ks) (sym here)
+
+    pub at_found : k.version ≡ v → entry_at v (map pair_of ks) ≡ Some (kept_entry k)
+    at_found e =
+        before_at v ks n below ∙ ap (λ l. entry_at v (map pair_of l)) opened
+        ∙ ap (λ t. cond t (Some (kept_entry k)) (entry_at v (map pair_of (drop (n + 1) ks)))) (eq-eqb k.version v e)
+
+    pub at_other : k.version ≢ v → entry_at v (map pair_of ks) ≡ None
+    at_other e =
+        let least : v ≤ k.version = All-head (λ k. v ≤ k.version) k (drop (n + 1) ks) (subst (All (λ k. v ≤ k.version)) opened above) in
+        let more : v < k.version = omega (arith, least, e) in
+        let rest = (subst (λ l. IsRising (versions l)) opened (rising_drop ks n rising)).0 in
+        before_at v ks n below ∙ ap (λ l. entry_at v (map pair_of l)) opened
+        ∙ none_at v (k ∷ drop (n + 1) ks) (All-cons (λ w. v < w) k.version (versions (drop (n + 1) ks)) more (all_above v k.version (versions (drop (n + 1) ks)) more rest))
 
 -- what holds of all entries holds of those from a base on
 pub all_from_base : {X : Type 0} (P : X → Type 0) (b : ℕ) (qs : List (ℕ × X)) → All (λ q. P q.1) qs → All P (from_base b qs)

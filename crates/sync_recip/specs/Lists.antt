@@ -1,5 +1,5 @@
 -- A reciprocal list: entries of others with their versions, in the theory's form.
-use Rattle.std.specs.Prelude.{ℕ, ◌<◌, List, [], ◌∷◌, map, All}
+use Rattle.std.specs.Prelude.{ℕ, ◌<◌, ◌==◌, if◌then◌else◌, List, [], ◌∷◌, Option, None, Some, map, All}
 use Rattle.sync_data.specs.declared.entry.Entry.{Entry}
 use Rattle.sync_data.specs.declared.instr.Instr.{Instr}
 use Rattle.sync_theory.specs.Changesets.{Changeset}
@@ -26,3 +26,8 @@ lists_in es = map (λ (e : Changeset Instr). e.instrs) es
 abbrev pub IsRising : List ℕ → Type 0
 IsRising [] = Unit {0}
 IsRising (v ∷ vs) = All (λ w. v < w) vs × IsRising vs
+
+-- the first with this version
+abbrev pub entry_at : {X : Type 0} → ℕ → List (ℕ × X) → Option X
+entry_at v [] = None
+entry_at v (p ∷ ps) = if p.0 == v then Some p.1 else entry_at v ps

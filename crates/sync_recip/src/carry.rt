@@ -5,6 +5,7 @@ ghost use Rattle.sync_law.specs.Instrs.{meet};
 ghost use Rattle.sync_index.specs.Touched.{Covers};
 ghost use Rattle.sync_rivals.specs.Lists.{Lists, Serves};
 ghost use Rattle.sync_transform.specs.Sets.{made_by};
+ghost use Rattle.sync_transform.specs.Moves.{moved_changes};
 ghost use Rattle.sync_recip.specs.Lists.{entry_of, kept_entry, lists_in};
 ghost use Rattle.sync_recip.specs.Carrying.{AllLeft, AllWithin, crossed_entry, crossed_entries, noted, IsStuckBy};
 
@@ -15,8 +16,8 @@ use super::shared::SharedEntry;
 use std::alloc::Global;
 use sync_base::{Changeset, Entry, Ident, NoMemory};
 use sync_index::Index;
-use sync_rivals::RivalIndex;
-use sync_transform::{cross_sets, stays_apart};
+use sync_rivals::{Pace, RivalIndex};
+use sync_transform::{Spot, cross_sets, moved_to, sets_move, stays_apart};
 
 /// A change of a client is carried over the entries of others from the place `first` on. By an index of the change and the
 /// codes of its rivals, what it can't meet is passed over.
@@ -43,10 +44,11 @@ pub(crate) fn carry_over(
 {
     let mut left = changes;
     let mut crossed = Vec::new(alloc);
+    let mut pace = Pace::new();
     let end = kept.len();
     let mut from = first;
     while from < end {
-        let next = rivals.next(codes, left.instrs(), from, end);
+        let next = rivals.next(&mut pace, codes, left.instrs(), from, end);
         if next >= end {
             return Ok(Carried {
                 base,
@@ -57,6 +59,16 @@ pub(crate) fn carry_over(
         from = next + 1;
         let one = &kept[next];
         let entry = one.item.entry();
+        if let Some(moves) = sets_move(&left, own, &entry.changes, entry.origin) {
+            let Ok(moved) = entry_moved(alloc, entry, moves.right) else {
+                return Err(RecipRefusal::NoMemory);
+            };
+            left = moved_to(left, moves.left);
+            let Ok(()) = note(&mut crossed, next - first, Some(moved)) else {
+                return Err(RecipRefusal::NoMemory);
+            };
+            continue;
+        }
         if stays_apart(one.item.spot(), &entry.changes, index) {
             continue;
         }
@@ -75,6 +87,30 @@ pub(crate) fn carry_over(
         changes: left,
         crossed,
     })
+}
+
+/// The entry with its one list instruction at another spot.
+fn entry_moved(alloc: Global, entry: &Entry, spot: Spot) -> Result<SharedEntry, NoMemory>
+    ensures { IfOk result (λ moved. moved ≡ record entry.now { changes = moved_changes spot entry.now.changes }) }
+{
+    let changes = moved_to(entry.changes.copy()?, spot);
+    entry_with(alloc, entry, changes)
+}
+
+/// The entry with other changes.
+fn entry_with(
+    alloc: Global,
+    entry: &Entry,
+    changes: Changeset,
+) -> Result<SharedEntry, NoMemory>
+    ensures { IfOk result (λ made. made ≡ record entry.now { changes = changes }) }
+{
+    let changed = Entry {
+        origin: entry.origin,
+        number: entry.number,
+        changes,
+    };
+    SharedEntry::new(alloc, changed)
 }
 
 /// What is left of a change as it crosses an entry of another, and what the entry became where it changed.
@@ -114,12 +150,7 @@ fn changed(
     if changes == entry.changes {
         return Ok(None);
     }
-    let changed = Entry {
-        origin: entry.origin,
-        number: entry.number,
-        changes,
-    };
-    match SharedEntry::new(alloc, changed) {
+    match entry_with(alloc, entry, changes) {
         Ok(shared) => Ok(Some(shared)),
         Err(NoMemory) => Err(NoMemory),
     }

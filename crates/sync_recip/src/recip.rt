@@ -6,7 +6,7 @@ ghost use Rattle.sync_theory.specs.Reciprocals.{from_base, settle};
 ghost use Rattle.sync_data.specs.declared.instr.Instr.{Instr};
 ghost use Rattle.sync_law.specs.Instrs.{meet};
 ghost use Rattle.sync_transform.specs.Sets.{made_by};
-ghost use Rattle.sync_recip.specs.Lists.{entry_of, lists_in};
+ghost use Rattle.sync_recip.specs.Lists.{entry_at, entry_of, lists_in};
 ghost use Rattle.sync_recip.specs.Carrying.{AllLeft, AllWithin, crossed_entries, Fits, entries_of, IsStuckBy};
 
 use super::carried::{Carried, Crossed, put_crossed};
@@ -72,6 +72,22 @@ impl Recip {
             Some(kept) => Some((kept.version, kept.item.entry())),
             None => None,
         }
+    }
+
+    /// The entry with a version, as the client's changes crossed it; none where no entry has it. It takes no memory.
+    pub fn at(&self, version: u32) -> Option<&Entry>
+        ensures { option_map (λ e. entry_of e.now) result ≡ entry_at version self.now }
+    {
+        let kept = self.kept.as_slice();
+        let place = count_below(kept, version);
+        if place >= kept.len() {
+            return None;
+        }
+        let found = &kept[place];
+        if found.version != version {
+            return None;
+        }
+        Some(found.item.entry())
     }
 
     /// Adds an entry at the end, whose version is above all others.

@@ -58,6 +58,10 @@ put_among s t n (suc k) (l ∷ ls) (suc i) is g f stays h =
     let same : n + suc i ≡ suc n + i = omega arith in
     (listed_others s t (n + suc i) n l (omega arith) g h.0, put_among s t (suc n) k ls i is (subst (λ m. KeepsOthers m s t) same g) (subst (λ m. IsListed s m is → IsListed t m is) same f) stays h.1)
 
+-- where what stands there is listed where the one before it was, no mark has to change
+pub put_same_listed : (s : Marks) (n k : ℕ) (ls : List (List Instr)) (i : ℕ) (is : List Instr) → StaysAt i is ls → AreListed s n k ls → AreListed s n k (put_list i is ls)
+put_same_listed s n k ls i is stays h = put_among s s n k ls i is (λ m b g. g) (λ g. g) stays h
+
 -- ---- of what the lists are made
 pub pushed : (s : Marks) (n k : ℕ) (ls : List (List Instr)) (l : List Instr) → AreListed s n k ls → AreListed s n k (ls ++ l ∷ [])
 pushed s n zero ls l h = tt

@@ -4,6 +4,7 @@ ghost use Rattle.sync_rivals.specs.Marks.{AreGone};
 ghost use Rattle.sync_rivals.specs.Lists.{Lists, StandsAt, StaysAt, put_list, Serves, Pass};
 
 use super::listing::Listing;
+use super::pace::Pace;
 use super::rivals::rivals_of;
 use std::alloc::Global;
 use std::marker::Model;
@@ -109,8 +110,15 @@ impl RivalIndex {
 
     /// The next place from `from` on, and before `end`, whose list may meet the instructions; `end` where there is none. All
     /// before it stay as they are. It takes no memory. A list that isn't listed may meet them, and so may each where there are more codes
-    /// to look for than places.
-    pub fn next(&self, codes: &[u64], instrs: &[Instr], from: usize, end: usize) -> usize
+    /// to look for than places, and each to which the walk goes on by its pace.
+    pub fn next(
+        &self,
+        pace: &mut Pace,
+        codes: &[u64],
+        instrs: &[Instr],
+        from: usize,
+        end: usize,
+    ) -> usize
         requires known { Serves self.now codes.now instrs.now }
         requires order { from ≤ end }
         ensures order { (from ≤ result) × (result ≤ end) }
@@ -123,9 +131,22 @@ impl RivalIndex {
         if from >= listed {
             return from;
         }
-        if codes.len() > listed - from {
+        if pace.goes_on() || codes.len() > listed - from {
             return from;
         }
+        let place = self.ask(codes, instrs, from, listed);
+        pace.asked(place == from);
+        place
+    }
+
+    /// The same by the marks, among the lists that are listed.
+    fn ask(&self, codes: &[u64], instrs: &[Instr], from: usize, listed: usize) -> usize
+        requires known { Serves self.now codes.now instrs.now }
+        requires within { listed ≤ self.now.listed }
+        requires order { from < listed }
+        ensures order { (from ≤ result) × (result ≤ listed) }
+        ensures pass { (lists : List (List Instr)) → Lists self.now lists → Pass from result lists instrs.now }
+    {
         match self.listing.next(codes, self.first + from as u64) {
             None => listed,
             Some(number) => ((number - self.first) as usize).min(listed),

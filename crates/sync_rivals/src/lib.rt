@@ -6,7 +6,9 @@ mod index;
 mod laws;
 mod listing;
 mod mark;
+mod pace;
 mod rivals;
 
 pub use index::RivalIndex;
 pub use laws::strangers_stay;
+pub use pace::Pace;

@@ -4,3 +4,5 @@ pub mod Covered
 pub mod Parts
 pub mod Sizes
 pub mod Agreed
+pub mod Rows
+pub mod Stands

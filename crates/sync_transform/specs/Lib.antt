@@ -1,2 +1,4 @@
 pub mod Indexes
 pub mod Sets
+pub mod Places
+pub mod Moves

@@ -114,7 +114,7 @@ fn touches_nothing(changes: &Changeset, index: &Index) -> bool
     true
 }
 
-fn is_later(left: Stamp, right: Stamp) -> bool
+pub(crate) fn is_later(left: Stamp, right: Stamp) -> bool
     ensures { result ≡ later_stamp left.ms left.ident right.ms right.ident }
 {
     sync_law::stamps_tell();

@@ -1,4 +1,4 @@
-use Rattle.std.proofs.Common.{◌≡◌, ◌≢◌, ◌≤◌, ◌<◌, ◌+◌, ◌-◌, Ok, None, refl, length, map, drop, sym, ◌∙◌, ap, subst, All, arith}
+use Rattle.std.proofs.Common.{◌≡◌, ◌≢◌, ◌≤◌, ◌<◌, ◌+◌, ◌-◌, Ok, Some, refl, length, map, drop, sym, ◌∙◌, ap, subst, All, arith}
 use Rattle.std.proofs.lemmas.List.{length-map}
 use Rattle.sync_data.specs.declared.entry.Entry.{Entry}
 use Rattle.sync_data.specs.Payload.{Changes}
@@ -69,9 +69,27 @@ loop-from-preserved c =
     let here = here_from c.args.index.now c.args.rivals.now c.args.codes.now c.args.own c.args.kept.now c.args.first c.args.changes c.loop-from.crossed.items c.loop-from.left c.next-next.result c.index-kept-next.result after c.index-kept-next.is in
     let turn : (c.next-next.result - c.args.first) + 1 ≡ (c.next-next.result + 1) - c.args.first = omega (arith, after) in
     record {
-      walked = subst (λ n. Walked c.args.index.now c.args.rivals.now c.args.codes.now c.args.own (drop c.args.first c.args.kept.now) c.args.changes n c.note.new.crossed.items c.in-Ok.rest) turn
-          (walk_over c.args.index.now c.args.rivals.now c.args.codes.now c.args.own (drop c.args.first c.args.kept.now) c.args.changes (c.next-next.result - c.args.first) c.loop-from.crossed.items c.loop-from.left there c.index-kept-next.result inside here c.note.new.crossed.items c.in-Ok.entry c.in-Ok.rest c.in-Ok-note.ensures
-          (λ number. subst (λ e. cross_sets meet (made_by c.args.own number c.loop-from.left) (entry_of e) ≡ Ok (made_by c.args.own number c.in-Ok.rest, crossed_entry c.in-Ok.entry (entry_of e))) c.entry-entry.ensures (c.in-Ok.ensures.ok number)));
+      walked = subst (λ n. Walked c.args.index.now c.args.rivals.now c.args.codes.now c.args.own (drop c.args.first c.args.kept.now) c.args.changes n c.note-in-Ok-cross_one.new.crossed.items c.in-Ok-cross_one.rest) turn
+          (walk_over c.args.index.now c.args.rivals.now c.args.codes.now c.args.own (drop c.args.first c.args.kept.now) c.args.changes (c.next-next.result - c.args.first) c.loop-from.crossed.items c.loop-from.left there c.index-kept-next.result inside here c.note-in-Ok-cross_one.new.crossed.items c.in-Ok-cross_one.entry c.in-Ok-cross_one.rest c.in-Ok-note-2.ensures
+          (λ number. subst (λ e. cross_sets meet (made_by c.args.own number c.loop-from.left) (entry_of e) ≡ Ok (made_by c.args.own number c.in-Ok-cross_one.rest, crossed_entry c.in-Ok-cross_one.entry (entry_of e))) c.entry-entry.ensures (c.in-Ok-cross_one.ensures.ok number)));
+      order = (omega (arith, after), omega (arith, within));
+    }
+
+pub loop-from-preserved-in-Some : goal.loop-from-preserved-in-Some
+loop-from-preserved-in-Some c =
+    let end : c.next-next.result ≤ length c.args.kept.now = omega (arith, c.next-next.ensures.order.1) in
+    let pass = subst (Pass c.loop-from.from c.next-next.result (lists_in (map kept_entry c.args.kept.now))) c.instrs.ensures.listed (c.next-next.ensures.pass (lists_in (map kept_entry c.args.kept.now)) c.requires.listed) in
+    let there = walk_on c.args.index.now c.args.rivals.now c.args.codes.now c.args.own c.args.kept.now c.args.first c.args.changes c.loop-from.crossed.items c.loop-from.left c.loop-from.from c.next-next.result c.loop-from.invariant.order.0 c.next-next.ensures.order.0 end pass c.loop-from.invariant.walked in
+    let within : c.next-next.result < length c.args.kept.now = omega (arith, c.if-next-end.false) in
+    let after : c.args.first ≤ c.next-next.result = omega (arith, c.loop-from.invariant.order.0, c.next-next.ensures.order.0) in
+    let inside = inside_from c.args.index.now c.args.rivals.now c.args.codes.now c.args.own c.args.kept.now c.args.first c.args.changes c.loop-from.crossed.items c.loop-from.left c.next-next.result after within in
+    let here = here_from c.args.index.now c.args.rivals.now c.args.codes.now c.args.own c.args.kept.now c.args.first c.args.changes c.loop-from.crossed.items c.loop-from.left c.next-next.result c.index-kept-next.result after c.index-kept-next.is in
+    let turn : (c.next-next.result - c.args.first) + 1 ≡ (c.next-next.result + 1) - c.args.first = omega (arith, after) in
+    record {
+      walked = subst (λ n. Walked c.args.index.now c.args.rivals.now c.args.codes.now c.args.own (drop c.args.first c.args.kept.now) c.args.changes n c.note.new.crossed.items c.moved_to-left.result) turn
+          (walk_over c.args.index.now c.args.rivals.now c.args.codes.now c.args.own (drop c.args.first c.args.kept.now) c.args.changes (c.next-next.result - c.args.first) c.loop-from.crossed.items c.loop-from.left there c.index-kept-next.result inside here c.note.new.crossed.items (Some c.in-Ok.moved) c.moved_to-left.result c.in-Ok-note.ensures
+          (λ number. subst (λ e. cross_sets meet (made_by c.args.own number c.loop-from.left) (entry_of e) ≡ Ok (made_by c.args.own number c.moved_to-left.result, crossed_entry (Some c.in-Ok.moved) (entry_of e))) c.entry-entry.ensures
+          (c.in-Some.ensures number c.entry-entry.result.now.number ∙ (λ i. Ok (made_by c.args.own number (sym c.moved_to-left.ensures i), entry_of (sym c.in-Ok.ensures i))))));
       order = (omega (arith, after), omega (arith, within));
     }
 
