@@ -201,7 +201,7 @@ impl Clone for Told {
     }
 }
 
-fn told(alloc: Global, counted: &Rc<i32>) -> Option<Told> {
+fn make_told(alloc: Global, counted: &Rc<i32>) -> Option<Told> {
     let Ok(block) = Box::new(alloc, 1) else {
         return None;
     };
@@ -231,7 +231,7 @@ fn is_kept(alloc: Global, list: &mut GapList<Told>, counted: &Rc<i32>) -> bool {
     if list.reserve(1).is_err() {
         return all_are_there(list, len) && live(counted, len);
     }
-    match told(alloc, counted) {
+    match make_told(alloc, counted) {
         Some(told) => puts(list, len / 2, told),
         None => true,
     }

@@ -186,8 +186,13 @@ fn append_fails(alloc: Global, stroke: u64) -> bool {
     match failing(alloc, stroke) {
         Some(mut journal) => {
             let is_closed = closes(&mut journal);
-            let want: &[&[u8]] = if stroke == 4 { &[b"bc"] } else { &[] };
-            is_closed && stands(alloc, journal.into_disk(), want)
+            let disk = journal.into_disk();
+            let stands = if stroke == 4 {
+                stands(alloc, disk, &[b"bc"])
+            } else {
+                stands(alloc, disk, &[])
+            };
+            is_closed && stands
         }
         None => false,
     }
