@@ -169,17 +169,19 @@ function faintTexts() {
     const own = getComputedStyle(element).backgroundColor;
     return bytes(own)[3] === 255 || !element.parentElement ? own : ground(element.parentElement);
   };
-  const texts = document.createTreeWalker(document.body, NodeFilter.SHOW_TEXT);
-  const faint = [];
-  while (texts.nextNode()) {
-    const { parentElement: element, textContent } = texts.currentNode;
+  const faint = new Set();
+  const look = (element, text, part) => {
     const isIdle = element.closest('[aria-disabled="true"], :disabled, .unseen');
-    if (!textContent.trim() || isIdle || !element.checkVisibility()) continue;
-    const [darker, lighter] = [light(getComputedStyle(element).color), light(ground(element))].sort((left, right) => left - right);
+    if (!text.trim() || isIdle || !element.checkVisibility()) return;
+    const [darker, lighter] = [light(getComputedStyle(element, part).color), light(ground(element))].sort((left, right) => left - right);
     const contrast = (lighter + 0.05) / (darker + 0.05);
-    if (contrast < 4.5) faint.push(`${textContent.trim().slice(0, 40)}: ${contrast.toFixed(1)}`);
-  }
-  return [...new Set(faint)];
+    if (contrast < 4.5) faint.add(`${text.trim().slice(0, 40)}: ${contrast.toFixed(1)}`);
+  };
+  const texts = document.createTreeWalker(document.body, NodeFilter.SHOW_TEXT);
+  while (texts.nextNode()) look(texts.currentNode.parentElement, texts.currentNode.textContent);
+  for (const input of document.querySelectorAll('input[type=text], input[type=number]')) look(input, input.value);
+  for (const input of document.querySelectorAll('input[placeholder]')) look(input, input.placeholder, '::placeholder');
+  return [...faint];
 }
 
 async function isReadAndFits() {
