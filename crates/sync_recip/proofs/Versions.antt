@@ -1,5 +1,5 @@
 -- Kept entries by their versions: those before a base and those from it on.
-use Rattle.std.proofs.Common.{◌≡◌, ◌≢◌, cond, ◌+◌, Option, None, Some, ℕ, zero, suc, ◌<◌, ◌≤◌, true, false, List, [], ◌∷◌, ◌++◌, length, map, take, drop, get_or, set, refl, sym, ap, ◌∙◌, subst, if◌then◌else◌, nat_lt, All, Result, Ok, Err, OnOk, OnErr, ◌-◌, Vec, append-nil, length-append, length-drop, arith}
+use Rattle.std.proofs.Common.{◌≡◌, ◌≢◌, cond, ◌+◌, None, Some, ℕ, zero, suc, ◌<◌, ◌≤◌, true, false, List, [], ◌∷◌, ◌++◌, length, map, take, drop, get_or, set, refl, sym, ap, ◌∙◌, subst, if◌then◌else◌, nat_lt, All, Result, Ok, Err, OnOk, OnErr, ◌-◌, Vec, append-nil, length-append, length-drop, arith}
 use Rattle.std.specs.List.Sorted.{IsNonDecreasingBy}
 use Rattle.std.specs.Prelude.{◌==◌}
 use Rattle.std.proofs.lemmas.Bool.{lt-ltb, le-ltb, eq-eqb}

@@ -98,11 +98,7 @@ fn entry_moved(alloc: Global, entry: &Entry, spot: Spot) -> Result<SharedEntry, 
 }
 
 /// The entry with other changes.
-fn entry_with(
-    alloc: Global,
-    entry: &Entry,
-    changes: Changeset,
-) -> Result<SharedEntry, NoMemory>
+fn entry_with(alloc: Global, entry: &Entry, changes: Changeset) -> Result<SharedEntry, NoMemory>
     ensures { IfOk result (λ made. made ≡ record entry.now { changes = changes }) }
 {
     let changed = Entry {

@@ -1,5 +1,5 @@
 -- The lists that an index has as listed, after a change of its marks or of the lists.
-use Rattle.std.proofs.Common.{◌≡◌, ◌≤◌, ◌<◌, ◌+◌, ℕ, zero, suc, List, [], ◌∷◌, ◌++◌, refl, sym, ap, ◌∙◌, length, get_or, drop, map, subst, arith}
+use Rattle.std.proofs.Common.{◌≡◌, ◌≤◌, ◌<◌, ◌+◌, ℕ, zero, suc, List, [], ◌∷◌, ◌++◌, sym, ap, length, get_or, drop, map, subst, arith}
 use Rattle.sync_data.specs.declared.instr.Instr.{Instr}
 use Rattle.sync_rivals.specs.Marks.{Marks, IsListed, KeepsAll, KeepsOthers}
 use Rattle.sync_rivals.specs.Lists.{AreListed, StandsAt, StaysAt, StaysListed, put_list}

@@ -1,9 +1,7 @@
 -- What no mark names, from a place on, crosses as it is.
 use Rattle.std.specs.List.{All}
-use Rattle.std.proofs.Common.{◌≡◌, ◌≤◌, ◌<◌, ◌+◌, ℕ, List, [], Option, Ok, refl, sym, subst, arith}
+use Rattle.std.proofs.Common.{◌≡◌, ◌≤◌, ◌<◌, ◌+◌, ℕ, List, [], Option, refl, sym, subst, arith}
 use Rattle.sync_data.specs.declared.instr.Instr.{Instr}
-use Rattle.sync_theory.specs.Lists.{cross}
-use Rattle.sync_law.specs.Instrs.{meet}
 use Rattle.sync_rivals.specs.Marks.{Knows, IsReached, Reaches}
 use Rattle.sync_rivals.specs.Lists.{Indexed, Lists, Pass}
 use Rattle.sync_rivals.specs.Lemmas.Skips.{skip_left, skip_right, unnamed, nothing_right}

@@ -1,7 +1,5 @@
-use Rattle.std.proofs.Common.{◌≡◌, ◌≢◌, ◌≤◌, ◌<◌, ◌+◌, ◌-◌, Ok, Some, refl, length, map, drop, sym, ◌∙◌, ap, subst, All, arith}
-use Rattle.std.proofs.lemmas.List.{length-map}
+use Rattle.std.proofs.Common.{◌≡◌, ◌≢◌, ◌≤◌, ◌<◌, ◌+◌, ◌-◌, Ok, Some, refl, length, map, drop, sym, ◌∙◌, subst, arith}
 use Rattle.sync_data.specs.declared.entry.Entry.{Entry}
-use Rattle.sync_data.specs.Payload.{Changes}
 use Rattle.sync_theory.specs.Lists.{cross}
 use Rattle.sync_theory.specs.Changesets.{cross_sets}
 use Rattle.sync_law.specs.Instrs.{meet}

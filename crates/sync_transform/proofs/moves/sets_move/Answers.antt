@@ -1,4 +1,4 @@
-use Rattle.std.proofs.Common.{◌≡◌, sym, ap, ◌∙◌, subst, arith}
+use Rattle.std.proofs.Common.{sym, ◌∙◌, arith}
 use Rattle.sync_theory.specs.Changesets.{later_stamp}
 use Rattle.sync_transform.proofs.Stands.{only, sets_cross}
 use Rattle.sync_transform.proofs.moves.sets_move.Goals as goal

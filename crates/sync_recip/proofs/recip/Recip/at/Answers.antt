@@ -1,4 +1,4 @@
-use Rattle.std.proofs.Common.{◌≡◌, Some, map, sym, ap, ◌∙◌, subst, arith}
+use Rattle.std.proofs.Common.{Some, map, sym, ap, ◌∙◌, subst, arith}
 use Rattle.sync_recip.specs.Lists.{entry_of, entry_at, pair_of, versions, IsRising}
 use Rattle.sync_recip.proofs.Versions.{at_end, at_found, at_other}
 use Rattle.sync_recip.proofs.recip.Recip.at.Goals as goal

@@ -1,7 +1,5 @@
-use Rattle.std.proofs.Common.{◌≡◌, ◌≤◌, ◌<◌, [], length, sym, ◌∙◌, subst, ap, arith}
+use Rattle.std.proofs.Common.{◌≤◌, ◌<◌, sym, subst, ap, arith}
 use Rattle.std.specs.Prelude.{None, Some}
-use Rattle.std.proofs.lemmas.Bool.{eqb-true}
-use Rattle.std.proofs.lemmas.List.{nil_from_length}
 use Rattle.sync_rivals.specs.Lists.{Indexed, Lists, Serves}
 use Rattle.sync_rivals.proofs.Passing.{found_passes}
 use Rattle.sync_rivals.proofs.index.RivalIndex.ask.Goals as goal

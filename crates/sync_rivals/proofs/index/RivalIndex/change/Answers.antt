@@ -2,8 +2,8 @@ use Rattle.std.proofs.Common.{◌≡◌, ◌+◌, [], length, sym, ◌∙◌, su
 use Rattle.std.proofs.lemmas.Bool.{eqb-true}
 use Rattle.std.proofs.lemmas.List.{nil_from_length}
 use Rattle.sync_maps.specs.Answers.{was_ok}
-use Rattle.sync_rivals.specs.Marks.{KeepsOthers, IsListed}
-use Rattle.sync_rivals.specs.Lists.{Lists, put_list}
+use Rattle.sync_rivals.specs.Marks.{IsListed}
+use Rattle.sync_rivals.specs.Lists.{Lists}
 use Rattle.sync_rivals.proofs.Listed.{above_all, fewer, put_after, put_among}
 use Rattle.sync_rivals.proofs.index.RivalIndex.change.Goals as goal
 

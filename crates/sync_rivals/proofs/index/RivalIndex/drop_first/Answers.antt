@@ -1,4 +1,4 @@
-use Rattle.std.proofs.Common.{◌≡◌, suc, ◌-◌, ◌+◌, ◌∷◌, sym, subst, add-one, arith}
+use Rattle.std.proofs.Common.{◌≡◌, suc, ◌-◌, ◌∷◌, sym, subst, add-one, arith}
 use Rattle.sync_rivals.specs.Lists.{AreListed, Lists}
 use Rattle.sync_rivals.proofs.Listed.{below_all}
 use Rattle.sync_rivals.proofs.index.RivalIndex.drop_first.Goals as goal

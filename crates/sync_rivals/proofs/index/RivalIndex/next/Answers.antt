@@ -1,9 +1,7 @@
-use Rattle.std.proofs.Common.{◌≡◌, ◌≤◌, ◌<◌, [], length, sym, ◌∙◌, subst, arith}
-use Rattle.std.specs.Prelude.{None, Some}
+use Rattle.std.proofs.Common.{◌≡◌, [], length, sym, ◌∙◌}
 use Rattle.std.proofs.lemmas.Bool.{eqb-true}
 use Rattle.std.proofs.lemmas.List.{nil_from_length}
-use Rattle.sync_rivals.specs.Lists.{Indexed, Lists, Serves}
-use Rattle.sync_rivals.proofs.Passing.{nothing_passes, found_passes}
+use Rattle.sync_rivals.proofs.Passing.{nothing_passes}
 use Rattle.sync_rivals.proofs.index.RivalIndex.next.Goals as goal
 
 pub returns-then-is_empty-clause-pass : goal.returns-then-is_empty-clause-pass

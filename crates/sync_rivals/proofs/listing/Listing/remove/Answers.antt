@@ -1,4 +1,4 @@
-use Rattle.std.proofs.Common.{◌≡◌, sym, ◌∙◌, ap, subst, false}
+use Rattle.std.proofs.Common.{sym, ◌∙◌, ap, subst}
 use Rattle.std.specs.FinSet as set
 use Rattle.sync_maps.specs.Seen.{excluded}
 use Rattle.sync_rivals.specs.Marks.{mark, mark_cmp_total, mark_cmp_exact, KeepsOthers, AddsNone}
