@@ -16,4 +16,3 @@ pub mod Alongside
 pub mod Laws
 pub mod LaterLaws
 mod Examples
-

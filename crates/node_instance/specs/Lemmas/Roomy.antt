@@ -1,6 +1,6 @@
 -- A list within the limits of a changeset is spelled in at most 16 MiB: each instruction takes some 80 bytes at most beside those that
 -- it carries.
-use Rattle.std.proofs.Common.{◌≡◌, ℕ, zero, suc, ◌+◌, ◌*◌, ◌/◌, ◌^◌, ◌<◌, ◌≤◌, true, false, Bool, cond, List, [], ◌∷◌, ◌++◌, length, Option, Some, None, refl, sym, ap, ◌∙◌, subst, arith, inl, inr}
+use Rattle.std.proofs.Common.{◌≡◌, ℕ, zero, suc, ◌+◌, ◌*◌, ◌/◌, ◌^◌, ◌<◌, ◌≤◌, true, false, cond, List, [], ◌∷◌, ◌++◌, length, Option, Some, None, refl, sym, ap, ◌∙◌, subst, arith, inl, inr}
 use Rattle.std.specs.Prelude.{not}
 use Rattle.std.specs.List.{flat_map, AllByRecursion}
 use Rattle.std.specs.Str.{bytes_eq}
@@ -22,7 +22,7 @@ use Rattle.sync_data.specs.declared.instr.Instr.TheVariants as instrs
 use Rattle.sync_intern.specs.FirstUses.{has_string, place_of, with_string, with_strings}
 use Rattle.sync_io.specs.Varints.{varint, zigzag}
 use Rattle.sync_io.specs.VarintLaws.{varint_small, varint_large}
-use Rattle.sync_codec.specs.Spelling.{Field, byte, number, run, string, key_fields, value_fields, binding_fields, target_fields, column_fields, cell_fields, spot_fields, instr_fields, strings_in_field, strings_of, field_bytes, string_bytes, table_bytes, version_of, spelling}
+use Rattle.sync_codec.specs.Spelling.{Field, byte, number, run, string, key_fields, value_fields, binding_fields, target_fields, cell_fields, spot_fields, instr_fields, strings_in_field, strings_of, field_bytes, string_bytes, table_bytes, spelling}
 use Rattle.sync_codec.specs.Valid.{IsKey, IsValue, IsBinding, IsCell, IsInstr, IsString, AreInstrs}
 use Rattle.sync_codec.specs.Lemmas.Few.{strings_few}
 use Rattle.node_model.specs.Progress.{IsRoomy}

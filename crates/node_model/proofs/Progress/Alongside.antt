@@ -1,5 +1,5 @@
 -- A server that gave up history does for clients above its floor what one with the whole history does.
-use Rattle.std.proofs.Common.{append-nil, ◌≡◌, ◌≢◌, ◌⊎◌, inl, inr, ⊎_elim, ℕ, zero, suc, ◌<◌, ◌≤◌, Bool, true, false, ◌||◌, List, [], ◌∷◌, ◌++◌, Option, Some, None, Result, Ok, Err, refl, sym, ap, ap₂, ◌∙◌, subst, subst₂, arith, if◌then◌else◌, ◌==◌, length, map}
+use Rattle.std.proofs.Common.{append-nil, ◌≡◌, ◌≢◌, ◌⊎◌, inl, inr, ⊎_elim, ℕ, zero, suc, ◌<◌, ◌≤◌, Bool, true, false, ◌||◌, List, [], ◌∷◌, ◌++◌, Option, Some, None, Result, Ok, Err, refl, sym, ap, ap₂, ◌∙◌, subst, arith, if◌then◌else◌, ◌==◌}
 use Rattle.std.specs.Prelude.{bytes_eq}
 use Rattle.sync_theory.proofs.World.{same_or_not}
 use Rattle.node_model.specs.Bytes.{Name, Uuid}
@@ -7,14 +7,14 @@ use Rattle.node_model.proofs.Bytes.{bytes_same}
 use Rattle.node_model.specs.Profile.{Profile, Lawful}
 use Rattle.node_model.specs.Snapshots.{Buildable}
 use Rattle.node_model.specs.Messages.{Message, Upload}
-use Rattle.node_model.specs.Clients.{Client, ClientRecord, ClientRefusal, ClientStep, answers, refuse, if_born, if_named, NotNamed, client_of, after_records, bind, upload, to_upload, ask, question, take as take_message}
-use Rattle.node_model.specs.Servers.{Server, ServerRecord, ServerStep, server_of, serve}
-use Rattle.node_model.specs.Parts.{Parts, Served, parts_of, served_of, serve_by, after_parts}
-use Rattle.node_model.specs.Trims.{KeptLess, is_trimmed}
-use Rattle.node_model.specs.Later.{Later, Happens, later_ends, later_served, later_message, beside, later_after, all_later}
+use Rattle.node_model.specs.Clients.{Client, ClientRecord, ClientRefusal, ClientStep, answers, refuse, if_born, if_named, NotNamed, client_of, bind, upload, to_upload, ask, question, take as take_message}
+use Rattle.node_model.specs.Servers.{ServerRecord, server_of, serve}
+use Rattle.node_model.specs.Parts.{Served, served_of, serve_by}
+use Rattle.node_model.specs.Trims.{is_trimmed}
+use Rattle.node_model.specs.Later.{Later, later_ends, later_served, later_message, beside, later_after}
 use Rattle.node_model.specs.Worlds.{Node, World, Event, Binds, Uploads, Asks, Delivers, Outcome, Words, says, Replied, Stopped, NoNode, NoMessage, at, put, seek, is_there, stopped, has_name, server_name, arm, message_words, took_words, reply_words, client_moved, client_ends, client_called, client_calls, server_moved, server_ends, server_called, is_node, delivers, message_at, happens, world_after, outcomes}
 use Rattle.node_model.specs.Progress.{Comes, comes_now, comes_later, IsBelowFloor, answered_words, delivered_words, later_words, later_outcomes, after_events}
-use Rattle.node_model.specs.Each.{Each, no_more, and_each}
+use Rattle.node_model.specs.Each.{Each, no_more}
 use Rattle.node_model.proofs.Alike.{IsLow, served_same, served_high, parts_floor}
 use Rattle.node_model.proofs.Written.{serve_writes}
 use Rattle.node_model.proofs.Parts.{serve_is}
@@ -262,8 +262,11 @@ module _ {I S : Type 0} (p : Profile I S) where
               stops = λ ne. absurd (ne refl);
               messages = λ j x h. ⊎_elim (λ old. inl old) (λ it. inr (subst IsReply (sym said ∙ it.1) (serve_replies p (server_of p l.world.server) m))) (at_snoc l.world.messages (serve_by p l.kept m).answer j x h);
             } in
-            inr (words ∙ ap (answered_words l.world (serve_by p l.kept m)) none ∙ sym (ap (λ o. o.words) plain), ap (λ z. z.world) after ∙ sym (ap (λ o. o.world) plain),
-            onward l (later_after p l (Delivers k to)) IsReply a (event_held p law built l a.held (Delivers k to)) (ap (λ z. z.kept.floor) after ∙ at_floor) (subst (λ z. Moves IsReply l.world z.world) (sym after) moves) (λ x r. inl (reply_high floor x r)))
+            inr (
+              words ∙ ap (answered_words l.world (serve_by p l.kept m)) none ∙ sym (ap (λ o. o.words) plain),
+              ap (λ z. z.world) after ∙ sym (ap (λ o. o.world) plain),
+              onward l (later_after p l (Delivers k to)) IsReply a (event_held p law built l a.held (Delivers k to)) (ap (λ z. z.kept.floor) after ∙ at_floor) (subst (λ z. Moves IsReply l.world z.world) (sym after) moves) (λ x r. inl (reply_high floor x r)),
+            )
 
         sent : (k : ℕ) → first < k → message_at l.world k ≡ Some m → (IsLow floor m → ⊥) ⊎ below
         sent zero gt e = absurd (omega arith)
@@ -284,17 +287,25 @@ module _ {I S : Type 0} (p : Profile I S) where
     follows l a (Binds name) part =
         inr (refl, refl, onward l (beside p l (Binds name)) (SentBy l.world name bind) a (event_held p law built l a.held (Binds name)) a.at_floor (sends l.world name bind bind_told) (λ m s. inl (bind_says (client_of p s.1.records) floor m s.4)))
     follows l a (Uploads name) part =
-        inr (refl, refl, onward l (beside p l (Uploads name)) (SentBy l.world name (upload p)) a (event_held p law built l a.held (Uploads name)) a.at_floor (sends l.world name (upload p) (λ st. named_told st (Upload st.ident (to_upload p st))))
-        (λ m s. ⊎_elim
-        (λ up. inl (subst (λ x. IsLow floor x → ⊥) (named_says (client_of p s.1.records) (Upload (client_of p s.1.records).ident (to_upload p (client_of p s.1.records))) m s.4) (uploads_high p floor (client_of p s.1.records) up)))
-        (λ b. inr b)
-        (sender l a name part s.0 s.1 s.2 s.3)))
+        inr (
+          refl,
+          refl,
+          onward l (beside p l (Uploads name)) (SentBy l.world name (upload p)) a (event_held p law built l a.held (Uploads name)) a.at_floor (sends l.world name (upload p) (λ st. named_told st (Upload st.ident (to_upload p st))))
+              (λ m s. ⊎_elim
+              (λ up. inl (subst (λ x. IsLow floor x → ⊥) (named_says (client_of p s.1.records) (Upload (client_of p s.1.records).ident (to_upload p (client_of p s.1.records))) m s.4) (uploads_high p floor (client_of p s.1.records) up)))
+              (λ b. inr b)
+              (sender l a name part s.0 s.1 s.2 s.3)),
+        )
     follows l a (Asks name) part =
-        inr (refl, refl, onward l (beside p l (Asks name)) (SentBy l.world name ask) a (event_held p law built l a.held (Asks name)) a.at_floor (sends l.world name ask (λ st. named_told st (question st st.subset)))
-        (λ m s. ⊎_elim
-        (λ up. inl (subst (λ x. IsLow floor x → ⊥) (named_says (client_of p s.1.records) (question (client_of p s.1.records) (client_of p s.1.records).subset) m s.4) (asks_high p floor (client_of p s.1.records) (client_of p s.1.records).subset up)))
-        (λ b. inr b)
-        (sender l a name part s.0 s.1 s.2 s.3)))
+        inr (
+          refl,
+          refl,
+          onward l (beside p l (Asks name)) (SentBy l.world name ask) a (event_held p law built l a.held (Asks name)) a.at_floor (sends l.world name ask (λ st. named_told st (question st st.subset)))
+              (λ m s. ⊎_elim
+              (λ up. inl (subst (λ x. IsLow floor x → ⊥) (named_says (client_of p s.1.records) (question (client_of p s.1.records) (client_of p s.1.records).subset) m s.4) (asks_high p floor (client_of p s.1.records) (client_of p s.1.records).subset up)))
+              (λ b. inr b)
+              (sender l a name part s.0 s.1 s.2 s.3)),
+        )
     follows l a (Delivers k to) lt = on (bytes_eq to server_name) refl
       where
         on : (b : Bool) → bytes_eq to server_name ≡ b → Follows l (Delivers k to)

@@ -88,7 +88,6 @@ module _ {I S : Type 0} (p : Profile I S) where
       let made = ap length t.0.made in
       record { cursor = omega arith; made = omega arith; id = λ u f. t.0.id ∙ f; second = λ f. t.0.second ∙ f }
   onto_one c ahead Form e first = record { cursor = omega arith; made = omega arith; id = λ u f. f; second = λ f. refl }
-
   onto_one c ahead (Subset tables) e first = record { cursor = omega arith; made = omega arith; id = λ u f. f; second = λ f. f }
   onto_one c ahead (ClientRecord.Part body) e first = record { cursor = omega arith; made = omega arith; id = λ u f. f; second = λ f. f }
   onto_one c ahead (ClientRecord.Floor version) e first =
