@@ -15,4 +15,5 @@ pub mod Above
 pub mod Alongside
 pub mod Laws
 pub mod LaterLaws
+pub mod Rescuing
 mod Examples
