@@ -16,4 +16,5 @@ pub mod Alongside
 pub mod Laws
 pub mod LaterLaws
 pub mod Rescuing
+pub mod Runs
 mod Examples

@@ -7,7 +7,7 @@ use Rattle.node_model.specs.Clients.{Client, ClientRecord, ClientRefusal, Origin
 use Rattle.node_model.specs.Servers.{ServerRecord, count, server_of}
 use Rattle.node_model.specs.Resets.{ByClient, heir, recover}
 use Rattle.node_model.specs.Recovery.{IsSaved, StopsAt, numbers_of, whole_history}
-use Rattle.node_model.specs.Worlds.{Event, Edits, at}
+use Rattle.node_model.specs.Worlds.{Node, World, Event, Edits, at, world_after}
 
 -- all of these are transactions of the client of this name
 pub data AllEdits {I : Type 0} (name : Name) : List (Event I) → Type 0 where
@@ -39,3 +39,9 @@ module _ {I S : Type 0} (p : Profile I S) where
   -- the old client's change at a place is integrated as itself, or it is saved by its heir
   abbrev pub LivesOn : List ServerRecord → ℕ → List ClientRecord → List ClientRecord → ℕ → Type 0
   LivesOn server ident old rs k = (at (numbers_of ident (whole_history p (server_of p server))) k ≡ Some (suc k)) ⊎ ((j : ℕ) × (k ≡ count (server_of p server) ident + j) × IsSaved p old rs (count (server_of p server) ident) j)
+
+  -- in a world a run is what a list of its client's transactions does
+  pub record RunsAs (w : World) (place : ℕ) (nd : Node) (frames : List Message) : Type 0 where
+    pub events : List (Event I)
+    pub edits : AllEdits nd.name events
+    pub after : at (world_after p w events).clients place ≡ Some (record nd { records = nd.records ++ (recover p (client_of p nd.records) frames).records })

@@ -99,6 +99,9 @@ module _ {I S : Type 0} (p : Profile I S) where
         nothing : (i : ℕ) (nd : Node) → at [] i ≡ Some nd → ⊥
         nothing i nd h = cc
 
+    pub later_is_valid : (l : Later I S) → IsLater p l → Valid p l.world
+    later_is_valid l r = let v = later_valid l r in record { holds = v.0.holds; opens = v.0.opens; apart = v.1 }
+
     -- a client whose settled number isn't below a version
     above_at : (w : World) (h : Holds p w) (floor i : ℕ) (nd : Node) → at w.clients i ≡ Some nd → floor ≤ settled_from (client_of p nd.records).cursor (client_of p nd.records).unsent → Above p floor (client_of p nd.records)
     above_at w h floor i nd here le =
