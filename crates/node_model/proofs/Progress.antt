@@ -17,4 +17,5 @@ pub mod Laws
 pub mod LaterLaws
 pub mod Rescuing
 pub mod Runs
+pub mod Asked
 mod Examples

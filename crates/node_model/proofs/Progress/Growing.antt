@@ -120,7 +120,7 @@ module _ {I S : Type 0} (p : Profile I S) where
     pub log : List (LogEntry (Changeset I))
     pub log_is : t.log ≡ s.log ++ log
 
-  server_onto : (rs : List ServerRecord) (s : Server I) → ServerOnto s (after_all p s rs)
+  pub server_onto : (rs : List ServerRecord) (s : Server I) → ServerOnto s (after_all p s rs)
   server_onto [] s = record { ids = []; ids_are = sym (append-nil s.ids); log = []; log_is = sym (append-nil s.log) }
   server_onto (ServerRecord.Client id ∷ rs) s =
       let o = server_onto rs (after_server p s (ServerRecord.Client id)) in
