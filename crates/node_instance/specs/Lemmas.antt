@@ -11,3 +11,4 @@ pub mod Olds
 pub mod Held
 pub mod Bounded
 pub mod Buildable
+pub mod Roomy

@@ -1,4 +1,4 @@
-ghost use Rattle.std.specs.Prelude.{◌≡◌, ◌≤◌, ◌↔◌, ℕ, List, Ok, Err, true};
+ghost use Rattle.std.specs.Prelude.{◌≡◌, ◌≢◌, ◌⊎◌, ◌≤◌, ◌↔◌, ℕ, List, Ok, Err, Some, false, true, length};
 ghost use Rattle.sync_theory.specs.Restricting.{Restricts};
 ghost use Rattle.sync_data.specs.declared.instr.Instr.{Instr};
 ghost use Rattle.sync_base.specs.States.{State, IsState};
@@ -8,7 +8,12 @@ ghost use Rattle.sync_codec.specs.Spelling.{needs_second, spelling};
 ghost use Rattle.sync_codec.specs.Decoding.{bad_bytes, instrs_in};
 ghost use Rattle.sync_codec.specs.Valid.{AreInstrs};
 ghost use Rattle.sync_subset.specs.Tables.{Tables, admits};
-ghost use Rattle.node_model.specs.Profile.{LawfulParts};
+ghost use Rattle.node_model.specs.Clients.{client_of};
+ghost use Rattle.node_model.specs.Later.{IsLater, Later};
+ghost use Rattle.node_model.specs.Log.{ident_of, subset_of};
+ghost use Rattle.node_model.specs.Profile.{LawfulParts, only_by};
+ghost use Rattle.node_model.specs.Progress.{AllCurrent, AnyArmed, AnyBelow, AnyOld, AnyUnnamed, Comes, HasCaughtUp, IsArmed, IsBelow, IsBelowFloor, IsCurrent, IsException, IsRoomy, after_events, all_catch_up, catches_up, enough, enough_for_all, later_outcomes};
+ghost use Rattle.node_model.specs.Worlds.{Node, at};
 ghost use Rattle.node_instance.specs.Adapting.{adapt};
 ghost use Rattle.node_instance.specs.Profile.{fits_changeset, the_profile, unspell, weight};
 
@@ -41,3 +46,25 @@ pub fn restricted_changes_cross_alike()
 pub fn parts_are_lawful()
     ensures { LawfulParts the_profile IsState }
 {}
+
+/// A changeset within the limits is spelled in at most 16 MiB, so that a message bears it, whichever it is.
+pub fn messages_bear_each_changeset()
+    ensures { IsRoomy the_profile }
+{}
+
+/// Whatever happened, and however often the server gave up history: a client of this project's instructions that binds,
+/// uploads and asks in turn, for as many rounds as it lacks entries and the server lacks its changes, ends with its ident,
+/// the whole history and nothing unsent, or a named exception comes on the way. So do all clients of a world, one after
+/// another and then each once more. Each then has its part of the server's objects.
+pub fn clients_catch_up()
+    ensures one { (l : Later Instr State) → IsLater the_profile l → (i : ℕ) (nd : Node) → at l.world.clients i ≡ Some nd → (rounds : ℕ) → enough the_profile l.world nd ≤ rounds
+        → Comes (λ x. IsException (IsArmed the_profile l.world nd) (ident_of the_profile l.world nd ≡ 0) ((client_of the_profile nd.records).second ≡ false) x ⊎ IsBelowFloor (IsBelow the_profile l nd) x) (later_outcomes the_profile l (catches_up nd.name (length l.world.messages) rounds))
+        ⊎ HasCaughtUp the_profile (after_events the_profile l (catches_up nd.name (length l.world.messages) rounds)).world nd.name }
+    ensures all { (l : Later Instr State) → IsLater the_profile l → (rounds : ℕ) → enough_for_all the_profile l.world ≤ rounds
+        → Comes (λ x. IsException (AnyArmed the_profile l.world) (AnyUnnamed the_profile l.world) (AnyOld the_profile l.world) x ⊎ IsBelowFloor (AnyBelow the_profile l) x) (later_outcomes the_profile l (all_catch_up l.world rounds))
+        ⊎ AllCurrent the_profile (after_events the_profile l (all_catch_up l.world rounds)).world }
+    ensures objects { (l : Later Instr State) → IsLater the_profile l → (i : ℕ) (nd : Node) → at l.world.clients i ≡ Some nd → ident_of the_profile l.world nd ≢ 0 → IsCurrent the_profile l.world nd
+        → (client_of the_profile nd.records).objects ≡ only_by the_profile (subset_of the_profile nd) l.kept.objects }
+{
+    node_model::later_worlds_make_progress::<super::instrs::Instrs>()
+}

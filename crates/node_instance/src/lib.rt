@@ -10,5 +10,6 @@ mod tests;
 
 pub use instrs::Instrs;
 pub use laws::{
-    adapted_instructions_fit, limits_tell, parts_are_lawful, restricted_changes_cross_alike,
+    adapted_instructions_fit, clients_catch_up, limits_tell, messages_bear_each_changeset,
+    parts_are_lawful, restricted_changes_cross_alike,
 };

@@ -31,7 +31,7 @@ cut_by {R} (Some s) rs stand e = go (nat_le s.at (4 * length rs)) e
     go true e = (standing s, cc)
     go false e = cc
 
-not_named : (u : Uuid) (vs : List Uuid) → is_there (seek (λ v. bytes_eq u v) vs) ≡ false → place_of u vs ≡ 0
+pub not_named : (u : Uuid) (vs : List Uuid) → is_there (seek (λ v. bytes_eq u v) vs) ≡ false → place_of u vs ≡ 0
 not_named u [] e = refl
 not_named u (v ∷ vs) e = go (bytes_eq u v) (seek (λ v. bytes_eq u v) vs) e (not_named u vs)
   where

@@ -15,5 +15,7 @@ pub mod Above
 pub mod Alongside
 pub mod Laws
 pub mod LaterLaws
+pub mod Rescuing
+pub mod Runs
+pub mod Asked
 mod Examples
-

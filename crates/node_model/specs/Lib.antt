@@ -20,6 +20,7 @@ pub mod Fronts
 pub mod Trimmed
 pub mod Later
 pub mod Progress
+pub mod Rescues
 pub mod Toy
 pub mod ToyLaw
 pub mod Lemmas

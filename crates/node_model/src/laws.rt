@@ -12,6 +12,7 @@ ghost use Rattle.node_model.specs.Parts.{Given, Parts, admits_part, after_parts,
 ghost use Rattle.node_model.specs.Profile.{cross_changesets, only_by};
 ghost use Rattle.node_model.specs.Progress.{AllCurrent, AnyArmed, AnyBelow, AnyOld, AnyUnnamed, Comes, Gets, HasCaughtUp, IsArmed, IsBelow, IsBelowFloor, IsCurrent, IsException, IsQuiet, IsRoomy, after_events, after_turns, all_catch_up, catches_up, enough, enough_for_all, later_outcomes, turns};
 ghost use Rattle.node_model.specs.Recovery.{CountIsFinal, HeirMove, IsRecovery, KeepsFinal, ListsDrops, StopsAt, SavesNow, SavesOnce, heir_after, numbers_from, numbers_of, whole_history};
+ghost use Rattle.node_model.specs.Rescues.{IsHeldUp, LivesOn, RunsAs, after_runs};
 ghost use Rattle.node_model.specs.Reports.{report_by_log, report_of};
 ghost use Rattle.node_model.specs.Resets.{ByClient, Known, SavedAs, heir, heir_says, recover};
 ghost use Rattle.node_model.specs.Servers.{IdentRetired, ServerRecord, ServerStep, Trimmed, count, heir_of, is_given, merge, no_server, refuses, serve, server_objects, server_of};
@@ -270,4 +271,26 @@ pub fn later_worlds_make_progress<E: Exchange>()
     ensures all { IsRoomy E.profile → (l : Later E.Instr E.State) → IsLater E.profile l → (rounds : ℕ) → enough_for_all E.profile l.world ≤ rounds
         → Comes (λ x. IsException (AnyArmed E.profile l.world) (AnyUnnamed E.profile l.world) (AnyOld E.profile l.world) x ⊎ IsBelowFloor (AnyBelow E.profile l) x) (later_outcomes E.profile l (all_catch_up l.world rounds))
         ⊎ AllCurrent E.profile (after_events E.profile l (all_catch_up l.world rounds)).world }
+{}
+
+/// A client that a mismatch or the floor holds up goes on by a reset. Run after run, each over what the old client sends
+/// from the first change on that its heir hasn't: either the heir has them all, after as many runs as it lacked changes,
+/// or its commit refuses the next one for a reason that the laws name. Then each change of the old client is integrated as
+/// itself, or saved as a transaction of the heir, without what was dropped and listed. What a run appends is what
+/// transactions of the heir do, so that all laws of worlds hold of heirs, and they catch up as any client does.
+pub fn recoveries_end<E: Exchange>()
+    ensures ends { IsRoomy E.profile → (w : World) → IsReached E.profile w → (i : ℕ) (nd : Node) → at w.clients i ≡ Some nd → (client_of E.profile nd.records).ident ≢ 0
+        → (heir : List ClientRecord) → client_opens E.profile (no_client E.profile) heir ≡ true → (client_of E.profile heir).ident ≢ 0
+        → (n : ℕ) → count (server_of E.profile w.server) (client_of E.profile nd.records).ident ≤ n → (runs : ℕ) → length (client_of E.profile nd.records).made ≤ n + last (client_of E.profile heir) + runs
+        → IsHeldUp E.profile (client_of E.profile nd.records) n (client_of E.profile (after_runs E.profile (client_of E.profile nd.records) n runs heir))
+        ⊎ (length (client_of E.profile nd.records).made ≤ n + last (client_of E.profile (after_runs E.profile (client_of E.profile nd.records) n runs heir))) }
+    ensures ends_later { IsRoomy E.profile → (l : Later E.Instr E.State) → IsLater E.profile l → (i : ℕ) (nd : Node) → at l.world.clients i ≡ Some nd → (client_of E.profile nd.records).ident ≢ 0
+        → (heir : List ClientRecord) → client_opens E.profile (no_client E.profile) heir ≡ true → (client_of E.profile heir).ident ≢ 0
+        → (n : ℕ) → count (server_of E.profile l.world.server) (client_of E.profile nd.records).ident ≤ n → (runs : ℕ) → length (client_of E.profile nd.records).made ≤ n + last (client_of E.profile heir) + runs
+        → IsHeldUp E.profile (client_of E.profile nd.records) n (client_of E.profile (after_runs E.profile (client_of E.profile nd.records) n runs heir))
+        ⊎ (length (client_of E.profile nd.records).made ≤ n + last (client_of E.profile (after_runs E.profile (client_of E.profile nd.records) n runs heir))) }
+    ensures lives { (server : List ServerRecord) (ident by : ℕ) (old first : List ClientRecord) (moves : List HeirMove) → IsRecovery E.profile server ident by old first moves
+        → length (client_of E.profile old).made ≤ count (server_of E.profile server) ident + last (client_of E.profile (heir_after E.profile first moves))
+        → (k : ℕ) → k < length (client_of E.profile old).made → LivesOn E.profile server ident old (heir_after E.profile first moves) k }
+    ensures runs { (w : World) → IsReached E.profile w → (i : ℕ) (nd : Node) → at w.clients i ≡ Some nd → w.stops nd.name ≡ None → (frames : List Message) → RunsAs E.profile w i nd frames }
 {}

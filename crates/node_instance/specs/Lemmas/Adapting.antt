@@ -1,7 +1,6 @@
 -- What is adapted can be spelled where it could be before, and carries as much.
-use Rattle.std.specs.Prelude.{◌≡◌, ℕ, ◌≤◌, Bool, true, false, not, if◌then◌else◌, nat_le, List, ◌++◌, length, Option, None, Some, refl}
-use Rattle.std.specs.List.{flat_map, AllByRecursion}
-use Rattle.std.proofs.Common.{subst, sym, ap, ◌∙◌, arith, le_refl}
+use Rattle.std.specs.Prelude.{◌≡◌, ℕ, ◌≤◌, Bool, true, false, not, if◌then◌else◌, nat_le, ◌++◌, length, Option, None, Some, refl}
+use Rattle.std.proofs.Common.{ap, arith, le_refl}
 use Rattle.std.proofs.lemmas.Bool.{leb-true, le-ltb}
 use Rattle.sync_data.specs.Payload.{payload}
 use Rattle.sync_data.specs.Spot.{Spot}
@@ -11,8 +10,8 @@ use Rattle.sync_data.specs.declared.instr.Instr.{Instr}
 use Rattle.sync_data.specs.declared.instr.Instr.TheVariants as instrs
 use Rattle.sync_base.specs.Effects.{path_of}
 use Rattle.sync_base.specs.States.{State, Cell, One, Many, Members, Dict, cell_at}
-use Rattle.sync_codec.specs.Spelling.{Field, cell_fields, instr_fields, spot_fields, strings_in_field, value_fields, needs_second}
-use Rattle.sync_codec.specs.Valid.{IsGap, IsString}
+use Rattle.sync_codec.specs.Spelling.{cell_fields, instr_fields, spot_fields, value_fields, needs_second}
+use Rattle.sync_codec.specs.Valid.{IsGap}
 use Rattle.sync_subset.specs.Tables.{Tables, admits}
 use Rattle.node_instance.specs.Adapting.{least, spot_in, spot_at, adapt}
 use Rattle.node_instance.specs.Profile.{weight}

@@ -24,7 +24,6 @@ use Rattle.sync_codec.specs.Decoding.{instrs_in}
 use Rattle.sync_codec.specs.Valid.{AreInstrs}
 use Rattle.sync_codec.specs.Lemmas.Back.{read_back}
 use Rattle.node_model.specs.Profile.{Lawful, IsNoHeavier}
-use Rattle.node_instance.specs.Whole.{is_whole}
 use Rattle.node_instance.specs.Profile.{weight, fits_changeset, as_read, unspell, the_profile}
 use Rattle.node_instance.specs.Lemmas.Whole.{IsWhole}
 use Rattle.node_instance.specs.Lemmas.Weights.{light_whole, carried}

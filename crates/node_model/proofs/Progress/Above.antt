@@ -1,4 +1,4 @@
--- A client whose settled number is at or above a version asks and uploads from there on, and stays above it as it takes messages.
+-- A client whose settled number is at or above a version asks and uploads from there on, and stays above it whatever it does.
 use Rattle.std.proofs.Common.{⊎_elim, ℕ, zero, suc, ◌-◌, ◌≤◌, Bool, true, false, ◌&&◌, not, List, [], ◌∷◌, Option, Some, None, Result, Ok, Err, arith, if◌then◌else◌, ◌==◌, length, map, nat_le}
 use Rattle.std.specs.Prelude.{nat_lt}
 use Rattle.sync_theory.specs.Changesets.{Changeset}
@@ -6,11 +6,34 @@ use Rattle.sync_theory.specs.Grid.{rebase, tail}
 use Rattle.node_model.specs.Bytes.{Tables}
 use Rattle.node_model.specs.Profile.{Profile, Stuck, cross_changesets, fitting, needs}
 use Rattle.node_model.specs.Messages.{Change, Message, Bind, Ident, Upload, Ask, Download, Refused, Stored, Ask2, Retire, Retired, AskTables}
-use Rattle.node_model.specs.Clients.{Client, ClientRecord, Born, Named, Made, Took, Form, Subset, Unsent, changeset_of, carried_to, settled_from, change_of, to_upload, question, ok_list, after_record, after_records, takes_entry, crossed}
+use Rattle.node_model.specs.Clients.{Client, ClientRecord, Born, Named, Made, Took, Form, Subset, Unsent, changeset_of, carried_to, settled_from, change_of, to_upload, question, ok_list, after_record, after_records, takes_entry, crossed, take as take_message}
 use Rattle.node_model.specs.Servers.{Server, ServerRecord, ServerStep, ServerRefusal, NoSuchIdent, IdentsFull, AheadOfHistory, NeedsForm2, SelfRetire, RetiredBy, place_of, count, is_given, heir_of, merge, merged, marking, serve, serve_changes, retire_for, download, download_first, download_tables, first_form, if_there, entries_from, refuses, replies, after_all}
 use Rattle.node_model.specs.Each.{Each, no_more, and_each}
 use Rattle.node_model.proofs.Alike.{LowChange, IsLow}
-use Rattle.node_model.proofs.Progress.Late.{IsTold}
+use Rattle.node_model.proofs.Limits.{each_append}
+use Rattle.node_model.proofs.Progress.Late.{IsTold, takes_told}
+
+-- what a client appends once it has joined
+abbrev pub IsCall : ClientRecord → Type 0
+IsCall (Born id) = ⊥
+IsCall (Named ident) = Unit {0}
+IsCall (Made number ms body) = Unit {0}
+IsCall (Took origin number ms body) = Unit {0}
+IsCall Form = Unit {0}
+IsCall (Subset tables) = Unit {0}
+IsCall (ClientRecord.Part body) = ⊥
+IsCall (ClientRecord.Floor version) = ⊥
+
+told_called : {rs : List ClientRecord} → Each IsTold rs → Each IsCall rs
+told_called no_more = no_more
+told_called (and_each {x = Named ident} h e) = and_each tt (told_called e)
+told_called (and_each {x = Took origin number ms body} h e) = and_each tt (told_called e)
+told_called (and_each {x = Born id} h e) = absurd h
+told_called (and_each {x = Made number ms body} h e) = absurd h
+told_called (and_each {x = Form} h e) = absurd h
+told_called (and_each {x = Subset tables} h e) = absurd h
+told_called (and_each {x = ClientRecord.Part body} h e) = absurd h
+told_called (and_each {x = ClientRecord.Floor version} h e) = absurd h
 
 -- a reply, which asks for nothing
 abbrev pub IsReply : Message → Type 0
@@ -133,16 +156,22 @@ module _ {I S : Type 0} (p : Profile I S) where
       go true r = let k = a.cursor in record { cursor = omega arith; bases = tail_above c.unsent a.bases }
       go false r = on r
 
-  pub told_above : (floor : ℕ) (rs : List ClientRecord) (c : Client I S) → Each IsTold rs → Above floor c → Above floor (after_records p c rs)
-  told_above floor [] c e a = a
-  told_above floor (Named ident ∷ rs) c (and_each h e) a = told_above floor rs (after_record p c (Named ident)) e (record { cursor = a.cursor; bases = a.bases })
-  told_above floor (Took origin number ms body ∷ rs) c (and_each h e) a = told_above floor rs (after_record p c (Took origin number ms body)) e (entry_above floor c (record { origin = origin; number = number; ms = ms; instrs = ok_list (p.unspell body) }) a)
-  told_above floor (Born id ∷ rs) c (and_each h e) a = absurd h
-  told_above floor (Made number ms body ∷ rs) c (and_each h e) a = absurd h
-  told_above floor (Form ∷ rs) c (and_each h e) a = absurd h
-  told_above floor (Subset tables ∷ rs) c (and_each h e) a = absurd h
-  told_above floor (ClientRecord.Part body ∷ rs) c (and_each h e) a = absurd h
-  told_above floor (ClientRecord.Floor version ∷ rs) c (and_each h e) a = absurd h
+  made_above : (floor : ℕ) (c : Client I S) (number ms : ℕ) (body : List ℕ) → Above floor c → Above floor (after_record p c (Made number ms body))
+  made_above floor c number ms body a = record { cursor = a.cursor; bases = each_append a.bases (and_each a.cursor no_more) }
+
+  pub called_above : (floor : ℕ) (rs : List ClientRecord) (c : Client I S) → Each IsCall rs → Above floor c → Above floor (after_records p c rs)
+  called_above floor [] c e a = a
+  called_above floor (Named ident ∷ rs) c (and_each h e) a = called_above floor rs (after_record p c (Named ident)) e (record { cursor = a.cursor; bases = a.bases })
+  called_above floor (Took origin number ms body ∷ rs) c (and_each h e) a = called_above floor rs (after_record p c (Took origin number ms body)) e (entry_above floor c (record { origin = origin; number = number; ms = ms; instrs = ok_list (p.unspell body) }) a)
+  called_above floor (Made number ms body ∷ rs) c (and_each h e) a = called_above floor rs (after_record p c (Made number ms body)) e (made_above floor c number ms body a)
+  called_above floor (Form ∷ rs) c (and_each h e) a = called_above floor rs (after_record p c Form) e (record { cursor = a.cursor; bases = a.bases })
+  called_above floor (Subset tables ∷ rs) c (and_each h e) a = called_above floor rs (after_record p c (Subset tables)) e (record { cursor = a.cursor; bases = a.bases })
+  called_above floor (Born id ∷ rs) c (and_each h e) a = absurd h
+  called_above floor (ClientRecord.Part body ∷ rs) c (and_each h e) a = absurd h
+  called_above floor (ClientRecord.Floor version ∷ rs) c (and_each h e) a = absurd h
+
+  pub takes_called : (c : Client I S) (m : Message) → Each IsCall (take_message p c m).records
+  takes_called c m = told_called (takes_told p c m)
 
   -- ---- what it sends
 

@@ -1,5 +1,5 @@
 -- A server that gave up history does for clients above its floor what one with the whole history does.
-use Rattle.std.proofs.Common.{append-nil, ◌≡◌, ◌≢◌, ◌⊎◌, inl, inr, ⊎_elim, ℕ, zero, suc, ◌<◌, ◌≤◌, Bool, true, false, ◌||◌, List, [], ◌∷◌, ◌++◌, Option, Some, None, Result, Ok, Err, refl, sym, ap, ap₂, ◌∙◌, subst, subst₂, arith, if◌then◌else◌, ◌==◌, length, map}
+use Rattle.std.proofs.Common.{append-nil, ◌≡◌, ◌≢◌, ◌⊎◌, inl, inr, ⊎_elim, ℕ, zero, suc, ◌<◌, ◌≤◌, Bool, true, false, ◌||◌, List, [], ◌∷◌, ◌++◌, Option, Some, None, Result, Ok, Err, refl, sym, ap, ap₂, ◌∙◌, subst, arith, if◌then◌else◌, ◌==◌}
 use Rattle.std.specs.Prelude.{bytes_eq}
 use Rattle.sync_theory.proofs.World.{same_or_not}
 use Rattle.node_model.specs.Bytes.{Name, Uuid}
@@ -7,14 +7,14 @@ use Rattle.node_model.proofs.Bytes.{bytes_same}
 use Rattle.node_model.specs.Profile.{Profile, Lawful}
 use Rattle.node_model.specs.Snapshots.{Buildable}
 use Rattle.node_model.specs.Messages.{Message, Upload}
-use Rattle.node_model.specs.Clients.{Client, ClientRecord, ClientRefusal, ClientStep, answers, refuse, if_born, if_named, NotNamed, client_of, after_records, bind, upload, to_upload, ask, question, take as take_message}
-use Rattle.node_model.specs.Servers.{Server, ServerRecord, ServerStep, server_of, serve}
-use Rattle.node_model.specs.Parts.{Parts, Served, parts_of, served_of, serve_by, after_parts}
-use Rattle.node_model.specs.Trims.{KeptLess, is_trimmed}
-use Rattle.node_model.specs.Later.{Later, Happens, later_ends, later_served, later_message, beside, later_after, all_later}
+use Rattle.node_model.specs.Clients.{Client, ClientRecord, ClientRefusal, ClientStep, answers, refuse, if_born, if_named, NotNamed, client_of, bind, upload, to_upload, ask, question, take as take_message}
+use Rattle.node_model.specs.Servers.{ServerRecord, server_of, serve}
+use Rattle.node_model.specs.Parts.{Served, served_of, serve_by}
+use Rattle.node_model.specs.Trims.{is_trimmed}
+use Rattle.node_model.specs.Later.{Later, later_ends, later_served, later_message, beside, later_after}
 use Rattle.node_model.specs.Worlds.{Node, World, Event, Binds, Uploads, Asks, Delivers, Outcome, Words, says, Replied, Stopped, NoNode, NoMessage, at, put, seek, is_there, stopped, has_name, server_name, arm, message_words, took_words, reply_words, client_moved, client_ends, client_called, client_calls, server_moved, server_ends, server_called, is_node, delivers, message_at, happens, world_after, outcomes}
 use Rattle.node_model.specs.Progress.{Comes, comes_now, comes_later, IsBelowFloor, answered_words, delivered_words, later_words, later_outcomes, after_events}
-use Rattle.node_model.specs.Each.{Each, no_more, and_each}
+use Rattle.node_model.specs.Each.{Each, no_more}
 use Rattle.node_model.proofs.Alike.{IsLow, served_same, served_high, parts_floor}
 use Rattle.node_model.proofs.Written.{serve_writes}
 use Rattle.node_model.proofs.Parts.{serve_is}
@@ -22,8 +22,8 @@ use Rattle.node_model.proofs.Lists.{seek_found, at_put, at_put_other, at_snoc}
 use Rattle.node_model.proofs.Own.{after_append}
 use Rattle.node_model.proofs.Holding.{cut_by}
 use Rattle.node_model.proofs.Later.{Held, full, opened_of, event_held}
-use Rattle.node_model.proofs.Progress.Late.{IsTold, each_take, takes_told}
-use Rattle.node_model.proofs.Progress.Above.{Above, told_above, IsReply, reply_high, serve_replies, uploads_high, asks_high}
+use Rattle.node_model.proofs.Progress.Late.{each_take}
+use Rattle.node_model.proofs.Progress.Above.{Above, IsCall, called_above, takes_called, IsReply, reply_high, serve_replies, uploads_high, asks_high}
 
 yes : {A : Type 0} (b : Bool) (x y : A) → b ≡ true → (if b then x else y) ≡ x
 yes true x y e = refl
@@ -38,9 +38,9 @@ some_same x y e = cc
 
 -- ---- what an event of a client or a delivery changes
 
--- clients append what they are told, no more nodes are armed, and messages are new only so
+-- clients append what calls append, no more nodes are armed, and messages are new only so
 pub record Moves (new : Message → Type 0) (w v : World) : Type 0 where
-  pub clients : (i : ℕ) (end : Node) → at v.clients i ≡ Some end → (nd : Node) × (at w.clients i ≡ Some nd) × (rs : List ClientRecord) × Each IsTold rs × (end ≡ record nd { records = nd.records ++ rs })
+  pub clients : (i : ℕ) (end : Node) → at v.clients i ≡ Some end → (nd : Node) × (at w.clients i ≡ Some nd) × (rs : List ClientRecord) × Each IsCall rs × (end ≡ record nd { records = nd.records ++ rs })
   pub stops : v.stops server_name ≢ None → w.stops server_name ≢ None
   pub messages : (k : ℕ) (m : Message) → at v.messages k ≡ Some m → (at w.messages k ≡ Some m) ⊎ new m
 
@@ -50,7 +50,7 @@ unmoved nd = ap (λ l. record nd { records = l }) (sym (append-nil nd.records))
 moves_same : (new : Message → Type 0) (w : World) → Moves new w w
 moves_same new w = record { clients = λ i end h. (end, h, [], no_more, unmoved end); stops = λ ne. ne; messages = λ k m h. inl h }
 
-moves_client : (new : Message → Type 0) (w : World) (q : ℕ × Node) (rs : List ClientRecord) → at w.clients q.0 ≡ Some q.1 → Each IsTold rs → Moves new w (client_moved w q.0 q.1 rs)
+moves_client : (new : Message → Type 0) (w : World) (q : ℕ × Node) (rs : List ClientRecord) → at w.clients q.0 ≡ Some q.1 → Each IsCall rs → Moves new w (client_moved w q.0 q.1 rs)
 moves_client new w q rs here told = record {
   clients = λ i end h. ⊎_elim
       (λ is.
@@ -79,7 +79,7 @@ module _ {I S : Type 0} (p : Profile I S) where
   abbrev pub SentBy : World → Name → (Client I S → ClientStep Message) → Message → Type 0
   SentBy w name call m = (i : ℕ) × (nd : Node) × (at w.clients i ≡ Some nd) × (bytes_eq name nd.name ≡ true) × ((call (client_of p nd.records)).answer ≡ Ok m)
 
-  sends : (w : World) (name : Name) (call : Client I S → ClientStep Message) → ((st : Client I S) → Each IsTold (call st).records) → Moves (SentBy w name call) w (client_calls p w name call message_words).world
+  sends : (w : World) (name : Name) (call : Client I S → ClientStep Message) → ((st : Client I S) → Each IsCall (call st).records) → Moves (SentBy w name call) w (client_calls p w name call message_words).world
   sends w name call told = on (seek (has_name name) w.clients) refl
     where
       on : (o : Option (ℕ × Node)) → seek (has_name name) w.clients ≡ o → Moves (SentBy w name call) w (client_called p w call message_words o).world
@@ -97,7 +97,7 @@ module _ {I S : Type 0} (p : Profile I S) where
           ends None r_is = said (client_moved w q.0 q.1 (call (client_of p q.1.records)).records) (moves_client (SentBy w name call) w q (call (client_of p q.1.records)).records found.0 (told (client_of p q.1.records))) (call (client_of p q.1.records)).answer refl
           ends (Some stand) r_is =
               let c = cut_by (w.stops q.1.name) (call (client_of p q.1.records)).records stand r_is in
-              moves_client (SentBy w name call) w q stand found.0 (subst (Each IsTold) c.1 (each_take c.0 (told (client_of p q.1.records))))
+              moves_client (SentBy w name call) w q stand found.0 (subst (Each IsCall) c.1 (each_take c.0 (told (client_of p q.1.records))))
 
   hears : (w : World) (name : Name) (m : Message) → Moves (λ x. ⊥) w (client_calls p w name (λ c. take_message p c m) took_words).world
   hears w name m = on (seek (has_name name) w.clients) refl
@@ -114,10 +114,10 @@ module _ {I S : Type 0} (p : Profile I S) where
           said v moves (Err r) = moves
 
           ends : (r : Option (List ClientRecord)) → stopped (w.stops q.1.name) (take_message p (client_of p q.1.records) m).records ≡ r → Moves (λ x. ⊥) w (client_ends w q.0 q.1 (take_message p (client_of p q.1.records) m) took_words r).world
-          ends None r_is = said (client_moved w q.0 q.1 (take_message p (client_of p q.1.records) m).records) (moves_client (λ x. ⊥) w q (take_message p (client_of p q.1.records) m).records here (takes_told p (client_of p q.1.records) m)) (take_message p (client_of p q.1.records) m).answer
+          ends None r_is = said (client_moved w q.0 q.1 (take_message p (client_of p q.1.records) m).records) (moves_client (λ x. ⊥) w q (take_message p (client_of p q.1.records) m).records here (takes_called p (client_of p q.1.records) m)) (take_message p (client_of p q.1.records) m).answer
           ends (Some stand) r_is =
               let c = cut_by (w.stops q.1.name) (take_message p (client_of p q.1.records) m).records stand r_is in
-              moves_client (λ x. ⊥) w q stand here (subst (Each IsTold) c.1 (each_take c.0 (takes_told p (client_of p q.1.records) m)))
+              moves_client (λ x. ⊥) w q stand here (subst (Each IsCall) c.1 (each_take c.0 (takes_called p (client_of p q.1.records) m)))
 
   hears_one : (w : World) (k : ℕ) (to : Name) → bytes_eq to server_name ≡ false → Moves (λ x. ⊥) w (happens p w (Delivers k to)).world
   hears_one w k to off = go (is_node w to) (message_at w k)
@@ -150,17 +150,17 @@ module _ {I S : Type 0} (p : Profile I S) where
 
   -- ---- calls that append nothing
 
-  bind_told : (st : Client I S) → Each IsTold (bind st).records
+  bind_told : (st : Client I S) → Each IsCall (bind st).records
   bind_told st = on st.id
     where
-      on : (o : Option Uuid) → Each IsTold (if_born o (λ id. answers (Rattle.node_model.specs.Messages.Bind id))).records
+      on : (o : Option Uuid) → Each IsCall (if_born o (λ id. answers (Rattle.node_model.specs.Messages.Bind id))).records
       on None = no_more
       on (Some id) = no_more
 
-  named_told : (st : Client I S) (m : Message) → Each IsTold (if_named st (answers m)).records
+  named_told : (st : Client I S) (m : Message) → Each IsCall (if_named st (answers m)).records
   named_told st m = on st.id (st.ident == 0)
     where
-      on : (o : Option Uuid) (b : Bool) → Each IsTold (if_born o (λ id. if b then refuse NotNamed else answers m)).records
+      on : (o : Option Uuid) (b : Bool) → Each IsCall (if_born o (λ id. if b then refuse NotNamed else answers m)).records
       on None b = no_more
       on (Some id) true = no_more
       on (Some id) false = no_more
@@ -208,7 +208,7 @@ module _ {I S : Type 0} (p : Profile I S) where
           let x = moves.clients i end h in
           let named : of x.0.name = subst (λ (z : Node). of z.name) x.4 part in
           ⊎_elim
-          (λ up. inl (subst (λ (z : Node). Above p floor (client_of p z.records)) (sym x.4) (subst (Above p floor) (sym (after_append p _ x.0.records x.2)) (told_above p floor x.2 (client_of p x.0.records) x.3 up))))
+          (λ up. inl (subst (λ (z : Node). Above p floor (client_of p z.records)) (sym x.4) (subst (Above p floor) (sym (after_append p _ x.0.records x.2)) (called_above p floor x.2 (client_of p x.0.records) x.3 up))))
           (λ b. inr b)
           (a.above i x.0 x.1 named);
       high = λ k m le h. ⊎_elim (λ old. a.high k m le old) (λ n. fine m n) (moves.messages k m h);
@@ -262,8 +262,11 @@ module _ {I S : Type 0} (p : Profile I S) where
               stops = λ ne. absurd (ne refl);
               messages = λ j x h. ⊎_elim (λ old. inl old) (λ it. inr (subst IsReply (sym said ∙ it.1) (serve_replies p (server_of p l.world.server) m))) (at_snoc l.world.messages (serve_by p l.kept m).answer j x h);
             } in
-            inr (words ∙ ap (answered_words l.world (serve_by p l.kept m)) none ∙ sym (ap (λ o. o.words) plain), ap (λ z. z.world) after ∙ sym (ap (λ o. o.world) plain),
-            onward l (later_after p l (Delivers k to)) IsReply a (event_held p law built l a.held (Delivers k to)) (ap (λ z. z.kept.floor) after ∙ at_floor) (subst (λ z. Moves IsReply l.world z.world) (sym after) moves) (λ x r. inl (reply_high floor x r)))
+            inr (
+              words ∙ ap (answered_words l.world (serve_by p l.kept m)) none ∙ sym (ap (λ o. o.words) plain),
+              ap (λ z. z.world) after ∙ sym (ap (λ o. o.world) plain),
+              onward l (later_after p l (Delivers k to)) IsReply a (event_held p law built l a.held (Delivers k to)) (ap (λ z. z.kept.floor) after ∙ at_floor) (subst (λ z. Moves IsReply l.world z.world) (sym after) moves) (λ x r. inl (reply_high floor x r)),
+            )
 
         sent : (k : ℕ) → first < k → message_at l.world k ≡ Some m → (IsLow floor m → ⊥) ⊎ below
         sent zero gt e = absurd (omega arith)
@@ -284,17 +287,25 @@ module _ {I S : Type 0} (p : Profile I S) where
     follows l a (Binds name) part =
         inr (refl, refl, onward l (beside p l (Binds name)) (SentBy l.world name bind) a (event_held p law built l a.held (Binds name)) a.at_floor (sends l.world name bind bind_told) (λ m s. inl (bind_says (client_of p s.1.records) floor m s.4)))
     follows l a (Uploads name) part =
-        inr (refl, refl, onward l (beside p l (Uploads name)) (SentBy l.world name (upload p)) a (event_held p law built l a.held (Uploads name)) a.at_floor (sends l.world name (upload p) (λ st. named_told st (Upload st.ident (to_upload p st))))
-        (λ m s. ⊎_elim
-        (λ up. inl (subst (λ x. IsLow floor x → ⊥) (named_says (client_of p s.1.records) (Upload (client_of p s.1.records).ident (to_upload p (client_of p s.1.records))) m s.4) (uploads_high p floor (client_of p s.1.records) up)))
-        (λ b. inr b)
-        (sender l a name part s.0 s.1 s.2 s.3)))
+        inr (
+          refl,
+          refl,
+          onward l (beside p l (Uploads name)) (SentBy l.world name (upload p)) a (event_held p law built l a.held (Uploads name)) a.at_floor (sends l.world name (upload p) (λ st. named_told st (Upload st.ident (to_upload p st))))
+              (λ m s. ⊎_elim
+              (λ up. inl (subst (λ x. IsLow floor x → ⊥) (named_says (client_of p s.1.records) (Upload (client_of p s.1.records).ident (to_upload p (client_of p s.1.records))) m s.4) (uploads_high p floor (client_of p s.1.records) up)))
+              (λ b. inr b)
+              (sender l a name part s.0 s.1 s.2 s.3)),
+        )
     follows l a (Asks name) part =
-        inr (refl, refl, onward l (beside p l (Asks name)) (SentBy l.world name ask) a (event_held p law built l a.held (Asks name)) a.at_floor (sends l.world name ask (λ st. named_told st (question st st.subset)))
-        (λ m s. ⊎_elim
-        (λ up. inl (subst (λ x. IsLow floor x → ⊥) (named_says (client_of p s.1.records) (question (client_of p s.1.records) (client_of p s.1.records).subset) m s.4) (asks_high p floor (client_of p s.1.records) (client_of p s.1.records).subset up)))
-        (λ b. inr b)
-        (sender l a name part s.0 s.1 s.2 s.3)))
+        inr (
+          refl,
+          refl,
+          onward l (beside p l (Asks name)) (SentBy l.world name ask) a (event_held p law built l a.held (Asks name)) a.at_floor (sends l.world name ask (λ st. named_told st (question st st.subset)))
+              (λ m s. ⊎_elim
+              (λ up. inl (subst (λ x. IsLow floor x → ⊥) (named_says (client_of p s.1.records) (question (client_of p s.1.records) (client_of p s.1.records).subset) m s.4) (asks_high p floor (client_of p s.1.records) (client_of p s.1.records).subset up)))
+              (λ b. inr b)
+              (sender l a name part s.0 s.1 s.2 s.3)),
+        )
     follows l a (Delivers k to) lt = on (bytes_eq to server_name) refl
       where
         on : (b : Bool) → bytes_eq to server_name ≡ b → Follows l (Delivers k to)

@@ -88,7 +88,6 @@ module _ {I S : Type 0} (p : Profile I S) where
       let made = ap length t.0.made in
       record { cursor = omega arith; made = omega arith; id = λ u f. t.0.id ∙ f; second = λ f. t.0.second ∙ f }
   onto_one c ahead Form e first = record { cursor = omega arith; made = omega arith; id = λ u f. f; second = λ f. refl }
-
   onto_one c ahead (Subset tables) e first = record { cursor = omega arith; made = omega arith; id = λ u f. f; second = λ f. f }
   onto_one c ahead (ClientRecord.Part body) e first = record { cursor = omega arith; made = omega arith; id = λ u f. f; second = λ f. f }
   onto_one c ahead (ClientRecord.Floor version) e first =
@@ -121,7 +120,7 @@ module _ {I S : Type 0} (p : Profile I S) where
     pub log : List (LogEntry (Changeset I))
     pub log_is : t.log ≡ s.log ++ log
 
-  server_onto : (rs : List ServerRecord) (s : Server I) → ServerOnto s (after_all p s rs)
+  pub server_onto : (rs : List ServerRecord) (s : Server I) → ServerOnto s (after_all p s rs)
   server_onto [] s = record { ids = []; ids_are = sym (append-nil s.ids); log = []; log_is = sym (append-nil s.log) }
   server_onto (ServerRecord.Client id ∷ rs) s =
       let o = server_onto rs (after_server p s (ServerRecord.Client id)) in

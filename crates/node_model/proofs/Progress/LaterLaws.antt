@@ -1,15 +1,14 @@
 -- The laws of progress where the server may give up history.
-use Rattle.std.proofs.Common.{◌≡◌, ◌≢◌, ◌⊎◌, inl, inr, ⊎_elim, ℕ, zero, suc, ◌<◌, ◌≤◌, Bool, true, false, ◌||◌, List, [], ◌∷◌, ◌++◌, Option, Some, None, refl, sym, ap, ◌∙◌, subst, arith, if◌then◌else◌, length, drop, map}
+use Rattle.std.proofs.Common.{◌≡◌, ◌≢◌, ◌⊎◌, inl, inr, ⊎_elim, ℕ, zero, suc, ◌≤◌, Bool, true, false, List, [], ◌∷◌, ◌++◌, Option, Some, None, refl, sym, ap, ◌∙◌, subst, arith, if◌then◌else◌, length, map}
 use Rattle.std.specs.Prelude.{bytes_eq}
 use Rattle.sync_theory.specs.Logs.{Made as LogMade}
-use Rattle.sync_theory.specs.Changesets.{Changeset}
-use Rattle.sync_theory.proofs.Logs.{Rising, one_rises, AtLeast, and_more, AtMost, one_within, none_over}
+use Rattle.sync_theory.proofs.Logs.{Rising, one_rises, AtLeast, and_more, AtMost, one_within}
 use Rattle.sync_theory.proofs.World.{le_or_lt}
-use Rattle.node_model.specs.Bytes.{Name, Uuid}
+use Rattle.node_model.specs.Bytes.{Name}
 use Rattle.node_model.specs.Profile.{Profile, Lawful, only_by}
 use Rattle.node_model.specs.Snapshots.{Buildable}
 use Rattle.node_model.specs.Messages.{Message}
-use Rattle.node_model.specs.Clients.{Client, Original, Unsent, as_made, client_of, settled_from, start_of, Born}
+use Rattle.node_model.specs.Clients.{Client, Original, Unsent, as_made, client_of, settled_from, start_of}
 use Rattle.node_model.specs.Servers.{ServerRecord, server_of, server_objects}
 use Rattle.node_model.specs.Parts.{serve_by}
 use Rattle.node_model.specs.Later.{Later, LaterEvent, Happens, Trims, later, all_later, first_later, later_after, later_ends, later_served, later_message, later_injected, IsLater}
@@ -18,15 +17,15 @@ use Rattle.node_model.specs.Starts.{started}
 use Rattle.node_model.specs.Worlds.{Node, World, Event, Joins, Starts, Edits, Binds, Uploads, Asks, Upgrades, Subscribes, Delivers, Restarts, Stops, Injects, Words, at, seek, has_name, stopped, server_name, named_by, names_own, message_at, happens, outcomes, world_after}
 use Rattle.node_model.specs.Progress.{Comes, IsException, IsBelowFloor, IsArmed, AnyArmed, AnyUnnamed, AnyOld, IsBelow, AnyBelow, IsRoomy, IsCurrent, AllCurrent, HasCaughtUp, enough, enough_for_all, binds_at, uploads_at, asks_at, rounds, after_rounds, catches_up, sweep, after_sweep, all_catch_up, later_outcomes, after_events}
 use Rattle.node_model.specs.Each.{Each, no_more, and_each}
-use Rattle.node_model.proofs.Lists.{at_below, AllAt, all_most, rising_drop, drop_length, map_both}
+use Rattle.node_model.proofs.Lists.{at_below, all_most, rising_drop, drop_length, map_both}
 use Rattle.node_model.proofs.Sim.{Fresh, Given}
 use Rattle.node_model.proofs.Holding.{Holds}
 use Rattle.node_model.proofs.Later.{Held, first_held, all_held, later_facts}
-use Rattle.node_model.proofs.Progress.Names.{Apart, apart_names, joins_apart, named_same, happens_apart}
+use Rattle.node_model.proofs.Progress.Names.{Apart, joins_apart, named_same, happens_apart}
 use Rattle.node_model.proofs.Progress.Valid.{Valid}
 use Rattle.node_model.proofs.Progress.Quiet.{current_objects}
 use Rattle.node_model.proofs.Progress.Above.{Above}
-use Rattle.node_model.proofs.Progress.Alongside.{TakesPart, Along, AllPart, no_part, a_part, Bad, alongside}
+use Rattle.node_model.proofs.Progress.Alongside.{Along, AllPart, no_part, a_part, alongside}
 use Rattle.node_model.proofs.Progress.Laws.{catches_up_law, all_catch_up_law}
 
 -- ---- rising bases
@@ -99,6 +98,9 @@ module _ {I S : Type 0} (p : Profile I S) where
       where
         nothing : (i : ℕ) (nd : Node) → at [] i ≡ Some nd → ⊥
         nothing i nd h = cc
+
+    pub later_is_valid : (l : Later I S) → IsLater p l → Valid p l.world
+    later_is_valid l r = let v = later_valid l r in record { holds = v.0.holds; opens = v.0.opens; apart = v.1 }
 
     -- a client whose settled number isn't below a version
     above_at : (w : World) (h : Holds p w) (floor i : ℕ) (nd : Node) → at w.clients i ≡ Some nd → floor ≤ settled_from (client_of p nd.records).cursor (client_of p nd.records).unsent → Above p floor (client_of p nd.records)

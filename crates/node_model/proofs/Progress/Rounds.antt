@@ -252,11 +252,13 @@ module _ {I S : Type 0} (p : Profile I S) {Fits Bounded Old : S → Type 0} (law
           let f = known h ne in
           let is = there_is s st.ident st.cursor (settled_from st.cursor st.unsent) go f.given f.within in
           subst (Answered s st) (sym is)
-          ((marking_marks s st.ident (s.marks st.ident) st.cursor (settled_from st.cursor st.unsent) (go (entries_from p s.log (length s.log - st.cursor) st.cursor)).answer,
-          ⊎_elim
-          (λ a. inl (a.0, record { is = a.1; bears = λ lt. let x = bears lt in a.2 x.0 x.1 x.2 x.3 }))
-          (λ b. inr b)
-          got))
+          ((
+            marking_marks s st.ident (s.marks st.ident) st.cursor (settled_from st.cursor st.unsent) (go (entries_from p s.log (length s.log - st.cursor) st.cursor)).answer,
+            ⊎_elim
+                (λ a. inl (a.0, record { is = a.1; bears = λ lt. let x = bears lt in a.2 x.0 x.1 x.2 x.3 }))
+                (λ b. inr b)
+                got,
+          ))
 
       or_old : {A B : Type 0} → st.second ≡ false → A ⊎ B → A ⊎ ((st.second ≡ false) × B)
       or_old is (inl a) = inl a
