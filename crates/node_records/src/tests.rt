@@ -26,6 +26,9 @@ fn is_server(alloc: Global, bytes: &[u8]) -> bool {
 
 /// Up to this length the beginnings of the bytes are no record of either kind.
 fn is_whole_from(alloc: Global, bytes: &[u8], least: usize) -> bool {
+    if least > bytes.len() {
+        return false;
+    }
     for end in 0..least {
         if is_client(alloc, &bytes[..end]) || is_server(alloc, &bytes[..end]) {
             return false;
