@@ -7,12 +7,12 @@ use Rattle.sync_io.specs.Varints.{varint}
 use Rattle.sync_io.specs.Formats.{number_in, both_in, ended, all_in, tag_in, ◌>>=◌}
 use Rattle.sync_io.specs.FormatLaws.{IsFormat, number_is, bytes_is, both_is, all_takes, all_again, IsForm, form_is, form_again, tag_takes}
 use Rattle.node_messages.specs.declared.message.Message.{Message}
-use Rattle.node_messages.specs.declared.message.Message.TheVariants.{Bind, Ident, Upload, Ask, Download, Refused, Stored, Ask2, Retire, Retired}
+use Rattle.node_messages.specs.declared.message.Message.TheVariants.{Bind, Ident, Upload, Ask, Download, Refused, Stored, Ask2, Retire, Retired, AskTables}
 use Rattle.node_messages.specs.declared.refusal.MessageRefusal.{MessageRefusal}
 use Rattle.node_messages.specs.Spelling.{message_spelling}
 use Rattle.node_messages.specs.Reading.{Gives, refused_of, refused_in, forms, fields_in, tag_and_fields_in, message_in}
 use Rattle.node_messages.specs.Whole.{IsMessage}
-use Rattle.node_messages.proofs.Formats.{FitsGiven, given_is, given_fits, FitsUpload, upload_is, upload_fits, FitsAsk, ask_is, ask_fits, FitsDownload, download_is, download_fits, FitsStored, stored_is, stored_fits, FitsRetire, retire_is, retire_fits, FitsRetired, retired_is, retired_fits}
+use Rattle.node_messages.proofs.Formats.{FitsGiven, given_is, given_fits, FitsUpload, upload_is, upload_fits, FitsAsk, ask_is, ask_fits, FitsDownload, download_is, download_fits, FitsStored, stored_is, stored_fits, FitsRetire, retire_is, retire_fits, FitsRetired, retired_is, retired_fits, FitsAskTables, ask_tables_is, ask_tables_fits}
 
 abbrev pub FitsMessage : Message → Type 0
 FitsMessage (Bind uuid) = length uuid ≡ 16
@@ -25,6 +25,7 @@ FitsMessage (Stored stored) = FitsStored stored
 FitsMessage (Ask2 ask) = FitsAsk ask
 FitsMessage (Retire retire) = FitsRetire retire
 FitsMessage (Retired retired) = FitsRetired retired
+FitsMessage (AskTables asked) = FitsAskTables asked
 
 abbrev refused_spelling : ((ℕ × ℕ) × ℕ) × ℕ → List ℕ
 refused_spelling p = varint p.0.0.0 ++ varint p.0.0.1 ++ varint p.0.1 ++ varint p.1
@@ -52,7 +53,10 @@ forms_are = (
                 form_is ask_is Ask2 message_spelling FitsMessage 8 (λ x. refl) (λ x f. f),
                 (
                   form_is retire_is Retire message_spelling FitsMessage 9 (λ x. refl) (λ x f. f),
-                  (form_is retired_is Retired message_spelling FitsMessage 10 (λ x. refl) (λ x f. f), tt),
+                  (
+                    form_is retired_is Retired message_spelling FitsMessage 10 (λ x. refl) (λ x f. f),
+                    (form_is ask_tables_is AskTables message_spelling FitsMessage 11 (λ x. refl) (λ x f. f), tt),
+                  ),
                 ),
               ),
             ),
@@ -75,6 +79,7 @@ again (Stored stored) rest fits = form_again stored_is Stored stored rest fits
 again (Ask2 ask) rest fits = form_again ask_is Ask2 ask rest fits
 again (Retire retire) rest fits = form_again retire_is Retire retire rest fits
 again (Retired retired) rest fits = form_again retired_is Retired retired rest fits
+again (AskTables asked) rest fits = form_again ask_tables_is AskTables asked rest fits
 
 messages_are : IsFormat message_spelling (tag_in forms) FitsMessage
 messages_are = record { takes = tag_takes message_spelling FitsMessage forms forms_are; again = again }
@@ -90,6 +95,7 @@ message_fits (Stored stored) is = stored_fits stored is.0 is.1 is.2
 message_fits (Ask2 ask) is = ask_fits ask is.0 is.1 is.2
 message_fits (Retire retire) is = retire_fits retire is.0 is.1 is.2
 message_fits (Retired retired) is = retired_fits retired is.0 is.1 is.2 is.3
+message_fits (AskTables asked) is = ask_tables_fits asked is.0 is.1 is.2
 
 fields_are : (bytes : List ℕ) → tag_and_fields_in bytes ≡ tag_in forms bytes
 unfolding fields_in

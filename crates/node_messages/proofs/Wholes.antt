@@ -3,11 +3,12 @@ use Rattle.std.proofs.Common.{◌≡◌, ◌+◌, Bool, true, false, leb, leb-tr
 use Rattle.std.specs.Prelude.{◌&&◌}
 use Rattle.std.specs.List.{AllByRecursion}
 use Rattle.std.proofs.lemmas.List.Elements.{All-from_recursion}
+use Rattle.subset_bytes.specs.Laws.{tables_whole}
 use Rattle.node_messages.specs.declared.message.Message.{Message}
-use Rattle.node_messages.specs.declared.message.Message.TheVariants.{Bind, Ident, Upload, Ask, Download, Refused, Stored, Ask2, Retire, Retired}
-use Rattle.node_messages.specs.Parts.{GivenParts, ChangeParts, UploadParts, AskParts, SentParts, DownloadParts, StoredParts, RetireParts, RetiredParts, most_bytes, last_version, bytes_of_changes, bytes_of_entries}
-use Rattle.node_messages.specs.Whole.{IsMessage, IsWholeGiven, IsWholeChange, IsWholeUpload, IsWholeAsk, IsWholeEntry, IsWholeDownload, IsWholeStored, IsWholeRetire, IsWholeRetired}
-use Rattle.node_messages.proofs.Formats.{FitsGiven, FitsChange, FitsUpload, FitsAsk, FitsEntry, FitsDownload, FitsStored, FitsRetire, FitsRetired}
+use Rattle.node_messages.specs.declared.message.Message.TheVariants.{Bind, Ident, Upload, Ask, Download, Refused, Stored, Ask2, Retire, Retired, AskTables}
+use Rattle.node_messages.specs.Parts.{GivenParts, ChangeParts, UploadParts, AskParts, SentParts, DownloadParts, StoredParts, RetireParts, RetiredParts, AskTablesParts, most_bytes, last_version, bytes_of_changes, bytes_of_entries}
+use Rattle.node_messages.specs.Whole.{IsMessage, IsWholeGiven, IsWholeChange, IsWholeUpload, IsWholeAsk, IsWholeEntry, IsWholeDownload, IsWholeStored, IsWholeRetire, IsWholeRetired, IsWholeAskTables}
+use Rattle.node_messages.proofs.Formats.{FitsGiven, FitsChange, FitsUpload, FitsAsk, FitsEntry, FitsDownload, FitsStored, FitsRetire, FitsRetired, FitsAskTables}
 use Rattle.node_messages.proofs.Messages.{FitsMessage}
 
 left_true : (a b : Bool) → (a && b) ≡ true → a ≡ true
@@ -111,6 +112,16 @@ retired_whole retired f = (
   f.0.1,
 )
 
+ask_tables_whole : (asked : AskTablesParts) → FitsAskTables asked → IsWholeAskTables asked
+ask_tables_whole asked f = (
+  record {
+    first = leb-true 1 asked.form (left_true (leb 1 asked.form) (leb asked.form 2) f.1);
+    second = leb-true asked.form 2 (right_true (leb 1 asked.form) (leb asked.form 2) f.1);
+  },
+  ask_whole asked.ask f.0.0.0,
+  tables_whole asked.tables f.0.1,
+)
+
 pub message_whole : (message : Message) → FitsMessage message → IsMessage message
 message_whole (Bind uuid) f = f
 message_whole (Ident given) f = given_whole given f
@@ -122,3 +133,4 @@ message_whole (Stored stored) f = stored_whole stored f
 message_whole (Ask2 ask) f = ask_whole ask f
 message_whole (Retire retire) f = retire_whole retire f
 message_whole (Retired retired) f = retired_whole retired f
+message_whole (AskTables asked) f = ask_tables_whole asked f

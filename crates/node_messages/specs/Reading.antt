@@ -1,11 +1,13 @@
 -- How messages are read.
 use Rattle.std.specs.Prelude.{◌≡◌, ℕ, ◌+◌, ◌&&◌, Bool, List, [], ◌∷◌, length, nat_le, Option, None, Some, Result, Ok, Err}
 use Rattle.sync_io.specs.Formats.{number_in, wide_in, bytes_in, body_in, both_in, only_in, seen_in, listed_in, all_in, tagged_in}
+use Rattle.sync_subset.specs.Tables.{Tables}
+use Rattle.subset_bytes.specs.Reading.{tables_in}
 use Rattle.node_messages.specs.declared.refusal.MessageRefusal.{MessageRefusal}
 use Rattle.node_messages.specs.declared.refusal.MessageRefusal.TheVariants as refusals
 use Rattle.node_messages.specs.declared.message.Message.{Message}
-use Rattle.node_messages.specs.declared.message.Message.TheVariants.{Bind, Ident, Upload, Ask, Download, Refused, Stored, Ask2, Retire, Retired}
-use Rattle.node_messages.specs.Parts.{GivenParts, ChangeParts, UploadParts, AskParts, SentParts, DownloadParts, StoredParts, RetireParts, RetiredParts, most_listed, most_bytes, last_version, bytes_of_changes, bytes_of_entries}
+use Rattle.node_messages.specs.declared.message.Message.TheVariants.{Bind, Ident, Upload, Ask, Download, Refused, Stored, Ask2, Retire, Retired, AskTables}
+use Rattle.node_messages.specs.Parts.{GivenParts, ChangeParts, UploadParts, AskParts, SentParts, DownloadParts, StoredParts, RetireParts, RetiredParts, AskTablesParts, most_listed, most_bytes, last_version, bytes_of_changes, bytes_of_entries}
 
 -- What a function returned, seen by view, is what reading gives, unless memory ran out.
 abbrev pub Fails : {Y : Type 0} → MessageRefusal → Option Y → Type 0
@@ -103,6 +105,15 @@ is_retired retired = nat_le 1 retired.ident && nat_le 1 retired.by
 unfoldable pub retired_in : List ℕ → Option (RetiredParts × List ℕ)
 retired_in bytes = only_in is_retired (seen_in retired_of (both_in (both_in number_in number_in) number_in)) bytes
 
+abbrev pub ask_tables_of : (AskParts × ℕ) × Tables → AskTablesParts
+ask_tables_of p = record { ask = p.0.0; form = p.0.1; tables = p.1 }
+
+abbrev pub is_ask_tables : AskTablesParts → Bool
+is_ask_tables asked = nat_le 1 asked.form && nat_le asked.form 2
+
+unfoldable pub ask_tables_in : List ℕ → Option (AskTablesParts × List ℕ)
+ask_tables_in bytes = only_in is_ask_tables (seen_in ask_tables_of (both_in (both_in ask_in number_in) tables_in)) bytes
+
 -- each tag, and how the fields behind it are read
 abbrev pub forms : List (ℕ × (List ℕ → Option (Message × List ℕ)))
 forms =
@@ -116,6 +127,7 @@ forms =
     ∷ (8, seen_in Ask2 ask_in)
     ∷ (9, seen_in Retire retire_in)
     ∷ (10, seen_in Retired retired_in)
+    ∷ (11, seen_in AskTables ask_tables_in)
     ∷ []
 
 -- the fields behind a tag

@@ -1,8 +1,9 @@
 -- Which values are messages: they keep the limits, and each number fits its type.
 use Rattle.std.specs.Prelude.{◌≡◌, ◌<◌, ◌^◌, length, All}
-use Rattle.node_messages.specs.Parts.{GivenParts, ChangeParts, UploadParts, AskParts, SentParts, DownloadParts, StoredParts, RetireParts, RetiredParts, IsGiven, IsChange, IsUpload, IsAsk, IsSent, IsDownload, IsStored, IsRetire, IsRetired}
+use Rattle.subset_bytes.specs.Spelling.{AreTables}
+use Rattle.node_messages.specs.Parts.{GivenParts, ChangeParts, UploadParts, AskParts, SentParts, DownloadParts, StoredParts, RetireParts, RetiredParts, AskTablesParts, IsGiven, IsChange, IsUpload, IsAsk, IsSent, IsDownload, IsStored, IsRetire, IsRetired, IsAskTables}
 use Rattle.node_messages.specs.declared.message.Message.{Message}
-use Rattle.node_messages.specs.declared.message.Message.TheVariants.{Bind, Ident, Upload, Ask, Download, Refused, Stored, Ask2, Retire, Retired}
+use Rattle.node_messages.specs.declared.message.Message.TheVariants.{Bind, Ident, Upload, Ask, Download, Refused, Stored, Ask2, Retire, Retired, AskTables}
 
 abbrev pub IsWholeChange : ChangeParts → Type 0
 IsWholeChange change = IsChange change × (change.number < 2 ^ 32) × (change.base < 2 ^ 32) × (change.ms < 2 ^ 64)
@@ -31,6 +32,9 @@ IsWholeRetire retire = IsRetire retire × (retire.ident < 2 ^ 32) × (retire.by 
 abbrev pub IsWholeRetired : RetiredParts → Type 0
 IsWholeRetired retired = IsRetired retired × (retired.ident < 2 ^ 32) × (retired.by < 2 ^ 32) × (retired.number < 2 ^ 32)
 
+abbrev pub IsWholeAskTables : AskTablesParts → Type 0
+IsWholeAskTables asked = IsAskTables asked × IsWholeAsk asked.ask × AreTables asked.tables
+
 abbrev pub IsMessage : Message → Type 0
 IsMessage (Bind uuid) = length uuid ≡ 16
 IsMessage (Ident given) = IsWholeGiven given
@@ -42,3 +46,4 @@ IsMessage (Stored stored) = IsWholeStored stored
 IsMessage (Ask2 ask) = IsWholeAsk ask
 IsMessage (Retire retire) = IsWholeRetire retire
 IsMessage (Retired retired) = IsWholeRetired retired
+IsMessage (AskTables asked) = IsWholeAskTables asked

@@ -2,6 +2,7 @@
 #![tactic(auto)]
 
 mod ask;
+mod ask_tables;
 mod change;
 mod download;
 mod given;
@@ -12,10 +13,13 @@ mod retire;
 mod retired;
 mod sent;
 mod stored;
+#[cfg(test)]
+mod tests;
 mod upload;
 mod writing;
 
 pub use ask::Ask;
+pub use ask_tables::AskTables;
 pub use change::Change;
 pub use download::Download;
 pub use given::Given;

@@ -1,6 +1,7 @@
 ghost use Rattle.std.specs.Prelude.{◌≡◌, IfOk};
 
 use crate::ask::Ask;
+use crate::ask_tables::AskTables;
 use crate::download::Download;
 use crate::given::Given;
 use crate::retire::Retire;
@@ -40,6 +41,8 @@ pub enum Message {
     Retire(Retire),
     /// The server tells that an ident is retired.
     Retired(Retired),
+    /// A client of some tables asks for the history.
+    AskTables(AskTables),
 }
 
 impl Message {
@@ -68,6 +71,7 @@ impl Message {
             Message::Ask2(ask) => Ok(Message::Ask2(ask.copy())),
             Message::Retire(retire) => Ok(Message::Retire(retire.copy())),
             Message::Retired(retired) => Ok(Message::Retired(retired.copy())),
+            Message::AskTables(asked) => Ok(Message::AskTables(asked.copy()?)),
         }
     }
 }
