@@ -8,7 +8,6 @@ use Rattle.sync_io.specs.Varints.{varint}
 use Rattle.sync_io.specs.FormatLaws.{some_is, number_is, wide_is, bytes_is, both_is, only_is}
 use Rattle.subset_bytes.specs.Laws.{FitsTables, tables_are, tables_fit}
 use Rattle.subset_bytes.specs.Spelling.{tables_spelling}
-use Rattle.sync_subset.specs.Tables.{Tables}
 use Rattle.node_records.specs.declared.client.ClientRecord.{ClientRecord}
 use Rattle.node_records.specs.declared.client.ClientRecord.TheVariants as client
 use Rattle.node_records.specs.declared.server.ServerRecord.{ServerRecord}
