@@ -1,20 +1,19 @@
 -- Records that a server would have written next, by what it keeps.
-use Rattle.std.proofs.Common.{◌≡◌, ℕ, zero, suc, Bool, true, false, not, ◌&&◌, List, [], ◌∷◌, length, map, Option, Some, None, Result, Ok, Err, if◌then◌else◌, refl, ap, ◌∙◌, sym, ◌==◌, eqb-true, nat_lt, nat_le, arith}
+use Rattle.std.proofs.Common.{◌≡◌, ℕ, zero, suc, Bool, true, false, not, ◌&&◌, List, [], ◌∷◌, length, map, Option, Some, None, Ok, Err, if◌then◌else◌, refl, ap, ◌∙◌, sym, ◌==◌, eqb-true, nat_lt, nat_le, arith}
 use Rattle.std.proofs.lemmas.Bool.{eq-eqb}
 use Rattle.std.specs.Option.{is_some}
 use Rattle.sync_data.specs.declared.instr.Instr.{Instr}
 use Rattle.sync_base.specs.States.{State}
 use Rattle.node_model.specs.Bytes.{Uuid}
 use Rattle.node_model.specs.Messages.{Change, Message}
-use Rattle.node_model.specs.Parts.{Given, Merged, Parts, Served, admits_entry, admits_mark, admits_part, admits_retired, after_change, after_entry, after_part, as_before, at_ident, bound, is_integrated, is_newer, marked, merge_by, retire_as, retire_by, retired_for}
-use Rattle.node_model.specs.Servers.{Entry, Form, RetiredBy, SelfRetire, ServerRecord, ServerRefusal, is_retired, place_of, refuses, replies}
+use Rattle.node_model.specs.Parts.{Given, Parts, Served, admits_entry, admits_mark, admits_part, admits_retired, after_change, after_entry, as_before, at_ident, bound, is_integrated, is_newer, merge_by, retire_as, retire_by, retired_for}
+use Rattle.node_model.specs.Servers.{Entry, RetiredBy, SelfRetire, ServerRecord, ServerRefusal, is_retired, place_of, refuses, replies}
 use Rattle.node_instance.specs.Profile.{the_profile, unspell}
 use Rattle.node_server.specs.Integrating.{found}
 use Rattle.node_server.specs.Kept.{parts}
-use Rattle.node_server.specs.Merging.{Merges, records_of}
+use Rattle.node_server.specs.Merging.{Merges}
 use Rattle.node_server.specs.Opening.{Admits, Admitted}
 use Rattle.node_server.specs.Retiring.{Retires, RetiresAs, retiring}
-use Rattle.node_server.specs.Refusals.{refusal_seen}
 use Rattle.node_server.specs.declared.kept.Kept.{Kept}
 use Rattle.node_server.specs.declared.refusal.Refusal.{Refusal}
 use Rattle.node_server.specs.declared.retiring.Retirement.{Retirement}
@@ -55,7 +54,7 @@ client_admitted old new id none room after = record {
 }
 
 -- ---- an ident that is retired
-no_record : (kept : Parts Instr State) (c by : ℕ) (o q : Option (Given Instr)) → (retire_by kept c by o q).records ≡ [] → admits_retired c by o q ≡ false
+no_record : (kept : Parts Instr State) (c by : ℕ) (o q : Option (Given Instr)) → (retire_by kept c by o q).records ≡ [] → admits_retired the_profile c by o q ≡ false
 no_record kept c by None q e = refl
 no_record kept c by (Some g) None e = refl
 no_record kept c by (Some g) (Some h) e = on (c == by) g.heir e
@@ -65,7 +64,7 @@ no_record kept c by (Some g) (Some h) e = on (c == by) g.heir e
     on false None f = cc
     on false (Some other) f = refl
 
-one_record : (kept : Parts Instr State) (c by : ℕ) (o q : Option (Given Instr)) → (retire_by kept c by o q).records ≡ ServerRecord.Retired c by ∷ [] → admits_retired c by o q ≡ true
+one_record : (kept : Parts Instr State) (c by : ℕ) (o q : Option (Given Instr)) → (retire_by kept c by o q).records ≡ ServerRecord.Retired c by ∷ [] → admits_retired the_profile c by o q ≡ true
 one_record kept c by None q e = cc
 one_record kept c by (Some g) None e = cc
 one_record kept c by (Some g) (Some h) e = on (c == by) g.heir e
@@ -78,6 +77,14 @@ one_record kept c by (Some g) (Some h) e = on (c == by) g.heir e
         known : (t : Bool) → (as_before kept (if t then replies (Message.Retired c by g.count) else refuses by 0 (RetiredBy other))).records ≡ ServerRecord.Retired c by ∷ [] → ⊥
         known true f = cc
         known false f = cc
+
+-- an ident that is retired now has one record
+pub retired_records : (kept : Parts Instr State) (c by : ℕ) (r : Retirement) → r.is_new ≡ true → Retires (Ok r) kept c by → (retiring kept c by).records ≡ ServerRecord.Retired c by ∷ []
+retired_records kept c by r fresh e = on r.is_new fresh e
+  where
+    on : (t : Bool) → t ≡ true → RetiresAs t r.number kept c by → (retiring kept c by).records ≡ ServerRecord.Retired c by ∷ []
+    on false f g = cc
+    on true f g = ap (λ (d : Served Instr State). d.records) g
 
 pub retired_refused : (kept : Kept) (c by : ℕ) (why : Refusal) → Retires (Err why) (parts kept) c by → admits_part the_profile (parts kept) (ServerRecord.Retired c by) ≡ false
 retired_refused kept c by why e = no_record (parts kept) c by (at_ident c kept.history.idents) (at_ident by kept.history.idents) (ap (λ (d : Served Instr State). d.records) e)
@@ -101,10 +108,10 @@ retired_admitted old new c by r fresh e after = on r.is_new fresh e
 
 -- ---- a settled number
 pub mark_unknown : (kept : Kept) (c n : ℕ) → at_ident c kept.history.idents ≡ None → admits_part the_profile (parts kept) (ServerRecord.Settled c n) ≡ false
-mark_unknown kept c n none = ap (admits_mark (parts kept) n) none
+mark_unknown kept c n none = ap (admits_mark the_profile (parts kept) n) none
 
 pub mark_says : (kept : Kept) (c n : ℕ) (g : Given Instr) (a b : Bool) → at_ident c kept.history.idents ≡ Some g → nat_lt g.mark n ≡ a → nat_le n (parts kept).len ≡ b → admits_part the_profile (parts kept) (ServerRecord.Settled c n) ≡ (a && b)
-mark_says kept c n g a b is ea eb = ap (admits_mark (parts kept) n) is ∙ (λ i. ea i && eb i)
+mark_says kept c n g a b is ea eb = ap (admits_mark the_profile (parts kept) n) is ∙ (λ i. ea i && eb i)
 
 -- ---- a change
 pub change_unknown : (kept : Kept) (c : ℕ) (h : Change) → at_ident c kept.history.idents ≡ None → admits_part the_profile (parts kept) (Entry c h.number h.base h.ms h.body) ≡ false

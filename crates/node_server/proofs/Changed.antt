@@ -3,7 +3,6 @@ use Rattle.std.proofs.Common.{◌≡◌, ℕ, zero, suc, ◌+◌, ◌-◌, ◌<�
 use Rattle.std.proofs.lemmas.Bool.{eq-eqb, ne_eqb}
 use Rattle.std.proofs.lemmas.List.Elements.{All-nil}
 use Rattle.sync_data.specs.declared.instr.Instr.{Instr}
-use Rattle.sync_theory.specs.Changesets.{Changeset}
 use Rattle.node_model.specs.Parts.{Given, given_up, idents_retired, marked}
 use Rattle.node_server.specs.History.{HistoryParts, IsHistory, IsReciprocal, AreGiven, len_of}
 use Rattle.node_server.proofs.Idents.{IsAt}

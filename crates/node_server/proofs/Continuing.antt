@@ -7,7 +7,7 @@ use Rattle.node_model.specs.Servers.{ServerRecord, Client, Entry, Form, Retired,
 use Rattle.node_model.specs.Parts.{Given, Parts, no_parts, after_part, after_parts, admits_part, parts_open}
 use Rattle.node_model.specs.Files.{is_empty}
 use Rattle.node_model.specs.Worlds.{is_there}
-use Rattle.node_model.specs.Fronts.{lead_on, leading, taking, taking_all, Counted, Kept, Crossed, Front, Grows, of_kind, part_of, floor_is, uuid_is, retired_is, count_is, entry_is, crossed_is, further_on, walk, then_at, part_step, uuid_step, retired_step, counted_sum, count_step, all_within, with_counts, all_end, entry_step, Passed, crossed_step, with_pairs, front_crossed, front_entries, front_counts, front_alone, front_retired, front_uuids, front_floor, front_behind, front_parts, begins_trimmed, is_form, front_of, rest_on, rest_of, file_gives}
+use Rattle.node_model.specs.Fronts.{lead_on, leading, taking, taking_all, Counted, Kept, Front, of_kind, part_of, floor_is, uuid_is, retired_is, count_is, entry_is, crossed_is, further_on, walk, then_at, part_step, uuid_step, retired_step, counted_sum, count_step, all_within, with_counts, all_end, entry_step, crossed_step, front_crossed, front_entries, front_counts, front_alone, front_retired, front_uuids, front_floor, front_behind, front_parts, begins_trimmed, is_form, front_of, rest_of, file_gives}
 use Rattle.node_model.proofs.Fronts.{read_all, read_more, rest_opens}
 
 -- ---- records that stand behind a front
@@ -203,9 +203,9 @@ module _ {I S : Type 0} (p : Profile I S) (ms : List ServerRecord) (later : AreL
       record {
         same =
             ap (λ r. then_at k r (λ st. if nat_lt (length es) (len - floor) then Err (k + length es - 1) else if not (all_end 1 st.entries gs) then Err (k + length es - 1)
-                else taking_all (of_kind crossed_is) (rest ++ read_all ms) (front_crossed p second below floor len ds gs st (k + length es)))) w.1
+            else taking_all (of_kind crossed_is) (rest ++ read_all ms) (front_crossed p second below floor len ds gs st (k + length es)))) w.1
             ∙ ap (λ t. if t then Err (k + length es - 1) else if not (all_end 1 st.entries gs) then Err (k + length es - 1)
-                else taking_all (of_kind crossed_is) (rest ++ read_all ms) (front_crossed p second below floor len ds gs st (k + length es))) one.0
+            else taking_all (of_kind crossed_is) (rest ++ read_all ms) (front_crossed p second below floor len ds gs st (k + length es))) one.0
             ∙ ap (λ t. if t then Err (k + length es - 1) else taking_all (of_kind crossed_is) (rest ++ read_all ms) (front_crossed p second below floor len ds gs st (k + length es))) two.0
             ∙ taking_all_more crossed_is silent_crossed rest ms (front_crossed p second below floor len ds gs st (k + length es)) later
             ∙ two.1;
@@ -230,7 +230,7 @@ module _ {I S : Type 0} (p : Profile I S) (ms : List ServerRecord) (later : AreL
       record {
         same =
             ap (λ r. then_at k r (λ es. if nat_lt (length cs) (length us) then Err (k + length cs - 1) else if not (Rattle.std.proofs.Common.nat_le floor (counted_sum es) && all_within (counted_sum es) es) then Err (k + length cs - 1)
-                else taking (of_kind entry_is) (counted_sum es - floor) (rest ++ read_all ms) (front_entries p second below floor (counted_sum es) ds (with_counts ds us es) (k + length cs)))) w.1
+            else taking (of_kind entry_is) (counted_sum es - floor) (rest ++ read_all ms) (front_entries p second below floor (counted_sum es) ds (with_counts ds us es) (k + length cs)))) w.1
             ∙ ap (λ t. if t then Err (k + length cs - 1) else if not (Rattle.std.proofs.Common.nat_le floor (counted_sum es) && all_within (counted_sum es) es) then Err (k + length cs - 1) else taking (of_kind entry_is) n (rest ++ read_all ms) go) one.0
             ∙ ap (λ t. if t then Err (k + length cs - 1) else taking (of_kind entry_is) n (rest ++ read_all ms) go) two.0
             ∙ taking_more entry_is silent_entry n rest ms go later

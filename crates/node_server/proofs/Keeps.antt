@@ -1,5 +1,5 @@
 -- What a server keeps of its history stays right.
-use Rattle.std.proofs.Common.{◌≡◌, ℕ, zero, suc, ◌+◌, ◌-◌, ◌<◌, ◌≤◌, ◌==◌, Bool, true, false, List, [], ◌∷◌, ◌++◌, length, get_or, set, map, drop, All, Result, Ok, Err, IfOk, IfErr, OnOk, OnErr, Option, Some, None, IfSome, is_some, if◌then◌else◌, nat_lt, refl, sym, subst, arith, length-append, length-set}
+use Rattle.std.proofs.Common.{◌≡◌, ℕ, zero, suc, ◌+◌, ◌-◌, ◌<◌, ◌≤◌, ◌==◌, Bool, true, false, not, List, [], ◌∷◌, ◌++◌, length, get_or, set, map, drop, All, Result, Ok, Err, IfOk, IfErr, OnOk, OnErr, Option, Some, None, IfSome, is_some, if◌then◌else◌, nat_lt, refl, sym, subst, arith, length-append, length-set}
 use Rattle.std.proofs.lemmas.Bool.{eqb-false, ltb-true}
 use Rattle.std.proofs.lemmas.List.Elements.{All-nil, All-cons, All-head, All-tail, All-push}
 use Rattle.sync_data.specs.declared.entry.Entry.{Entry}
@@ -182,6 +182,10 @@ at_ok (Err m) P Q p f = tt
 pub at_err : {T E : Type 0} (r : Result T E) (P Q : E → Type 0) → IfErr r P → ((m : E) → P m → Q m) → IfErr r Q
 at_err (Ok t) P Q p f = tt
 at_err (Err m) P Q p f = f m p
+
+pub not_false : (b : Bool) → not b ≡ false → b ≡ true
+not_false true e = refl
+not_false false e = cc
 
 pub the_same : {A : Type 0} {x y : A} → Some x ≡ Some y → x ≡ y
 the_same e = cc

@@ -1,12 +1,12 @@
 -- Records of a server's file that are read one after the other.
-use Rattle.std.proofs.Common.{◌≡◌, ℕ, zero, suc, ◌+◌, ◌-◌, ◌≤◌, Bool, true, false, ◌&&◌, ◌||◌, List, [], ◌∷◌, ◌++◌, length, map, take, drop, Vec, Global, Option, Some, None, Result, Ok, Err, if◌then◌else◌, refl, ap, ◌∙◌, sym, subst, arith, append-nil, append_assoc, length-append, add-one}
+use Rattle.std.proofs.Common.{◌≡◌, ℕ, zero, suc, ◌+◌, Bool, true, false, ◌&&◌, ◌||◌, List, [], ◌∷◌, ◌++◌, length, map, take, drop, Vec, Global, Option, Some, None, Result, Ok, Err, if◌then◌else◌, refl, ap, ◌∙◌, sym, subst, arith, append-nil, append_assoc, length-append}
 use Rattle.std.specs.Option.{option_map}
 use Rattle.sync_data.specs.declared.instr.Instr.{Instr}
 use Rattle.sync_base.specs.States.{State}
 use Rattle.sync_data.specs.declared.memory.NoMemory.{NoMemory}
 use Rattle.sync_journal.specs.Records.{lists}
 use Rattle.node_model.specs.Fronts.{Front, begins_trimmed, file_gives, front_of, front_parts, further_on, is_form, part_of, of_kind, rest_of, rest_on, taking_all, then_at}
-use Rattle.node_model.specs.Parts.{Parts, admits_part, after_part, no_parts}
+use Rattle.node_model.specs.Parts.{Parts, admits_part, no_parts}
 use Rattle.node_model.specs.Servers.{ServerRecord}
 use Rattle.node_model.proofs.Own.{if_true, if_false}
 use Rattle.node_records.specs.declared.server.ServerRecord.{ServerRecord as CodeRecord}
@@ -16,7 +16,7 @@ use Rattle.node_records.specs.Spelling.{server_spelling}
 use Rattle.node_instance.specs.Profile.{the_profile}
 use Rattle.node_instance.specs.Seen.{read_server, server_bytes, server_kept, server_seen}
 use Rattle.node_server.specs.Kept.{parts}
-use Rattle.node_server.specs.Opening.{Admits, Admitted, AreRecords, FrontRead, IsDeclined, ReadAll, ReadOn, ReadsFile, ReadsOne, ReadsRest, RestBad, RestRead, is_trimmed}
+use Rattle.node_server.specs.Opening.{Admits, AreRecords, FrontRead, IsDeclined, ReadAll, ReadOn, ReadsFile, ReadsFront, ReadsOne, ReadsRest, RestBad, RestRead, is_trimmed}
 use Rattle.node_server.specs.declared.kept.Kept.{Kept}
 use Rattle.node_server.specs.declared.opening.ReadRefusal.{ReadRefusal}
 use Rattle.node_server.specs.declared.opening.ReadRefusal.TheVariants as refusals
@@ -160,10 +160,8 @@ then_err k w go n e = ap (λ r. then_at k r go) e
 abbrev rest_behind : List (Option ServerRecord) → Front Instr State → Made
 rest_behind os front = then_at front.size (rest_of the_profile front.parts (drop front.size os)) (λ kept. Ok kept)
 
-pub all_says : (file : List (List ℕ)) (size : ℕ) (mid new : Kept) (r : Result (Unit {0}) ReadRefusal) (rest : List (List ℕ)) → FrontRead file mid size → rest ≡ drop size file → ReadsRest rest size mid new r
-    → (u : Unit {0}) → r ≡ Ok u → ReadAll file new
-all_says file size mid new r rest f is says u e =
-    let end : RestRead rest mid new = subst (ReadsRest rest size mid new) e says in
+pub all_read : (file : List (List ℕ)) (size : ℕ) (mid new : Kept) (rest : List (List ℕ)) → FrontRead file mid size → rest ≡ drop size file → RestRead rest mid new → ReadAll file new
+all_read file size mid new rest f is end =
     let ended = subst (λ l. RestRead l mid new) is end in
     record {
       records = f.records ++ ended.records;
@@ -185,6 +183,14 @@ pub front_bad : (file : List (List ℕ)) (place : ℕ) → front_of the_profile 
 front_bad file place e =
     let same : 0 + place ≡ place = omega arith in
     ap (λ w. then_at 0 w (rest_behind (map read_server file))) e ∙ ap (λ n. Err n) same
+
+pub all_fails : (file : List (List ℕ)) (size : ℕ) (mid new : Kept) (rest : List (List ℕ)) (why : ReadRefusal) → FrontRead file mid size → rest ≡ drop size file → ReadsRest rest size mid new (Err why) → ReadsFile file (Err why)
+all_fails file size mid new rest refusals.NoMemory f is bad = tt
+all_fails file size mid new rest (refusals.BadRecord place) f is bad = all_bad file size place mid rest f is bad
+
+pub front_fails : (file : List (List ℕ)) (why : ReadRefusal) → ReadsFront file (Err why) → ReadsFile file (Err why)
+front_fails file refusals.NoMemory bad = tt
+front_fails file (refusals.BadRecord place) bad = front_bad file place bad
 
 -- ---- a file with its whole history
 or_left : (a b : Bool) → (a || b) ≡ false → (a ≡ false) × (b ≡ false)

@@ -1,5 +1,5 @@
 -- What a server does by what it keeps, and the records of its file.
-use Rattle.std.proofs.Common.{◌≡◌, ℕ, suc, false, List, [], ◌∷◌, ◌++◌, length, Option, Result, Ok, map, refl, sym, ap, ◌∙◌, subst}
+use Rattle.std.proofs.Common.{◌≡◌, ℕ, false, List, ◌++◌, Option, Result, Ok, map, sym, ap, ◌∙◌, subst}
 use Rattle.std.proofs.lemmas.List.{map-append}
 use Rattle.sync_data.specs.declared.instr.Instr.{Instr}
 use Rattle.sync_base.specs.States.{State}
@@ -9,7 +9,7 @@ use Rattle.sync_disk.specs.Strokes.{Stroke}
 use Rattle.sync_journal.specs.Records.{StandsForPrefix}
 use Rattle.sync_journal.specs.Stands.{Stands, disk_of}
 use Rattle.node_model.specs.Messages.{Message}
-use Rattle.node_model.specs.Parts.{Parts, Served, serve_by}
+use Rattle.node_model.specs.Parts.{Parts, serve_by}
 use Rattle.node_model.specs.Servers.{ServerRecord}
 use Rattle.node_model.proofs.Written.{serve_writes}
 use Rattle.node_instance.specs.Profile.{the_profile}

@@ -11,6 +11,8 @@ use Rattle.sync_data.specs.declared.instr.Instr.{Instr}
 use Rattle.sync_theory.specs.Changesets.{Changeset}
 use Rattle.sync_recip.specs.Lists.{entry_of}
 use Rattle.node_messages.specs.Parts.{SentParts, bytes_of_entries}
+use Rattle.node_messages.specs.declared.message.Message.{Message as CodeMessage}
+use Rattle.node_messages.specs.declared.message.Message.TheVariants as messages
 use Rattle.node_model.specs.Messages.{Message, Sent}
 use Rattle.sync_base.specs.States.{State}
 use Rattle.sync_data.specs.Payload.{Changes}
@@ -21,7 +23,7 @@ use Rattle.node_model.specs.Profile.{fitting, needs, restricted}
 use Rattle.node_model.specs.Servers.{ServerRecord, ServerRefusal, ServerStep, sent_of, first_form, is_refusal, marks_new, refuses, download, download_first}
 use Rattle.sync_codec.specs.Spelling.{spelling}
 use Rattle.node_instance.specs.Profile.{the_profile}
-use Rattle.node_instance.specs.Seen.{sent_seen}
+use Rattle.node_instance.specs.Seen.{message_seen, sent_seen}
 use Rattle.node_server.specs.Sending.{Settles, asked, downloads, fits_next, given_to, sendable, shown, size_of, starts_second}
 
 no_room : (room : ℕ) (ys : List Sent) → fitting size_of zero room ys ≡ []
@@ -120,6 +122,11 @@ sent_fits second room origin number v s ms body is time bytes small shown =
     ∙ (λ i. Some (record { origin = origin; number = number; ms = time i; body = bytes i }))
     ∙ fitted (not second && needs the_profile v.instrs) (nat_le (length (spelling v.instrs)) room) (sent_of the_profile (made_by origin number v)) shown (ap (λ b. nat_le (length b) room) (sym bytes) ∙ le-leb (length body) room small)
 
+-- whether the first entry is of version 2 shows in it alone
+pub first_given : (o : Option Tables) (es : List Entry) (d e : Entry) → 1 ≤ length es → e ≡ get_or es 0 e → d ≡ e → starts_second (given_to o (entry_of d ∷ [])) ≡ starts_second (given_to o (map entry_of es))
+first_given o [] d e h is same = absurd (omega arith)
+first_given o (x ∷ es) d e h is same = ap (λ (y : Entry). needs the_profile (restricted the_profile o (entry_of y)).instrs) (same ∙ is)
+
 pub fits_room : (second : Bool) (room : ℕ) (x : Changeset Instr) (s : SentParts) → option_map sent_seen (Some s) ≡ fits_next second room x → length s.body ≤ room
 fits_room second room x s e = go (not second && needs the_profile x.instrs) (nat_le (size_of (sent_of the_profile x)) room) refl e
   where
@@ -146,20 +153,20 @@ module _ (kept : Parts Instr State) (c cursor settled : ℕ) (o : Option Tables)
   asked_ahead h =
       whole
       ∙ ap (λ b. if b then as_before kept (refuses c 0 (ServerRefusal.AheadOfHistory kept.len)) else if nat_lt cursor kept.floor then as_before kept (refuses c 0 (ServerRefusal.Trimmed kept.floor))
-          else marking_by kept c g.mark cursor settled (downloads o second c cursor (drop (cursor - kept.floor) kept.entries)).answer) (lt-ltb kept.len cursor h)
+      else marking_by kept c g.mark cursor settled (downloads o second c cursor (drop (cursor - kept.floor) kept.entries)).answer) (lt-ltb kept.len cursor h)
 
   pub asked_below : cursor ≤ kept.len → cursor < kept.floor → asked kept c cursor settled o second ≡ as_before kept (refuses c 0 (ServerRefusal.Trimmed kept.floor))
   asked_below h l =
       whole
       ∙ ap (λ b. if b then as_before kept (refuses c 0 (ServerRefusal.AheadOfHistory kept.len)) else if nat_lt cursor kept.floor then as_before kept (refuses c 0 (ServerRefusal.Trimmed kept.floor))
-          else marking_by kept c g.mark cursor settled (downloads o second c cursor (drop (cursor - kept.floor) kept.entries)).answer) (le-ltb kept.len cursor h)
+      else marking_by kept c g.mark cursor settled (downloads o second c cursor (drop (cursor - kept.floor) kept.entries)).answer) (le-ltb kept.len cursor h)
       ∙ ap (λ b. if b then as_before kept (refuses c 0 (ServerRefusal.Trimmed kept.floor)) else marking_by kept c g.mark cursor settled (downloads o second c cursor (drop (cursor - kept.floor) kept.entries)).answer) (lt-ltb cursor kept.floor l)
 
   pub asked_here : cursor ≤ kept.len → kept.floor ≤ cursor → asked kept c cursor settled o second ≡ marking_by kept c g.mark cursor settled (downloads o second c cursor (drop (cursor - kept.floor) kept.entries)).answer
   asked_here h l =
       whole
       ∙ ap (λ b. if b then as_before kept (refuses c 0 (ServerRefusal.AheadOfHistory kept.len)) else if nat_lt cursor kept.floor then as_before kept (refuses c 0 (ServerRefusal.Trimmed kept.floor))
-          else marking_by kept c g.mark cursor settled (downloads o second c cursor (drop (cursor - kept.floor) kept.entries)).answer) (le-ltb kept.len cursor h)
+      else marking_by kept c g.mark cursor settled (downloads o second c cursor (drop (cursor - kept.floor) kept.entries)).answer) (le-ltb kept.len cursor h)
       ∙ ap (λ b. if b then as_before kept (refuses c 0 (ServerRefusal.Trimmed kept.floor)) else marking_by kept c g.mark cursor settled (downloads o second c cursor (drop (cursor - kept.floor) kept.entries)).answer) (le-ltb cursor kept.floor l)
 
 -- all entries or those of some tables, by the form that the client takes
@@ -238,3 +245,17 @@ settles_as kept c cursor settled o second g b is e within b_is =
 
 pub settles_nobody : (kept : Parts Instr State) (c cursor settled : ℕ) (o : Option Tables) (second : Bool) → at_ident c kept.idents ≡ None → Settles false (asked kept c cursor settled o second) kept c settled
 settles_nobody kept c cursor settled o second is = subst (λ d. Settles false d kept c settled) (sym (asked_nobody kept c cursor settled o second is)) (record { records = refl; parts = refl })
+
+-- any reply but a refusal
+pub plain_reply : (m : CodeMessage) → ((x y z t : ℕ) → m ≡ messages.Refused x y z t → ⊥) → is_refusal (message_seen m) ≡ false
+plain_reply (messages.Bind uuid) h = refl
+plain_reply (messages.Ident given) h = refl
+plain_reply (messages.Upload upload) h = refl
+plain_reply (messages.Ask ask) h = refl
+plain_reply (messages.Download download) h = refl
+plain_reply (messages.Refused ident number code place) h = absurd (h ident number code place refl)
+plain_reply (messages.Stored stored) h = refl
+plain_reply (messages.Ask2 ask) h = refl
+plain_reply (messages.Retire retire) h = refl
+plain_reply (messages.Retired retired) h = refl
+plain_reply (messages.AskTables asked) h = refl

@@ -1,5 +1,5 @@
 -- How a server is read from its records.
-use Rattle.std.specs.Prelude.{◌≡◌, ◌≤◌, ◌+◌, ◌&&◌, ◌||◌, ℕ, Bool, true, false, List, [], ◌∷◌, map, length, take, drop, Option, None, Some, Result, Ok, Err}
+use Rattle.std.specs.Prelude.{◌≡◌, ◌≤◌, ◌+◌, ◌&&◌, ◌||◌, ℕ, Bool, true, false, List, [], ◌∷◌, map, length, take, Option, Some, Result, Ok, Err}
 use Rattle.sync_data.specs.declared.instr.Instr.{Instr}
 use Rattle.sync_base.specs.States.{State}
 use Rattle.sync_data.specs.declared.memory.NoMemory.{NoMemory}

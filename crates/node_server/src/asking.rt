@@ -1,4 +1,4 @@
-ghost use Rattle.std.specs.Prelude.{◌≡◌, ◌≤◌, ◌-◌, ◌∷◌, [], ℕ, Bool, Option, length, map, drop, All, IfOk};
+ghost use Rattle.std.specs.Prelude.{◌≡◌, ◌≤◌, ◌-◌, ◌∷◌, [], ℕ, Bool, Option, length, map, drop, All, IfOk, Some, true};
 ghost use Rattle.std.specs.Option.{option_copied, option_map};
 ghost use Rattle.sync_recip.specs.Lists.{entry_of};
 ghost use Rattle.sync_transform.specs.Sets.{made_by};
@@ -6,7 +6,9 @@ ghost use Rattle.sync_subset.specs.Tables.{Tables, restrict};
 ghost use Rattle.node_messages.specs.Parts.{most_listed, most_bytes, bytes_of_entries};
 ghost use Rattle.node_instance.specs.Profile.{the_profile};
 ghost use Rattle.node_instance.specs.Seen.{message_seen, sent_seen};
+ghost use Rattle.node_model.specs.Parts.{Given as GivenParts, at_ident};
 ghost use Rattle.node_model.specs.Profile.{restricted};
+ghost use Rattle.sync_data.specs.declared.instr.Instr.{Instr};
 ghost use Rattle.node_server.specs.History.{IsEntry, len_of};
 ghost use Rattle.node_server.specs.Refusals.{refusal_seen};
 ghost use Rattle.node_server.specs.Sending.{Settles, asked, fits_next, given_to, refusal_message, sendable};
@@ -221,7 +223,8 @@ impl Kept {
 
     /// Whether a question that gets this reply settles more than those before it of its ident.
     pub(crate) fn settles(&self, ask: &Ask, reply: &Message) -> bool
-        ensures { (tables : Option Tables) (second : Bool) → message_seen reply.now ≡ (asked (parts self.now) ask.now.ident ask.now.cursor ask.now.settled tables second).answer → Settles result (asked (parts self.now) ask.now.ident ask.now.cursor ask.now.settled tables second) (parts self.now) ask.now.ident ask.now.settled }
+        ensures given { result ≡ true → (g : GivenParts Instr) × (at_ident ask.now.ident self.now.history.idents ≡ Some g) }
+        ensures says { (tables : Option Tables) (second : Bool) → message_seen reply.now ≡ (asked (parts self.now) ask.now.ident ask.now.cursor ask.now.settled tables second).answer → Settles result (asked (parts self.now) ask.now.ident ask.now.cursor ask.now.settled tables second) (parts self.now) ask.now.ident ask.now.settled }
     {
         let (_cursor, settled) = (ask.cursor(), ask.settled());
         match reply {

@@ -12,10 +12,13 @@ fn entry_in(list: &Recip, version: u32) -> Option<&Entry>
     ensures { option_map (λ e. entry_of e.now) result ≡ entry_at version list.now }
 {
     for place in 0..list.len() {
-        if let Some((found, entry)) = list.get(place) {
-            if found == version {
-                return Some(entry);
+        match list.get(place) {
+            Some((found, entry)) => {
+                if found == version {
+                    return Some(entry);
+                }
             }
+            None => {}
         }
     }
     None

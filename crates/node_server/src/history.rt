@@ -82,11 +82,7 @@ impl History {
         if version < self.floor {
             return None;
         }
-        match self
-            .entries
-            .as_slice()
-            .get((version - self.floor) as usize)
-        {
+        match self.entries.as_slice().get((version - self.floor) as usize) {
             Some(shared) => Some(shared.entry()),
             None => None,
         }
@@ -111,6 +107,7 @@ impl History {
         requires within { version ≤ len_of self.now }
         ensures entries { map entry_of result.now ≡ drop (version - self.now.floor) self.now.entries }
         ensures each { All (λ e. IsEntry (length self.now.idents) (entry_of e)) result.now }
+        ensures short { version + length result.now ≤ 4294967295 }
     {
         let place = (version - self.floor) as usize;
         &self.entries[place..]

@@ -9,9 +9,9 @@ use crate::history::History;
 use crate::merging::{ChangeHead, Prepared, admit, apply, carry, read};
 use crate::refusal::ChangeRefusal;
 use crate::version::needs_second;
+use node_messages::Change;
 use std::alloc::Global;
 use sync_base::{Ident, NoMemory};
-use node_messages::Change;
 use sync_store::Store;
 
 /// What a server keeps in memory: the history, the objects, and the state at the floor of the history.

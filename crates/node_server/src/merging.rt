@@ -6,10 +6,10 @@ ghost use Rattle.node_server.specs.Merging.{Reads, Carries, AppliesBy, change_of
 use crate::given::Given;
 use crate::history::LAST;
 use crate::refusal::{ChangeRefusal, Refusal};
+use node_messages::Change;
 use std::alloc::Global;
 use sync_base::{Changeset, Ident};
 use sync_codec::{DecodeRefusal, decode};
-use node_messages::Change;
 use sync_recip::{Carried, RecipRefusal};
 use sync_store::{AllRefusal, Store};
 
@@ -42,12 +42,7 @@ impl ChangeHead {
 }
 
 /// Whether the numbers of a change are those of its client's next one.
-pub(crate) fn admit(
-    given: &Given,
-    len: u32,
-    floor: u32,
-    head: ChangeHead,
-) -> Result<(), Refusal>
+pub(crate) fn admit(given: &Given, len: u32, floor: u32, head: ChangeHead) -> Result<(), Refusal>
     requires { 1 ≤ head.number }
     ensures { refused result ≡ numbers_broken len floor given.now head.number head.base }
 {

@@ -17,16 +17,16 @@ ghost use Rattle.node_server.specs.Retiring.{retiring};
 ghost use Rattle.node_server.specs.Readers.{changes_of, counts_of, item_from, past};
 
 use crate::asking::refuse;
+use crate::counts::Counts;
 use crate::history::LAST;
 use crate::kept::Kept;
 use crate::refusal::{ChangeRefusal, Refusal, ServerRefusal};
+use node_messages::{Ask, Change, Given, Message, Retire, Retired, Stored, Upload};
+use node_records::ServerRecord;
 use std::alloc::Global;
-use crate::counts::Counts;
 use sync_base::{Blob, Changeset, Entry, Id, Ident, NoMemory};
 use sync_disk::{Disk, Leaves, MemoryDisk};
 use sync_journal::{Journal, JournalRefusal};
-use node_messages::{Ask, Change, Given, Message, Retire, Retired, Stored, Upload};
-use node_records::ServerRecord;
 use sync_store::Store;
 use sync_subset::Subset;
 

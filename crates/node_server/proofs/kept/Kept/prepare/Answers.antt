@@ -1,4 +1,4 @@
-use Rattle.std.proofs.Common.{◌≡◌, ◌<◌, None, length, sym, ap, ◌∙◌, subst, arith}
+use Rattle.std.proofs.Common.{◌≡◌, ◌<◌, None, sym, ap, ◌∙◌, subst, arith}
 use Rattle.node_model.specs.Profile.{needs}
 use Rattle.node_instance.specs.Profile.{the_profile}
 use Rattle.sync_data.specs.declared.instr.Instr.{Instr}

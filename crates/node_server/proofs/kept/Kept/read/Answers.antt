@@ -1,4 +1,4 @@
-use Rattle.node_server.proofs.Reading.{read_nothing, read_says}
+use Rattle.node_server.proofs.Reading.{read_says}
 use Rattle.node_server.proofs.kept.Kept.read.Goals as goal
 
 pub returns-in-Ok : goal.returns-in-Ok
