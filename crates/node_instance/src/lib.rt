@@ -1,6 +1,5 @@
 //! The model of nodes at the project's own instructions, states and bytes, with client reset, subscriptions by tables,
-//! and histories that begin at a floor. Clients and servers don't do these requests yet: their messages and records have
-//! no kinds for them, so how the model sees messages and records isn't said here.
+//! and histories that begin at a floor, and how the model sees messages and records.
 #![tactic(auto)]
 
 mod instrs;

@@ -1,0 +1,4 @@
+pub mod Formats
+pub mod Messages
+pub mod Loops
+pub mod Wholes

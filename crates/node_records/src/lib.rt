@@ -1,0 +1,16 @@
+//! The records of a client's and of a server's journal, and their bytes.
+#![tactic(auto)]
+
+mod client;
+mod fields;
+mod named;
+mod refusal;
+mod server;
+#[cfg(test)]
+mod tests;
+mod writing;
+
+pub use client::ClientRecord;
+pub use named::Named;
+pub use refusal::RecordRefusal;
+pub use server::ServerRecord;

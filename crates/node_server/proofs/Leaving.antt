@@ -1,0 +1,60 @@
+-- What a crash leaves of records that are added one after the other.
+use Rattle.std.proofs.Common.{◌≡◌, ℕ, suc, ◌+◌, List, [], ◌∷◌, ◌++◌, Option, length, map, take, refl, sym, ap, ◌∙◌, subst, arith, append_assoc, length-append}
+use Rattle.std.proofs.lemmas.List.{map-append, take-append-le}
+use Rattle.sync_disk.specs.declared.disk.Disk.{Ghosts}
+use Rattle.sync_disk.specs.Disk.{LeavesOnly}
+use Rattle.sync_disk.proofs.Moments.{and_then, weaker}
+use Rattle.sync_journal.specs.Records.{StandsForPrefix}
+use Rattle.sync_journal.specs.Records.Reading.{Good}
+use Rattle.sync_journal.specs.Stands.{disk_of}
+use Rattle.sync_journal.proofs.Steps.{at_rest}
+use Rattle.node_model.specs.Servers.{ServerRecord}
+use Rattle.node_records.specs.declared.server.ServerRecord.{ServerRecord as CodeRecord}
+use Rattle.node_records.specs.declared.server.ServerRecord.TheVariants as servers
+use Rattle.node_records.specs.Spelling.{server_spelling}
+use Rattle.node_instance.specs.Seen.{server_bytes, server_seen}
+use Rattle.node_server.specs.Serving.{Adds, LeavesPrefix}
+use Rattle.node_server.specs.declared.server.Server.{Server}
+
+take_part : {A : Type 0} (xs ys : List A) (k : ℕ) → take (length xs + k) (xs ++ ys) ≡ xs ++ take k ys
+take_part [] ys k = let e : 0 + k ≡ k = omega arith in ap (λ n. take n ys) e
+take_part (x ∷ xs) ys k = let e : suc (length xs) + k ≡ suc (length xs + k) = omega arith in ap (λ n. take n (x ∷ (xs ++ ys))) e ∙ ap (λ l. x ∷ l) (take_part xs ys k)
+
+pub longer : (rs xs ys : List (List ℕ)) (c : List ℕ) → StandsForPrefix rs xs c → StandsForPrefix rs (xs ++ ys) c
+longer rs xs ys c s = (s.0, omega (arith, s.1, length-append xs ys), s.2 ∙ ap (λ l. Good (rs ++ l)) (sym (take-append-le s.0 xs ys s.1)))
+
+pub later : (rs xs ys : List (List ℕ)) (c : List ℕ) → StandsForPrefix (rs ++ xs) ys c → StandsForPrefix rs (xs ++ ys) c
+later rs xs ys c s = (length xs + s.0, omega (arith, s.1, length-append xs ys), s.2 ∙ ap Good (append_assoc rs xs (take s.0 ys) ∙ ap (λ l. rs ++ l) (sym (take_part xs ys s.0))))
+
+module _ {D : Type 0} {G : Ghosts D} (content : D → Option (List ℕ)) (images : D → List ℕ → Type 0) (moment : D → ℕ) (images_since : D → ℕ → List ℕ → Type 0) where
+  -- those of the first part of a call
+  pub part : (a b : List ServerRecord) (old new : Server D G) → LeavesPrefix content images moment images_since a old new → LeavesPrefix content images moment images_since (a ++ b) old new
+  part a b old new first = λ rs s.
+      weaker moment images_since (disk_of old.journal) (disk_of new.journal) (StandsForPrefix rs (map server_bytes a)) (StandsForPrefix rs (map server_bytes (a ++ b))) (first rs s)
+      (λ c p. subst (λ l. StandsForPrefix rs l c) (sym (map-append server_bytes a b)) (longer rs (map server_bytes a) (map server_bytes b) c p))
+
+  -- and of its second
+  pub both : (a b : List ServerRecord) (old mid new : Server D G) → Adds content images a old mid → LeavesPrefix content images moment images_since a old mid → LeavesPrefix content images moment images_since b mid new → LeavesPrefix content images moment images_since (a ++ b) old new
+  both a b old mid new added first second = λ rs s.
+      and_then moment images_since (disk_of old.journal) (disk_of mid.journal) (disk_of new.journal) (StandsForPrefix rs (map server_bytes (a ++ b))) (part a b old mid first rs s)
+      (weaker moment images_since (disk_of mid.journal) (disk_of new.journal) (StandsForPrefix (rs ++ map server_bytes a) (map server_bytes b)) (StandsForPrefix rs (map server_bytes (a ++ b))) (second (rs ++ map server_bytes a) (added rs s))
+      (λ c p. subst (λ l. StandsForPrefix rs l c) (sym (map-append server_bytes a b)) (later rs (map server_bytes a) (map server_bytes b) c p)))
+
+  -- where nothing is added
+  module _ (only_now : (disk : D) (c : List ℕ) → images_since disk (moment disk) c → images disk c) where
+    pub untouched : (next : List ServerRecord) (old new : Server D G) → new.journal ≡ old.journal → LeavesPrefix content images moment images_since next old new
+    untouched next old new e = λ rs s.
+        subst (λ j. LeavesOnly moment images_since (disk_of old.journal) (disk_of j) (StandsForPrefix rs (map server_bytes next))) (sym e)
+        (at_rest content images moment images_since only_now rs (map server_bytes next) old.journal.end old.journal.disk s.settled)
+
+pub bytes_back : (r : CodeRecord) → server_spelling r ≡ server_bytes (server_seen r)
+bytes_back (servers.Client id) = refl
+bytes_back (servers.Entry origin number base ms body) = refl
+bytes_back servers.Form = refl
+bytes_back (servers.Retired ident by) = refl
+bytes_back (servers.Settled ident settled) = refl
+bytes_back (servers.Part body) = refl
+bytes_back (servers.Floor version) = refl
+bytes_back (servers.Count ident number base settled) = refl
+bytes_back (servers.Carried origin number base ms body) = refl
+bytes_back (servers.Past ident version ms body) = refl

@@ -1,0 +1,26 @@
+use Rattle.std.proofs.Common.{◌≡◌, true, length, refl, sym, ap, ◌∙◌, subst}
+use Rattle.node_instance.specs.Profile.{the_profile, fits_changeset}
+use Rattle.node_model.specs.Parts.{merge_by}
+use Rattle.node_server.specs.Kept.{parts}
+use Rattle.node_server.specs.History.{HistoryParts, len_of}
+use Rattle.node_server.specs.Merging.{change_of}
+use Rattle.node_server.proofs.Adding.{idents_length}
+use Rattle.node_server.proofs.Steps.{next_of}
+use Rattle.node_server.proofs.kept.Kept.merge_body.Goals as goal
+
+pub apply-requires : goal.apply-requires
+apply-requires c = subst (λ v. fits_changeset v.instrs ≡ true) (sym c.changes.ensures) (c.in-Ok.ensures.prepared c.requires.fresh.given c.requires.fresh.is_given).small
+
+pub integrate-requires-clause-room : goal.integrate-requires-clause-room
+integrate-requires-clause-room c = (c.in-Ok.ensures.prepared c.requires.fresh.given c.requires.fresh.is_given).room
+
+pub integrate-requires-clause-given : goal.integrate-requires-clause-given
+integrate-requires-clause-given c =
+    let h = change_of c.args.head c.args.body.now in
+    let g = c.requires.fresh.given in
+    next_of c.in-Ok.prepared c.args.self.now c.args.ident c.args.head.number c.args.head.base g h (merge_by the_profile (parts c.args.self.now) c.args.ident g h) (c.in-Ok.ensures.prepared g c.requires.fresh.is_given) refl refl c.requires.fresh.is_given
+
+pub returns-in-Ok-integrate-clause-given : goal.returns-in-Ok-integrate-clause-given
+returns-in-Ok-integrate-clause-given c =
+    let old = c.args.self.now.history in
+    ap (λ (h : HistoryParts). length h.idents) (c.in-Ok-integrate.ensures c.requires.fresh.given c.requires.fresh.is_given) ∙ idents_length c.args.ident c.args.head.base _ (len_of old) _ 1 old.idents

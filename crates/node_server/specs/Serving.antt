@@ -1,0 +1,105 @@
+-- What the calls of a server answer, and what they leave.
+use Rattle.std.specs.Prelude.{◌≡◌, ◌⊎◌, ℕ, Bool, true, false, List, [], ◌++◌, map, Option, None, Some, Result, Ok, Err, nat_le, if◌then◌else◌}
+use Rattle.sync_data.specs.declared.instr.Instr.{Instr}
+use Rattle.sync_base.specs.States.{State}
+use Rattle.sync_disk.specs.declared.disk.Disk.{Ghosts}
+use Rattle.sync_journal.specs.declared.journal.Journal.{Journal}
+use Rattle.sync_disk.specs.Disk.{LeavesOnly, Told}
+use Rattle.sync_disk.specs.Strokes.{Stroke}
+use Rattle.sync_journal.specs.Records.{StandsForPrefix}
+use Rattle.sync_journal.specs.Several.{Asks, AsksSome}
+use Rattle.sync_journal.specs.Stands.{Stands, disk_of}
+use Rattle.node_model.specs.Fronts.{file_gives}
+use Rattle.node_model.specs.Messages.{Change}
+use Rattle.node_model.specs.Parts.{Given, Merged, Parts, Served, ServedByPartsSoFar, merge_by}
+use Rattle.node_model.specs.Servers.{ServerRecord, ServerRefusal}
+use Rattle.node_instance.specs.Profile.{the_profile}
+use Rattle.node_instance.specs.Seen.{message_seen, server_bytes}
+use Rattle.node_messages.specs.declared.message.Message.{Message as CodeMessage}
+use Rattle.node_server.specs.Kept.{parts}
+use Rattle.node_server.specs.Refusals.{refusal_seen}
+use Rattle.node_server.specs.declared.kept.Kept.{Kept}
+use Rattle.node_server.specs.declared.refusal.Refusal.{Refusal}
+use Rattle.node_server.specs.declared.refusal.ServerRefusal.{ServerRefusal as CodeRefusal}
+use Rattle.node_server.specs.declared.refusal.ServerRefusal.TheVariants as causes
+use Rattle.node_server.specs.declared.server.Server.{Server}
+
+-- ---- by what is kept
+
+-- a message is served: the reply and the parts afterwards
+pub record IsServed (s : Served Instr State) (reply : CodeMessage) (new : Kept) : Type 0 where
+  pub reply_is : message_seen reply ≡ s.answer
+  pub parts_are : parts new ≡ s.parts
+
+-- the records of a change that is merged
+abbrev pub merged_records : Result (Merged Instr State) ServerRefusal → List ServerRecord
+merged_records (Ok m) = m.records
+merged_records (Err why) = []
+
+-- a change is merged, or refused
+abbrev pub IsMerged : Option Refusal → Result (Merged Instr State) ServerRefusal → Kept → Kept → Type 0
+IsMerged None r old new = (m : Merged Instr State) × (r ≡ Ok m) × (parts new ≡ m.parts)
+IsMerged (Some why) r old new = (r ≡ Err (refusal_seen why)) × (parts new ≡ parts old)
+
+-- the records of a change, of which a repeat has none
+abbrev pub change_records : Parts Instr State → ℕ → Given Instr → Change → List ServerRecord
+change_records kept c g h = if nat_le h.number g.count then [] else merged_records (merge_by the_profile kept c g h)
+
+-- a repeat is passed over, any other change is merged or refused
+abbrev pub IsTaken : Option Refusal → ℕ → Given Instr → Change → Kept → Kept → Type 0
+IsTaken None c g h old new = ((nat_le h.number g.count ≡ true) × (parts new ≡ parts old)) ⊎ ((nat_le h.number g.count ≡ false) × IsMerged None (merge_by the_profile (parts old) c g h) old new)
+IsTaken (Some why) c g h old new = (nat_le h.number g.count ≡ false) × IsMerged (Some why) (merge_by the_profile (parts old) c g h) old new
+
+-- ---- by the records
+module _ {D : Type 0} {G : Ghosts D} where
+  abbrev pub kept_of : Server D G → Kept
+  kept_of s = s.kept
+
+  abbrev pub journal_of : Server D G → Journal D G
+  journal_of s = s.journal
+
+  abbrev pub is_closed : Server D G → Bool
+  is_closed s = s.closed
+
+  -- the journal holds these records more
+  abbrev pub Adds : (content : D → Option (List ℕ)) (images : D → List ℕ → Type 0) → List ServerRecord → Server D G → Server D G → Type 0
+  Adds content images next old new = (rs : List (List ℕ)) → Stands content images rs old.journal → Stands content images (rs ++ map server_bytes next) new.journal
+
+  -- a crash at any moment of a call leaves what the journal held and some of these records, from the first on
+  abbrev pub LeavesPrefix : (content : D → Option (List ℕ)) (images : D → List ℕ → Type 0) (moment : D → ℕ) (images_since : D → ℕ → List ℕ → Type 0) → List ServerRecord → Server D G → Server D G → Type 0
+  LeavesPrefix content images moment images_since next old new = (rs : List (List ℕ)) → Stands content images rs old.journal → LeavesOnly moment images_since (disk_of old.journal) (disk_of new.journal) (StandsForPrefix rs (map server_bytes next))
+
+  -- A call that answers asked the disk for the appends of these records and for nothing else; one that ends at a fault, for the first
+  -- of them up to the stroke that failed. Of want of memory nothing is said.
+  abbrev pub Asked : {B : Type 0} → (D → List Stroke) → List ServerRecord → Server D G → Server D G → Result B CodeRefusal → Type 0
+  Asked strokes next old new (Ok b) = Asks strokes (map server_bytes next) old.journal new.journal
+  Asked strokes next old new (Err causes.DiskFault) = AsksSome strokes (map server_bytes next) old.journal new.journal
+  Asked strokes next old new (Err causes.NoMemory) = Unit {0}
+  Asked strokes next old new (Err causes.Closed) = Unit {0}
+
+  -- an open server of these records, which may begin with those of a trimmed file
+  pub record IsServerOf (records : List ServerRecord) (s : Server D G) : Type 0 where
+    pub gives : file_gives the_profile (map (λ r. Some r) records) ≡ Ok (parts s.kept)
+    pub open_ : s.closed ≡ false
+
+  -- its disk holds them
+  abbrev pub IsStored : (content : D → Option (List ℕ)) (images : D → List ℕ → Type 0) → List ServerRecord → Server D G → Type 0
+  IsStored content images records s = Stands content images (map server_bytes records) s.journal
+
+  -- a message is answered by the step's reply, and the server keeps what the step leaves, and is one of the records with
+  -- the step's
+  pub record Did (did : Served Instr State) (reply : CodeMessage) (records : List ServerRecord) (s : Server D G) : Type 0 where
+    pub reply_is : message_seen reply ≡ did.answer
+    pub parts_are : parts s.kept ≡ did.parts
+    pub server : IsServerOf (records ++ did.records) s
+
+-- ---- the loop over the changes of an Upload
+module _ {D : Type 0} {G : Ghosts D} where
+  -- these records were added, the parts are these, and these changes are left
+  pub record UploadedSoFar (content : D → Option (List ℕ)) (images : D → List ℕ → Type 0) (moment : D → ℕ) (images_since : D → ℕ → List ℕ → Type 0) (strokes : D → List Stroke) (c : ℕ) (old now : Server D G) (all rest : List Change) : Type 0 where
+    pub records : List ServerRecord
+    pub so_far : ServedByPartsSoFar the_profile c (parts old.kept) (parts now.kept) records all rest
+    pub added : Adds content images records old now
+    pub leaves : LeavesPrefix content images moment images_since records old now
+    pub told : Told (content (disk_of old.journal)) (λ b. (bytes : List ℕ) × (content (disk_of now.journal) ≡ Some bytes))
+    pub asked : Told (content (disk_of old.journal)) (λ b. Asks strokes (map server_bytes records) old.journal now.journal)

@@ -1,0 +1,75 @@
+ghost use Rattle.std.specs.Prelude.{◌≡◌, ◌≤◌, ℕ, List, IfOk, IfErr, Some, false};
+ghost use Rattle.sync_disk.specs.Disk.{LeavesOnly, Rose, Told};
+ghost use Rattle.sync_disk.specs.Faults.{IsSound};
+ghost use Rattle.sync_journal.specs.Records.{lists, records_of};
+ghost use Rattle.sync_journal.specs.Records.Reading.{Good};
+ghost use Rattle.sync_journal.specs.Stands.{disk_of};
+ghost use Rattle.node_server.specs.Files.{BadRecordAt};
+ghost use Rattle.node_server.specs.Opening.{ReadAll};
+
+use crate::kept::Kept;
+use crate::opening::ReadRefusal;
+use crate::server::Server;
+use std::alloc::Global;
+use sync_disk::Disk;
+use sync_journal::{Journal, OpenCause, OpenRefusal, gate_of};
+
+impl<D: Disk> Server<D> {
+    ghost use Rattle.node_server.specs.Serving.{is_closed, journal_of, kept_of};
+    ghost use Rattle.node_server.specs.Files.{BadPlace, Opened};
+
+    /// Opens the server of a disk. Besides what a journal refuses, `BadFile` comes where a record isn't one that a server would
+    /// have written after those before it, with the place of its gate. An `Err` hands the disk back.
+    pub fn open(alloc: Global, disk: D) -> Result<Server<D>, OpenRefusal<D>>
+        ensures opened { Told (D.content disk) (λ b. IfOk result (Opened D.content D.images b)) }
+        ensures bad { Told (D.content disk) (λ b. IfErr result (λ e. (place : ℕ) → e.cause ≡ OpenCause.BadFile place → BadPlace b place)) }
+        ensures kept { Told (D.content disk) (λ b. IfErr result (λ e. (place : ℕ) → e.cause ≡ OpenCause.BadFile place → D.content e.disk ≡ Some b)) }
+
+        // Where each crash before would have left the same records, each crash since its start leaves them.
+        ensures any_moment { (records : List (List ℕ)) → Told (D.content disk) (λ b. ((c : List ℕ) → D.images disk c → records_of c ≡ Good records)
+            → IfOk result (λ s. LeavesOnly D.moment D.images_since disk (disk_of (journal_of s)) (λ c. records_of c ≡ Good records))) }
+        ensures any_moment_err { (records : List (List ℕ)) → Told (D.content disk) (λ b. ((c : List ℕ) → D.images disk c → records_of c ≡ Good records)
+            → IfErr result (λ e. LeavesOnly D.moment D.images_since disk e.disk (λ c. records_of c ≡ Good records))) }
+
+        // The disk: what no call changes, and the cause of a fault.
+        ensures origin { IfOk result (λ s. D.origin (disk_of (journal_of s)) ≡ D.origin disk) }
+        ensures origin_err { IfErr result (λ e. D.origin e.disk ≡ D.origin disk) }
+        ensures later { IfOk result (λ s. D.faults disk ≤ D.faults (disk_of (journal_of s))) }
+        ensures later_err { IfErr result (λ e. D.faults disk ≤ D.faults e.disk) }
+        ensures fault { IfErr result (λ e. e.cause ≡ OpenCause.DiskFault → Rose (D.faults disk) (D.faults e.disk)) }
+        ensures sound { Told (D.content disk) (λ b. IsSound (D.origin disk) → IfErr result (λ e. e.cause ≡ OpenCause.DiskFault → ⊥)) }
+    {
+        match Journal::open(alloc, disk) {
+            Ok((journal, files)) => Server::read_from(alloc, journal, files),
+            Err(refusal) => Err(refusal),
+        }
+    }
+
+    /// The server of a journal with these records.
+    fn read_from(
+        alloc: Global,
+        journal: Journal<D>,
+        files: Vec<Vec<u8>>,
+    ) -> Result<Server<D>, OpenRefusal<D>>
+        ensures journal { IfOk result (λ s. journal_of s ≡ journal) }
+        ensures open_ { IfOk result (λ s. is_closed s ≡ false) }
+        ensures read { IfOk result (λ s. ReadAll (lists files.items) (kept_of s)) }
+        ensures disk { IfErr result (λ e. e.disk ≡ disk_of journal) }
+        ensures bad { IfErr result (λ e. (place : ℕ) → e.cause ≡ OpenCause.BadFile place → BadRecordAt (lists files.items) place) }
+        ensures no_fault { IfErr result (λ e. e.cause ≡ OpenCause.DiskFault → ⊥) }
+    {
+        match Kept::of(alloc, files.as_slice()) {
+            Ok(kept) => Ok(Server {
+                alloc,
+                journal,
+                kept,
+                closed: false,
+            }),
+            Err(ReadRefusal::NoMemory) => Err(journal.refuse(OpenCause::NoMemory)),
+            Err(ReadRefusal::BadRecord { place }) => {
+                let place = gate_of(files.as_slice(), place);
+                Err(journal.refuse(OpenCause::BadFile { place }))
+            }
+        }
+    }
+}

@@ -1,0 +1,144 @@
+ghost use Rattle.std.specs.Prelude.{◌≡◌, ◌≤◌, ◌<◌, suc, length, map, None, OnOk, OnErr, All};
+ghost use Rattle.sync_recip.specs.Lists.{entry_of};
+ghost use Rattle.sync_recip.specs.Carrying.{Fits, entries_of};
+ghost use Rattle.node_model.specs.Parts.{settled, extended, given_up};
+ghost use Rattle.node_model.specs.Servers.{place_of};
+ghost use Rattle.node_server.specs.Integrating.{found};
+
+use std::alloc::Global;
+use std::marker::Model;
+use sync_base::{Changeset, Id, Ident, NoMemory};
+use sync_recip::{Carried, Recip, SharedEntry};
+
+/// What a server keeps of an ident: the client's uuid, how many of its changes are integrated, the base of the last
+/// one, for whom it was retired, the greatest settled number of its questions, and the entries of others as its changes
+/// crossed them. A retired ident has none of these.
+#[derive(Drop)]
+pub(crate) struct Given {
+    id: Id,
+    count: u32,
+    last: u32,
+    heir: Option<Ident>,
+    mark: u32,
+    reciprocal: Recip,
+}
+
+impl Model for Given {
+    ghost use Rattle.sync_data.specs.declared.instr.Instr.{Instr};
+    ghost use Rattle.node_model.specs.Parts.{Given as GivenParts};
+
+    ghost Value = { GivenParts Instr };
+
+    ghost view = { λ a. record { uuid = a.id; count = a.count; last = a.last; heir = a.heir; mark = a.mark; reciprocal = a.reciprocal } };
+}
+
+impl Given {
+    /// A client of which no change is integrated.
+    pub(crate) fn new(id: Id, reciprocal: Recip) -> Given
+        ensures { result ≡ record { uuid = id; count = 0; last = 0; heir = None; mark = 0; reciprocal = reciprocal } }
+    {
+        Given {
+            id,
+            count: 0,
+            last: 0,
+            heir: None,
+            mark: 0,
+            reciprocal,
+        }
+    }
+
+    /// The client's uuid.
+    pub(crate) fn id(&self) -> &Id
+        ensures { result.now ≡ self.now.uuid }
+    {
+        &self.id
+    }
+
+    /// How many of its changes are integrated.
+    pub(crate) fn count(&self) -> u32
+        ensures { result ≡ self.now.count }
+    {
+        self.count
+    }
+
+    /// The base of the last one.
+    pub(crate) fn last(&self) -> u32
+        ensures { result ≡ self.now.last }
+    {
+        self.last
+    }
+
+    /// For whom it was retired, if it was.
+    pub(crate) fn heir(&self) -> Option<Ident>
+        ensures { result ≡ self.now.heir }
+    {
+        self.heir
+    }
+
+    /// The greatest settled number of its questions.
+    pub(crate) fn mark(&self) -> u32
+        ensures { result ≡ self.now.mark }
+    {
+        self.mark
+    }
+
+    /// The entries of others, as its changes crossed them.
+    pub(crate) fn reciprocal(&self) -> &Recip
+        ensures { result.now ≡ self.now.reciprocal }
+    {
+        &self.reciprocal
+    }
+
+    /// Takes its next change as integrated, and hands it out as carried. It takes no memory.
+    pub(crate) fn settle(&mut self, number: u32, base: u32, carried: Carried) -> Changeset
+        requires next { number ≡ suc self.old.count }
+        requires base { carried.base ≡ base }
+        requires fits { Fits carried self.old.reciprocal }
+        ensures settled { self.new ≡ settled base (entries_of carried self.old.reciprocal) self.old }
+        ensures changes { result ≡ carried.changes }
+    {
+        self.count = number;
+        self.last = base;
+        self.reciprocal.settle(carried)
+    }
+
+    /// Takes another settled number.
+    pub(crate) fn settle_at(&mut self, settled: u32)
+        ensures { self.new ≡ record self.old { mark = settled } }
+    {
+        self.mark = settled;
+    }
+
+    /// Retires it for another. It takes no memory.
+    pub(crate) fn retire(&mut self, alloc: Global, by: Ident)
+        ensures { self.new ≡ given_up by self.old }
+    {
+        self.heir = Some(by);
+        self.reciprocal = Recip::new(alloc);
+    }
+
+    /// Shares an entry of another, whose version is above all before. A retired ident has no use for it.
+    pub(crate) fn extend(&mut self, version: u32, entry: &SharedEntry) -> Result<(), NoMemory>
+        requires { All (λ pair. pair.0 < version) self.old.reciprocal }
+        ensures ok { OnOk result (self.new ≡ extended version (entry_of entry.now) self.old) }
+        ensures unchanged { OnErr result (self.new ≡ self.old) }
+    {
+        if self.heir.is_some() {
+            return Ok(());
+        }
+        self.reciprocal.push_shared(version, entry)
+    }
+}
+
+/// The ident of a uuid among these, of which the first has ident 1.
+pub(crate) fn ident_in(idents: &[Given], id: &Id) -> Option<Ident>
+    requires { length idents.now ≤ 4294967295 }
+    ensures { result ≡ found (place_of id.now (map (λ g. g.uuid) idents.now)) }
+{
+    for (place, given) in idents.iter().enumerate() {
+        if *id == *given.id() {
+            return Some(place as u32 + 1);
+        }
+    }
+    None
+}

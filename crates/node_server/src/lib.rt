@@ -1,0 +1,22 @@
+//! A server: its journal, and what it keeps in memory of the history, the objects and the clients.
+#![tactic(auto)]
+
+mod asking;
+mod counts;
+mod crossed;
+mod extending;
+mod files;
+mod given;
+mod history;
+mod kept;
+mod lists;
+mod merging;
+mod opening;
+mod refusal;
+mod retiring;
+mod server;
+mod version;
+
+pub use counts::Counts;
+pub use refusal::ServerRefusal;
+pub use server::Server;

@@ -1,0 +1,565 @@
+ghost use Rattle.std.specs.Prelude.{◌≡◌, ◌↔◌, ◌⊎◌, ◌≤◌, ◌++◌, ◌∷◌, [], ℕ, List, map, length, slice_get, if◌then◌else◌, false, true, Some, IsErrOf, IfErr, IfOk, OnOk, OnErr};
+ghost use Rattle.std.specs.Option.{option_copied, option_map};
+ghost use Rattle.sync_data.specs.declared.instr.Instr.{Instr};
+ghost use Rattle.sync_disk.specs.Disk.{LeavesOnly, Rose, SameDisk, Told};
+ghost use Rattle.sync_disk.specs.Faults.{armed, begun, disarmed, has_stopped};
+ghost use Rattle.sync_journal.specs.Records.{StandsForPrefix};
+ghost use Rattle.sync_journal.specs.Stands.{Stands, disk_of};
+ghost use Rattle.node_model.specs.Servers as model;
+ghost use Rattle.node_model.specs.Parts.{Given as GivenParts, at_ident, bind_by, merge_by, serve_by, upload_by};
+ghost use Rattle.node_instance.specs.Profile.{the_profile};
+ghost use Rattle.node_instance.specs.Seen.{change_seen, message_seen, server_bytes, server_seen};
+ghost use Rattle.sync_recip.specs.Lists.{entry_of};
+ghost use Rattle.node_server.specs.Integrating.{found};
+ghost use Rattle.node_server.specs.Merging.{IsFresh, records_of};
+ghost use Rattle.node_server.specs.Sending.{asked};
+ghost use Rattle.node_server.specs.Retiring.{retiring};
+ghost use Rattle.node_server.specs.Readers.{changes_of, counts_of, item_from, past};
+
+use crate::asking::refuse;
+use crate::counts::Counts;
+use crate::history::LAST;
+use crate::kept::Kept;
+use crate::refusal::{ChangeRefusal, Refusal, ServerRefusal};
+use node_messages::{Ask, Change, Given, Message, Retire, Retired, Stored, Upload};
+use node_records::ServerRecord;
+use std::alloc::Global;
+use sync_base::{Blob, Changeset, Entry, Id, Ident, NoMemory};
+use sync_disk::{Disk, Leaves, MemoryDisk};
+use sync_journal::{Journal, JournalRefusal};
+use sync_store::Store;
+use sync_subset::Subset;
+
+/// A server over a disk: its journal, and what it keeps in memory of the history, the objects and the clients.
+#[derive(Drop)]
+pub struct Server<D: Disk> {
+    pub(crate) alloc: Global,
+    pub(crate) journal: Journal<D>,
+    pub(crate) kept: Kept,
+    pub(crate) closed: bool,
+}
+
+/// The record of a change of an ident.
+fn entry_record(alloc: Global, ident: Ident, change: &Change) -> Result<ServerRecord, NoMemory>
+    ensures { IfOk result (λ made. server_seen made ≡ model.Entry ident change.now.number change.now.base change.now.ms change.now.body) }
+{
+    match Blob::new(alloc, change.body()) {
+        Ok(body) => Ok(ServerRecord::Entry {
+            origin: ident,
+            number: change.number(),
+            base: change.base(),
+            ms: change.ms(),
+            body,
+        }),
+        Err(NoMemory) => Err(NoMemory),
+    }
+}
+
+impl<D: Disk> Server<D> {
+    ghost use Rattle.node_server.specs.Kept.{parts};
+    ghost use Rattle.node_server.specs.Serving.{Adds, Asked, Did, IsMerged, IsServed, IsServerOf, IsStored, IsTaken, LeavesPrefix, change_records, is_closed, journal_of, kept_of, merged_records};
+
+    /// Adds a record to the journal. It closes the server where that fails.
+    fn append(&mut self, added: &ServerRecord) -> Result<(), ServerRefusal>
+        requires { is_closed self.old ≡ false }
+        ensures stored { OnOk result (Adds D.content D.images (server_seen added.now ∷ []) self.old self.new) }
+        ensures any_moment { LeavesPrefix D.content D.images D.moment D.images_since (server_seen added.now ∷ []) self.old self.new }
+        ensures kept { kept_of self.new ≡ kept_of self.old }
+        ensures stays_open { OnOk result (is_closed self.new ≡ false) }
+        ensures closes { OnErr result (is_closed self.new ≡ true) }
+        ensures refused { IsErrOf result ServerRefusal.Closed → ⊥ }
+        ensures strokes { Told (D.content (disk_of (journal_of self.old))) (λ b. Asked D.strokes (server_seen added.now ∷ []) self.old self.new result) }
+        ensures origin { D.origin (disk_of (journal_of self.new)) ≡ D.origin (disk_of (journal_of self.old)) }
+        ensures told { Told (D.content (disk_of (journal_of self.old))) (λ b. (c : List ℕ) × (D.content (disk_of (journal_of self.new)) ≡ Some c)) }
+        ensures later { D.faults (disk_of (journal_of self.old)) ≤ D.faults (disk_of (journal_of self.new)) }
+        ensures fault { IsErrOf result ServerRefusal.DiskFault → Rose (D.faults (disk_of (journal_of self.old))) (D.faults (disk_of (journal_of self.new))) }
+    {
+        let Ok(bytes) = added.record_bytes(self.alloc) else {
+            self.closed = true;
+            return Err(ServerRefusal::NoMemory);
+        };
+        match self.journal.append(bytes.as_slice()) {
+            Ok(()) => Ok(()),
+            Err(JournalRefusal::DiskFault) => {
+                self.closed = true;
+                Err(ServerRefusal::DiskFault)
+            }
+            Err(_) => {
+                self.closed = true;
+                Err(ServerRefusal::NoMemory)
+            }
+        }
+    }
+
+    /// Adds the records of a change that was merged: a Form where it is the first to need one, and its Entry.
+    fn append_entry(
+        &mut self,
+        form: bool,
+        ident: Ident,
+        change: &Change,
+    ) -> Result<(), ServerRefusal>
+        requires { is_closed self.old ≡ false }
+        ensures stored { OnOk result (Adds D.content D.images (records_of form ident (change_seen change.now)) self.old self.new) }
+        ensures any_moment { LeavesPrefix D.content D.images D.moment D.images_since (records_of form ident (change_seen change.now)) self.old self.new }
+        ensures kept { kept_of self.new ≡ kept_of self.old }
+        ensures stays_open { OnOk result (is_closed self.new ≡ false) }
+        ensures closes { OnErr result (is_closed self.new ≡ true) }
+        ensures refused { IsErrOf result ServerRefusal.Closed → ⊥ }
+        ensures strokes { Told (D.content (disk_of (journal_of self.old))) (λ b. Asked D.strokes (records_of form ident (change_seen change.now)) self.old self.new result) }
+        ensures origin { D.origin (disk_of (journal_of self.new)) ≡ D.origin (disk_of (journal_of self.old)) }
+        ensures told { Told (D.content (disk_of (journal_of self.old))) (λ b. (c : List ℕ) × (D.content (disk_of (journal_of self.new)) ≡ Some c)) }
+        ensures later { D.faults (disk_of (journal_of self.old)) ≤ D.faults (disk_of (journal_of self.new)) }
+        ensures fault { IsErrOf result ServerRefusal.DiskFault → Rose (D.faults (disk_of (journal_of self.old))) (D.faults (disk_of (journal_of self.new))) }
+    {
+        if form {
+            match self.append(&ServerRecord::Form) {
+                Ok(()) => {}
+                Err(refusal) => return Err(refusal),
+            }
+        }
+        match entry_record(self.alloc, ident, change) {
+            Ok(record) => self.append(&record),
+            Err(NoMemory) => {
+                self.closed = true;
+                Err(ServerRefusal::NoMemory)
+            }
+        }
+    }
+
+    /// Merges the next change of an ident, or tells why not.
+    fn merge(&mut self, ident: Ident, change: &Change) -> Result<Option<Refusal>, ServerRefusal>
+        requires open_ { is_closed self.old ≡ false }
+        requires fresh { IsFresh ident (change_seen change.now) (kept_of self.old).history.idents }
+        ensures merged { (g : GivenParts Instr) → at_ident ident (kept_of self.old).history.idents ≡ Some g → IfOk result (λ why. IsMerged why (merge_by the_profile (parts (kept_of self.old)) ident g (change_seen change.now)) (kept_of self.old) (kept_of self.new)) }
+        ensures stored { (g : GivenParts Instr) → at_ident ident (kept_of self.old).history.idents ≡ Some g → OnOk result (Adds D.content D.images (merged_records (merge_by the_profile (parts (kept_of self.old)) ident g (change_seen change.now))) self.old self.new) }
+        ensures any_moment { (g : GivenParts Instr) → at_ident ident (kept_of self.old).history.idents ≡ Some g → LeavesPrefix D.content D.images D.moment D.images_since (merged_records (merge_by the_profile (parts (kept_of self.old)) ident g (change_seen change.now))) self.old self.new }
+        ensures given { OnOk result (length (kept_of self.new).history.idents ≡ length (kept_of self.old).history.idents) }
+        ensures stays_open { OnOk result (is_closed self.new ≡ false) }
+        ensures closes { OnErr result (is_closed self.new ≡ true) }
+        ensures refused { IsErrOf result ServerRefusal.Closed → ⊥ }
+        ensures strokes { (g : GivenParts Instr) → at_ident ident (kept_of self.old).history.idents ≡ Some g → Told (D.content (disk_of (journal_of self.old))) (λ b. Asked D.strokes (merged_records (merge_by the_profile (parts (kept_of self.old)) ident g (change_seen change.now))) self.old self.new result) }
+        ensures origin { D.origin (disk_of (journal_of self.new)) ≡ D.origin (disk_of (journal_of self.old)) }
+        ensures told { Told (D.content (disk_of (journal_of self.old))) (λ b. (c : List ℕ) × (D.content (disk_of (journal_of self.new)) ≡ Some c)) }
+        ensures later { D.faults (disk_of (journal_of self.old)) ≤ D.faults (disk_of (journal_of self.new)) }
+        ensures fault { IsErrOf result ServerRefusal.DiskFault → Rose (D.faults (disk_of (journal_of self.old))) (D.faults (disk_of (journal_of self.new))) }
+    {
+        let form = match self.kept.merge(self.alloc, ident, change) {
+            Ok(form) => form,
+            Err(ChangeRefusal::Refused(why)) => return Ok(Some(why)),
+            Err(ChangeRefusal::NoMemory) => {
+                self.closed = true;
+                return Err(ServerRefusal::NoMemory);
+            }
+        };
+        match self.append_entry(form, ident, change) {
+            Ok(()) => Ok(None),
+            Err(refusal) => Err(refusal),
+        }
+    }
+
+    /// How many changes of an ident that is given are integrated.
+    fn count_of(&self, ident: Ident) -> u32
+        requires { (g : GivenParts Instr) × (at_ident ident (kept_of self.now).history.idents ≡ Some g) }
+        ensures { (g : GivenParts Instr) → at_ident ident (kept_of self.now).history.idents ≡ Some g → result ≡ g.count }
+    {
+        match self.kept.history.at(ident) {
+            Some(given) => given.count(),
+            None => unreachable!(),
+        }
+    }
+
+    /// Passes over a repeat, and merges any other change of an ident that is given, or tells why not.
+    fn take_change(
+        &mut self,
+        ident: Ident,
+        change: &Change,
+    ) -> Result<Option<Refusal>, ServerRefusal>
+        requires open_ { is_closed self.old ≡ false }
+        requires given { (g : GivenParts Instr) × (at_ident ident (kept_of self.old).history.idents ≡ Some g) }
+        ensures taken { (g : GivenParts Instr) → at_ident ident (kept_of self.old).history.idents ≡ Some g → IfOk result (λ why. IsTaken why ident g (change_seen change.now) (kept_of self.old) (kept_of self.new)) }
+        ensures stored { (g : GivenParts Instr) → at_ident ident (kept_of self.old).history.idents ≡ Some g → OnOk result (Adds D.content D.images (change_records (parts (kept_of self.old)) ident g (change_seen change.now)) self.old self.new) }
+        ensures any_moment { (g : GivenParts Instr) → at_ident ident (kept_of self.old).history.idents ≡ Some g → LeavesPrefix D.content D.images D.moment D.images_since (change_records (parts (kept_of self.old)) ident g (change_seen change.now)) self.old self.new }
+        ensures given { OnOk result (length (kept_of self.new).history.idents ≡ length (kept_of self.old).history.idents) }
+        ensures stays_open { OnOk result (is_closed self.new ≡ false) }
+        ensures closes { OnErr result (is_closed self.new ≡ true) }
+        ensures refused { IsErrOf result ServerRefusal.Closed → ⊥ }
+        ensures strokes { (g : GivenParts Instr) → at_ident ident (kept_of self.old).history.idents ≡ Some g → Told (D.content (disk_of (journal_of self.old))) (λ b. Asked D.strokes (change_records (parts (kept_of self.old)) ident g (change_seen change.now)) self.old self.new result) }
+        ensures origin { D.origin (disk_of (journal_of self.new)) ≡ D.origin (disk_of (journal_of self.old)) }
+        ensures told { Told (D.content (disk_of (journal_of self.old))) (λ b. (c : List ℕ) × (D.content (disk_of (journal_of self.new)) ≡ Some c)) }
+        ensures later { D.faults (disk_of (journal_of self.old)) ≤ D.faults (disk_of (journal_of self.new)) }
+        ensures fault { IsErrOf result ServerRefusal.DiskFault → Rose (D.faults (disk_of (journal_of self.old))) (D.faults (disk_of (journal_of self.new))) }
+    {
+        if change.number() <= self.count_of(ident) {
+            return Ok(None);
+        }
+        match self.merge(ident, change) {
+            Ok(why) => Ok(why),
+            Err(refusal) => Err(refusal),
+        }
+    }
+
+    /// Takes the changes of an Upload one by one, up to the first that is refused.
+    fn take_upload(&mut self, upload: &Upload) -> Result<Message, ServerRefusal>
+        requires { is_closed self.old ≡ false }
+        ensures served { IfOk result (λ reply. IsServed (upload_by the_profile (parts (kept_of self.old)) upload.now.ident (at_ident upload.now.ident (kept_of self.old).history.idents) (map change_seen upload.now.changes)) reply (kept_of self.new)) }
+        ensures stored { OnOk result (Adds D.content D.images (upload_by the_profile (parts (kept_of self.old)) upload.now.ident (at_ident upload.now.ident (kept_of self.old).history.idents) (map change_seen upload.now.changes)).records self.old self.new) }
+        ensures any_moment { LeavesPrefix D.content D.images D.moment D.images_since (upload_by the_profile (parts (kept_of self.old)) upload.now.ident (at_ident upload.now.ident (kept_of self.old).history.idents) (map change_seen upload.now.changes)).records self.old self.new }
+        ensures stays_open { OnOk result (is_closed self.new ≡ false) }
+        ensures closes { OnErr result (is_closed self.new ≡ true) }
+        ensures refused { IsErrOf result ServerRefusal.Closed → ⊥ }
+        ensures strokes { Told (D.content (disk_of (journal_of self.old))) (λ b. Asked D.strokes (upload_by the_profile (parts (kept_of self.old)) upload.now.ident (at_ident upload.now.ident (kept_of self.old).history.idents) (map change_seen upload.now.changes)).records self.old self.new result) }
+        ensures origin { D.origin (disk_of (journal_of self.new)) ≡ D.origin (disk_of (journal_of self.old)) }
+        ensures told { Told (D.content (disk_of (journal_of self.old))) (λ b. (c : List ℕ) × (D.content (disk_of (journal_of self.new)) ≡ Some c)) }
+        ensures later { D.faults (disk_of (journal_of self.old)) ≤ D.faults (disk_of (journal_of self.new)) }
+        ensures fault { IsErrOf result ServerRefusal.DiskFault → Rose (D.faults (disk_of (journal_of self.old))) (D.faults (disk_of (journal_of self.new))) }
+    {
+        let ident = upload.ident();
+        if self.kept.history.at(ident).is_none() {
+            let given = self.kept.history.given();
+            return Ok(refuse(ident, 0, Refusal::NoSuchIdent { given }));
+        }
+        for change in upload.changes() {
+            match self.take_change(ident, change) {
+                Ok(None) => {}
+                Ok(Some(why)) => return Ok(refuse(ident, change.number(), why)),
+                Err(refusal) => return Err(refusal),
+            }
+        }
+        let number = self.count_of(ident);
+        Ok(Message::Stored(Stored::new(ident, number)))
+    }
+
+    /// Gives a uuid its ident: that which it has, or the next.
+    fn take_bind(&mut self, uuid: Id) -> Result<Message, ServerRefusal>
+        requires { is_closed self.old ≡ false }
+        ensures served { IfOk result (λ reply. IsServed (bind_by the_profile (parts (kept_of self.old)) uuid (model.place_of uuid (map (λ g. g.uuid) (kept_of self.old).history.idents))) reply (kept_of self.new)) }
+        ensures stored { OnOk result (Adds D.content D.images (bind_by the_profile (parts (kept_of self.old)) uuid (model.place_of uuid (map (λ g. g.uuid) (kept_of self.old).history.idents))).records self.old self.new) }
+        ensures any_moment { LeavesPrefix D.content D.images D.moment D.images_since (bind_by the_profile (parts (kept_of self.old)) uuid (model.place_of uuid (map (λ g. g.uuid) (kept_of self.old).history.idents))).records self.old self.new }
+        ensures stays_open { OnOk result (is_closed self.new ≡ false) }
+        ensures closes { OnErr result (is_closed self.new ≡ true) }
+        ensures refused { IsErrOf result ServerRefusal.Closed → ⊥ }
+        ensures strokes { Told (D.content (disk_of (journal_of self.old))) (λ b. Asked D.strokes (bind_by the_profile (parts (kept_of self.old)) uuid (model.place_of uuid (map (λ g. g.uuid) (kept_of self.old).history.idents))).records self.old self.new result) }
+        ensures origin { D.origin (disk_of (journal_of self.new)) ≡ D.origin (disk_of (journal_of self.old)) }
+        ensures told { Told (D.content (disk_of (journal_of self.old))) (λ b. (c : List ℕ) × (D.content (disk_of (journal_of self.new)) ≡ Some c)) }
+        ensures later { D.faults (disk_of (journal_of self.old)) ≤ D.faults (disk_of (journal_of self.new)) }
+        ensures fault { IsErrOf result ServerRefusal.DiskFault → Rose (D.faults (disk_of (journal_of self.old))) (D.faults (disk_of (journal_of self.new))) }
+    {
+        if let Some(ident) = self.kept.history.ident_of(&uuid) {
+            return Ok(Message::Ident(Given::new(uuid, ident)));
+        }
+        let given = self.kept.history.given();
+        if given == LAST {
+            return Ok(refuse(0, 0, Refusal::IdentsFull { given }));
+        }
+        let ident = match self.kept.history.bind(self.alloc, uuid) {
+            Ok(ident) => ident,
+            Err(NoMemory) => {
+                self.closed = true;
+                return Err(ServerRefusal::NoMemory);
+            }
+        };
+        match self.append(&ServerRecord::Client { id: uuid }) {
+            Ok(()) => Ok(Message::Ident(Given::new(uuid, ident))),
+            Err(refusal) => Err(refusal),
+        }
+    }
+
+    /// Answers a question for the history, and keeps its settled number where it is new.
+    fn take_ask(
+        &mut self,
+        ask: &Ask,
+        second: bool,
+        tables: Option<&Subset>,
+    ) -> Result<Message, ServerRefusal>
+        requires { is_closed self.old ≡ false }
+        ensures served { IfOk result (λ reply. IsServed (asked (parts (kept_of self.old)) ask.now.ident ask.now.cursor ask.now.settled (option_copied tables.entry) second) reply (kept_of self.new)) }
+        ensures stored { OnOk result (Adds D.content D.images (asked (parts (kept_of self.old)) ask.now.ident ask.now.cursor ask.now.settled (option_copied tables.entry) second).records self.old self.new) }
+        ensures any_moment { LeavesPrefix D.content D.images D.moment D.images_since (asked (parts (kept_of self.old)) ask.now.ident ask.now.cursor ask.now.settled (option_copied tables.entry) second).records self.old self.new }
+        ensures stays_open { OnOk result (is_closed self.new ≡ false) }
+        ensures closes { OnErr result (is_closed self.new ≡ true) }
+        ensures refused { IsErrOf result ServerRefusal.Closed → ⊥ }
+        ensures strokes { Told (D.content (disk_of (journal_of self.old))) (λ b. Asked D.strokes (asked (parts (kept_of self.old)) ask.now.ident ask.now.cursor ask.now.settled (option_copied tables.entry) second).records self.old self.new result) }
+        ensures origin { D.origin (disk_of (journal_of self.new)) ≡ D.origin (disk_of (journal_of self.old)) }
+        ensures told { Told (D.content (disk_of (journal_of self.old))) (λ b. (c : List ℕ) × (D.content (disk_of (journal_of self.new)) ≡ Some c)) }
+        ensures later { D.faults (disk_of (journal_of self.old)) ≤ D.faults (disk_of (journal_of self.new)) }
+        ensures fault { IsErrOf result ServerRefusal.DiskFault → Rose (D.faults (disk_of (journal_of self.old))) (D.faults (disk_of (journal_of self.new))) }
+    {
+        let reply = match self.kept.ask(self.alloc, ask, second, tables) {
+            Ok(reply) => reply,
+            Err(NoMemory) => {
+                self.closed = true;
+                return Err(ServerRefusal::NoMemory);
+            }
+        };
+        if !self.kept.settles(ask, &reply) {
+            return Ok(reply);
+        }
+        let (ident, settled) = (ask.ident(), ask.settled());
+        self.kept.history.settle_at(ident, settled);
+        match self.append(&ServerRecord::Settled { ident, settled }) {
+            Ok(()) => Ok(reply),
+            Err(refusal) => Err(refusal),
+        }
+    }
+
+    /// Retires an ident for another.
+    fn take_retire(&mut self, retire: &Retire) -> Result<Message, ServerRefusal>
+        requires { is_closed self.old ≡ false }
+        ensures served { IfOk result (λ reply. IsServed (retiring (parts (kept_of self.old)) retire.now.ident retire.now.by) reply (kept_of self.new)) }
+        ensures stored { OnOk result (Adds D.content D.images (retiring (parts (kept_of self.old)) retire.now.ident retire.now.by).records self.old self.new) }
+        ensures any_moment { LeavesPrefix D.content D.images D.moment D.images_since (retiring (parts (kept_of self.old)) retire.now.ident retire.now.by).records self.old self.new }
+        ensures stays_open { OnOk result (is_closed self.new ≡ false) }
+        ensures closes { OnErr result (is_closed self.new ≡ true) }
+        ensures refused { IsErrOf result ServerRefusal.Closed → ⊥ }
+        ensures strokes { Told (D.content (disk_of (journal_of self.old))) (λ b. Asked D.strokes (retiring (parts (kept_of self.old)) retire.now.ident retire.now.by).records self.old self.new result) }
+        ensures origin { D.origin (disk_of (journal_of self.new)) ≡ D.origin (disk_of (journal_of self.old)) }
+        ensures told { Told (D.content (disk_of (journal_of self.old))) (λ b. (c : List ℕ) × (D.content (disk_of (journal_of self.new)) ≡ Some c)) }
+        ensures later { D.faults (disk_of (journal_of self.old)) ≤ D.faults (disk_of (journal_of self.new)) }
+        ensures fault { IsErrOf result ServerRefusal.DiskFault → Rose (D.faults (disk_of (journal_of self.old))) (D.faults (disk_of (journal_of self.new))) }
+    {
+        let (ident, by) = (retire.ident(), retire.by());
+        let retirement = match self.kept.retirement(ident, by) {
+            Ok(retirement) => retirement,
+            Err(why) => return Ok(refuse(by, 0, why)),
+        };
+        let reply = Message::Retired(Retired::new(ident, by, retirement.number));
+        if !retirement.is_new {
+            return Ok(reply);
+        }
+        match self.kept.history.retire(self.alloc, ident, by) {
+            Ok(()) => {}
+            Err(NoMemory) => {
+                self.closed = true;
+                return Err(ServerRefusal::NoMemory);
+            }
+        }
+        match self.append(&ServerRecord::Retired { ident, by }) {
+            Ok(()) => Ok(reply),
+            Err(refusal) => Err(refusal),
+        }
+    }
+
+    /// Serves a message.
+    fn serve(&mut self, message: &Message) -> Result<Message, ServerRefusal>
+        requires { is_closed self.old ≡ false }
+        ensures served { IfOk result (λ reply. IsServed (serve_by the_profile (parts (kept_of self.old)) (message_seen message.now)) reply (kept_of self.new)) }
+        ensures stored { OnOk result (Adds D.content D.images (serve_by the_profile (parts (kept_of self.old)) (message_seen message.now)).records self.old self.new) }
+        ensures any_moment { LeavesPrefix D.content D.images D.moment D.images_since (serve_by the_profile (parts (kept_of self.old)) (message_seen message.now)).records self.old self.new }
+        ensures stays_open { OnOk result (is_closed self.new ≡ false) }
+        ensures closes { OnErr result (is_closed self.new ≡ true) }
+        ensures refused { IsErrOf result ServerRefusal.Closed → ⊥ }
+        ensures strokes { Told (D.content (disk_of (journal_of self.old))) (λ b. Asked D.strokes (serve_by the_profile (parts (kept_of self.old)) (message_seen message.now)).records self.old self.new result) }
+        ensures origin { D.origin (disk_of (journal_of self.new)) ≡ D.origin (disk_of (journal_of self.old)) }
+        ensures told { Told (D.content (disk_of (journal_of self.old))) (λ b. (c : List ℕ) × (D.content (disk_of (journal_of self.new)) ≡ Some c)) }
+        ensures later { D.faults (disk_of (journal_of self.old)) ≤ D.faults (disk_of (journal_of self.new)) }
+        ensures fault { IsErrOf result ServerRefusal.DiskFault → Rose (D.faults (disk_of (journal_of self.old))) (D.faults (disk_of (journal_of self.new))) }
+    {
+        match message {
+            Message::Bind { uuid } => self.take_bind(*uuid),
+            Message::Upload(upload) => self.take_upload(upload),
+            Message::Ask(ask) => self.take_ask(ask, false, None),
+            Message::Ask2(ask) => self.take_ask(ask, true, None),
+            Message::AskTables(asked) => {
+                self.take_ask(asked.ask(), asked.form() == 2, Some(asked.tables()))
+            }
+            Message::Retire(retire) => self.take_retire(retire),
+            Message::Ident(given) => Ok(refuse(given.ident(), 0, Refusal::NotForServer)),
+            Message::Download(entries) => Ok(refuse(entries.ident(), 0, Refusal::NotForServer)),
+            Message::Stored(stored) => Ok(refuse(stored.ident(), 0, Refusal::NotForServer)),
+            Message::Refused { ident, .. } => Ok(refuse(*ident, 0, Refusal::NotForServer)),
+            Message::Retired(retired) => Ok(refuse(retired.ident(), 0, Refusal::NotForServer)),
+        }
+    }
+
+    /// Takes a message, and answers the reply (docs/GUARANTEES.md, "Nodes"). What it answers is on the disk. `Closed` comes exactly
+    /// after an earlier `DiskFault` or `NoMemory`.
+    pub fn take(&mut self, message: Message) -> Result<Message, ServerRefusal>
+        // It answers by what its records give, and keeps what they give with the new ones.
+        ensures step { (records : List model.ServerRecord) → IsServerOf records self.old → IfOk result (λ reply. Did (serve_by the_profile (parts (kept_of self.old)) (message_seen message)) reply records self.new) }
+        // The disk holds the new records too.
+        ensures stored { (records : List model.ServerRecord) → IsServerOf records self.old → IsStored D.content D.images records self.old
+            → OnOk result (IsStored D.content D.images (records ++ (serve_by the_profile (parts (kept_of self.old)) (message_seen message)).records) self.new) }
+        // A crash at any moment of the call leaves the old records and some of the new ones, from the first on.
+        ensures any_moment { (records : List model.ServerRecord) → IsServerOf records self.old → IsStored D.content D.images records self.old
+            → LeavesOnly D.moment D.images_since (disk_of (journal_of self.old)) (disk_of (journal_of self.new)) (StandsForPrefix (map server_bytes records) (map server_bytes (serve_by the_profile (parts (kept_of self.old)) (message_seen message)).records)) }
+        // At an answer the disk was asked for the appends of the new records and for nothing else, at a fault for the first of them, up to
+        // the stroke that failed.
+        ensures strokes { (records : List model.ServerRecord) → IsServerOf records self.old → IsStored D.content D.images records self.old
+            → Asked D.strokes (serve_by the_profile (parts (kept_of self.old)) (message_seen message)).records self.old self.new result }
+        // What no call of the disk changes.
+        ensures origin { D.origin (disk_of (journal_of self.new)) ≡ D.origin (disk_of (journal_of self.old)) }
+        ensures told { Told (D.content (disk_of (journal_of self.old))) (λ b. (c : List ℕ) × (D.content (disk_of (journal_of self.new)) ≡ Some c)) }
+        // The refusals and their causes.
+        ensures closed { IsErrOf result ServerRefusal.Closed ↔ (is_closed self.old ≡ true) }
+        ensures shut { IsErrOf result ServerRefusal.Closed → self.new ≡ self.old }
+        ensures closes { OnErr result (is_closed self.new ≡ true) }
+        ensures later { D.faults (disk_of (journal_of self.old)) ≤ D.faults (disk_of (journal_of self.new)) }
+        ensures fault { IsErrOf result ServerRefusal.DiskFault → Rose (D.faults (disk_of (journal_of self.old))) (D.faults (disk_of (journal_of self.new))) }
+    {
+        if self.closed {
+            return Err(ServerRefusal::Closed);
+        }
+        self.serve(&message)
+    }
+
+    /// The objects. Once the server is closed they may be any.
+    pub fn objects(&self) -> &Store
+        ensures { result.now ≡ (parts (kept_of self.now)).objects }
+    {
+        &self.kept.objects
+    }
+
+    /// How many entries the history has, those before the floor among them.
+    pub fn len(&self) -> u32
+        ensures { result ≡ (parts (kept_of self.now)).len }
+    {
+        self.kept.history.len()
+    }
+
+    /// The entry of a version; none below the floor, and from the length on.
+    pub fn entry(&self, version: u32) -> Option<&Entry>
+        ensures { option_map (λ e. entry_of e.now) result ≡ item_from (parts (kept_of self.now)).floor (parts (kept_of self.now)).entries version }
+    {
+        self.kept.history.entry(version)
+    }
+
+    /// The base at which the entry of a version was made; none where there is no entry of that version.
+    pub fn base_of(&self, version: u32) -> Option<u32>
+        ensures { result ≡ item_from (parts (kept_of self.now)).floor (parts (kept_of self.now)).bases version }
+    {
+        self.kept.history.base(version)
+    }
+
+    /// The form of the file: 1, or 2 where it may hold changesets of version 2.
+    pub fn form(&self) -> u32
+        ensures { result ≡ (if (parts (kept_of self.now)).second then 2 else 1) }
+    {
+        if self.kept.history.second() { 2 } else { 1 }
+    }
+
+    /// The first version of the kept history; 0 where nothing was trimmed.
+    pub fn floor(&self) -> u32
+        ensures { result ≡ (parts (kept_of self.now)).floor }
+    {
+        self.kept.history.floor()
+    }
+
+    /// The objects at the floor.
+    pub fn floor_objects(&self) -> &Store
+        ensures { result.now ≡ (parts (kept_of self.now)).below }
+    {
+        &self.kept.below
+    }
+
+    /// How many idents were given.
+    pub fn idents(&self) -> u32
+        ensures { result ≡ length (parts (kept_of self.now)).idents }
+    {
+        self.kept.history.given()
+    }
+
+    /// The ident of a uuid; none where no Bind with it was recorded.
+    pub fn ident_of(&self, id: &Id) -> Option<Ident>
+        ensures { result ≡ found (model.place_of id.now (map (λ g. g.uuid) (parts (kept_of self.now)).idents)) }
+    {
+        self.kept.history.ident_of(id)
+    }
+
+    /// The uuid of an ident; none where it isn't given.
+    pub fn id_of(&self, ident: Ident) -> Option<&Id>
+        ensures { option_map (λ id. id.now) result ≡ option_map (λ g. g.uuid) (at_ident ident (parts (kept_of self.now)).idents) }
+    {
+        match self.kept.history.at(ident) {
+            Some(given) => Some(given.id()),
+            None => None,
+        }
+    }
+
+    /// The numbers of an ident; none where it isn't given.
+    pub fn counts(&self, ident: Ident) -> Option<Counts>
+        ensures { result ≡ option_map counts_of (at_ident ident (parts (kept_of self.now)).idents) }
+    {
+        match self.kept.history.at(ident) {
+            Some(given) => Some(Counts {
+                number: given.count(),
+                base: given.last(),
+                settled: given.mark(),
+            }),
+            None => None,
+        }
+    }
+
+    /// The retired ident of that place, counted from 0 in the order in which they were retired, and the ident for which it
+    /// was; none from their count on.
+    pub fn retired(&self, place: u32) -> Option<(Ident, Ident)>
+        ensures { result ≡ slice_get (parts (kept_of self.now)).retired place }
+    {
+        self.kept.history.retired().get(place as usize).copied()
+    }
+
+    /// The entry of a version as the next changes of an ident cross it. None comes where the ident isn't given or is
+    /// retired, where the version is below the floor or the base of the ident's last change, or from the length on, and
+    /// where the ident made the entry.
+    pub fn past(&self, ident: Ident, version: u32) -> Option<&Changeset>
+        ensures { option_map (λ c. c.now) result ≡ option_map changes_of (past (parts (kept_of self.now)) ident version) }
+    {
+        self.kept.past(ident, version)
+    }
+
+    /// Hands the disk back.
+    pub fn into_disk(self) -> D
+        ensures { result ≡ disk_of (journal_of self) }
+    {
+        self.journal.into_disk()
+    }
+}
+
+impl Server<MemoryDisk> {
+    ghost use Rattle.node_server.specs.Serving.{is_closed, journal_of, kept_of};
+
+    /// Arms the disk that it holds, and changes nothing else.
+    pub fn arm(&mut self, at: u32, leaves: Leaves)
+        requires { 1 ≤ at }
+        ensures origin { ⟦<MemoryDisk as Disk>⟧.origin (disk_of (journal_of self.new)) ≡ armed at leaves (⟦<MemoryDisk as Disk>⟧.origin (disk_of (journal_of self.old))) (length (⟦<MemoryDisk as Disk>⟧.strokes (disk_of (journal_of self.old)))) }
+        ensures same { SameDisk ⟦<MemoryDisk as Disk>⟧.content ⟦<MemoryDisk as Disk>⟧.strokes ⟦<MemoryDisk as Disk>⟧.images ⟦<MemoryDisk as Disk>⟧.faults ⟦<MemoryDisk as Disk>⟧.failing (disk_of (journal_of self.old)) (disk_of (journal_of self.new)) }
+        ensures closed { is_closed self.new ≡ is_closed self.old }
+        ensures kept { kept_of self.new ≡ kept_of self.old }
+        ensures stands { (records : List (List ℕ)) → Stands ⟦<MemoryDisk as Disk>⟧.content ⟦<MemoryDisk as Disk>⟧.images records (journal_of self.old)
+            → Stands ⟦<MemoryDisk as Disk>⟧.content ⟦<MemoryDisk as Disk>⟧.images records (journal_of self.new) }
+    {
+        self.journal.arm(at, leaves);
+    }
+
+    /// Disarms the disk that it holds, and changes nothing else.
+    pub fn disarm(&mut self)
+        ensures origin { ⟦<MemoryDisk as Disk>⟧.origin (disk_of (journal_of self.new)) ≡ disarmed (⟦<MemoryDisk as Disk>⟧.origin (disk_of (journal_of self.old))) (length (⟦<MemoryDisk as Disk>⟧.strokes (disk_of (journal_of self.old)))) }
+        ensures same { SameDisk ⟦<MemoryDisk as Disk>⟧.content ⟦<MemoryDisk as Disk>⟧.strokes ⟦<MemoryDisk as Disk>⟧.images ⟦<MemoryDisk as Disk>⟧.faults ⟦<MemoryDisk as Disk>⟧.failing (disk_of (journal_of self.old)) (disk_of (journal_of self.new)) }
+        ensures closed { is_closed self.new ≡ is_closed self.old }
+        ensures kept { kept_of self.new ≡ kept_of self.old }
+        ensures stands { (records : List (List ℕ)) → Stands ⟦<MemoryDisk as Disk>⟧.content ⟦<MemoryDisk as Disk>⟧.images records (journal_of self.old)
+            → Stands ⟦<MemoryDisk as Disk>⟧.content ⟦<MemoryDisk as Disk>⟧.images records (journal_of self.new) }
+    {
+        self.journal.disarm();
+    }
+
+    /// The disk that it holds begins its strokes anew with what it holds, which stands synced. It is no longer armed.
+    pub fn begin_anew(&mut self)
+        ensures content { ⟦<MemoryDisk as Disk>⟧.content (disk_of (journal_of self.new)) ≡ ⟦<MemoryDisk as Disk>⟧.content (disk_of (journal_of self.old)) }
+        ensures strokes { ⟦<MemoryDisk as Disk>⟧.strokes (disk_of (journal_of self.new)) ≡ [] }
+        ensures origin { (c : List ℕ) → ⟦<MemoryDisk as Disk>⟧.content (disk_of (journal_of self.new)) ≡ Some c
+            → ⟦<MemoryDisk as Disk>⟧.origin (disk_of (journal_of self.new)) ≡ begun c (⟦<MemoryDisk as Disk>⟧.origin (disk_of (journal_of self.old))) }
+        ensures closed { is_closed self.new ≡ is_closed self.old }
+        ensures kept { kept_of self.new ≡ kept_of self.old }
+        ensures stands { (records : List (List ℕ)) → Stands ⟦<MemoryDisk as Disk>⟧.content ⟦<MemoryDisk as Disk>⟧.images records (journal_of self.old)
+            → Stands ⟦<MemoryDisk as Disk>⟧.content ⟦<MemoryDisk as Disk>⟧.images records (journal_of self.new) }
+    {
+        self.journal.begin_anew();
+    }
+
+    /// Whether the disk that it holds has stopped.
+    pub fn stopped(&self) -> bool
+        ensures { result ≡ has_stopped (⟦<MemoryDisk as Disk>⟧.origin (disk_of (journal_of self.now))).stop (length (⟦<MemoryDisk as Disk>⟧.strokes (disk_of (journal_of self.now)))) }
+    {
+        self.journal.stopped()
+    }
+}

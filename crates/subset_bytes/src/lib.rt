@@ -1,0 +1,12 @@
+//! The one spelling of the tables that a client names, in records and in messages.
+#![tactic(auto)]
+
+mod reading;
+mod refusal;
+#[cfg(test)]
+mod tests;
+mod writing;
+
+pub use reading::tables_of;
+pub use refusal::TablesRefusal;
+pub use writing::put_tables;
