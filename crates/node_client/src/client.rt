@@ -12,11 +12,11 @@ ghost use Rattle.node_client.specs.Refusals.{refusal_seen, IfSeen};
 use crate::refusal::ClientRefusal;
 use crate::replica::Replica;
 use crate::transactions::Made;
+use node_records::ClientRecord;
 use std::alloc::Global;
 use sync_data::{Blob, Id, Instr};
 use sync_disk::{Disk, Leaves, MemoryDisk};
 use sync_journal::{Journal, JournalRefusal};
-use node_records::ClientRecord;
 use sync_subset::Subset;
 
 /// A client over a disk: its journal, its objects, its cursor (the number of entries of the history that it has taken) and

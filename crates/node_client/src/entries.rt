@@ -12,11 +12,11 @@ ghost use Rattle.node_rebase.specs.Taking.{IsHead};
 use crate::let_go::let_go;
 use crate::refusal::ClientRefusal;
 use crate::replica::Replica;
+use node_instance::limits_tell;
+use node_rebase::RebaseRefusal;
 use std::alloc::Global;
 use sync_codec::{DecodeRefusal, any_needs_second, decode};
 use sync_data::{Changeset, Entry, Ident};
-use node_instance::limits_tell;
-use node_rebase::RebaseRefusal;
 use sync_store::AllRefusal;
 
 /// The changeset of an entry of this version.

@@ -13,10 +13,10 @@ use crate::entries::changes_of;
 use crate::let_go::let_go;
 use crate::refusal::ClientRefusal;
 use crate::replica::Replica;
-use std::alloc::Global;
-use sync_data::{Ident, NoMemory};
 use node_rebase::{PendingList, Unsent};
 use node_records::{ClientRecord, RecordRefusal};
+use std::alloc::Global;
+use sync_data::{Ident, NoMemory};
 use sync_store::Store;
 use sync_subset::Subset;
 

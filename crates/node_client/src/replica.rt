@@ -1,7 +1,7 @@
 use crate::refusal::ClientRefusal;
+use node_rebase::PendingList;
 use std::alloc::Global;
 use sync_data::{Id, Ident, NoMemory};
-use node_rebase::PendingList;
 use sync_store::Store;
 use sync_subset::Subset;
 

@@ -10,12 +10,12 @@ ghost use Rattle.node_client.specs.Sending.{uploaded};
 use crate::client::Client;
 use crate::refusal::ClientRefusal;
 use crate::replica::Replica;
+use node_messages::{Ask, AskTables, Change, Message, Upload};
+use node_rebase::{PendingList, Unsent};
 use std::alloc::Global;
 use sync_codec::encode;
 use sync_data::{Blob, Id, Ident, NoMemory};
 use sync_disk::Disk;
-use node_messages::{Ask, AskTables, Change, Message, Upload};
-use node_rebase::{PendingList, Unsent};
 use sync_store::Store;
 use sync_subset::Subset;
 
@@ -63,13 +63,15 @@ impl<D: Disk> Client<D> {
             self.replica.cursor,
             self.replica.settled(),
         );
-        if let Some(tables) = &self.replica.subset {
-            return self.ask_for(ask, tables);
-        }
-        if self.replica.second {
-            Ok(Message::Ask2(ask))
-        } else {
-            Ok(Message::Ask(ask))
+        match &self.replica.subset {
+            Some(tables) => self.ask_for(ask, tables),
+            None => {
+                if self.replica.second {
+                    Ok(Message::Ask2(ask))
+                } else {
+                    Ok(Message::Ask(ask))
+                }
+            }
         }
     }
 

@@ -12,10 +12,10 @@ ghost use Rattle.sync_journal.specs.Stands.{disk_of};
 use crate::client::Client;
 use crate::let_go::let_go;
 use crate::refusal::ClientRefusal;
-use sync_data::{Blob, Id, Ident};
-use sync_disk::Disk;
 use node_messages::{Download, Message, Sent};
 use node_records::{ClientRecord, Named};
+use sync_data::{Blob, Id, Ident};
+use sync_disk::Disk;
 
 impl<D: Disk> Client<D> {
     ghost use Rattle.node_client.specs.Clients.{Asked, AskedFor, IsClientOf, IsStored, LeavesPrefix, Says, Stores, is_closed, journal_of, replica_of};

@@ -8,10 +8,10 @@ ghost use Rattle.node_client.specs.Transactions.{Commits, RefusesEdits};
 
 use crate::refusal::ClientRefusal;
 use crate::replica::Replica;
+use node_rebase::Unsent;
 use std::alloc::Global;
 use sync_codec::{encode, needs_second};
 use sync_data::{Changeset, Instr};
-use node_rebase::Unsent;
 use sync_store::AllRefusal;
 
 /// A transaction that was made: its number among the client's, and the bytes of its instructions.

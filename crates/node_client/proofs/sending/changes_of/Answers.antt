@@ -26,7 +26,7 @@ returns-then-size-room-clause-listed c =
     let len : c.len-size.result ≡ length c.in-Ok.body.items = (let e = c.len-size.ensures in let ok = c.in-Ok.body.ok.0 in omega (arith, e, ok)) in
     let spelled = ap length (c.in-Ok.ensures.spelled ∙ ap (λ v. spelling v.instrs) c.original.ensures.changes) in
     let large = c.if-size-room.true in
-    upload_large c.args.after c.args.unsent.now c.loop-place.place c.loop-place.room c.loop-place.changes.items c.in-Some.item.now c.loop-place.invariant (let t = c.loop-place-test.true in let e = c.len-place-end.ensures in omega (arith, t, e)) c.in-Some.ensures.value (let n = c.number.ensures.value in let t = c.if-number-after.false in omega (arith, n, t)) (omega (arith, large, len, spelled))
+    upload_large c.args.after c.args.unsent.now c.loop-place.place c.loop-place.room c.loop-place.changes.items c.in-Some.item.now c.loop-place.invariant (let t = c.loop-place-test.true in let e = c.len-place-end.ensures in omega (arith, t, e)) c.in-Some.ensures.value (let n = c.number-number.ensures.value in let t = c.if-number-after.false in omega (arith, n, t)) (omega (arith, large, len, spelled))
 
 pub change_of-requires : goal.change_of-requires
 change_of-requires c =
@@ -42,7 +42,7 @@ loop-place-preserved c =
     let spelled = c.in-Ok.ensures.spelled ∙ ap (λ v. spelling v.instrs) c.original.ensures.changes in
     let long = ap length spelled in
     let fits = c.if-size-room.false in
-    upload_next c.args.after c.args.unsent.now c.loop-place.place c.loop-place.room c.loop-place.changes.items c.push.new.items.items c.in-Some.item.now c.in_ok-change.change (c.loop-place.room - c.len-size.result) c.loop-place.invariant (let t = c.loop-place-test.true in let e = c.len-place-end.ensures in omega (arith, t, e)) c.in-Some.ensures.value (let n = c.number.ensures.value in let t = c.if-number-after.false in omega (arith, n, t)) (λ full. c.if-len-eq-MOST_CHANGES.false (let e = c.len.ensures in let ok = c.loop-place.changes.ok.0 in omega (arith, e, ok, full))) (omega (arith, fits, len, long))
+    upload_next c.args.after c.args.unsent.now c.loop-place.place c.loop-place.room c.loop-place.changes.items c.push.new.items.items c.in-Some.item.now c.in_ok-change.change (c.loop-place.room - c.len-size.result) c.loop-place.invariant (let t = c.loop-place-test.true in let e = c.len-place-end.ensures in omega (arith, t, e)) c.in-Some.ensures.value (let n = c.number-number.ensures.value in let t = c.if-number-after.false in omega (arith, n, t)) (λ full. c.if-len-eq-MOST_CHANGES.false (let e = c.len.ensures in let ok = c.loop-place.changes.ok.0 in omega (arith, e, ok, full))) (omega (arith, fits, len, long))
     (change_is c.in-Some.item.now c.in_ok-change.change c.as_slice.result.now c.in_ok-change.ensures (c.as_slice.ensures.value ∙ spelled)) c.in_ok-push.ensures (ap (λ n. c.loop-place.room - n) (len ∙ long))
 
 pub returns-clause-few : goal.returns-clause-few
