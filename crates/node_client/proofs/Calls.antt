@@ -1,0 +1,208 @@
+-- A call of a client that appends one record, or none.
+use Rattle.std.proofs.Common.{◌≡◌, ℕ, suc, ◌≤◌, Bool, true, false, List, [], ◌∷◌, ◌++◌, length, Option, Some, None, Result, Ok, Err, refl, ap, ◌∙◌, sym, subst, append-nil, length-append, add-one, if◌then◌else◌, inl, inr}
+use Rattle.std.specs.Prelude.{⊤, ◌⊎◌, ◌↔◌, IfOk, IfErr, OnOk}
+use Rattle.std.specs.Option.{is_some}
+use Rattle.sync_data.specs.declared.instr.Instr.{Instr}
+use Rattle.sync_base.specs.States.{State}
+use Rattle.sync_disk.specs.declared.disk.Disk.{Ghosts}
+use Rattle.node_model.specs.Bytes.{Tables, Uuid}
+use Rattle.node_model.specs.Clients.{Born, Client as Model, ClientRecord, ClientRefusal, ClientStep, NotBorn, Subscribed, TooLate, after_record, appends, answers, refuse, born, born_once, client_of, commit, commit_born, if_born, is_late, no_client, subscribe, subscribed_once, upgrade}
+use Rattle.node_model.specs.Files.{client_opens}
+use Rattle.node_model.specs.Each.{no_more, and_each}
+use Rattle.node_model.specs.Limits.{IsClientRecord}
+use Rattle.node_model.proofs.Limits.{each_append}
+use Rattle.node_model.proofs.Opening.{calm, client_opens_on, born_opens, commit_opens, subscribe_opens, upgrade_opens}
+use Rattle.node_model.proofs.Own.{client_step}
+use Rattle.node_instance.specs.Profile.{the_profile}
+use Rattle.node_instance.specs.Lemmas.Lawful.{real_lawful}
+use Rattle.node_client.specs.declared.client.Client.{Client}
+use Rattle.node_client.specs.declared.replica.Replica.{Replica}
+use Rattle.node_client.specs.Clients.{Did, IsClientOf, Says}
+use Rattle.node_client.specs.Keeping.{Keeps}
+use Rattle.node_client.specs.Seen.{Past, and_made, seen}
+use Rattle.node_client.specs.Transactions.{Commits, Uncommitted, next_original}
+use Rattle.node_client.specs.declared.refusal.ClientRefusal.TheVariants as codes
+use Rattle.node_client.specs.Refusals.{refusal_seen, IfSeen, IsPlain}
+use Rattle.node_client.specs.declared.refusal.ClientRefusal.{ClientRefusal as CodeRefusal}
+use Rattle.node_client.specs.declared.transactions.Made.{Made}
+
+-- a record more
+pub keeps_next : (records : List ClientRecord) (next : ClientRecord) (r s : Replica) (past : Past) (k : Keeps records r) → client_opens the_profile (client_of the_profile records) (next ∷ []) ≡ true → IsClientRecord the_profile next
+    → seen past s ≡ after_record the_profile (seen k.past r) next → length past.made ≡ s.count → Keeps (records ++ next ∷ []) s
+keeps_next records next r s past k opens fits after count = record {
+  past = past;
+  count = count;
+  stands_for = client_step the_profile records next ∙ ap (λ c. after_record the_profile c next) k.stands_for ∙ sym after;
+  opens = client_opens_on the_profile (no_client the_profile) records (next ∷ []) k.opens opens;
+  each = each_append k.each (and_each fits no_more);
+}
+
+no_uuid : (o : Option Uuid) → is_some o ≡ false → o ≡ None
+no_uuid None e = refl
+no_uuid (Some id) e = cc
+
+module _ {D : Type 0} {G : Ghosts D} where
+  pub did_append : {A : Type 0} (did : ClientStep A) (next : ClientRecord) (a : A) (records : List ClientRecord) (c : Client D G) → did ≡ appends next a → Keeps (records ++ next ∷ []) c.replica → c.closed ≡ false → Did did (Ok a) records c
+  did_append did next a records c is k open_ = record {
+    answer_is = ap (λ d. d.answer) is;
+    client = record { kept = subst (λ rs. Keeps (records ++ rs) c.replica) (sym (ap (λ d. d.records) is)) k; open_ = open_ };
+  }
+
+  -- a call that appends nothing
+  pub did_none : {A : Type 0} (did : ClientStep A) (answer : Result A ClientRefusal) (records : List ClientRecord) (c : Client D G) → did.records ≡ [] → did.answer ≡ answer → IsClientOf records c → Did did answer records c
+  did_none did answer records c none is k = record {
+    answer_is = is;
+    client = subst (λ rs. IsClientOf rs c) (sym (ap (λ l. records ++ l) none ∙ append-nil records)) k;
+  }
+
+-- ---- birth
+pub born_is : (records : List ClientRecord) (r : Replica) (id : Uuid) → Keeps records r → is_some r.id ≡ false → born (client_of the_profile records) id ≡ appends (Born id) tt
+born_is records r id k none = ap (λ o. born_once o (appends {A = ⊤} (Born id) tt)) (ap (λ (c : Model Instr State). c.id) k.stands_for ∙ no_uuid r.id none)
+
+pub born_keeps : (records : List ClientRecord) (r : Replica) (id : Uuid) → Keeps records r → is_some r.id ≡ false → Keeps (records ++ Born id ∷ []) (record r { id = Some id })
+born_keeps records r id k none =
+    keeps_next records (Born id) r (record r { id = Some id }) k.past k (subst (λ d. client_opens the_profile (client_of the_profile records) d.records ≡ true) (born_is records r id k none) (born_opens the_profile real_lawful (client_of the_profile records) (calm the_profile records k.opens) id).0) tt refl k.count
+
+pub if_seen_both : (o : Option ClientRefusal) (P Q R : ClientRefusal → Type 0) → ((w : ClientRefusal) → P w → Q w → R w) → IfSeen o P → IfSeen o Q → IfSeen o R
+if_seen_both None P Q R f h g = tt
+if_seen_both (Some w) P Q R f h g = f w h g
+
+-- ---- what is done where the client has its uuid
+has_uuid : (o : Option Uuid) → is_some o ≡ true → (id : Uuid) × (o ≡ Some id)
+has_uuid None e = cc
+has_uuid (Some id) e = (id, refl)
+
+missing : (o : Option Uuid) → is_some o ≡ false → o ≡ None
+missing None e = refl
+missing (Some id) e = cc
+
+pub not_born : {A : Type 0} (records : List ClientRecord) (r : Replica) (go : Uuid → ClientStep A) → Keeps records r → is_some r.id ≡ false → if_born (client_of the_profile records).id go ≡ refuse NotBorn
+not_born records r go k none = ap (λ o. if_born o go) (ap (λ (c : Model Instr State). c.id) k.stands_for ∙ missing r.id none)
+
+pub is_born : {A : Type 0} (records : List ClientRecord) (r : Replica) (go : Uuid → ClientStep A) → Keeps records r → is_some r.id ≡ true → (id : Uuid) × (if_born (client_of the_profile records).id go ≡ go id)
+is_born records r go k some = let h = has_uuid r.id some in (h.0, ap (λ o. if_born o go) (ap (λ (c : Model Instr State). c.id) k.stands_for ∙ h.1))
+
+module _ {D : Type 0} {G : Ghosts D} where
+  pub did_refuse : {A : Type 0} (did : ClientStep A) (why : ClientRefusal) (records : List ClientRecord) (c : Client D G) → did ≡ refuse why → IsClientOf records c → Did did (Err why) records c
+  did_refuse did why records c is k = did_none did (Err why) records c (ap (λ d. d.records) is) (ap (λ d. d.answer) is) k
+
+-- ---- transactions
+committing : (records : List ClientRecord) (r : Replica) (ms : ℕ) (edits : List Instr) (k : Keeps records r) → is_some r.id ≡ true → commit the_profile (client_of the_profile records) ms edits ≡ commit_born the_profile (seen k.past r) ms edits
+committing records r ms edits k some =
+    (is_born records r (λ id. commit_born the_profile (client_of the_profile records) ms edits) k some).1
+    ∙ ap (λ c. commit_born the_profile c ms edits) k.stands_for
+
+pub commit_is : (records : List ClientRecord) (r s : Replica) (ms : ℕ) (edits : List Instr) (m : Made) (k : Keeps records r) → is_some r.id ≡ true → Commits k.past r s ms edits (Ok m)
+    → commit the_profile (client_of the_profile records) ms edits ≡ appends (ClientRecord.Made m.number ms m.body.items) m.number
+commit_is records r s ms edits m k some did = committing records r ms edits k some ∙ did.step
+
+pub commit_keeps : (records : List ClientRecord) (r s : Replica) (ms : ℕ) (edits : List Instr) (m : Made) (k : Keeps records r) → is_some r.id ≡ true → Commits k.past r s ms edits (Ok m) → m.number ≤ 4294967295
+    → Keeps (records ++ ClientRecord.Made m.number ms m.body.items ∷ []) s
+commit_keeps records r s ms edits m k some did small =
+    keeps_next records (ClientRecord.Made m.number ms m.body.items) r s (and_made k.past (next_original r m.number ms edits)) k
+    (subst (λ d. client_opens the_profile (client_of the_profile records) d.records ≡ true) (commit_is records r s ms edits m k some did) (commit_opens the_profile real_lawful (client_of the_profile records) (calm the_profile records k.opens) ms edits).0)
+    small
+    did.after
+    (length-append k.past.made (next_original r m.number ms edits ∷ []) ∙ add-one (length k.past.made) ∙ ap suc k.count ∙ sym did.count)
+
+module _ {D : Type 0} {G : Ghosts D} where
+  pub commit_refused : (records : List ClientRecord) (c n : Client D G) (s : Replica) (ms : ℕ) (edits : List Instr) (why : CodeRefusal) (k : IsClientOf records c) → is_some c.replica.id ≡ true
+      → IfSeen (refusal_seen why) (Uncommitted k.kept.past c.replica s ms edits) → IfSeen (refusal_seen why) (λ w. n ≡ record c { replica = s })
+      → IfSeen (refusal_seen why) (λ w. Did (commit the_profile (client_of the_profile records) ms edits) (Err w) records n)
+  commit_refused records c n s ms edits why k some did same =
+      if_seen_both (refusal_seen why) (Uncommitted k.kept.past c.replica s ms edits) (λ w. n ≡ record c { replica = s }) (λ w. Did (commit the_profile (client_of the_profile records) ms edits) (Err w) records n)
+      (λ w h g. did_refuse (commit the_profile (client_of the_profile records) ms edits) w records n (committing records c.replica ms edits k.kept some ∙ h.step)
+      (subst (IsClientOf records) (sym (g ∙ ap (λ (r : Replica). record c { replica = r }) h.unchanged)) k))
+      did same
+
+-- ---- the form
+pub upgrade_is : (records : List ClientRecord) (r : Replica) → Keeps records r → is_some r.id ≡ true → r.second ≡ false → upgrade (client_of the_profile records) ≡ appends ClientRecord.Form true
+upgrade_is records r k some first =
+    (is_born records r (λ id. if (client_of the_profile records).second then answers false else appends ClientRecord.Form true) k some).1
+    ∙ ap (λ (c : Model Instr State). if c.second then answers false else appends ClientRecord.Form true) k.stands_for
+    ∙ ap (λ b. if b then answers false else appends ClientRecord.Form true) first
+
+pub upgraded_is : (records : List ClientRecord) (r : Replica) → Keeps records r → is_some r.id ≡ true → r.second ≡ true → upgrade (client_of the_profile records) ≡ answers false
+upgraded_is records r k some second =
+    (is_born records r (λ id. if (client_of the_profile records).second then answers false else appends ClientRecord.Form true) k some).1
+    ∙ ap (λ (c : Model Instr State). if c.second then answers false else appends ClientRecord.Form true) k.stands_for
+    ∙ ap (λ b. if b then answers false else appends ClientRecord.Form true) second
+
+pub upgrade_keeps : (records : List ClientRecord) (r : Replica) → Keeps records r → is_some r.id ≡ true → r.second ≡ false → Keeps (records ++ ClientRecord.Form ∷ []) (record r { second = true })
+upgrade_keeps records r k some first =
+    keeps_next records ClientRecord.Form r (record r { second = true }) k.past k (subst (λ d. client_opens the_profile (client_of the_profile records) d.records ≡ true) (upgrade_is records r k some first) (upgrade_opens the_profile real_lawful (client_of the_profile records) (calm the_profile records k.opens)).0) tt refl k.count
+
+-- ---- tables
+abbrev behind_tables : Tables → Model Instr State → ClientStep ⊤
+behind_tables tables c = subscribed_once {A = ⊤} c.subset (if is_late c then refuse TooLate else appends (ClientRecord.Subset tables) tt)
+
+subscribing : (records : List ClientRecord) (r : Replica) (tables : Tables) (k : Keeps records r) → is_some r.id ≡ true → subscribe (client_of the_profile records) tables ≡ behind_tables tables (seen k.past r)
+subscribing records r tables k some = (is_born {A = ⊤} records r (λ id. behind_tables tables (client_of the_profile records)) k some).1 ∙ ap (behind_tables tables) k.stands_for
+
+no_tables : (o : Option Tables) → is_some o ≡ false → o ≡ None
+no_tables None e = refl
+no_tables (Some t) e = cc
+
+has_tables : (o : Option Tables) (did : ClientStep ⊤) → is_some o ≡ true → subscribed_once {A = ⊤} o did ≡ refuse Subscribed
+has_tables None did e = cc
+has_tables (Some t) did e = refl
+
+pub subscribed_is : (records : List ClientRecord) (r : Replica) (tables : Tables) → Keeps records r → is_some r.id ≡ true → is_some r.subset ≡ true → subscribe (client_of the_profile records) tables ≡ refuse Subscribed
+subscribed_is records r tables k some again = subscribing records r tables k some ∙ has_tables r.subset _ again
+
+unless_late : (records : List ClientRecord) (r : Replica) (tables : Tables) (k : Keeps records r) (late : Bool) → is_some r.id ≡ true → is_some r.subset ≡ false → is_late (seen k.past r) ≡ late
+    → subscribe (client_of the_profile records) tables ≡ (if late then refuse TooLate else appends (ClientRecord.Subset tables) tt)
+unless_late records r tables k late some first e =
+    subscribing records r tables k some
+    ∙ ap (λ o. subscribed_once {A = ⊤} o (if is_late (seen k.past r) then refuse TooLate else appends (ClientRecord.Subset tables) tt)) (no_tables r.subset first)
+    ∙ ap (λ b. if b then refuse TooLate else appends (ClientRecord.Subset tables) tt) e
+
+pub late_is : (records : List ClientRecord) (r : Replica) (tables : Tables) (k : Keeps records r) → is_some r.id ≡ true → is_some r.subset ≡ false → is_late (seen k.past r) ≡ true → subscribe (client_of the_profile records) tables ≡ refuse TooLate
+late_is records r tables k some first late = unless_late records r tables k true some first late
+
+pub subscribe_is : (records : List ClientRecord) (r : Replica) (tables : Tables) (k : Keeps records r) → is_some r.id ≡ true → is_some r.subset ≡ false → is_late (seen k.past r) ≡ false → subscribe (client_of the_profile records) tables ≡ appends (ClientRecord.Subset tables) tt
+subscribe_is records r tables k some first early = unless_late records r tables k false some first early
+
+pub subscribe_keeps : (records : List ClientRecord) (r : Replica) (tables : Tables) (k : Keeps records r) → is_some r.id ≡ true → is_some r.subset ≡ false → is_late (seen k.past r) ≡ false → Keeps (records ++ ClientRecord.Subset tables ∷ []) (record r { subset = Some tables })
+subscribe_keeps records r tables k some first early =
+    keeps_next records (ClientRecord.Subset tables) r (record r { subset = Some tables }) k.past k
+    (subst (λ d. client_opens the_profile (client_of the_profile records) d.records ≡ true) (subscribe_is records r tables k some first early) (subscribe_opens the_profile real_lawful (client_of the_profile records) (calm the_profile records k.opens) tables).0) tt refl k.count
+
+-- ---- refusals of a client in memory
+abbrev Told : Type 0 → CodeRefusal → CodeRefusal → Type 0
+Told A why other = ◌≡◌ {A = Result A CodeRefusal} (Err why) (Err other)
+
+module _ {A : Type 0} where
+  same_told : (why other : CodeRefusal) → Told A why other → why ≡ other
+  same_told why other e = cc
+
+  pub plain_closed : (why refusal : CodeRefusal) (b : Bool) → why ≡ refusal → IsPlain refusal → b ≡ false → Told A why codes.Closed ↔ (b ≡ true)
+  plain_closed why refusal b same plain open_ = (λ e. absurd (subst IsPlain (sym same ∙ same_told why codes.Closed e) plain), λ e. absurd (false_true (sym open_ ∙ e)))
+    where
+      false_true : false ≡ true → ⊥
+      false_true e = cc
+
+  pub plain_shut : {P : Type 0} (why refusal : CodeRefusal) → why ≡ refusal → IsPlain refusal → Told A why codes.Closed → P
+  plain_shut why refusal same plain e = absurd (subst IsPlain (sym same ∙ same_told why codes.Closed e) plain)
+
+  pub plain_fault : {P : Type 0} (why refusal : CodeRefusal) → why ≡ refusal → IsPlain refusal → Told A why codes.DiskFault → P
+  plain_fault why refusal same plain e = absurd (subst IsPlain (sym same ∙ same_told why codes.DiskFault e) plain)
+
+  pub plain_closes : (why refusal : CodeRefusal) (b : Bool) → why ≡ refusal → IsPlain refusal → (refusal ≡ codes.NoMemory → b ≡ true) → Told A why codes.DiskFault ⊎ Told A why codes.NoMemory → b ≡ true
+  plain_closes why refusal b same plain closes (inl e) = plain_fault why refusal same plain e
+  plain_closes why refusal b same plain closes (inr e) = closes (sym same ∙ same_told why codes.NoMemory e)
+
+-- a record that can't be added is told elsewhere
+pub unseen : (why : CodeRefusal) (P : ClientRefusal → Type 0) → (why ≡ codes.DiskFault) ⊎ (why ≡ codes.NoMemory) → IfSeen (refusal_seen why) P
+unseen why P (inl e) = subst (λ w. IfSeen (refusal_seen w) P) (sym e) tt
+unseen why P (inr e) = subst (λ w. IfSeen (refusal_seen w) P) (sym e) tt
+
+module _ {D : Type 0} {G : Ghosts D} where
+  pub commit_says : (records : List ClientRecord) (r s : Replica) (n : Client D G) (ms : ℕ) (edits : List Instr) (m : Made) (a : Result ℕ CodeRefusal) (k : Keeps records r) → is_some r.id ≡ true → Commits k.past r s ms edits (Ok m)
+      → m.number ≤ 4294967295 → IfOk a (λ number. number ≡ m.number) → n.replica ≡ s → OnOk a (n.closed ≡ false) → IfErr a (λ why. (why ≡ codes.DiskFault) ⊎ (why ≡ codes.NoMemory))
+      → Says (commit the_profile (client_of the_profile records) ms edits) records n a
+  commit_says records r s n ms edits m (Ok number) k some did small is same open_ refused =
+      did_append (commit the_profile (client_of the_profile records) ms edits) (ClientRecord.Made m.number ms m.body.items) number records n
+      (commit_is records r s ms edits m k some did ∙ ap (λ (j : ℕ). appends (ClientRecord.Made m.number ms m.body.items) j) (sym is))
+      (subst (Keeps (records ++ ClientRecord.Made m.number ms m.body.items ∷ [])) (sym same) (commit_keeps records r s ms edits m k some did small)) open_
+  commit_says records r s n ms edits m (Err why) k some did small is same open_ refused = unseen why _ refused

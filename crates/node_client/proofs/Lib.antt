@@ -1,0 +1,17 @@
+pub mod Needs
+pub mod Outside
+pub mod Acting
+pub mod Small
+pub mod Refusing
+pub mod Committing
+pub mod Admitting
+pub mod Calls
+pub mod Taken
+pub mod Downloads
+pub mod Records
+pub mod Asking
+pub mod Uploads
+pub mod Leaving
+pub mod Strokes
+pub mod OneEntry
+pub mod BadFiles

@@ -1,0 +1,11 @@
+pub mod Seen
+pub mod Refusals
+pub mod Entries
+pub mod Transactions
+pub mod Keeping
+pub mod Clients
+pub mod Taking
+pub mod Opening
+pub mod Reading
+pub mod Files
+pub mod Sending

@@ -1,0 +1,39 @@
+-- How a client is read from the bytes of its records.
+use Rattle.std.specs.Prelude.{◌≡◌, ℕ, Bool, true, false, List, [], ◌∷◌, ◌++◌, map, Option, Result, Ok, Err}
+use Rattle.sync_data.specs.declared.memory.NoMemory.{NoMemory}
+use Rattle.node_model.specs.Clients.{ClientRecord, client_of, no_client}
+use Rattle.node_model.specs.Files.{client_admits, client_reads, read_one, read_put}
+use Rattle.node_instance.specs.Profile.{the_profile}
+use Rattle.node_instance.specs.Seen.{client_bytes, read_client}
+use Rattle.node_client.specs.declared.opening.ReadRefusal.{ReadRefusal}
+use Rattle.node_client.specs.declared.opening.ReadRefusal.TheVariants as refusals
+use Rattle.node_client.specs.declared.replica.Replica.{Replica}
+use Rattle.node_client.specs.Keeping.{Keeps}
+
+-- what reading one record gives before those that are ahead, whatever is done with them
+abbrev pub Next : List ClientRecord → List (Option ClientRecord) → List ℕ → (ClientRecord → Result (List ClientRecord) ℕ) → Result (List ClientRecord) ℕ
+Next records ahead bytes go = read_one (read_client bytes) (client_admits the_profile (client_of the_profile records) ahead) go
+
+-- the bytes are a record that a client of these records writes next
+pub record ReadOn (records : List ClientRecord) (new : Replica) (bytes : List ℕ) : Type 0 where
+  pub next : ClientRecord
+  pub spelled : bytes ≡ client_bytes next
+  pub goes_on : (ahead : List (Option ClientRecord)) (go : ClientRecord → Result (List ClientRecord) ℕ) → Next records ahead bytes go ≡ read_put next (go next)
+  pub keeps : Keeps (records ++ next ∷ []) new
+
+abbrev pub ReadsOne : List ClientRecord → Replica → List ℕ → Result Bool NoMemory → Type 0
+ReadsOne records new bytes (Ok true) = ReadOn records new bytes
+ReadsOne records new bytes (Ok false) = (ahead : List (Option ClientRecord)) (go : ClientRecord → Result (List ClientRecord) ℕ) → Next records ahead bytes go ≡ Err 0
+ReadsOne records new bytes (Err e) = Unit {0}
+
+-- the records of these bytes, each read back from its own; the replica is what they stand for
+pub record ReadAll (file : List (List ℕ)) (new : Replica) : Type 0 where
+  pub records : List ClientRecord
+  pub reads : client_reads the_profile read_client (no_client the_profile) file ≡ Ok records
+  pub spelled : map client_bytes records ≡ file
+  pub keeps : Keeps records new
+
+abbrev pub Reads : List (List ℕ) → Replica → Result (Unit {0}) ReadRefusal → Type 0
+Reads file new (Ok u) = ReadAll file new
+Reads file new (Err (refusals.BadRecord place)) = client_reads the_profile read_client (no_client the_profile) file ≡ Err place
+Reads file new (Err refusals.NoMemory) = Unit {0}

@@ -1,0 +1,289 @@
+ghost use Rattle.std.specs.Prelude.{◌≡◌, ◌↔◌, ◌⊎◌, ◌≤◌, ◌++◌, ◌∷◌, [], ℕ, List, length, map, Some, IsErrOf, IfErr, IfOk, OnOk, OnErr, true, false};
+ghost use Rattle.std.specs.Result.{result_err};
+ghost use Rattle.sync_disk.specs.Disk.{LeavesOnly, Rose, SameDisk, Told};
+ghost use Rattle.sync_disk.specs.Faults.{armed, begun, disarmed, has_stopped};
+ghost use Rattle.node_model.specs.Clients as model;
+ghost use Rattle.node_instance.specs.Profile.{the_profile};
+ghost use Rattle.node_instance.specs.Seen.{client_bytes, client_seen};
+ghost use Rattle.sync_journal.specs.Records.{StandsForPrefix};
+ghost use Rattle.sync_journal.specs.Stands.{Stands, disk_of};
+ghost use Rattle.node_client.specs.Refusals.{refusal_seen, IfSeen};
+
+use crate::refusal::ClientRefusal;
+use crate::replica::Replica;
+use crate::transactions::Made;
+use node_records::ClientRecord;
+use std::alloc::Global;
+use sync_data::{Blob, Id, Instr};
+use sync_disk::{Disk, Leaves, MemoryDisk};
+use sync_journal::{Journal, JournalRefusal};
+use sync_subset::Subset;
+
+/// A client over a disk: its journal, its objects, its cursor (the number of entries of the history that it has taken) and
+/// its unsent changesets.
+#[derive(Drop)]
+pub struct Client<D: Disk> {
+    pub(crate) alloc: Global,
+    pub(crate) journal: Journal<D>,
+    pub(crate) replica: Replica,
+    pub(crate) closed: bool,
+}
+
+impl<D: Disk> Client<D> {
+    ghost use Rattle.node_client.specs.Clients.{Asked, AskedFor, IsClientOf, IsStored, LeavesPrefix, Says, Stores, is_closed, journal_of, replica_of};
+
+    /// Records the client's uuid. Errors: Closed, AlreadyBorn, DiskFault, NoMemory.
+    pub fn born(&mut self, id: Id) -> Result<(), ClientRefusal>
+        ensures step { (records : List model.ClientRecord) → IsClientOf records self.old → Says (model.born (model.client_of the_profile records) id) records self.new result }
+        ensures stored { (records : List model.ClientRecord) → IsClientOf records self.old → IsStored D.content D.images records self.old → Stores D.content D.images (model.born (model.client_of the_profile records) id) records self.new result }
+        ensures any_moment { (records : List model.ClientRecord) → IsClientOf records self.old → IsStored D.content D.images records self.old
+            → LeavesOnly D.moment D.images_since (disk_of (journal_of self.old)) (disk_of (journal_of self.new)) (StandsForPrefix (map client_bytes records) (map client_bytes (model.born (model.client_of the_profile records) id).records)) }
+        ensures strokes { (records : List model.ClientRecord) → IsClientOf records self.old → IsStored D.content D.images records self.old → Asked D.strokes (model.born (model.client_of the_profile records) id) self.old self.new result }
+        ensures closed { IsErrOf result ClientRefusal.Closed ↔ (is_closed self.old ≡ true) }
+        ensures shut { IsErrOf result ClientRefusal.Closed → self.new ≡ self.old }
+        ensures closes { IsErrOf result ClientRefusal.DiskFault ⊎ IsErrOf result ClientRefusal.NoMemory → is_closed self.new ≡ true }
+        ensures later { D.faults (disk_of (journal_of self.old)) ≤ D.faults (disk_of (journal_of self.new)) }
+        ensures fault { IsErrOf result ClientRefusal.DiskFault → Rose (D.faults (disk_of (journal_of self.old))) (D.faults (disk_of (journal_of self.new))) }
+        ensures origin { D.origin (disk_of (journal_of self.new)) ≡ D.origin (disk_of (journal_of self.old)) }
+        ensures told { Told (D.content (disk_of (journal_of self.old))) (λ b. (c : List ℕ) × (D.content (disk_of (journal_of self.new)) ≡ Some c)) }
+    {
+        if self.closed {
+            return Err(ClientRefusal::Closed);
+        }
+        if self.replica.id.is_some() {
+            return Err(ClientRefusal::AlreadyBorn);
+        }
+        match self.append(&ClientRecord::Born { id }) {
+            Ok(()) => {}
+            Err(refusal) => return Err(refusal),
+        }
+        self.replica.id = Some(id);
+        Ok(())
+    }
+
+    /// One transaction on the client's objects, at that time in milliseconds since the epoch. It answers its number, counted
+    /// from 1, once it is on the disk; its base is the cursor. An empty one is accepted, and a client may commit before it has
+    /// an ident. Errors, in this order: Closed, NotBorn, TooLarge, NumbersFull, OldForm, NotSubscribed,
+    /// Break; and DiskFault, NoMemory.
+    pub fn commit(&mut self, ms: u64, edits: Vec<Instr>) -> Result<u32, ClientRefusal>
+        ensures step { (records : List model.ClientRecord) → IsClientOf records self.old → Says (model.commit the_profile (model.client_of the_profile records) ms edits.items) records self.new result }
+        ensures stored { (records : List model.ClientRecord) → IsClientOf records self.old → IsStored D.content D.images records self.old → Stores D.content D.images (model.commit the_profile (model.client_of the_profile records) ms edits.items) records self.new result }
+        ensures any_moment { (records : List model.ClientRecord) → IsClientOf records self.old → IsStored D.content D.images records self.old
+            → LeavesOnly D.moment D.images_since (disk_of (journal_of self.old)) (disk_of (journal_of self.new)) (StandsForPrefix (map client_bytes records) (map client_bytes (model.commit the_profile (model.client_of the_profile records) ms edits.items).records)) }
+        ensures strokes { (records : List model.ClientRecord) → IsClientOf records self.old → IsStored D.content D.images records self.old → Asked D.strokes (model.commit the_profile (model.client_of the_profile records) ms edits.items) self.old self.new result }
+        ensures closed { IsErrOf result ClientRefusal.Closed ↔ (is_closed self.old ≡ true) }
+        ensures shut { IsErrOf result ClientRefusal.Closed → self.new ≡ self.old }
+        ensures closes { IsErrOf result ClientRefusal.DiskFault ⊎ IsErrOf result ClientRefusal.NoMemory → is_closed self.new ≡ true }
+        ensures later { D.faults (disk_of (journal_of self.old)) ≤ D.faults (disk_of (journal_of self.new)) }
+        ensures fault { IsErrOf result ClientRefusal.DiskFault → Rose (D.faults (disk_of (journal_of self.old))) (D.faults (disk_of (journal_of self.new))) }
+        ensures origin { D.origin (disk_of (journal_of self.new)) ≡ D.origin (disk_of (journal_of self.old)) }
+        ensures told { Told (D.content (disk_of (journal_of self.old))) (λ b. (c : List ℕ) × (D.content (disk_of (journal_of self.new)) ≡ Some c)) }
+    {
+        if self.closed {
+            return Err(ClientRefusal::Closed);
+        }
+        if self.replica.id.is_none() {
+            return Err(ClientRefusal::NotBorn);
+        }
+        let made = match self.replica.make(self.alloc, ms, edits) {
+            Ok(made) => made,
+            Err(refusal) => return Err(self.refused(refusal)),
+        };
+        self.append_made(ms, made)
+    }
+
+    /// The record of a transaction.
+    fn append_made(&mut self, ms: u64, made: Made) -> Result<u32, ClientRefusal>
+        requires { is_closed self.old ≡ false }
+        ensures stored { (records : List model.ClientRecord) → IsStored D.content D.images records self.old → OnOk result (IsStored D.content D.images (records ++ model.Made made.number ms made.body.items ∷ []) self.new) }
+        ensures any_moment { LeavesPrefix D.content D.images D.moment D.images_since (model.Made made.number ms made.body.items ∷ []) self.old self.new }
+        ensures strokes { Told (D.content (disk_of (journal_of self.old))) (λ b. AskedFor D.strokes (model.Made made.number ms made.body.items ∷ []) (journal_of self.old) (journal_of self.new) (result_err result)) }
+        ensures number { IfOk result (λ number. number ≡ made.number) }
+        ensures replica { replica_of self.new ≡ replica_of self.old }
+        ensures stays_open { OnOk result (is_closed self.new ≡ false) }
+        ensures closes { OnErr result (is_closed self.new ≡ true) }
+        ensures refused { IfErr result (λ why. (why ≡ ClientRefusal.DiskFault) ⊎ (why ≡ ClientRefusal.NoMemory)) }
+        ensures later { D.faults (disk_of (journal_of self.old)) ≤ D.faults (disk_of (journal_of self.new)) }
+        ensures fault { IsErrOf result ClientRefusal.DiskFault → Rose (D.faults (disk_of (journal_of self.old))) (D.faults (disk_of (journal_of self.new))) }
+        ensures origin { D.origin (disk_of (journal_of self.new)) ≡ D.origin (disk_of (journal_of self.old)) }
+        ensures told { Told (D.content (disk_of (journal_of self.old))) (λ b. (c : List ℕ) × (D.content (disk_of (journal_of self.new)) ≡ Some c)) }
+    {
+        let Ok(body) = Blob::new(self.alloc, made.body.as_slice()) else {
+            self.closed = true;
+            return Err(ClientRefusal::NoMemory);
+        };
+        let number = made.number;
+        match self.append(&ClientRecord::Made { number, ms, body }) {
+            Ok(()) => Ok(number),
+            Err(refusal) => Err(refusal),
+        }
+    }
+
+    /// From now on the file may hold changesets of version 2: true where it is new. Errors: Closed, NotBorn, DiskFault,
+    /// NoMemory.
+    pub fn upgrade(&mut self) -> Result<bool, ClientRefusal>
+        ensures step { (records : List model.ClientRecord) → IsClientOf records self.old → Says (model.upgrade (model.client_of the_profile records)) records self.new result }
+        ensures stored { (records : List model.ClientRecord) → IsClientOf records self.old → IsStored D.content D.images records self.old → Stores D.content D.images (model.upgrade (model.client_of the_profile records)) records self.new result }
+        ensures any_moment { (records : List model.ClientRecord) → IsClientOf records self.old → IsStored D.content D.images records self.old
+            → LeavesOnly D.moment D.images_since (disk_of (journal_of self.old)) (disk_of (journal_of self.new)) (StandsForPrefix (map client_bytes records) (map client_bytes (model.upgrade (model.client_of the_profile records)).records)) }
+        ensures strokes { (records : List model.ClientRecord) → IsClientOf records self.old → IsStored D.content D.images records self.old → Asked D.strokes (model.upgrade (model.client_of the_profile records)) self.old self.new result }
+        ensures closed { IsErrOf result ClientRefusal.Closed ↔ (is_closed self.old ≡ true) }
+        ensures shut { IsErrOf result ClientRefusal.Closed → self.new ≡ self.old }
+        ensures closes { IsErrOf result ClientRefusal.DiskFault ⊎ IsErrOf result ClientRefusal.NoMemory → is_closed self.new ≡ true }
+        ensures later { D.faults (disk_of (journal_of self.old)) ≤ D.faults (disk_of (journal_of self.new)) }
+        ensures fault { IsErrOf result ClientRefusal.DiskFault → Rose (D.faults (disk_of (journal_of self.old))) (D.faults (disk_of (journal_of self.new))) }
+        ensures origin { D.origin (disk_of (journal_of self.new)) ≡ D.origin (disk_of (journal_of self.old)) }
+        ensures told { Told (D.content (disk_of (journal_of self.old))) (λ b. (c : List ℕ) × (D.content (disk_of (journal_of self.new)) ≡ Some c)) }
+    {
+        if self.closed {
+            return Err(ClientRefusal::Closed);
+        }
+        if self.replica.id.is_none() {
+            return Err(ClientRefusal::NotBorn);
+        }
+        if self.replica.second {
+            return Ok(false);
+        }
+        match self.append(&ClientRecord::Form) {
+            Ok(()) => {}
+            Err(refusal) => return Err(refusal),
+        }
+        self.replica.second = true;
+        Ok(true)
+    }
+
+    /// From now on the client makes and gets changes of these tables alone. Errors, in this order: Closed, NotBorn,
+    /// Subscribed, TooLate; and DiskFault, NoMemory.
+    pub fn subscribe(&mut self, tables: Subset) -> Result<(), ClientRefusal>
+        ensures step { (records : List model.ClientRecord) → IsClientOf records self.old → Says (model.subscribe (model.client_of the_profile records) tables) records self.new result }
+        ensures stored { (records : List model.ClientRecord) → IsClientOf records self.old → IsStored D.content D.images records self.old → Stores D.content D.images (model.subscribe (model.client_of the_profile records) tables) records self.new result }
+        ensures any_moment { (records : List model.ClientRecord) → IsClientOf records self.old → IsStored D.content D.images records self.old
+            → LeavesOnly D.moment D.images_since (disk_of (journal_of self.old)) (disk_of (journal_of self.new)) (StandsForPrefix (map client_bytes records) (map client_bytes (model.subscribe (model.client_of the_profile records) tables).records)) }
+        ensures strokes { (records : List model.ClientRecord) → IsClientOf records self.old → IsStored D.content D.images records self.old → Asked D.strokes (model.subscribe (model.client_of the_profile records) tables) self.old self.new result }
+        ensures closed { IsErrOf result ClientRefusal.Closed ↔ (is_closed self.old ≡ true) }
+        ensures shut { IsErrOf result ClientRefusal.Closed → self.new ≡ self.old }
+        ensures closes { IsErrOf result ClientRefusal.DiskFault ⊎ IsErrOf result ClientRefusal.NoMemory → is_closed self.new ≡ true }
+        ensures later { D.faults (disk_of (journal_of self.old)) ≤ D.faults (disk_of (journal_of self.new)) }
+        ensures fault { IsErrOf result ClientRefusal.DiskFault → Rose (D.faults (disk_of (journal_of self.old))) (D.faults (disk_of (journal_of self.new))) }
+        ensures origin { D.origin (disk_of (journal_of self.new)) ≡ D.origin (disk_of (journal_of self.old)) }
+        ensures told { Told (D.content (disk_of (journal_of self.old))) (λ b. (c : List ℕ) × (D.content (disk_of (journal_of self.new)) ≡ Some c)) }
+    {
+        if self.closed {
+            return Err(ClientRefusal::Closed);
+        }
+        if self.replica.id.is_none() {
+            return Err(ClientRefusal::NotBorn);
+        }
+        if self.replica.subset.is_some() {
+            return Err(ClientRefusal::Subscribed);
+        }
+        if self.replica.is_late() {
+            return Err(ClientRefusal::TooLate);
+        }
+        let Ok(copy) = tables.copy() else {
+            self.closed = true;
+            return Err(ClientRefusal::NoMemory);
+        };
+        match self.append(&ClientRecord::Subset { tables: copy }) {
+            Ok(()) => {}
+            Err(refusal) => return Err(refusal),
+        }
+        self.replica.subset = Some(tables);
+        Ok(())
+    }
+
+    /// Want of memory closes the client.
+    pub(crate) fn refused(&mut self, refusal: ClientRefusal) -> ClientRefusal
+        ensures same { result ≡ refusal }
+        ensures unchanged { IfSeen (refusal_seen refusal) (λ _. self.new ≡ self.old) }
+        ensures journal { journal_of self.new ≡ journal_of self.old }
+        ensures closes { refusal ≡ ClientRefusal.NoMemory → is_closed self.new ≡ true }
+    {
+        if refusal == ClientRefusal::NoMemory {
+            self.closed = true;
+        }
+        refusal
+    }
+
+    /// Adds a record to the journal. It closes the client where that fails.
+    pub(crate) fn append(&mut self, added: &ClientRecord) -> Result<(), ClientRefusal>
+        requires { is_closed self.old ≡ false }
+        ensures stored { (records : List model.ClientRecord) → IsStored D.content D.images records self.old → OnOk result (IsStored D.content D.images (records ++ client_seen added.now ∷ []) self.new) }
+        ensures any_moment { LeavesPrefix D.content D.images D.moment D.images_since (client_seen added.now ∷ []) self.old self.new }
+        ensures strokes { Told (D.content (disk_of (journal_of self.old))) (λ b. AskedFor D.strokes (client_seen added.now ∷ []) (journal_of self.old) (journal_of self.new) (result_err result)) }
+        ensures replica { replica_of self.new ≡ replica_of self.old }
+        ensures stays_open { OnOk result (is_closed self.new ≡ false) }
+        ensures closes { IsErrOf result ClientRefusal.DiskFault ⊎ IsErrOf result ClientRefusal.NoMemory → is_closed self.new ≡ true }
+        ensures refused { IfErr result (λ why. (why ≡ ClientRefusal.DiskFault) ⊎ (why ≡ ClientRefusal.NoMemory)) }
+        ensures later { D.faults (disk_of (journal_of self.old)) ≤ D.faults (disk_of (journal_of self.new)) }
+        ensures fault { IsErrOf result ClientRefusal.DiskFault → Rose (D.faults (disk_of (journal_of self.old))) (D.faults (disk_of (journal_of self.new))) }
+        ensures origin { D.origin (disk_of (journal_of self.new)) ≡ D.origin (disk_of (journal_of self.old)) }
+        ensures told { Told (D.content (disk_of (journal_of self.old))) (λ b. (c : List ℕ) × (D.content (disk_of (journal_of self.new)) ≡ Some c)) }
+    {
+        let Ok(bytes) = added.record_bytes(self.alloc) else {
+            self.closed = true;
+            return Err(ClientRefusal::NoMemory);
+        };
+        match self.journal.append(bytes.as_slice()) {
+            Ok(()) => Ok(()),
+            Err(JournalRefusal::DiskFault) => {
+                self.closed = true;
+                Err(ClientRefusal::DiskFault)
+            }
+            Err(_) => {
+                self.closed = true;
+                Err(ClientRefusal::NoMemory)
+            }
+        }
+    }
+}
+
+impl Client<MemoryDisk> {
+    ghost use Rattle.node_client.specs.Clients.{is_closed, journal_of, replica_of};
+
+    /// Arms the disk that it holds, and changes nothing else.
+    pub fn arm(&mut self, at: u32, leaves: Leaves)
+        requires { 1 ≤ at }
+        ensures origin { ⟦<MemoryDisk as Disk>⟧.origin (disk_of (journal_of self.new)) ≡ armed at leaves (⟦<MemoryDisk as Disk>⟧.origin (disk_of (journal_of self.old))) (length (⟦<MemoryDisk as Disk>⟧.strokes (disk_of (journal_of self.old)))) }
+        ensures same { SameDisk ⟦<MemoryDisk as Disk>⟧.content ⟦<MemoryDisk as Disk>⟧.strokes ⟦<MemoryDisk as Disk>⟧.images ⟦<MemoryDisk as Disk>⟧.faults ⟦<MemoryDisk as Disk>⟧.failing (disk_of (journal_of self.old)) (disk_of (journal_of self.new)) }
+        ensures closed { is_closed self.new ≡ is_closed self.old }
+        ensures replica { replica_of self.new ≡ replica_of self.old }
+        ensures stands { (records : List (List ℕ)) → Stands ⟦<MemoryDisk as Disk>⟧.content ⟦<MemoryDisk as Disk>⟧.images records (journal_of self.old)
+            → Stands ⟦<MemoryDisk as Disk>⟧.content ⟦<MemoryDisk as Disk>⟧.images records (journal_of self.new) }
+    {
+        self.journal.arm(at, leaves);
+    }
+
+    /// Disarms the disk that it holds, and changes nothing else.
+    pub fn disarm(&mut self)
+        ensures origin { ⟦<MemoryDisk as Disk>⟧.origin (disk_of (journal_of self.new)) ≡ disarmed (⟦<MemoryDisk as Disk>⟧.origin (disk_of (journal_of self.old))) (length (⟦<MemoryDisk as Disk>⟧.strokes (disk_of (journal_of self.old)))) }
+        ensures same { SameDisk ⟦<MemoryDisk as Disk>⟧.content ⟦<MemoryDisk as Disk>⟧.strokes ⟦<MemoryDisk as Disk>⟧.images ⟦<MemoryDisk as Disk>⟧.faults ⟦<MemoryDisk as Disk>⟧.failing (disk_of (journal_of self.old)) (disk_of (journal_of self.new)) }
+        ensures closed { is_closed self.new ≡ is_closed self.old }
+        ensures replica { replica_of self.new ≡ replica_of self.old }
+        ensures stands { (records : List (List ℕ)) → Stands ⟦<MemoryDisk as Disk>⟧.content ⟦<MemoryDisk as Disk>⟧.images records (journal_of self.old)
+            → Stands ⟦<MemoryDisk as Disk>⟧.content ⟦<MemoryDisk as Disk>⟧.images records (journal_of self.new) }
+    {
+        self.journal.disarm();
+    }
+
+    /// The disk that it holds begins its strokes anew with what it holds, which stands synced. It is no longer armed.
+    pub fn begin_anew(&mut self)
+        ensures content { ⟦<MemoryDisk as Disk>⟧.content (disk_of (journal_of self.new)) ≡ ⟦<MemoryDisk as Disk>⟧.content (disk_of (journal_of self.old)) }
+        ensures strokes { ⟦<MemoryDisk as Disk>⟧.strokes (disk_of (journal_of self.new)) ≡ [] }
+        ensures origin { (c : List ℕ) → ⟦<MemoryDisk as Disk>⟧.content (disk_of (journal_of self.new)) ≡ Some c
+            → ⟦<MemoryDisk as Disk>⟧.origin (disk_of (journal_of self.new)) ≡ begun c (⟦<MemoryDisk as Disk>⟧.origin (disk_of (journal_of self.old))) }
+        ensures closed { is_closed self.new ≡ is_closed self.old }
+        ensures replica { replica_of self.new ≡ replica_of self.old }
+        ensures stands { (records : List (List ℕ)) → Stands ⟦<MemoryDisk as Disk>⟧.content ⟦<MemoryDisk as Disk>⟧.images records (journal_of self.old)
+            → Stands ⟦<MemoryDisk as Disk>⟧.content ⟦<MemoryDisk as Disk>⟧.images records (journal_of self.new) }
+    {
+        self.journal.begin_anew();
+    }
+
+    /// Whether the disk that it holds has stopped.
+    pub fn stopped(&self) -> bool
+        ensures { result ≡ has_stopped (⟦<MemoryDisk as Disk>⟧.origin (disk_of (journal_of self.now))).stop (length (⟦<MemoryDisk as Disk>⟧.strokes (disk_of (journal_of self.now)))) }
+    {
+        self.journal.stopped()
+    }
+}

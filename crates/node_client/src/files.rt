@@ -1,0 +1,79 @@
+ghost use Rattle.std.specs.Prelude.{◌≡◌, ◌≤◌, ℕ, List, IfOk, IfErr, Some, false};
+ghost use Rattle.sync_disk.specs.Disk.{LeavesOnly, Rose, Told};
+ghost use Rattle.sync_disk.specs.Faults.{IsSound};
+ghost use Rattle.sync_journal.specs.Records.{lists, records_of};
+ghost use Rattle.sync_journal.specs.Records.Reading.{Good};
+ghost use Rattle.sync_journal.specs.Stands.{disk_of};
+ghost use Rattle.node_client.specs.Files.{BadRecordAt};
+ghost use Rattle.node_client.specs.Reading.{ReadAll};
+
+use crate::client::Client;
+use crate::opening::ReadRefusal;
+use crate::replica::Replica;
+use std::alloc::Global;
+use sync_disk::Disk;
+use sync_journal::{Journal, OpenCause, OpenRefusal, gate_of};
+
+impl<D: Disk> Client<D> {
+    ghost use Rattle.node_client.specs.Clients.{is_closed, journal_of, replica_of};
+    ghost use Rattle.node_client.specs.Files.{BadPlace, Opened};
+
+    /// Opens the client of a disk. Besides what a journal refuses, `BadFile` comes where a record isn't one that a client would
+    /// have written after those before it, with the place of its gate. An `Err` hands the disk back.
+    pub fn open(alloc: Global, disk: D) -> Result<Client<D>, OpenRefusal<D>>
+        ensures opened { Told (D.content disk) (λ b. IfOk result (Opened D.content D.images b)) }
+        ensures bad { Told (D.content disk) (λ b. IfErr result (λ e. (place : ℕ) → e.cause ≡ OpenCause.BadFile place → BadPlace b place)) }
+        ensures kept { Told (D.content disk) (λ b. IfErr result (λ e. (place : ℕ) → e.cause ≡ OpenCause.BadFile place → D.content e.disk ≡ Some b)) }
+
+        // Where each crash before would have left the same records, each crash since its start leaves them.
+        ensures any_moment { (records : List (List ℕ)) → Told (D.content disk) (λ b. ((c : List ℕ) → D.images disk c → records_of c ≡ Good records)
+            → IfOk result (λ client. LeavesOnly D.moment D.images_since disk (disk_of (journal_of client)) (λ c. records_of c ≡ Good records))) }
+        ensures any_moment_err { (records : List (List ℕ)) → Told (D.content disk) (λ b. ((c : List ℕ) → D.images disk c → records_of c ≡ Good records)
+            → IfErr result (λ e. LeavesOnly D.moment D.images_since disk e.disk (λ c. records_of c ≡ Good records))) }
+
+        // The disk: what no call changes, and the cause of a fault.
+        ensures origin { IfOk result (λ c. D.origin (disk_of (journal_of c)) ≡ D.origin disk) }
+        ensures origin_err { IfErr result (λ e. D.origin e.disk ≡ D.origin disk) }
+        ensures later { IfOk result (λ c. D.faults disk ≤ D.faults (disk_of (journal_of c))) }
+        ensures later_err { IfErr result (λ e. D.faults disk ≤ D.faults e.disk) }
+        ensures fault { IfErr result (λ e. e.cause ≡ OpenCause.DiskFault → Rose (D.faults disk) (D.faults e.disk)) }
+        ensures sound { Told (D.content disk) (λ b. IsSound (D.origin disk) → IfErr result (λ e. e.cause ≡ OpenCause.DiskFault → ⊥)) }
+    {
+        match Journal::open(alloc, disk) {
+            Ok((journal, records)) => Client::read_from(alloc, journal, records),
+            Err(refusal) => Err(refusal),
+        }
+    }
+
+    /// The client of a journal with these records.
+    fn read_from(
+        alloc: Global,
+        journal: Journal<D>,
+        records: Vec<Vec<u8>>,
+    ) -> Result<Client<D>, OpenRefusal<D>>
+        ensures journal { IfOk result (λ c. journal_of c ≡ journal) }
+        ensures open_ { IfOk result (λ c. is_closed c ≡ false) }
+        ensures read { IfOk result (λ c. ReadAll (lists records.items) (replica_of c)) }
+        ensures disk { IfErr result (λ e. e.disk ≡ disk_of journal) }
+        ensures bad { IfErr result (λ e. (place : ℕ) → e.cause ≡ OpenCause.BadFile place → BadRecordAt (lists records.items) place) }
+        ensures no_fault { IfErr result (λ e. e.cause ≡ OpenCause.DiskFault → ⊥) }
+    {
+        let mut replica = match Replica::new(alloc) {
+            Ok(replica) => replica,
+            Err(_) => return Err(journal.refuse(OpenCause::NoMemory)),
+        };
+        match replica.admit_all(alloc, records.as_slice()) {
+            Ok(()) => Ok(Client {
+                alloc,
+                journal,
+                replica,
+                closed: false,
+            }),
+            Err(ReadRefusal::NoMemory) => Err(journal.refuse(OpenCause::NoMemory)),
+            Err(ReadRefusal::BadRecord { place }) => {
+                let place = gate_of(records.as_slice(), place);
+                Err(journal.refuse(OpenCause::BadFile { place }))
+            }
+        }
+    }
+}

@@ -1,0 +1,2 @@
+/// A value goes.
+pub(crate) fn let_go<T: Drop>(_: T) {}

@@ -1,0 +1,204 @@
+ghost use Rattle.std.specs.Prelude.{◌≡◌, ◌≤◌, ◌<◌, List, length, IfOk, IfErr, Some, None, true, false};
+ghost use Rattle.node_model.specs.Clients as model;
+ghost use Rattle.node_model.specs.Limits.{ClientLists};
+ghost use Rattle.node_instance.specs.Profile.{the_profile};
+ghost use Rattle.node_instance.specs.Seen.{client_seen};
+ghost use Rattle.node_client.specs.Keeping.{Keeps};
+ghost use Rattle.node_client.specs.Opening.{Admits, IsEmpty, IsPast};
+ghost use Rattle.node_client.specs.Reading.{Reads, ReadsOne};
+ghost use Rattle.sync_journal.specs.Records.{lists};
+ghost use Rattle.node_client.specs.Seen.{Past, seen};
+
+use crate::entries::changes_of;
+use crate::let_go::let_go;
+use crate::refusal::ClientRefusal;
+use crate::replica::Replica;
+use node_rebase::{PendingList, Unsent};
+use node_records::{ClientRecord, RecordRefusal};
+use std::alloc::Global;
+use sync_data::{Ident, NoMemory};
+use sync_store::Store;
+use sync_subset::Subset;
+
+/// The most bytes of a record (docs/FORMATS.md, "The journal").
+const LONGEST: usize = 67_108_864;
+
+/// Why records aren't read: the first that a client wouldn't have written has that number, counted from 0; or memory ran
+/// out.
+#[derive(Clone, Copy)]
+pub(crate) enum ReadRefusal {
+    BadRecord { place: usize },
+    NoMemory,
+}
+
+impl Replica {
+    /// No records.
+    pub(crate) fn new(alloc: Global) -> Result<Replica, NoMemory>
+        ensures { IfOk result IsEmpty }
+    {
+        match Store::new(alloc) {
+            Ok(objects) => Ok(Replica {
+                id: None,
+                ident: 0,
+                second: false,
+                subset: None,
+                floor: None,
+                cursor: 0,
+                count: 0,
+                unsent: PendingList::new(alloc),
+                objects,
+            }),
+            Err(_) => Err(NoMemory),
+        }
+    }
+
+    /// Whether a client would have written the record after those before it; then it stands for it too.
+    pub(crate) fn admit(&mut self, alloc: Global, added: &ClientRecord) -> Result<bool, NoMemory>
+        ensures { (past : Past) → IsPast past self.old → ClientLists the_profile (seen past self.old) → Admits past self.old self.new (client_seen added.now) result }
+    {
+        match added {
+            ClientRecord::Born { id } => {
+                if self.id.is_some() {
+                    return Ok(false);
+                }
+                self.id = Some(*id);
+                Ok(true)
+            }
+            ClientRecord::Named(named) => {
+                if self.id.is_none() || self.ident != 0 {
+                    return Ok(false);
+                }
+                self.ident = named.ident();
+                Ok(true)
+            }
+            ClientRecord::Made { number, ms, body } => {
+                self.admit_made(alloc, *number, *ms, body.bytes())
+            }
+            ClientRecord::Took {
+                origin,
+                number,
+                ms,
+                body,
+            } => self.admit_took(alloc, *origin, *number, *ms, body.bytes()),
+            ClientRecord::Form => {
+                if self.id.is_none() || self.second {
+                    return Ok(false);
+                }
+                self.second = true;
+                Ok(true)
+            }
+            ClientRecord::Subset { tables } => self.admit_subset(tables),
+            ClientRecord::Part { .. } | ClientRecord::Floor { .. } => Err(NoMemory),
+        }
+    }
+
+    fn admit_subset(&mut self, tables: &Subset) -> Result<bool, NoMemory>
+        ensures { (past : Past) → IsPast past self.old → Admits past self.old self.new (model.Subset tables.now) result }
+    {
+        if self.id.is_none() || self.subset.is_some() || self.is_late() {
+            return Ok(false);
+        }
+        self.subset = Some(tables.copy()?);
+        Ok(true)
+    }
+
+    fn admit_took(
+        &mut self,
+        alloc: Global,
+        origin: Ident,
+        number: u32,
+        ms: u64,
+        body: &[u8],
+    ) -> Result<bool, NoMemory>
+        ensures { (past : Past) → IsPast past self.old → ClientLists the_profile (seen past self.old) → Admits past self.old self.new (model.Took origin number ms body.now) result }
+    {
+        if self.ident == 0 || self.cursor == u32::MAX || origin == 0 || number == 0 {
+            return Ok(false);
+        }
+        if body.len() > LONGEST {
+            return Err(NoMemory);
+        }
+        match self.take_entry(alloc, origin, number, ms, body) {
+            Ok(()) => Ok(true),
+            Err(ClientRefusal::NoMemory) => Err(NoMemory),
+            Err(_) => Ok(false),
+        }
+    }
+
+    fn admit_made(
+        &mut self,
+        alloc: Global,
+        number: u32,
+        ms: u64,
+        body: &[u8],
+    ) -> Result<bool, NoMemory>
+        ensures { (past : Past) → IsPast past self.old → Admits past self.old self.new (model.Made number ms body.now) result }
+    {
+        if self.id.is_none() || self.count == u32::MAX || number != self.count + 1 {
+            return Ok(false);
+        }
+        if body.len() > LONGEST {
+            return Err(NoMemory);
+        }
+        let changes = match changes_of(alloc, 0, ms, body) {
+            Ok(changes) => changes,
+            Err(ClientRefusal::NoMemory) => return Err(NoMemory),
+            Err(_) => return Ok(false),
+        };
+        if self.is_beyond(&changes) || self.outside(&changes).is_some() {
+            return Ok(false);
+        }
+        match self.act(&changes) {
+            Ok(()) => {}
+            Err(ClientRefusal::Break { place: _, code: _ }) => return Ok(false),
+            Err(_) => return Err(NoMemory),
+        }
+        let unsent = match Unsent::made(number, self.cursor, changes) {
+            Ok(unsent) => unsent,
+            Err(refusal) => return Err(refusal),
+        };
+        match self.unsent.push(unsent) {
+            Ok(()) => {}
+            Err(refusal) => return Err(refusal),
+        }
+        self.count = number;
+        Ok(true)
+    }
+}
+
+impl Replica {
+    /// Reads records one after the other, up to the first that a client wouldn't have written after those before it: its
+    /// number, counted from 0.
+    pub(crate) fn admit_all(
+        &mut self,
+        alloc: Global,
+        records: &[Vec<u8>],
+    ) -> Result<(), ReadRefusal>
+        requires { IsEmpty self.old }
+        ensures { Reads (lists records.now) self.new result }
+    {
+        for place in 0..records.len() {
+            match self.read(alloc, records[place].as_slice()) {
+                Ok(true) => {}
+                Ok(false) => return Err(ReadRefusal::BadRecord { place }),
+                Err(NoMemory) => return Err(ReadRefusal::NoMemory),
+            }
+        }
+        Ok(())
+    }
+
+    /// Whether the bytes are a record that a client would have written; then it stands for it too.
+    fn read(&mut self, alloc: Global, bytes: &[u8]) -> Result<bool, NoMemory>
+        ensures { (records : List model.ClientRecord) → Keeps records self.old → ReadsOne records self.new bytes.now result }
+    {
+        match ClientRecord::record_of(alloc, bytes) {
+            Ok(found) => {
+                let admitted = self.admit(alloc, &found);
+                let_go(found);
+                admitted
+            }
+            Err(RecordRefusal::BadRecord) => Ok(false),
+            Err(RecordRefusal::NoMemory) => Err(NoMemory),
+        }
+    }
+}

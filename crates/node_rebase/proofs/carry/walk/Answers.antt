@@ -1,0 +1,68 @@
+use Rattle.std.proofs.Common.{◌≡◌, ◌<◌, ◌≤◌, ◌+◌, Ok, refl, sym, subst, length, arith}
+use Rattle.sync_data.specs.Payload.{Changes}
+use Rattle.sync_theory.specs.Lists.{cross}
+use Rattle.sync_law.specs.Instrs.{meet}
+use Rattle.sync_rivals.specs.Lists.{Pass, Serves}
+use Rattle.node_rebase.specs.Taking.{Crosses}
+use Rattle.node_rebase.specs.Settling.{Carried, settled, currents}
+use Rattle.node_rebase.proofs.Walk.{Walked, walk_start, walk_stays, walk_crosses, walk_on, walk_stops, walk_ends}
+use Rattle.node_rebase.proofs.carry.walk.Goals as goal
+
+pub loop-from-init : goal.loop-from-init
+loop-from-init c = record {
+  walked = subst (λ l. Walked c.args.index.now c.args.rivals.now c.args.codes.now c.args.own c.args.items.now.items c.args.entry.now 0 l c.in_ok-changes.changes) (sym c.new-crossed.ensures.items)
+      (walk_start c.args.index.now c.args.rivals.now c.args.codes.now c.args.own c.args.items.now.items c.args.entry.now c.in_ok-changes.changes c.in_ok-changes.ensures.equal c.requires.indexed c.requires.served);
+  within = omega arith;
+}
+
+pub next-place-requires-clause-known : goal.next-place-requires-clause-known
+next-place-requires-clause-known c = subst (Serves c.args.rivals.now c.args.codes.now) (sym c.instrs.ensures.listed) c.loop-from.invariant.walked.served
+
+pub returns-then-place-end-clause-crosses : goal.returns-then-place-end-clause-crosses
+returns-then-place-end-clause-crosses c =
+    let end : c.next-place.result ≤ length c.args.items.now.items = omega (arith, c.args.items.now.ok.0, c.next-place.ensures.order.1, c.len-end.ensures) in
+    let pass = subst (Pass c.loop-from.from c.next-place.result (currents c.args.items.now.items)) c.instrs.ensures.listed (c.next-place.ensures.pass (currents c.args.items.now.items) c.requires.listed) in
+    let there = walk_on c.args.index.now c.args.rivals.now c.args.codes.now c.args.own c.args.items.now.items c.args.entry.now c.loop-from.crossed.items c.loop-from.changes c.loop-from.from c.next-place.result c.next-place.ensures.order.0 end pass c.loop-from.invariant.walked in
+    let past : length c.args.items.now.items ≤ c.next-place.result = omega (arith, c.args.items.now.ok.0, c.if-place-end.true, c.len-end.ensures) in
+    subst (λ (x : Carried). Crosses c.args.own c.args.items.now.items c.args.entry.now (settled x.crossed c.args.items.now.items) x.changes) (sym c.new.ensures)
+    (walk_ends c.args.index.now c.args.rivals.now c.args.codes.now c.args.own c.args.items.now.items c.args.entry.now c.next-place.result c.loop-from.crossed.items c.loop-from.changes there past)
+
+pub loop-from-preserved-then-stays_apart : goal.loop-from-preserved-then-stays_apart
+loop-from-preserved-then-stays_apart c =
+    let end : c.next-place.result ≤ length c.args.items.now.items = omega (arith, c.args.items.now.ok.0, c.next-place.ensures.order.1, c.len-end.ensures) in
+    let pass = subst (Pass c.loop-from.from c.next-place.result (currents c.args.items.now.items)) c.instrs.ensures.listed (c.next-place.ensures.pass (currents c.args.items.now.items) c.requires.listed) in
+    let there = walk_on c.args.index.now c.args.rivals.now c.args.codes.now c.args.own c.args.items.now.items c.args.entry.now c.loop-from.crossed.items c.loop-from.changes c.loop-from.from c.next-place.result c.next-place.ensures.order.0 end pass c.loop-from.invariant.walked in
+    let within : c.next-place.result < length c.args.items.now.items = omega (arith, c.args.items.now.ok.0, c.if-place-end.false, c.len-end.ensures) in
+    record {
+      walked = walk_stays c.args.index.now c.args.rivals.now c.args.codes.now c.args.own c.args.items.now.items c.args.entry.now c.next-place.result c.loop-from.crossed.items c.loop-from.changes there c.index-unsent.result.now within c.index-unsent.ensures
+          (λ later. subst (λ (x : Changes). cross (λ a b. meet a b later) x.instrs c.loop-from.changes.instrs ≡ Ok (x.instrs, c.loop-from.changes.instrs)) c.current.ensures.changes
+          (c.if-stays_apart.ensures.left refl c.loop-from.changes.instrs c.loop-from.invariant.walked.indexed later));
+      within = omega (arith, within);
+    }
+
+pub returns-in-Err-clause-refused : goal.returns-in-Err-clause-refused
+returns-in-Err-clause-refused c =
+    let end : c.next-place.result ≤ length c.args.items.now.items = omega (arith, c.args.items.now.ok.0, c.next-place.ensures.order.1, c.len-end.ensures) in
+    let pass = subst (Pass c.loop-from.from c.next-place.result (currents c.args.items.now.items)) c.instrs.ensures.listed (c.next-place.ensures.pass (currents c.args.items.now.items) c.requires.listed) in
+    let there = walk_on c.args.index.now c.args.rivals.now c.args.codes.now c.args.own c.args.items.now.items c.args.entry.now c.loop-from.crossed.items c.loop-from.changes c.loop-from.from c.next-place.result c.next-place.ensures.order.0 end pass c.loop-from.invariant.walked in
+    let within : c.next-place.result < length c.args.items.now.items = omega (arith, c.args.items.now.ok.0, c.if-place-end.false, c.len-end.ensures) in
+    walk_stops c.args.index.now c.args.rivals.now c.args.codes.now c.args.own c.args.items.now.items c.args.entry.now c.next-place.result c.loop-from.crossed.items c.loop-from.changes there c.index-unsent.result.now within c.index-unsent.ensures c.in-Err.refusal c.requires.differ c.in-Err.ensures.stuck
+
+pub loop-from-preserved : goal.loop-from-preserved
+loop-from-preserved c =
+    let end : c.next-place.result ≤ length c.args.items.now.items = omega (arith, c.args.items.now.ok.0, c.next-place.ensures.order.1, c.len-end.ensures) in
+    let pass = subst (Pass c.loop-from.from c.next-place.result (currents c.args.items.now.items)) c.instrs.ensures.listed (c.next-place.ensures.pass (currents c.args.items.now.items) c.requires.listed) in
+    let there = walk_on c.args.index.now c.args.rivals.now c.args.codes.now c.args.own c.args.items.now.items c.args.entry.now c.loop-from.crossed.items c.loop-from.changes c.loop-from.from c.next-place.result c.next-place.ensures.order.0 end pass c.loop-from.invariant.walked in
+    let within : c.next-place.result < length c.args.items.now.items = omega (arith, c.args.items.now.ok.0, c.if-place-end.false, c.len-end.ensures) in
+    record {
+      walked = subst (λ l. Walked c.args.index.now c.args.rivals.now c.args.codes.now c.args.own c.args.items.now.items c.args.entry.now (c.next-place.result + 1) l c.in-Ok.carried) (sym c.in_ok-push-in-Ok.ensures.ok)
+          (walk_crosses c.args.index.now c.args.rivals.now c.args.codes.now c.args.own c.args.items.now.items c.args.entry.now c.next-place.result c.loop-from.crossed.items c.loop-from.changes there c.index-unsent.result.now within c.index-unsent.ensures
+          (record { place = c.next-place.result; current = c.in-Ok.current }) c.in-Ok.carried refl (c.in-Ok.ensures.ok c.args.entry.now.number) c.in-Ok.ensures.indexed);
+      within = omega (arith, within);
+    }
+
+pub returns-clause-crosses : goal.returns-clause-crosses
+returns-clause-crosses c =
+    let past : length c.args.items.now.items ≤ c.loop-from.from = omega (arith, c.args.items.now.ok.0, c.loop-from-test.false, c.len-end.ensures) in
+    subst (λ (x : Carried). Crosses c.args.own c.args.items.now.items c.args.entry.now (settled x.crossed c.args.items.now.items) x.changes) (sym c.new-2.ensures)
+    (walk_ends c.args.index.now c.args.rivals.now c.args.codes.now c.args.own c.args.items.now.items c.args.entry.now c.loop-from.from c.loop-from.crossed.items c.loop-from.changes c.loop-from.invariant.walked past)

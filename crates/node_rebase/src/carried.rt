@@ -1,0 +1,51 @@
+ghost use Rattle.std.specs.Prelude.{◌≡◌};
+
+use std::marker::Model;
+use sync_data::Changeset;
+
+/// An unsent changeset as it crossed an entry, and its place in the list.
+#[derive(Drop)]
+pub(crate) struct Crossed {
+    pub(crate) place: usize,
+    pub(crate) current: Changeset,
+}
+
+/// An entry of another client as carried over a list of unsent changesets, and those of them that it may touch, as they
+/// crossed it.
+#[derive(Drop)]
+pub struct Carried {
+    changes: Changeset,
+    crossed: Vec<Crossed>,
+}
+
+impl Model for Carried {
+    ghost use Rattle.node_rebase.specs.Settling as settling;
+
+    ghost Value = { settling.Carried };
+
+    ghost view = { λ a. record { changes = a.changes; crossed = a.crossed.items } };
+
+    ghost invariant = { λ a. Unit {0} };
+}
+
+impl Carried {
+    pub(crate) fn new(changes: Changeset, crossed: Vec<Crossed>) -> Carried
+        ensures { result ≡ record { changes = changes; crossed = crossed.items } }
+    {
+        Carried { changes, crossed }
+    }
+
+    /// The entry's changeset as carried.
+    pub fn changes(&self) -> &Changeset
+        ensures { result.now ≡ self.now.changes }
+    {
+        &self.changes
+    }
+
+    pub(crate) fn into_parts(self) -> (Changeset, Vec<Crossed>)
+        ensures changes { result.0 ≡ self.changes }
+        ensures crossed { result.1.items ≡ self.crossed }
+    {
+        (self.changes, self.crossed)
+    }
+}

@@ -1,0 +1,153 @@
+ghost use Rattle.std.specs.Prelude.{◌≡◌, ◌≢◌, ◌++◌, ◌∷◌, [], ℕ, Ok, Err, IfOk, IfErr, OnOk};
+ghost use Rattle.sync_theory.specs.Changesets.{cross_sets};
+ghost use Rattle.sync_law.specs.Instrs.{meet};
+ghost use Rattle.sync_index.specs.Touched.{Covers};
+ghost use Rattle.node_model.specs.Clients.{changeset_of};
+ghost use Rattle.sync_transform.specs.Sets.{made_by};
+ghost use Rattle.sync_rivals.specs.Lists.{Lists, Serves};
+ghost use Rattle.node_rebase.specs.Settling.{settled, Fits, currents};
+ghost use Rattle.node_rebase.specs.Taking.{Crosses, Refuses};
+ghost use Rattle.node_rebase.specs.Passing.{StopsAt};
+
+use super::carried::{Carried, Crossed};
+use super::refusal::RebaseRefusal;
+use super::unsent::Unsent;
+use std::alloc::Global;
+use std::collections::VecDeque;
+use sync_data::{Changeset, Entry, Ident};
+use sync_index::Index;
+use sync_rivals::RivalIndex;
+use sync_transform::{cross_sets_indexed, stays_apart};
+
+/// Carries an entry of another client over the unsent changesets, from the first on. Those alone that are listed under a
+/// place of its rivals are visited; the others stay. Where there are none no index is made.
+pub(crate) fn carry_over(
+    alloc: Global,
+    items: &VecDeque<Unsent>,
+    rivals: &RivalIndex,
+    own: Ident,
+    entry: &Entry,
+) -> Result<Carried, RebaseRefusal>
+    requires differ { own ≢ entry.now.origin }
+    requires listed { Lists rivals.now (currents items.now.items) }
+    ensures crosses { IfOk result (λ carried. Crosses own items.now.items entry.now (settled carried.crossed items.now.items) carried.changes) }
+    ensures fits { IfOk result (λ carried. Fits carried.crossed items.now.items) }
+    ensures refused { IfErr result (Refuses own items.now.items entry.now) }
+{
+    if items.is_empty() {
+        let changes = copy_of(&entry.changes)?;
+        return Ok(Carried::new(changes, Vec::new(alloc)));
+    }
+    let index = index_of(alloc, entry)?;
+    let codes = codes_of(alloc, rivals, entry)?;
+    walk(alloc, items, rivals, own, entry, &index, &codes)
+}
+
+/// The same by an index of the entry and the codes of its rivals, which are those of the entry as carried, too.
+fn walk(
+    alloc: Global,
+    items: &VecDeque<Unsent>,
+    rivals: &RivalIndex,
+    own: Ident,
+    entry: &Entry,
+    index: &Index,
+    codes: &[u64],
+) -> Result<Carried, RebaseRefusal>
+    requires differ { own ≢ entry.now.origin }
+    requires listed { Lists rivals.now (currents items.now.items) }
+    requires indexed { Covers index.now entry.now.changes.instrs }
+    requires served { Serves rivals.now codes.now entry.now.changes.instrs }
+    ensures crosses { IfOk result (λ carried. Crosses own items.now.items entry.now (settled carried.crossed items.now.items) carried.changes) }
+    ensures fits { IfOk result (λ carried. Fits carried.crossed items.now.items) }
+    ensures refused { IfErr result (Refuses own items.now.items entry.now) }
+{
+    let mut changes = copy_of(&entry.changes)?;
+    let mut crossed = Vec::new(alloc);
+    let end = items.len();
+    let mut from = 0;
+    while from < end {
+        let place = rivals.next(codes, changes.instrs(), from, end);
+        if place >= end {
+            return Ok(Carried::new(changes, crossed));
+        }
+        from = place + 1;
+        let unsent = &items[place];
+        if stays_apart(unsent.spot(), unsent.current(), index) {
+            continue;
+        }
+        match pass(unsent, own, changes, entry.origin, index) {
+            Err(refusal) => return Err(refusal),
+            Ok((current, carried)) => {
+                changes = carried;
+                push(&mut crossed, Crossed { place, current })?;
+            }
+        }
+    }
+    Ok(Carried::new(changes, crossed))
+}
+
+fn codes_of(alloc: Global, rivals: &RivalIndex, entry: &Entry) -> Result<Vec<u64>, RebaseRefusal>
+    ensures served { IfOk result (λ codes. Serves rivals.now codes.items entry.now.changes.instrs) }
+    ensures memory { IfErr result (λ refusal. refusal ≡ RebaseRefusal.NoMemory) }
+{
+    match rivals.rivals_of(alloc, entry.changes.instrs()) {
+        Ok(codes) => Ok(codes),
+        Err(_) => Err(RebaseRefusal::NoMemory),
+    }
+}
+
+/// An unsent changeset crosses a changeset of another client: both as crossed.
+fn pass(
+    unsent: &Unsent,
+    own: Ident,
+    changes: Changeset,
+    origin: Ident,
+    index: &Index,
+) -> Result<(Changeset, Changeset), RebaseRefusal>
+    requires differ { own ≢ origin }
+    requires indexed { Covers index.now changes.instrs }
+    ensures ok { IfOk result (λ p. (n : ℕ) → cross_sets meet (changeset_of own unsent.now) (made_by origin n changes) ≡ Ok (made_by own unsent.now.original.number p.0, made_by origin n p.1)) }
+    ensures indexed { IfOk result (λ p. Covers index.now p.1.instrs) }
+    ensures stuck { IfErr result (StopsAt own unsent.now origin changes) }
+{
+    let Ok(current) = unsent.current().copy() else {
+        return Err(RebaseRefusal::NoMemory);
+    };
+    match cross_sets_indexed(current, own, changes, origin, index) {
+        Ok(crossed) => Ok(crossed),
+        Err(stop) => Err(RebaseRefusal::Mismatch {
+            number: unsent.number(),
+            kind: stop.kind,
+        }),
+    }
+}
+
+fn index_of(alloc: Global, entry: &Entry) -> Result<Index, RebaseRefusal>
+    ensures covers { IfOk result (λ index. Covers index entry.now.changes.instrs) }
+    ensures memory { IfErr result (λ refusal. refusal ≡ RebaseRefusal.NoMemory) }
+{
+    match Index::of(alloc, entry.changes.instrs()) {
+        Ok(index) => Ok(index),
+        Err(_) => Err(RebaseRefusal::NoMemory),
+    }
+}
+
+fn copy_of(changes: &Changeset) -> Result<Changeset, RebaseRefusal>
+    ensures equal { IfOk result (λ copy. copy ≡ changes.now) }
+    ensures memory { IfErr result (λ refusal. refusal ≡ RebaseRefusal.NoMemory) }
+{
+    match changes.copy() {
+        Ok(copy) => Ok(copy),
+        Err(_) => Err(RebaseRefusal::NoMemory),
+    }
+}
+
+fn push<T: Drop>(items: &mut Vec<T>, item: T) -> Result<(), RebaseRefusal>
+    ensures ok { OnOk result (items.new.items ≡ items.old.items ++ item ∷ []) }
+    ensures memory { IfErr result (λ refusal. refusal ≡ RebaseRefusal.NoMemory) }
+{
+    match items.push(item) {
+        Ok(()) => Ok(()),
+        Err(_) => Err(RebaseRefusal::NoMemory),
+    }
+}
