@@ -35,6 +35,14 @@ abbrev pub insertions : ℕ → List Value → List Edit
 insertions k [] = []
 insertions k (v ∷ vs) = Insert (record { place = k; prior = k }) v ∷ insertions (suc k) vs
 
+-- the values of a set, in their order: they are the keys of a map
+abbrev pub keyed : List Value → fin.FinMap value_cmp (Unit {0})
+keyed [] = fin.empty
+keyed (v ∷ vs) = fin.insert (keyed vs) v tt
+
+abbrev pub in_order : set.FinSet value_cmp → List Value
+in_order vs = fin.keys (keyed (set.items vs))
+
 -- the value is the default one
 abbrev pub is_default : Value → Cell → Bool
 is_default v (One w) = eq_by_cmp value_cmp v w
@@ -46,7 +54,7 @@ is_default v (Dict m) = false
 abbrev pub edits_of : Cell → Cell → List Edit
 edits_of default (One v) = if is_default v default then [] else Set v ∷ []
 edits_of default (Many xs) = insertions 0 xs
-edits_of default (Members xs) = map (λ v. Include v) (set.items xs)
+edits_of default (Members xs) = map (λ v. Include v) (in_order xs)
 edits_of default (Dict m) = map (λ e. Bind e.0 (Some e.1)) (fin.entries m)
 
 -- a cell of a column of its table
