@@ -2,7 +2,6 @@
 use Rattle.std.specs.Prelude.{ℕ, suc, Bool, false, if◌then◌else◌, List, [], ◌∷◌, ◌++◌, map, Option, Some, None}
 use Rattle.std.specs.Ordering.{eq_by_cmp}
 use Rattle.std.specs.FinMap as fin
-use Rattle.std.specs.FinSet as set
 use Rattle.sync_data.specs.Orders.{value_cmp}
 use Rattle.sync_data.specs.declared.column.Column.{Column}
 use Rattle.sync_data.specs.declared.instr.Instr.{Instr}
@@ -11,6 +10,7 @@ use Rattle.sync_base.specs.Effects.{ObjectName, Edit, Effect, Set, Insert, Inclu
 use Rattle.sync_base.specs.States.{State, Table, Cell, Cells, One, Many, Members, Dict, column_in}
 use Rattle.sync_base.specs.After.{default_of}
 use Rattle.node_model.specs.Cuts.{cut}
+use Rattle.store_walks.specs.Along.{in_order}
 
 -- one list behind the other
 abbrev pub joined : {A : Type 0} → List (List A) → List A
@@ -34,14 +34,6 @@ new_columns s = joined (map (λ e. columns_of e.0 e.1) (fin.entries s.tables))
 abbrev pub insertions : ℕ → List Value → List Edit
 insertions k [] = []
 insertions k (v ∷ vs) = Insert (record { place = k; prior = k }) v ∷ insertions (suc k) vs
-
--- the values of a set, in their order: they are the keys of a map
-abbrev pub keyed : List Value → fin.FinMap value_cmp (Unit {0})
-keyed [] = fin.empty
-keyed (v ∷ vs) = fin.insert (keyed vs) v tt
-
-abbrev pub in_order : set.FinSet value_cmp → List Value
-in_order vs = fin.keys (keyed (set.items vs))
 
 -- the value is the default one
 abbrev pub is_default : Value → Cell → Bool

@@ -27,9 +27,10 @@ use Rattle.sync_base.specs.States.{State, Cell, One, Many, Members, Dict, IsStat
 use Rattle.sync_law.specs.CodedLaw.{applies}
 use Rattle.sync_codec.specs.Spelling.{needs_second, has_dictionaries}
 use Rattle.sync_codec.specs.Valid.{IsGap}
-use Rattle.snapshot_law.specs.Build.{insertions, in_order, is_default, edits_of, built_list}
+use Rattle.store_walks.specs.Along.{in_order}
+use Rattle.store_walks.specs.Sets.{contains-in_order}
+use Rattle.snapshot_law.specs.Build.{insertions, is_default, edits_of, built_list}
 use Rattle.snapshot_law.specs.Lemmas.Edits.{or_true, or_first}
-use Rattle.snapshot_law.specs.Lemmas.Sets.{contains-in_order}
 use Rattle.snapshot_law.specs.Lemmas.Runs.{built-no_state, built_runs}
 use Rattle.snapshot_law.specs.Lemmas.Each.{each_all, each_map, each_entry, each_effect, each_instr}
 use Rattle.node_instance.specs.Profile.{fits_changeset, the_profile}

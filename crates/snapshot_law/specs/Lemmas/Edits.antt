@@ -20,9 +20,10 @@ use Rattle.sync_base.specs.Lemmas.Looks.{name_total, name_exact}
 use Rattle.sync_base.specs.Lemmas.Maps.{tied_is}
 use Rattle.sync_base.specs.Lemmas.Shaped.{IsEdit}
 use Rattle.sync_base.specs.States.{Tables, Cell, One, Many, Members, Dict, Each, CellFits, cell_rank, shape_rank, fits}
-use Rattle.snapshot_law.specs.Build.{insertions, in_order, edits_of}
+use Rattle.store_walks.specs.Along.{in_order}
+use Rattle.store_walks.specs.Sets.{contains-in_order}
+use Rattle.snapshot_law.specs.Build.{insertions, edits_of}
 use Rattle.snapshot_law.specs.Lemmas.Maps.{walk, joined_singles}
-use Rattle.snapshot_law.specs.Lemmas.Sets.{contains-in_order}
 
 -- what a cell of the column asks of an edit
 pub record EditActs (ts : Tables) (col : Column) (e : Edit) (x : Cell) : Type 0 where
