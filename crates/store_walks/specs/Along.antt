@@ -1,4 +1,4 @@
--- What a walk over a store goes along: the columns of a table, the objects of a table, the values of a set.
+-- What a walk over a store goes along: the columns of a table, its objects, their cells, the values of a set.
 use Rattle.std.specs.Prelude.{ℕ, if◌then◌else◌, List, [], ◌∷◌}
 use Rattle.std.specs.Option.{option_map_or}
 use Rattle.std.specs.Ordering.{eq_by_cmp}
@@ -9,11 +9,15 @@ use Rattle.sync_data.specs.declared.column.Column.{Column}
 use Rattle.sync_data.specs.declared.key.Key.{Key}
 use Rattle.sync_data.specs.declared.value.Value.{Value}
 use Rattle.sync_base.specs.Effects.{ObjectName}
-use Rattle.sync_base.specs.States.{Tables, Cells}
+use Rattle.sync_base.specs.States.{State, Tables, Cell, Cells}
 
 -- the columns of a table by name, in order; none where the table doesn't stand
 abbrev pub columns_in : Tables → List ℕ → List (List ℕ × Column)
 columns_in ts t = option_map_or (λ table. map.entries table.columns) (map.get ts t) []
+
+-- the cells of an object by column, in order; none where the object doesn't stand
+abbrev pub cells_in : State → ObjectName → List (List ℕ × Cell)
+cells_in s o = option_map_or (λ cells. map.entries cells) (map.get s.objects o) []
 
 -- the objects of one table by key, in order
 abbrev pub objects_in : List ℕ → List (ObjectName × Cells) → List (Key × Cells)

@@ -1,5 +1,5 @@
 -- What the store's walkers go along: the tables, the columns of a table, and its objects.
-use Rattle.std.proofs.Common.{◌≡◌, ℕ, Bool, true, false, cond, ◌&&◌, T, List, [], ◌∷◌, Option, None, Some, is_some, refl, ap, ◌∙◌}
+use Rattle.std.proofs.Common.{◌≡◌, ℕ, Bool, true, false, cond, ◌&&◌, T, List, [], ◌∷◌, Option, None, Some, is_some, refl, sym, ap, ◌∙◌}
 use Rattle.std.specs.declared.cmp.Ordering.{Ordering}
 use Rattle.std.specs.declared.cmp.Ordering.TheVariants.{Less, Equal, Greater}
 use Rattle.std.specs.Ordering.{is_lt, is_eq, eq_by_cmp, ordering_then}
@@ -10,12 +10,11 @@ use Rattle.std.specs.FinMap.Entries.{below_all}
 use Rattle.sync_data.specs.Orders.{name_cmp, key_cmp, key_cmp_total, key_cmp_exact}
 use Rattle.sync_data.specs.declared.key.Key.{Key}
 use Rattle.sync_base.specs.Effects.{ObjectName}
-use Rattle.sync_base.specs.States.{State, Tables, Cells, object_cmp, column_in, has}
+use Rattle.sync_base.specs.States.{State, Tables, Cells, IsState, object_cmp, column_in, cell_at, has}
 use Rattle.sync_base.specs.Lemmas.Looks.{name_total, name_exact}
 use Rattle.sync_maps.specs.Seen.{tied}
 use Rattle.sync_maps.specs.Next.{IsNext}
-use Rattle.store_walks.specs.Along.{objects_in}
-use Rattle.store_walks.specs.Along.{columns_in}
+use Rattle.store_walks.specs.Along.{columns_in, objects_in, cells_in}
 use Rattle.store_walks.specs.Walk.{from, IsAt, Step, first_of, second_of, walk_first, walk_next}
 
 pub is_true : (b : Bool) → T b → b ≡ true
@@ -49,6 +48,31 @@ column_first ts t next h = walk_first name_cmp name_total (λ c. is_some (column
 
 pub column_step : (ts : Tables) (t c : List ℕ) (next : Option (List ℕ)) → IsAt name_cmp (Some c) (columns_in ts t) → IsNext name_cmp (λ c. is_some (column_in ts t c)) (Some c) next → Step name_cmp c next (columns_in ts t)
 column_step ts t c next at h = walk_next name_cmp name_total (λ c. is_some (column_in ts t c)) (columns_in ts t) (λ c. ap is_some (column_at ts t c)) name_exact (columns_sorted ts t) c at next h
+
+-- ---- cells: an object has one for each column of its table
+pub cell_found : (s : State) (o : ObjectName) (c : List ℕ) → cell_at s o c ≡ find name_cmp c (cells_in s o)
+cell_found s o c =
+    elim (map.get s.objects o) as (λ x. option_and_then (λ cells. map.get cells c) x ≡ find name_cmp c (option_map_or (λ cells. map.entries cells) x [])) [
+      | None ↦ refl
+      | Some cells ↦ map.get-entries cells c
+    ]
+
+cells_sorted : (s : State) (o : ObjectName) → is_sorted name_cmp (cells_in s o) ≡ true
+cells_sorted s o =
+    elim (map.get s.objects o) as (λ x. is_sorted name_cmp (option_map_or (λ cells. map.entries cells) x []) ≡ true) [
+      | None ↦ refl
+      | Some cells ↦ is_true _ (map.entries_sorted cells)
+    ]
+
+module _ (s : State) (ok : IsState s) (o : ObjectName) (stands : has s o ≡ true) where
+  filled : (c : List ℕ) → is_some (column_in s.tables o.0 c) ≡ is_some (find name_cmp c (cells_in s o))
+  filled c = sym (ok.filled o c stands) ∙ ap is_some (cell_found s o c)
+
+  pub cell_first : (next : Option (List ℕ)) → IsNext name_cmp (λ c. is_some (column_in s.tables o.0 c)) None next → (from name_cmp next (cells_in s o) ≡ cells_in s o) × IsAt name_cmp next (cells_in s o)
+  cell_first next h = walk_first name_cmp name_total (λ c. is_some (column_in s.tables o.0 c)) (cells_in s o) filled next h
+
+  pub cell_step : (c : List ℕ) (next : Option (List ℕ)) → IsAt name_cmp (Some c) (cells_in s o) → IsNext name_cmp (λ c. is_some (column_in s.tables o.0 c)) (Some c) next → Step name_cmp c next (cells_in s o)
+  cell_step c next at h = walk_next name_cmp name_total (λ c. is_some (column_in s.tables o.0 c)) (cells_in s o) filled name_exact (cells_sorted s o) c at next h
 
 -- ---- objects
 both_tie : (a b : Ordering) → is_eq (ordering_then a b) ≡ (is_eq a && is_eq b)
