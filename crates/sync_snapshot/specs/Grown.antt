@@ -3,8 +3,8 @@ use Rattle.std.specs.Prelude.{◌≡◌, ℕ, List, map, Result, Ok, Err}
 use Rattle.sync_data.specs.Payload.{Changes}
 use Rattle.sync_data.specs.declared.instr.Instr.{Instr}
 use Rattle.sync_base.specs.States.{State}
-use Rattle.sync_snapshot.specs.declared.grown.GrowRefusal.{GrowRefusal}
-use Rattle.sync_snapshot.specs.declared.grown.GrowRefusal.TheVariants as refusals
+use Rattle.sync_snapshot.specs.declared.growing.GrowRefusal.{GrowRefusal}
+use Rattle.sync_snapshot.specs.declared.growing.GrowRefusal.TheVariants as refusals
 
 -- the lists of instructions of changesets
 abbrev pub lists_of : List Changes → List (List Instr)

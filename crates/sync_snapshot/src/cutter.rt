@@ -1,6 +1,6 @@
-ghost use Rattle.std.specs.Prelude.{◌≡◌, ◌++◌, ◌∷◌, [], map, IfOk, OnOk};
+ghost use Rattle.std.specs.Prelude.{◌≡◌, ◌≤◌, ◌++◌, ◌∷◌, [], true, map, IfOk, OnOk};
 ghost use Rattle.node_model.specs.Cuts.{cut, closed};
-ghost use Rattle.node_instance.specs.Profile.{fits_changeset};
+ghost use Rattle.node_instance.specs.Profile.{fits_changeset, weight};
 ghost use Rattle.sync_snapshot.specs.Parts.{untimed, parts_with, Takes};
 
 use super::whole::weight;
@@ -60,11 +60,40 @@ impl Cutter {
         let Some(bytes) = weight(&instr) else {
             return Err(NoMemory);
         };
-        let count = self.part.len() as u64;
-        if count >= MOST_INSTRS || self.payload + bytes > MOST_PAYLOAD {
-            self.close()?;
+        if self.has_room(&instr, bytes) {
+            return self.put(instr, bytes);
         }
+        self.close()?;
         self.put(instr, bytes)
+    }
+
+    /// Whether the open changeset is within the limits with one more instruction of so many bytes.
+    fn has_room(&self, instr: &Instr, bytes: u64) -> bool
+        requires weight { bytes ≡ weight instr.now }
+        requires small { bytes ≤ 4194304 }
+        ensures { result ≡ fits_changeset (self.now.part ++ instr.now ∷ []) }
+    {
+        let _ = instr;
+        let count = self.part.len() as u64 + 1;
+        let payload = self.payload + bytes;
+        count <= MOST_INSTRS && payload <= MOST_PAYLOAD
+    }
+
+    /// Puts an instruction at the end of the open changeset, where it is within the limits.
+    fn put(&mut self, instr: Instr, bytes: u64) -> Result<(), NoMemory>
+        requires weight { bytes ≡ weight instr }
+        requires small { bytes ≤ 4194304 }
+        requires fits { fits_changeset (self.old.part ++ instr ∷ []) ≡ true }
+        ensures { OnOk result (self.new ≡ record { parts = self.old.parts; part = self.old.part ++ instr ∷ [] }) }
+    {
+        let payload = self.payload + bytes;
+        match self.part.push(instr) {
+            Ok(()) => {
+                self.payload = payload;
+                Ok(())
+            }
+            Err(_) => Err(NoMemory),
+        }
     }
 
     /// Closes the changeset that is open, if it has instructions.

@@ -2,15 +2,15 @@
 //! and `grown` makes the store of them.
 #![tactic(auto)]
 
-mod build;
+mod building;
 mod cells;
 mod cutter;
-mod grown;
+mod growing;
 mod objects;
 mod schema;
 mod whole;
 
-pub use build::build;
-pub use grown::{GrowRefusal, grown};
+pub use building::build;
+pub use growing::{GrowRefusal, grown};
 pub use objects::object_instrs;
 pub use schema::schema_instrs;

@@ -5,7 +5,7 @@ ghost use Rattle.node_model.specs.Snapshots.{grown, run_parts, part_differs};
 ghost use Rattle.node_instance.specs.Profile.{the_profile};
 ghost use Rattle.sync_snapshot.specs.Grown.{lists_of, Names, Grows};
 
-use super::build::build;
+use super::building::build;
 use std::alloc::Global;
 use sync_base::{Changeset, NoMemory};
 use sync_codec::encode;
