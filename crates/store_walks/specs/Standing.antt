@@ -108,8 +108,11 @@ sorted_in t (e ∷ es) h =
       | false ↦ λ _. rest
     ] refl
 
-object_at : (s : State) (t : List ℕ) (k : Key) → has s (t, k) ≡ is_some (find key_cmp k (objects_in t (map.entries s.objects)))
-object_at s t k = ap is_some (map.get-entries s.objects (t, k) ∙ find_in t k (map.entries s.objects))
+pub object_found : (s : State) (t : List ℕ) (k : Key) → map.get s.objects (t, k) ≡ find key_cmp k (objects_in t (map.entries s.objects))
+object_found s t k = map.get-entries s.objects (t, k) ∙ find_in t k (map.entries s.objects)
+
+pub object_at : (s : State) (t : List ℕ) (k : Key) → has s (t, k) ≡ is_some (find key_cmp k (objects_in t (map.entries s.objects)))
+object_at s t k = ap is_some (object_found s t k)
 
 pub object_first : (s : State) (t : List ℕ) (next : Option Key) → IsNext key_cmp (λ k. has s (t, k)) None next → (from key_cmp next (objects_in t (map.entries s.objects)) ≡ objects_in t (map.entries s.objects)) × IsAt key_cmp next (objects_in t (map.entries s.objects))
 object_first s t next h = walk_first key_cmp key_cmp_total (λ k. has s (t, k)) (objects_in t (map.entries s.objects)) (object_at s t) next h

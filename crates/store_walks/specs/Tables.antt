@@ -19,7 +19,7 @@ use Rattle.store_walks.specs.Walk.{first_of, second_of, is_less}
 use Rattle.store_walks.specs.Standing.{is_true}
 
 -- one name is below what is found among names that are all above it
-below_found : {X : Type 0} (k q : List ℕ) (es : List (List ℕ × X)) → below_all name_cmp k es ≡ true → is_some (find name_cmp q es) ≡ true → name_cmp k q ≡ Less
+pub below_found : {X : Type 0} (k q : List ℕ) (es : List (List ℕ × X)) → below_all name_cmp k es ≡ true → is_some (find name_cmp q es) ≡ true → name_cmp k q ≡ Less
 below_found k q [] h f = cc
 below_found k q (e ∷ es) h f =
     elim (eq_by_cmp name_cmp q e.0) as (λ b. eq_by_cmp name_cmp q e.0 ≡ b → is_some (cond b (Some e.1) (find name_cmp q es)) ≡ true → name_cmp k q ≡ Less) [

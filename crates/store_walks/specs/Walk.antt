@@ -61,6 +61,13 @@ module _ {K X : Type 0} (R : K → K → Ordering) where
       ap (λ w. w ++ flat_map g (from next es)) (is ∙ ap (λ x. out ++ option_map_or (λ v. g (k, v)) x []) s.there)
       ∙ append_assoc out (g (k, s.value)) (flat_map g (from next es)) ∙ ap (λ l. out ++ flat_map g l) (sym s.rest) ∙ before
 
+  -- the same where what is made is made of the key alone
+  pub keys_on : {A : Type 0} (g : K → List A) (out new all : List A) (k : K) (next : Option K) (es : List (K × X)) → Step k next es
+      → out ++ flat_map (λ e. g e.0) (from_key k es) ≡ all → new ≡ out ++ g k → new ++ flat_map (λ e. g e.0) (from next es) ≡ all
+  keys_on g out new all k next es s before is =
+      ap (λ w. w ++ flat_map (λ e. g e.0) (from next es)) is
+      ∙ append_assoc out (g k) (flat_map (λ e. g e.0) (from next es)) ∙ ap (λ l. out ++ flat_map (λ e. g e.0) l) (sym s.rest) ∙ before
+
   there_too : (q : K) (e : K × X) (es : List (K × X)) → is_some (find R q es) ≡ true → is_some (find R q (e ∷ es)) ≡ true
   there_too q e es h = elim (eq_by_cmp R q e.0) as (λ b. is_some (cond b (Some e.1) (find R q es)) ≡ true) [ true ↦ refl | false ↦ h ]
 

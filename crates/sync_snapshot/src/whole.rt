@@ -1,4 +1,4 @@
-ghost use Rattle.std.specs.Prelude.{◌≡◌, ◌≤◌, ◌<◌, ◌^◌, true, IfSome};
+ghost use Rattle.std.specs.Prelude.{◌≡◌, ◌≤◌, ◌<◌, ◌^◌, true, length, IfSome};
 ghost use Rattle.std.specs.List.{flat_map, AllByRecursion};
 ghost use Rattle.sync_data.specs.Payload.{payload, value_payload};
 ghost use Rattle.sync_io.specs.Varints.{zigzag};
@@ -10,7 +10,7 @@ ghost use Rattle.sync_base.specs.Effects.{path_of};
 ghost use Rattle.node_instance.specs.Profile.{weight};
 
 use sync_base::{
-    Between, CellName, DictUpdate, Instr, Key, KeyText, Kind, MOST_PAYLOAD, Name, Time, Value,
+    Between, CellName, DictUpdate, Id, Instr, Key, KeyText, Kind, MOST_PAYLOAD, Name, Time, Value,
 };
 use sync_io::{zigzag32, zigzag64};
 
@@ -78,12 +78,14 @@ fn binding_is_held(instr: &DictUpdate) -> bool
 
 // What the types of names, keys and values hold. Each of these is true.
 
+#[tactic(auto, using(sync_codec::specs::Lemmas::utf8_is))]
 fn name_is_held(name: &Name) -> bool
     ensures { IsHeldName name.now }
 {
     !name.text().is_empty()
 }
 
+#[tactic(auto, using(sync_codec::specs::Lemmas::utf8_is))]
 fn text_is_held(text: &KeyText) -> bool
     ensures { IsString text.now }
 {
@@ -96,13 +98,19 @@ fn integer_is_held(number: i64) -> bool
     zigzag64(number) <= u64::MAX
 }
 
+fn id_is_held(id: &Id) -> bool
+    ensures { length id.now ≡ 16 }
+{
+    id.len() == 16
+}
+
 fn key_is_held(key: &Key) -> bool
     ensures { IsHeldKey key.now }
 {
     match key {
         Key::Int(number) => integer_is_held(*number),
         Key::Text(text) => text_is_held(text),
-        Key::Uuid(id) => id.as_slice().len() == 16,
+        Key::Uuid(id) => id_is_held(id),
     }
 }
 
@@ -118,7 +126,7 @@ fn kind_is_held(kind: &Kind) -> bool
 fn cell_is_held(cell: &CellName) -> bool
     ensures { IsHeldPath (path_of cell.now) }
 {
-    name_is_held(&cell.table) && key_is_held(&cell.key) && name_is_held(&cell.column)
+    name_is_held(&cell.table) & key_is_held(&cell.key) & name_is_held(&cell.column)
 }
 
 fn gap_is_held(spot: Between) -> bool
@@ -130,9 +138,10 @@ fn gap_is_held(spot: Between) -> bool
 fn time_is_held(time: Time) -> bool
     ensures { IsTimeValue time }
 {
-    integer_is_held(time.secs()) && zigzag32(time.nanos()) <= u32::MAX
+    integer_is_held(time.secs()) & (zigzag32(time.nanos()) <= u32::MAX)
 }
 
+#[tactic(auto, using(sync_codec::specs::Lemmas::utf8_is))]
 fn value_is_held(value: &Value) -> bool
     requires small { value_payload value.now ≤ 4194304 }
     ensures value { IsValue value.now }
@@ -143,8 +152,8 @@ fn value_is_held(value: &Value) -> bool
         Value::Text(text) => text.text().len() as u64 <= MOST_PAYLOAD,
         Value::Bytes(bytes) => bytes.bytes().len() as u64 <= MOST_PAYLOAD,
         Value::Time(time) => time_is_held(*time),
-        Value::Uuid(id) => id.as_slice().len() == 16,
-        Value::Link { table, key } => name_is_held(table) && key_is_held(key),
+        Value::Uuid(id) => id_is_held(id),
+        Value::Link { table, key } => name_is_held(table) & key_is_held(key),
         _ => true,
     }
 }
