@@ -1,3 +1,4 @@
+mod Applied
 mod Cutting
 mod Held
 mod Lists

@@ -1,7 +1,7 @@
 -- The lists that the walks make are those of the state's list.
 use Rattle.std.proofs.Common.{◌≡◌, ℕ, suc, zero, List, [], ◌∷◌, ◌++◌, map, drop, Option, None, Some, is_some, refl, sym, ap, ◌∙◌, append_assoc, true, false, cond}
 use Rattle.std.specs.Prelude.{flat_map, slice_get}
-use Rattle.std.specs.Option.{option_map_or, option_and_then}
+use Rattle.std.specs.Option.{option_map_or}
 use Rattle.std.specs.Ordering.{is_eq, eq_by_cmp}
 use Rattle.std.specs.Cmp.{eq_by_cmp_equiv, tied_itself}
 use Rattle.std.specs.FinMap as fin
@@ -13,9 +13,8 @@ use Rattle.sync_data.specs.declared.column.Column.{Column}
 use Rattle.sync_data.specs.declared.instr.Instr.{Instr}
 use Rattle.sync_data.specs.declared.value.Value.{Value}
 use Rattle.sync_base.specs.After.{default_of}
-use Rattle.sync_base.specs.Effects.{ObjectName, CellPath, Edit, Effect, Insert, NewTable, NewColumn, Create, Change, instr_of}
+use Rattle.sync_base.specs.Effects.{ObjectName, CellPath, Edit, Insert, NewTable, NewColumn, Create, Change, instr_of}
 use Rattle.sync_base.specs.States.{State, Table, Tables, Cell, Cells, IsState, column_in, cell_at, has}
-use Rattle.store_walks.specs.Along.{columns_in, cells_in}
 use Rattle.store_walks.specs.Walk.{first_of, second_of}
 use Rattle.store_walks.specs.Standing.{is_true}
 use Rattle.store_walks.specs.Tables.{below_found, objects_by_table}

@@ -2,10 +2,9 @@
 use Rattle.std.specs.Prelude.{ℕ, List, [], ◌∷◌, ◌++◌, map, flat_map}
 use Rattle.std.specs.Option.{option_map_or}
 use Rattle.std.specs.FinMap as fin
-use Rattle.sync_data.specs.declared.column.Column.{Column}
 use Rattle.sync_data.specs.declared.instr.Instr.{Instr}
-use Rattle.sync_base.specs.Effects.{ObjectName, CellPath, Edit, NewTable, NewColumn, Change, instr_of}
-use Rattle.sync_base.specs.States.{State, Table, Tables, Cell, Cells}
+use Rattle.sync_base.specs.Effects.{ObjectName, CellPath, Edit, NewColumn, Change, instr_of}
+use Rattle.sync_base.specs.States.{State, Tables, Cell}
 use Rattle.store_walks.specs.Along.{columns_in, objects_in, cells_in}
 use Rattle.snapshot_law.specs.Build.{new_tables, new_columns, cell_effects, object_effects}
 

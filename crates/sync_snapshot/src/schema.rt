@@ -63,11 +63,7 @@ fn put_columns(list: &mut Vec<Instr>, objects: &Store) -> Result<(), NoMemory>
     Ok(())
 }
 
-fn put_table_columns(
-    list: &mut Vec<Instr>,
-    objects: &Store,
-    table: &Name,
-) -> Result<(), NoMemory>
+fn put_table_columns(list: &mut Vec<Instr>, objects: &Store, table: &Name) -> Result<(), NoMemory>
     ensures { OnOk result (list.new.items ≡ list.old.items ++ columns_instrs objects.now.tables table.now) }
 {
     let mut column = objects.next_column(table, None);

@@ -1,4 +1,4 @@
-use Rattle.std.proofs.Common.{◌≡◌, true, is_some, Option, Some, [], map, length, ◌<◌, sym, ap, ◌∙◌, subst, refl}
+use Rattle.std.proofs.Common.{Option, [], map, length, ◌<◌, sym, ap, ◌∙◌, subst, refl}
 use Rattle.std.specs.Prelude.{flat_map}
 use Rattle.std.specs.Option.{option_copied, option_map_or}
 use Rattle.std.specs.FinMap as fin
@@ -27,7 +27,7 @@ object_instrs-requires c =
     let t = c.args.table.now in
     let es = objects_in t (fin.entries s.objects) in
     let here = ap (option_copied {T = Key}) c.in-Some.is in
-    object_at s t c.in-Some.found.now ∙ subst (λ (x : Option Key). IsAt key_cmp x es) here c.loop-key.invariant.0
+    record { there = object_at s t c.in-Some.found.now ∙ subst (λ (x : Option Key). IsAt key_cmp x es) here c.loop-key.invariant.0 }
 
 pub loop-key-smaller : goal.loop-key-smaller
 loop-key-smaller c =

@@ -1,5 +1,5 @@
 use Rattle.std.proofs.Common.{◌++◌, ap, ◌∙◌}
-use Rattle.sync_snapshot.proofs.Lists.{tables_list, columns_list, columns_each, schema_is}
+use Rattle.sync_snapshot.proofs.Lists.{tables_list, columns_each, schema_is}
 use Rattle.sync_snapshot.proofs.schema.schema_instrs.Goals as goal
 
 pub returns : goal.returns
