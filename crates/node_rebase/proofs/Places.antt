@@ -1,13 +1,14 @@
 -- One unsent changeset of a list gets other instructions.
 use Rattle.std.specs.Prelude.{OnOk, OnErr}
 use Rattle.std.proofs.lemmas.List.{map-append}
-use Rattle.std.proofs.Common.{◌≡◌, Result, Ok, Err, ℕ, zero, suc, ◌<◌, List, [], ◌∷◌, ◌++◌, refl, sym, ap, ◌∙◌, length, take, drop, set, get_or, map, subst, ◌+◌, arith}
+use Rattle.std.proofs.Common.{◌≡◌, Result, Ok, Err, ℕ, zero, suc, ◌<◌, List, [], ◌∷◌, ◌++◌, refl, sym, ap, ◌∙◌, length, take, drop, set, get_or, map, subst, arith}
 use Rattle.sync_data.specs.declared.instr.Instr.{Instr}
-use Rattle.sync_rivals.specs.Lists.{Indexed, Lists, StaysAt, put_list}
+use Rattle.sync_rivals.specs.Lists.{Indexed, Lists, StaysAt, StaysListed, put_list}
 use Rattle.sync_rivals.proofs.Listed.{pushed}
 use Rattle.node_model.specs.Clients.{Original, Unsent, changeset_of, carried_to, number_at}
 use Rattle.node_rebase.specs.declared.carried.Crossed.{Crossed}
-use Rattle.node_rebase.specs.Settling.{put_current, settled, HasTime, Fits, currents}
+use Rattle.node_rebase.specs.declared.carried.Became.{Became}
+use Rattle.node_rebase.specs.Settling.{left_of, put_current, put_became, settled, KeepsTime, FitsAt, Fits, currents}
 
 -- those of whom they are stay
 abbrev pub originals : {I : Type 0} → List (Unsent I) → List (Original I)
@@ -35,17 +36,6 @@ module _ {I : Type 0} where
   put_same (v ∷ us) zero u t e = let h : u ≡ v = cc in ap (λ (w : Unsent I). with_list v w.current ∷ us) h
   put_same (v ∷ us) (suc i) u t e = ap (λ l. v ∷ l) (put_same us i u t e)
 
-  pub originals_put : (us : List (Unsent I)) (i : ℕ) (is : List I) → originals (put_current i is us) ≡ originals us
-  originals_put [] i is = refl
-  originals_put (v ∷ us) zero is = refl
-  originals_put (v ∷ us) (suc i) is = ap (λ l. v.original ∷ l) (originals_put us i is)
-
-  pub time_at : (us : List (Unsent I)) (i ms : ℕ) (u : Unsent I) (t : List (Unsent I)) → drop i us ≡ u ∷ t → ms ≡ u.original.ms → HasTime i ms us
-  time_at [] zero ms u t e h = cc
-  time_at [] (suc i) ms u t e h = cc
-  time_at (v ∷ us) zero ms u t e h = let g : u ≡ v = cc in h ∙ ap (λ w. w.original.ms) g
-  time_at (v ∷ us) (suc i) ms u t e h = time_at us i ms u t e h
-
   pub number_there : (us : List (Unsent I)) (i : ℕ) (u : Unsent I) (t : List (Unsent I)) → drop i us ≡ u ∷ t → number_at i us ≡ u.original.number
   number_there [] zero u t e = cc
   number_there [] (suc i) u t e = cc
@@ -62,40 +52,64 @@ module _ {I : Type 0} where
       let rest : originals vs ≡ originals us = cc in
       λ i. record { original = head i; current = v.current } ∷ carried_same own us vs rest i
 
-  -- what a write of the place does
-  pub set_is_put : (us : List (Unsent I)) (i : ℕ) (is : List I) (u v : Unsent I) → i < length us → u ≡ get_or us i u → v ≡ record u { current = is } → set us i v ≡ put_current i is us
-  set_is_put [] i is u v l e h = refl
-  set_is_put (w ∷ us) zero is u v l e h = ap (λ x. x ∷ us) (h ∙ ap (λ (x : Unsent I). with_list x is) e)
-  set_is_put (w ∷ us) (suc i) is u v l e h = ap (λ x. w ∷ x) (set_is_put us i is u v (omega arith) e h)
+-- ---- what became of one
+-- it gets these instructions
+pub became_is : (us : List (Unsent Instr)) (i : ℕ) (b : Became) (u : Unsent Instr) (t : List (Unsent Instr)) → drop i us ≡ u ∷ t → put_became i b us ≡ put_current i (left_of b u.current) us
+became_is [] i b u t e = refl
+became_is (v ∷ us) zero b u t e = let h : v ≡ u = cc in ap (λ (w : Unsent Instr). with_list v (left_of b w.current) ∷ us) h
+became_is (v ∷ us) (suc i) b u t e = ap (λ l. v ∷ l) (became_is us i b u t e)
 
-  pub within : (us : List (Unsent I)) (i ms : ℕ) → HasTime i ms us → i < length us
-  within [] i ms h = absurd h
-  within (u ∷ us) zero ms h = omega arith
-  within (u ∷ us) (suc i) ms h = let k = within us i ms h in omega (arith, k)
+pub fits_there : (us : List (Unsent Instr)) (i : ℕ) (b : Became) (u : Unsent Instr) (t : List (Unsent Instr)) → drop i us ≡ u ∷ t → KeepsTime u.original.ms b → StaysListed u.current (left_of b u.current) → FitsAt i b us
+fits_there [] zero b u t e h k = cc
+fits_there [] (suc i) b u t e h k = cc
+fits_there (v ∷ us) zero b u t e h k = let g : u ≡ v = cc in (subst (λ (w : Unsent Instr). KeepsTime w.original.ms b) g h, subst (λ (w : Unsent Instr). StaysListed w.current (left_of b w.current)) g k)
+fits_there (v ∷ us) (suc i) b u t e h k = fits_there us i b u t e h k
 
-  pub time_is : (us : List (Unsent I)) (i ms : ℕ) (u : Unsent I) → HasTime i ms us → u ≡ get_or us i u → ms ≡ u.original.ms
-  time_is [] i ms u h e = absurd h
-  time_is (v ∷ us) zero ms u h e = h ∙ ap (λ w. w.original.ms) (sym e)
-  time_is (v ∷ us) (suc i) ms u h e = time_is us i ms u h e
+-- where it fits there is one
+pub fits_within : (us : List (Unsent Instr)) (i : ℕ) (b : Became) → FitsAt i b us → i < length us
+fits_within [] i b h = absurd h
+fits_within (u ∷ us) zero b h = omega arith
+fits_within (u ∷ us) (suc i) b h = let k = fits_within us i b h in omega (arith, k)
+
+pub fits_time : (us : List (Unsent Instr)) (i : ℕ) (b : Became) (u : Unsent Instr) → FitsAt i b us → u ≡ get_or us i u → KeepsTime u.original.ms b
+fits_time [] i b u h e = absurd h
+fits_time (v ∷ us) zero b u h e = subst (λ (w : Unsent Instr). KeepsTime w.original.ms b) (sym e) h.0
+fits_time (v ∷ us) (suc i) b u h e = fits_time us i b u h e
+
+-- what a write of the place does
+pub set_is_became : (us : List (Unsent Instr)) (i : ℕ) (b : Became) (u v : Unsent Instr) → i < length us → u ≡ get_or us i u → v ≡ record u { current = left_of b u.current } → set us i v ≡ put_became i b us
+set_is_became [] i b u v l e h = refl
+set_is_became (w ∷ us) zero b u v l e h = ap (λ x. x ∷ us) (h ∙ ap (λ (x : Unsent Instr). with_list x (left_of b x.current)) e)
+set_is_became (w ∷ us) (suc i) b u v l e h = ap (λ x. w ∷ x) (set_is_became us i b u v (omega arith) e h)
+
+originals_became : (us : List (Unsent Instr)) (i : ℕ) (b : Became) → originals (put_became i b us) ≡ originals us
+originals_became [] i b = refl
+originals_became (v ∷ us) zero b = refl
+originals_became (v ∷ us) (suc i) b = ap (λ l. v.original ∷ l) (originals_became us i b)
+
+-- an index of what stood there is one of what became of it, where it says so of the changed instructions
+pub lists_became : (us : List (Unsent Instr)) (i : ℕ) (b : Became) (u : Unsent Instr) → i < length us → u ≡ get_or us i u → currents (put_became i b us) ≡ put_list i (left_of b u.current) (currents us)
+lists_became [] i b u l e = refl
+lists_became (v ∷ us) zero b u l e = ap (λ (w : Unsent Instr). left_of b w.current ∷ currents us) (sym e)
+lists_became (v ∷ us) (suc i) b u l e = ap (λ x. v.current ∷ x) (lists_became us i b u (omega arith) e)
+
+pub fits_stays : (us : List (Unsent Instr)) (i : ℕ) (b : Became) (u : Unsent Instr) → FitsAt i b us → u ≡ get_or us i u → StaysAt i (left_of b u.current) (currents us)
+fits_stays [] i b u h e = absurd h
+fits_stays (v ∷ us) zero b u h e = subst (λ (w : Unsent Instr). StaysListed v.current (left_of b w.current)) (sym e) h.1
+fits_stays (v ∷ us) (suc i) b u h e = fits_stays us i b u h e
 
 -- ---- several
-pub settled_push : (cs : List Crossed) (c : Crossed) (us : List (Unsent Instr)) → settled (cs ++ c ∷ []) us ≡ put_current c.place c.current.instrs (settled cs us)
+pub settled_push : (cs : List Crossed) (c : Crossed) (us : List (Unsent Instr)) → settled (cs ++ c ∷ []) us ≡ put_became c.place c.became (settled cs us)
 settled_push [] c us = refl
-settled_push (d ∷ cs) c us = settled_push cs c (put_current d.place d.current.instrs us)
+settled_push (d ∷ cs) c us = settled_push cs c (put_became d.place d.became us)
 
-pub fits_push : (cs : List Crossed) (c : Crossed) (us : List (Unsent Instr)) → Fits cs us → HasTime c.place c.current.ms (settled cs us) → StaysAt c.place c.current.instrs (currents (settled cs us)) → Fits (cs ++ c ∷ []) us
-fits_push [] c us f h k = (h, k, tt)
-fits_push (d ∷ cs) c us f h k = (f.0, f.1, fits_push cs c (put_current d.place d.current.instrs us) f.2 h k)
+pub fits_push : (cs : List Crossed) (c : Crossed) (us : List (Unsent Instr)) → Fits cs us → FitsAt c.place c.became (settled cs us) → Fits (cs ++ c ∷ []) us
+fits_push [] c us f h = (h, tt)
+fits_push (d ∷ cs) c us f h = (f.0, fits_push cs c (put_became d.place d.became us) f.1 h)
 
 pub originals_settled : (cs : List Crossed) (us : List (Unsent Instr)) → originals (settled cs us) ≡ originals us
 originals_settled [] us = refl
-originals_settled (c ∷ cs) us = originals_settled cs (put_current c.place c.current.instrs us) ∙ originals_put us c.place c.current.instrs
-
--- ---- their instructions
-pub lists_put : (us : List (Unsent Instr)) (i : ℕ) (is : List Instr) → currents (put_current i is us) ≡ put_list i is (currents us)
-lists_put [] i is = refl
-lists_put (u ∷ us) zero is = refl
-lists_put (u ∷ us) (suc i) is = ap (λ l. u.current ∷ l) (lists_put us i is)
+originals_settled (c ∷ cs) us = originals_settled cs (put_became c.place c.became us) ∙ originals_became us c.place c.became
 
 -- an element
 pub element : (us : List (Unsent Instr)) (i : ℕ) → i < length us → (u : Unsent Instr) × (u ≡ get_or us i u)

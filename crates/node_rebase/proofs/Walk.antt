@@ -11,18 +11,22 @@ use Rattle.sync_theory.specs.Changesets.{Changeset, cross_sets, with_lists, is_l
 use Rattle.sync_theory.proofs.Steps.{rebase_step, rebase_stop}
 use Rattle.sync_law.specs.Instrs.{meet}
 use Rattle.sync_index.specs.Touched.{Touched, Covers}
-use Rattle.sync_rivals.specs.Lists.{Indexed, Serves, Pass, StaysListed, StaysAt}
-use Rattle.sync_rivals.proofs.Listed.{stands_at, stays_at}
+use Rattle.sync_rivals.specs.Lists.{Indexed, Serves, Pass, StaysListed}
+use Rattle.sync_rivals.proofs.Listed.{stands_at}
 use Rattle.sync_rivals.specs.Lemmas.Skips.{lists_of, known_right, listed_left}
 use Rattle.node_model.specs.Clients.{Unsent, changeset_of}
 use Rattle.sync_transform.specs.Sets.{made_by}
+use Rattle.sync_transform.specs.Moves.{moved_first}
+use Rattle.sync_transform.specs.declared.moves.Spot.{Spot}
 use Rattle.node_rebase.specs.declared.carried.Crossed.{Crossed}
+use Rattle.node_rebase.specs.declared.carried.Became.{Became}
+use Rattle.node_rebase.specs.declared.carried.Became.TheVariants.{Moved, Changed}
 use Rattle.node_rebase.specs.declared.refusal.RebaseRefusal.{RebaseRefusal}
 use Rattle.node_rebase.specs.declared.refusal.RebaseRefusal.TheVariants.{Mismatch, Forked, NoMemory}
-use Rattle.node_rebase.specs.Settling.{put_current, settled, HasTime, Fits, currents}
+use Rattle.node_rebase.specs.Settling.{left_of, put_current, settled, KeepsTime, Fits, currents}
 use Rattle.node_rebase.specs.Taking.{Crosses, Refuses}
 use Rattle.node_rebase.specs.Passing.{StopsAt}
-use Rattle.node_rebase.proofs.Places.{element, take_put, drop_put, put_same, time_at, number_there, carried_same, settled_push, fits_push, originals_settled}
+use Rattle.node_rebase.proofs.Places.{element, take_put, drop_put, put_same, became_is, fits_there, number_there, carried_same, settled_push, fits_push, originals_settled}
 
 abbrev in_grid : ℕ → List (Unsent Instr) → List (Changeset Instr)
 in_grid own us = map (changeset_of own) us
@@ -103,23 +107,35 @@ module _ (t : Touched) (x : Indexed) (codes : List ℕ) (own : ℕ) (us : List (
         served = w.served;
       }
 
-  pub walk_crosses : (c : Crossed) (next : Changes) → c.place ≡ i → cross_sets meet (changeset_of own u) (made_by e.origin e.number now) ≡ Ok (made_by own u.original.number c.current, made_by e.origin e.number next) → Covers t next.instrs
-      → Walked t x codes own us e (i + 1) (crossed ++ c ∷ []) next
-  walk_crosses c next at m covers =
-      let time : c.current.ms ≡ u.original.ms = keeps_time (changeset_of own u) (made_by e.origin e.number now) _ _ (cross (λ a b. meet a b (is_later (changeset_of own u) (made_by e.origin e.number now))) u.current now.instrs) m in
+  -- it becomes this, and the entry goes on
+  walk_becomes : (b : Became) (next : Changes) → KeepsTime u.original.ms b → cross_sets meet (changeset_of own u) (made_by e.origin e.number now) ≡ Ok (changeset_of own (record u { current = left_of b u.current }), made_by e.origin e.number next) → Covers t next.instrs
+      → Walked t x codes own us e (i + 1) (crossed ++ record { place = i; became = b } ∷ []) next
+  walk_becomes b next time m covers =
+      let is = left_of b u.current in
       let later = is_later (changeset_of own u) (made_by e.origin e.number now) in
-      let lists = lists_of (changeset_of own u) (made_by e.origin e.number now) (cross (λ a b. meet a b later) u.current now.instrs) (made_by own u.original.number c.current, made_by e.origin e.number next) m in
-      let left : StaysListed u.current c.current.instrs = λ s n. listed_left s n later u.current now.instrs c.current.instrs next.instrs lists in
-      let named : made_by own u.original.number c.current ≡ changeset_of own (record u { current = c.current.instrs }) = λ j. record { origin = own; number = u.original.number; ms = time j; instrs = c.current.instrs } in
-      let list : settled (crossed ++ c ∷ []) us ≡ put_current i c.current.instrs (settled crossed us) = settled_push crossed c us ∙ ap (λ n. put_current n c.current.instrs (settled crossed us)) at in
+      let lists = lists_of (changeset_of own u) (made_by e.origin e.number now) (cross (λ a b. meet a b later) u.current now.instrs) (changeset_of own (record u { current = is }), made_by e.origin e.number next) m in
+      let left : StaysListed u.current is = λ s n. listed_left s n later u.current now.instrs is next.instrs lists in
+      let list : settled (crossed ++ record { place = i; became = b } ∷ []) us ≡ put_current i is (settled crossed us) = settled_push crossed (record { place = i; became = b }) us ∙ became_is (settled crossed us) i b u _ there in
       record {
-        so_far = turn c.current.instrs next (m ∙ ap (λ x. Ok (x, made_by e.origin e.number next)) named)
-            ∙ ap (λ l. rebase_after (in_grid own (take (i + 1) l)) (i + 1) (rebase (cross_sets meet) (in_grid own (drop (i + 1) us)) (made_by e.origin e.number next))) (sym list);
-        rest = ap (drop (i + 1)) list ∙ after c.current.instrs;
-        fits = fits_push crossed c us w.fits (subst (λ n. HasTime n c.current.ms (settled crossed us)) (sym at) (time_at (settled crossed us) i c.current.ms u _ there time)) (subst (λ n. StaysAt n c.current.instrs (currents (settled crossed us))) (sym at) (stays_at (λ (v : Unsent Instr). v.current) (settled crossed us) i c.current.instrs u _ there left));
+        so_far = turn is next m ∙ ap (λ l. rebase_after (in_grid own (take (i + 1) l)) (i + 1) (rebase (cross_sets meet) (in_grid own (drop (i + 1) us)) (made_by e.origin e.number next))) (sym list);
+        rest = ap (drop (i + 1)) list ∙ after is;
+        fits = fits_push crossed (record { place = i; became = b }) us w.fits (fits_there (settled crossed us) i b u _ there time left);
         indexed = covers;
-        served = λ some. known_right codes later u.current now.instrs c.current.instrs next.instrs lists (w.served some);
+        served = λ some. known_right codes later u.current now.instrs is next.instrs lists (w.served some);
       }
+
+  -- its instruction stands at another spot
+  pub walk_moves : (s : Spot) (next : Changes) → cross_sets meet (changeset_of own u) (made_by e.origin e.number now) ≡ Ok (changeset_of own (record u { current = moved_first s u.current }), made_by e.origin e.number next) → Covers t next.instrs
+      → Walked t x codes own us e (i + 1) (crossed ++ record { place = i; became = Moved s } ∷ []) next
+  walk_moves s next m covers = walk_becomes (Moved s) next tt m covers
+
+  -- or it is another changeset
+  pub walk_crosses : (c next : Changes) → cross_sets meet (changeset_of own u) (made_by e.origin e.number now) ≡ Ok (made_by own u.original.number c, made_by e.origin e.number next) → Covers t next.instrs
+      → Walked t x codes own us e (i + 1) (crossed ++ record { place = i; became = Changed c } ∷ []) next
+  walk_crosses c next m covers =
+      let time : c.ms ≡ u.original.ms = keeps_time (changeset_of own u) (made_by e.origin e.number now) _ _ (cross (λ a b. meet a b (is_later (changeset_of own u) (made_by e.origin e.number now))) u.current now.instrs) m in
+      let named : made_by own u.original.number c ≡ changeset_of own (record u { current = c.instrs }) = λ j. record { origin = own; number = u.original.number; ms = time j; instrs = c.instrs } in
+      walk_becomes (Changed c) next time (m ∙ ap (λ x. Ok (x, made_by e.origin e.number next)) named) covers
 
   pub walk_stops : (refusal : RebaseRefusal) → own ≢ e.origin → StopsAt own u e.origin now refusal → Refuses own us e refusal
   walk_stops (Mismatch number kind) differ h = (

@@ -3,7 +3,10 @@ use Rattle.std.specs.Prelude.{◌≡◌, ℕ, zero, suc, List, [], ◌∷◌, ma
 use Rattle.sync_data.specs.declared.instr.Instr.{Instr}
 use Rattle.sync_data.specs.Payload.{Changes}
 use Rattle.node_model.specs.Clients.{Unsent}
-use Rattle.sync_rivals.specs.Lists.{StaysAt}
+use Rattle.sync_rivals.specs.Lists.{StaysListed}
+use Rattle.sync_transform.specs.Moves.{moved_first}
+use Rattle.node_rebase.specs.declared.carried.Became.{Became}
+use Rattle.node_rebase.specs.declared.carried.Became.TheVariants.{Moved, Changed}
 use Rattle.node_rebase.specs.declared.carried.Crossed.{Crossed}
 
 -- the entry's changeset as carried, and the unsent changesets that crossed it; the others stay
@@ -11,28 +14,44 @@ pub record Carried : Type 0 where
   pub changes : Changes
   pub crossed : List Crossed
 
+-- what became of these instructions
+abbrev pub left_of : Became → List Instr → List Instr
+left_of (Moved s) is = moved_first s is
+left_of (Changed c) is = c.instrs
+
 -- the unsent changeset at a place has these instructions now
 abbrev pub put_current : {I : Type 0} → ℕ → List I → List (Unsent I) → List (Unsent I)
 put_current n is [] = []
 put_current zero is (u ∷ us) = record u { current = is } ∷ us
 put_current (suc n) is (u ∷ us) = u ∷ put_current n is us
 
+-- it became this
+abbrev pub put_became : ℕ → Became → List (Unsent Instr) → List (Unsent Instr)
+put_became n b [] = []
+put_became zero b (u ∷ us) = record u { current = left_of b u.current } ∷ us
+put_became (suc n) b (u ∷ us) = u ∷ put_became n b us
+
 -- the list with those that crossed in their places
 abbrev pub settled : List Crossed → List (Unsent Instr) → List (Unsent Instr)
 settled [] us = us
-settled (c ∷ cs) us = settled cs (put_current c.place c.current.instrs us)
-
--- there is an unsent changeset of this time at this place
-abbrev pub HasTime : {I : Type 0} → ℕ → ℕ → List (Unsent I) → Type 0
-HasTime n ms [] = ⊥
-HasTime zero ms (u ∷ us) = ms ≡ u.original.ms
-HasTime (suc n) ms (u ∷ us) = HasTime n ms us
+settled (c ∷ cs) us = settled cs (put_became c.place c.became us)
 
 -- the instructions as they are rebased
 abbrev pub currents : List (Unsent Instr) → List (List Instr)
 currents us = map (λ (u : Unsent Instr). u.current) us
 
+-- a changeset has the time that it had
+abbrev pub KeepsTime : ℕ → Became → Type 0
+KeepsTime ms (Moved s) = Unit {0}
+KeepsTime ms (Changed c) = c.ms ≡ ms
+
+-- there is an unsent changeset at this place, of which this is left
+abbrev pub FitsAt : ℕ → Became → List (Unsent Instr) → Type 0
+FitsAt n b [] = ⊥
+FitsAt zero b (u ∷ us) = KeepsTime u.original.ms b × StaysListed u.current (left_of b u.current)
+FitsAt (suc n) b (u ∷ us) = FitsAt n b us
+
 -- each of those that crossed has its place in the list, and is left of what stands there
 abbrev pub Fits : List Crossed → List (Unsent Instr) → Type 0
 Fits [] us = Unit {0}
-Fits (c ∷ cs) us = HasTime c.place c.current.ms us × StaysAt c.place c.current.instrs (currents us) × Fits cs (put_current c.place c.current.instrs us)
+Fits (c ∷ cs) us = FitsAt c.place c.became us × Fits cs (put_became c.place c.became us)

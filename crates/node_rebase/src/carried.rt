@@ -2,12 +2,22 @@ ghost use Rattle.std.specs.Prelude.{◌≡◌};
 
 use std::marker::Model;
 use sync_data::Changeset;
+use sync_transform::Spot;
 
-/// An unsent changeset as it crossed an entry, and its place in the list.
+/// What became of an unsent changeset that crossed an entry.
+#[derive(Drop)]
+pub(crate) enum Became {
+    /// Its first instruction stands at another spot of its list.
+    Moved(Spot),
+    /// It is this one now.
+    Changed(Changeset),
+}
+
+/// An unsent changeset that crossed an entry: its place in the list, and what it became.
 #[derive(Drop)]
 pub(crate) struct Crossed {
     pub(crate) place: usize,
-    pub(crate) current: Changeset,
+    pub(crate) became: Became,
 }
 
 /// An entry of another client as carried over a list of unsent changesets, and those of them that it may touch, as they

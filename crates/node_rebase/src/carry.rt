@@ -9,18 +9,19 @@ ghost use Rattle.node_rebase.specs.Settling.{settled, Fits, currents};
 ghost use Rattle.node_rebase.specs.Taking.{Crosses, Refuses};
 ghost use Rattle.node_rebase.specs.Passing.{StopsAt};
 
-use super::carried::{Carried, Crossed};
+use super::carried::{Became, Carried, Crossed};
 use super::refusal::RebaseRefusal;
 use super::unsent::Unsent;
 use std::alloc::Global;
 use std::collections::VecDeque;
 use sync_data::{Changeset, Entry, Ident};
 use sync_index::Index;
-use sync_rivals::RivalIndex;
-use sync_transform::{cross_sets_indexed, stays_apart};
+use sync_rivals::{Pace, RivalIndex};
+use sync_transform::{cross_sets_indexed, moved_to, sets_move, stays_apart};
 
 /// Carries an entry of another client over the unsent changesets, from the first on. Those alone that are listed under a
-/// place of its rivals are visited; the others stay. Where there are none no index is made.
+/// place of its rivals are visited; the others stay. Where there are none no index is made. Of two list instructions that
+/// only shift each other the places alone are kept, so that neither changeset is copied.
 pub(crate) fn carry_over(
     alloc: Global,
     items: &VecDeque<Unsent>,
@@ -63,15 +64,22 @@ fn walk(
 {
     let mut changes = copy_of(&entry.changes)?;
     let mut crossed = Vec::new(alloc);
+    let mut pace = Pace::new();
     let end = items.len();
     let mut from = 0;
     while from < end {
-        let place = rivals.next(codes, changes.instrs(), from, end);
+        let place = rivals.next(&mut pace, codes, changes.instrs(), from, end);
         if place >= end {
             return Ok(Carried::new(changes, crossed));
         }
         from = place + 1;
         let unsent = &items[place];
+        if let Some(moves) = sets_move(unsent.current(), own, &changes, entry.origin) {
+            changes = moved_to(changes, moves.right);
+            let became = Became::Moved(moves.left);
+            push(&mut crossed, Crossed { place, became })?;
+            continue;
+        }
         if stays_apart(unsent.spot(), unsent.current(), index) {
             continue;
         }
@@ -79,7 +87,8 @@ fn walk(
             Err(refusal) => return Err(refusal),
             Ok((current, carried)) => {
                 changes = carried;
-                push(&mut crossed, Crossed { place, current })?;
+                let became = Became::Changed(current);
+                push(&mut crossed, Crossed { place, became })?;
             }
         }
     }

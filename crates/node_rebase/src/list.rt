@@ -1,10 +1,9 @@
 ghost use Rattle.std.specs.Prelude.{◌≡◌, ◌≢◌, ◌<◌, ◌↔◌, ◌++◌, ◌∷◌, [], IsTrue, IsSome, IfOk, IfErr, IfSome, OnOk, OnErr, length, slice_index_or};
 ghost use Rattle.sync_theory.specs.Grid.{tail};
-ghost use Rattle.sync_rivals.specs.Lists.{StaysAt};
 ghost use Rattle.node_rebase.specs.Taking.{Crosses, IsHead, Refuses};
-ghost use Rattle.node_rebase.specs.Settling.{settled, Fits, put_current, HasTime, currents};
+ghost use Rattle.node_rebase.specs.Settling.{settled, Fits, FitsAt, put_became, currents};
 
-use super::carried::{Carried, Crossed};
+use super::carried::{Became, Carried, Crossed};
 use super::carry::carry_over;
 use super::refusal::RebaseRefusal;
 use super::unsent::Unsent;
@@ -13,6 +12,7 @@ use std::collections::VecDeque;
 use std::marker::Model;
 use sync_data::{Changeset, Entry, Ident, NoMemory};
 use sync_rivals::RivalIndex;
+use sync_transform::Spot;
 
 /// After so many looks at a changeset it has paid to list it.
 const LOOKS: usize = 64;
@@ -20,6 +20,7 @@ const LOOKS: usize = 64;
 /// A client's changesets that the server hasn't acknowledged, from the oldest on.
 #[derive(Drop)]
 pub struct PendingList {
+    alloc: Global,
     index: RivalIndex,
     items: VecDeque<Unsent>,
 }
@@ -45,6 +46,7 @@ impl PendingList {
         ensures { result ≡ [] }
     {
         PendingList {
+            alloc,
             index: RivalIndex::new(alloc),
             items: VecDeque::new(alloc),
         }
@@ -86,6 +88,7 @@ impl PendingList {
     {
         match copy_of(alloc, &self.items) {
             Ok(items) => Ok(PendingList {
+                alloc,
                 index: RivalIndex::new(alloc),
                 items,
             }),
@@ -170,11 +173,29 @@ impl PendingList {
     }
 
     fn put_at(&mut self, crossed: Crossed)
-        requires time { HasTime crossed.place crossed.current.ms self.old }
-        requires listed { StaysAt crossed.place crossed.current.instrs (currents self.old) }
-        ensures { self.new ≡ put_current crossed.place crossed.current.instrs self.old }
+        requires { FitsAt crossed.place crossed.became self.old }
+        ensures { self.new ≡ put_became crossed.place crossed.became self.old }
     {
-        let Crossed { place, current } = crossed;
+        let Crossed { place, became } = crossed;
+        match became {
+            Became::Moved(spot) => self.move_at(place, spot),
+            Became::Changed(current) => self.change_at(place, current),
+        }
+    }
+
+    /// The first instruction of a changeset stands at another spot. Its home stays, and so does the index.
+    fn move_at(&mut self, place: usize, spot: Spot)
+        requires { FitsAt place (Became.Moved spot) self.old }
+        ensures { self.new ≡ put_became place (Became.Moved spot) self.old }
+    {
+        let unsent = &mut self.items[place];
+        unsent.move_to(self.alloc, spot);
+    }
+
+    fn change_at(&mut self, place: usize, current: Changeset)
+        requires { FitsAt place (Became.Changed current) self.old }
+        ensures { self.new ≡ put_became place (Became.Changed current) self.old }
+    {
         let before = self.items[place].current().instrs();
         self.index.change(place, before, current.instrs());
         let unsent = &mut self.items[place];

@@ -2,11 +2,15 @@ ghost use Rattle.std.specs.Prelude.{◌≡◌, ◌≤◌, ◌↔◌, IfOk, IsTru
 ghost use Rattle.sync_data.specs.Payload.{IsSmall};
 ghost use Rattle.sync_index.specs.Spots.{LieAt};
 ghost use Rattle.node_model.specs.Clients.{as_made};
+ghost use Rattle.sync_transform.specs.Moves.{moved_first};
 ghost use Rattle.node_rebase.specs.Taking.{IsEntryOf};
 
+use std::alloc::Global;
 use std::marker::Model;
+use std::mem;
 use sync_data::{Changeset, Entry, NoMemory, equality_is_exact};
 use sync_index::shared_spot;
+use sync_transform::{Spot, moved_to};
 
 /// A changeset that the server hasn't acknowledged: its number, at least 1, among the client's, the version of the history on which
 /// it was made, and its instructions as they were made and as they were rebased since.
@@ -138,5 +142,14 @@ impl Unsent {
     {
         self.spot = shared_spot(current.instrs());
         self.current = current;
+    }
+
+    /// Its first instruction, as rebased, stands at another spot of its list. It takes no memory.
+    pub(crate) fn move_to(&mut self, alloc: Global, spot: Spot)
+        ensures { self.new ≡ record self.old { current = moved_first spot self.old.current } }
+    {
+        let nothing = Changeset::checked(self.original.ms(), Vec::new(alloc)).unwrap();
+        let current = mem::replace(&mut self.current, nothing);
+        self.current = moved_to(current, spot);
     }
 }
