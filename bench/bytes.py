@@ -12,9 +12,6 @@ import os
 import re
 import subprocess
 import sys
-import tempfile
-
-from spelling import changeset, number, signed, text
 
 CRATE = os.path.join(os.path.dirname(os.path.dirname(os.path.abspath(__file__))), "crates", "bytes_bench")
 PROGRAM = os.path.join(CRATE, "out", "bytes_bench")
@@ -22,60 +19,14 @@ LINE = re.compile(r"(\w+): (\d+) instructions, (\d+) bytes, (\d+) runs in (\d+) 
 MILLISECONDS = "20"
 
 
-TEXT_KEYS = """home work garden kitchen school family travel health music books films games sports money friends other""".split()
-
-
-class Mixed:
-    """Instructions of eight kinds in turn, about objects of a todo list with keys of each kind."""
-
-    def __init__(self, count):
-        self.strings = {}
-        self.instructions = [self.instruction(it) for it in range(count)]
-
-    def string(self, it):
-        return number(self.strings.setdefault(it, len(self.strings)))
-
-    def key(self, it):
-        kind = it // 8 % 3
-        if kind == 0:
-            return b"\0" + signed(it * 1000)
-        if kind == 1:
-            return b"\1" + self.string(TEXT_KEYS[it % 16])
-        return b"\2" + bytes([0, 0, 0, 0, 0, 0, 0x40, 0, 0x80, 0, 0, 0, 0, 0, it // 256 % 256, it % 256])
-
-    def cell(self, it, column):
-        return self.string("item") + self.key(it) + self.string(column)
-
-    def instruction(self, it):
-        kind = it % 8
-        if kind == 0:
-            return b"\3" + self.string("item") + self.key(it)
-        if kind == 1:
-            return b"\5" + self.cell(it, "title") + b"\3" + text("buy a litre of milk")
-        if kind == 2:
-            return b"\5" + self.cell(it, "owner") + b"\7" + self.string("person") + self.key(it)
-        if kind == 3:
-            return b"\6" + self.cell(it, "votes") + signed(it - 1000)
-        if kind == 4:
-            return b"\x08" + self.cell(it, "steps") + number(it) + number(it) + b"\3" + text("fetch a bag")
-        if kind == 5:
-            return b"\x09" + self.cell(it, "steps") + number(it // 2) + number(it)
-        if kind == 6:
-            return b"\x0a" + self.cell(it, "tags") + b"\1" + signed(it)
-        return b"\x0c" + self.cell(it, "notes") + self.string("note") + b"\1\3" + text("before noon")
-
-    def bytes(self):
-        return changeset(self.strings, self.instructions, 2 if len(self.instructions) > 7 else 1)
-
-
 def build():
     if not os.path.exists(PROGRAM):
         subprocess.run(["rt", "run"], cwd=CRATE, stdin=subprocess.DEVNULL, stdout=sys.stderr, check=True)
 
 
-def once(paths):
+def once(counts):
     """For each call the rows of count, bytes and seconds of one run."""
-    words = [PROGRAM, MILLISECONDS, *paths]
+    words = [PROGRAM, MILLISECONDS, *map(str, counts)]
     printed = subprocess.run(words, stdout=subprocess.PIPE, check=True, text=True).stdout
     rows = {}
     for what, count, size, runs, micros in LINE.findall(printed):
@@ -85,12 +36,7 @@ def once(paths):
 
 def measured(counts):
     """The best of twenty-five."""
-    with tempfile.TemporaryDirectory() as folder:
-        paths = [os.path.join(folder, str(count)) for count in counts]
-        for path, count in zip(paths, counts):
-            with open(path, "wb") as it:
-                it.write(Mixed(count).bytes())
-        tries = [once(paths) for _ in range(25)]
+    tries = [once(counts) for _ in range(25)]
     return {what: [min(row, key=lambda it: it[2]) for row in zip(*(rows[what] for rows in tries))] for what in tries[0]}
 
 

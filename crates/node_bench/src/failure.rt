@@ -1,10 +1,12 @@
+use std::alloc::AllocError;
 use std::io;
-use sync_disk::{DiskRefusal, NoMemory};
+use sync_disk::DiskRefusal;
+use sync_io::NoMemory;
 
 /// Why a run ends early.
 #[derive(Clone, Copy, Debug)]
-pub enum Failure {
-    /// The words are no plan, or a file of messages has none.
+pub(crate) enum Failure {
+    /// The words are no scenario, or a size of it is too great.
     Words,
     /// A node or its disk refused.
     Node,
@@ -26,6 +28,12 @@ impl From<DiskRefusal> for Failure {
 
 impl From<NoMemory> for Failure {
     fn from(_: NoMemory) -> Self {
+        Failure::System
+    }
+}
+
+impl From<AllocError> for Failure {
+    fn from(_: AllocError) -> Self {
         Failure::System
     }
 }

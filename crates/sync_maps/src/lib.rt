@@ -4,3 +4,6 @@
 mod next;
 
 pub use next::next_key;
+
+#[cfg(test)]
+mod tests;
