@@ -18,4 +18,5 @@ pub mod LaterLaws
 pub mod Rescuing
 pub mod Runs
 pub mod Asked
+pub mod StaysAbove
 mod Examples

@@ -216,6 +216,10 @@ module _ {I S : Type 0} (p : Profile I S) where
   abbrev pub IsBelow : Later I S → Node → Type 0
   IsBelow l nd = settled_from (client_of p nd.records).cursor (client_of p nd.records).unsent < l.kept.floor
 
-  -- so it does for some client
+  -- it doesn't
+  abbrev pub IsAbove : Later I S → Node → Type 0
+  IsAbove l nd = l.kept.floor ≤ settled_from (client_of p nd.records).cursor (client_of p nd.records).unsent
+
+  -- it does for some client
   abbrev pub AnyBelow : Later I S → Type 0
   AnyBelow l = (i : ℕ) × (nd : Node) × (at l.world.clients i ≡ Some nd) × IsBelow l nd

@@ -56,7 +56,7 @@ nothing_there xs k x le h = let lt = at_below xs k x h in omega arith
 module _ {I S : Type 0} (p : Profile I S) where
   -- ---- names where the server gives up history
 
-  served_same : (w : World) (kept : Rattle.node_model.specs.Parts.Parts I S) (m : Message) → (later_served p w kept m).world.clients ≡ w.clients
+  pub served_same : (w : World) (kept : Rattle.node_model.specs.Parts.Parts I S) (m : Message) → (later_served p w kept m).world.clients ≡ w.clients
   served_same w kept m = on (stopped (w.stops server_name) (serve_by p kept m).records)
     where
       on : (o : Option (List ServerRecord)) → (later_ends p w kept (serve_by p kept m) o).world.clients ≡ w.clients
@@ -103,7 +103,7 @@ module _ {I S : Type 0} (p : Profile I S) where
     later_is_valid l r = let v = later_valid l r in record { holds = v.0.holds; opens = v.0.opens; apart = v.1 }
 
     -- a client whose settled number isn't below a version
-    above_at : (w : World) (h : Holds p w) (floor i : ℕ) (nd : Node) → at w.clients i ≡ Some nd → floor ≤ settled_from (client_of p nd.records).cursor (client_of p nd.records).unsent → Above p floor (client_of p nd.records)
+    pub above_at : (w : World) (h : Holds p w) (floor i : ℕ) (nd : Node) → at w.clients i ≡ Some nd → floor ≤ settled_from (client_of p nd.records).cursor (client_of p nd.records).unsent → Above p floor (client_of p nd.records)
     above_at w h floor i nd here le =
         let k = h.sim.clients i nd here in
         ⊎_elim (λ f. fresh f.1) (λ g. given (Rattle.node_model.specs.Servers.place_of k.id (server_of p w.server).ids) g.1) k.is
