@@ -8,19 +8,19 @@ use Rattle.node_model.proofs.Bytes.{bytes_true}
 use Rattle.node_model.specs.Profile.{Profile, Lawful, is_small, needs, first_need, all_admitted, first_outside, apply_all}
 use Rattle.node_model.specs.Snapshots.{Buildable}
 use Rattle.node_model.specs.Messages.{Message, Bind, Ident, Upload, Ask, Download, Refused, Stored, Ask2, Retire, Retired, AskTables}
-use Rattle.node_model.specs.Clients.{Client, ClientRecord, ClientRefusal, ClientStep, Born, Made, Form, Subset, Unsent, NotNamed, TooLarge, NumbersFull, OldForm, NotSubscribed, TooLate, answers, appends, refuse, if_born, if_named, subscribed_once, is_late, settled_from, question, client_of, after_records, commit, commit_born, commit_applied, upgrade, subscribe, bind, upload, to_upload, ask, take as take_message}
-use Rattle.node_model.specs.Servers.{Server, ServerRecord, no_server, server_of, after_all, place_of, serve, server_objects, heir_of, is_retired}
-use Rattle.node_model.specs.Parts.{Given, Parts, Served, at_ident, given_of, parts_of, served_of, serve_by, after_parts}
-use Rattle.node_model.specs.Trims.{KeptLess, SameGiven, is_trimmed, is_live, least_settled, next_floor, trimmed}
+use Rattle.node_model.specs.Clients.{Client, ClientRecord, ClientRefusal, Born, Made, Form, Subset, Unsent, NotNamed, TooLarge, NumbersFull, OldForm, NotSubscribed, TooLate, answers, appends, refuse, if_born, if_named, subscribed_once, is_late, settled_from, question, client_of, commit, commit_born, commit_applied, upgrade, subscribe, bind, upload, to_upload, ask}
+use Rattle.node_model.specs.Servers.{Server, ServerRecord, no_server, server_of, place_of, serve, server_objects, is_retired}
+use Rattle.node_model.specs.Parts.{Given, Parts, at_ident, given_of, served_of, serve_by}
+use Rattle.node_model.specs.Trims.{KeptLess, SameGiven, is_trimmed, is_live, least_settled, next_floor}
 use Rattle.node_model.specs.Starts.{started}
-use Rattle.node_model.specs.Worlds.{Node, World, Event, Joins, Starts, Edits, Binds, Uploads, Asks, Upgrades, Subscribes, Delivers, Restarts, Stops, Injects, Outcome, says, NameTaken, UuidTaken, Joined, NoNode, Armed, at, seek, is_there, stopped, has_name, has_id, id_is, ident_is, is_own, owner, arm, server_name, server_moved, reply_words, message_words, made_words, took_words, upgrade_words, subscribe_words, client_calls, is_node, message_at, named_by, names_own, starts_at, happens}
+use Rattle.node_model.specs.Worlds.{Node, World, Event, Joins, Starts, Edits, Binds, Uploads, Asks, Upgrades, Subscribes, Delivers, Restarts, Stops, Injects, says, NameTaken, UuidTaken, Joined, NoNode, Armed, at, seek, is_there, stopped, has_id, id_is, ident_is, is_own, arm, server_name, message_words, made_words, upgrade_words, subscribe_words, is_node, message_at, named_by, names_own, starts_at, happens}
 use Rattle.node_model.specs.Files.{FilesOpen}
 use Rattle.node_model.specs.Log.{ident_by, ident_of}
-use Rattle.node_model.specs.Later.{Later, LaterEvent, Happens, Trims, first_later, later_ends, later_served, later_message, later_injected, beside, later_after, later, all_later, IsLater}
+use Rattle.node_model.specs.Later.{Later, LaterEvent, Happens, Trims, first_later, later_ends, later_served, later_message, beside, later_after, later, all_later, IsLater}
 use Rattle.node_model.specs.Progress.{IsAbove}
 use Rattle.node_model.specs.Each.{Each, no_more, and_each}
 use Rattle.node_model.proofs.Lists.{at_snoc, at_below, at_map, at_of_map, seek_there, place_old, place_one, place_within}
-use Rattle.node_model.proofs.Sim.{uuid_of, uuids}
+use Rattle.node_model.proofs.Sim.{uuid_of}
 use Rattle.node_model.proofs.Calling.{named_as}
 use Rattle.node_model.proofs.Own.{after_append}
 use Rattle.node_model.proofs.Acknowledged.{events_grow}
@@ -32,13 +32,12 @@ use Rattle.node_model.proofs.Starting.{started_is, objects_fit, objects_bounded}
 use Rattle.node_model.proofs.Facts.{world_facts}
 use Rattle.node_model.proofs.Holding.{Holds, cut_by, server_append, not_named}
 use Rattle.node_model.proofs.Later.{Held, full, opened_of, event_held, later_held, first_held, calls_leave, messages_leave, made_leave, took_leave, upgrade_leave, subscribe_leave, starts_leave, joins_leave, delivers_leave, stops_leave}
-use Rattle.node_model.proofs.Progress.Names.{Apart}
 use Rattle.node_model.proofs.Progress.Growing.{server_onto}
 use Rattle.node_model.proofs.Progress.Late.{each_take}
 use Rattle.node_model.proofs.Progress.Above.{Above, IsCall, called_above, IsReply, serve_replies}
 use Rattle.node_model.proofs.Progress.Alongside.{Moves, moves_same, SentBy, sends, quietly, hears_one, bind_told, named_told, named_says}
 use Rattle.node_model.proofs.Progress.Asked.{AskOf, Answers, Asked, serve_answers, server_asked, called_id}
-use Rattle.node_model.proofs.Progress.LaterLaws.{above_at, served_same as served_clients}
+use Rattle.node_model.proofs.Progress.LaterLaws.{above_at}
 
 neither : (a b : Bool) → (a || b) ≡ false → (a ≡ false) × (b ≡ false)
 neither true b e = cc
@@ -412,8 +411,11 @@ module _ {I S : Type 0} (p : Profile I S) where
             on : (o : Option Uuid) → (if_born o (λ id. answers (Bind id))).answer ≡ Ok m → Fair l.world m
             on None e = cc
             on (Some id) e = let same : Bind id ≡ m = cc in no_ask l.world (Bind id) m same (λ d n k. k)
-    event_comes l h a (Uploads name) = inl (by_moves (SentBy p l.world name (upload p)) (sends p l.world name (upload p) (λ st. named_told p st (Upload st.ident (to_upload p st)))) (calls_leave p l.world name (upload p) message_words (messages_leave p)) (grown l.world (Uploads name))
-        (λ m s. no_ask l.world (Upload (client_of p s.1.records).ident (to_upload p (client_of p s.1.records))) m (named_says p (client_of p s.1.records) (Upload (client_of p s.1.records).ident (to_upload p (client_of p s.1.records))) m s.4) (λ d n k. k)), refl)
+    event_comes l h a (Uploads name) = inl (
+      by_moves (SentBy p l.world name (upload p)) (sends p l.world name (upload p) (λ st. named_told p st (Upload st.ident (to_upload p st)))) (calls_leave p l.world name (upload p) message_words (messages_leave p)) (grown l.world (Uploads name))
+          (λ m s. no_ask l.world (Upload (client_of p s.1.records).ident (to_upload p (client_of p s.1.records))) m (named_says p (client_of p s.1.records) (Upload (client_of p s.1.records).ident (to_upload p (client_of p s.1.records))) m s.4) (λ d n k. k)),
+      refl,
+    )
     event_comes l h a (Asks name) = inl (by_moves (SentBy p l.world name ask) (sends p l.world name ask (λ st. named_told p st (question st st.subset))) (calls_leave p l.world name ask message_words (messages_leave p)) (grown l.world (Asks name)) (λ m s. sent_fair l.world h.holds name m s), refl)
     event_comes l h a (Upgrades name) = inl (by_moves (λ x. ⊥) (quietly p l.world name upgrade upgrade_words upgraded_same upgrade_called) (calls_leave p l.world name upgrade upgrade_words (upgrade_leave p)) (grown l.world (Upgrades name)) (λ m n. absurd n), refl)
     event_comes l h a (Subscribes name tables) = inl (by_moves (λ x. ⊥) (quietly p l.world name (λ c. subscribe c tables) subscribe_words subscribed_same (λ c. subscribe_called c tables)) (calls_leave p l.world name (λ c. subscribe c tables) subscribe_words (subscribe_leave p)) (grown l.world (Subscribes name tables)) (λ m n. absurd n), refl)
