@@ -26,4 +26,5 @@ fn the_instructions_can_be_exchanged() {
     started_clients_have_the_objects::<Instrs>();
     worlds_make_progress::<Instrs>();
     later_worlds_make_progress::<Instrs>();
+    recoveries_end::<Instrs>();
 }
