@@ -19,4 +19,5 @@ pub mod Rescuing
 pub mod Runs
 pub mod Asked
 pub mod StaysAbove
+pub mod Calm
 mod Examples

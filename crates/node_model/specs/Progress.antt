@@ -223,3 +223,8 @@ module _ {I S : Type 0} (p : Profile I S) where
   -- it does for some client
   abbrev pub AnyBelow : Later I S → Type 0
   AnyBelow l = (i : ℕ) × (nd : Node) × (at l.world.clients i ≡ Some nd) × IsBelow l nd
+
+  -- no disk is armed, the server knows each client, its file is in form 2, and it stands above the floor
+  pub record IsCalm (l : Later I S) : Type 0 where
+    pub unarmed : (x : Name) → l.world.stops x ≡ None
+    pub clients : (i : ℕ) (nd : Node) → at l.world.clients i ≡ Some nd → (ident_of p l.world nd ≢ 0) × ((client_of p nd.records).second ≡ Bool.true) × IsAbove l nd
