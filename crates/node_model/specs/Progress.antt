@@ -137,9 +137,9 @@ module _ {I S : Type 0} (p : Profile I S) where
   made_by_all [] = 0
   made_by_all (nd ∷ nds) = length (client_of p nd.records).made + made_by_all nds
 
-  -- so many rounds are enough for each client of a world, whoever goes first
+  -- so many rounds are enough for each client of a world: one for each entry, and for each change that a client made
   abbrev pub enough_for_all : World → ℕ
-  enough_for_all w = length (log p w) + (made_by_all w.clients + (made_by_all w.clients + made_by_all w.clients))
+  enough_for_all w = length (log p w) + made_by_all w.clients
 
   -- some disk is armed, some uuid is unknown to the server, some client's file is in form 1
   abbrev pub AnyArmed : World → Type 0
