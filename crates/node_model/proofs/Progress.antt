@@ -20,4 +20,5 @@ pub mod Runs
 pub mod Asked
 pub mod StaysAbove
 pub mod Calm
+pub mod Readers
 mod Examples

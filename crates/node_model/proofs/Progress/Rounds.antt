@@ -46,7 +46,7 @@ hinders unnamed old (RetiredBy c) m o = absurd m
 hinders unnamed old (Trimmed n) m o = absurd m
 
 -- what a download of the exchange is declined by
-stops_it : (why : ClientRefusal) → MayDecline why → IsOfTake why → MayStop why
+pub stops_it : (why : ClientRefusal) → MayDecline why → IsOfTake why → MayStop why
 stops_it NotBorn m o = absurd m
 stops_it AlreadyBorn m o = absurd m
 stops_it NotNamed m o = absurd m
