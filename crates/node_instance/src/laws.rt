@@ -12,7 +12,7 @@ ghost use Rattle.node_model.specs.Clients.{client_of};
 ghost use Rattle.node_model.specs.Later.{IsLater, Later};
 ghost use Rattle.node_model.specs.Log.{ident_of, subset_of};
 ghost use Rattle.node_model.specs.Profile.{LawfulParts, only_by};
-ghost use Rattle.node_model.specs.Progress.{AllCurrent, AnyArmed, AnyBelow, AnyOld, AnyUnnamed, Comes, HasCaughtUp, IsArmed, IsBelow, IsBelowFloor, IsCurrent, IsException, IsRoomy, after_events, all_catch_up, catches_up, enough, enough_for_all, later_outcomes};
+ghost use Rattle.node_model.specs.Progress.{AllCurrent, AnyArmed, AnyBelow, AnyOld, AnyUnnamed, Comes, HasCaughtUp, IsArmed, IsBelow, IsBelowFloor, IsCalm, IsCurrent, IsException, IsRoomy, after_events, all_catch_up, catches_up, enough, enough_for_all, later_outcomes};
 ghost use Rattle.node_model.specs.Worlds.{Node, at};
 ghost use Rattle.node_instance.specs.Adapting.{adapt};
 ghost use Rattle.node_instance.specs.Profile.{fits_changeset, the_profile, unspell, weight};
@@ -55,7 +55,8 @@ pub fn messages_bear_each_changeset()
 /// Whatever happened, and however often the server gave up history: a client of this project's instructions that binds,
 /// uploads and asks in turn, for as many rounds as it lacks entries and the server lacks its changes, ends with its ident,
 /// the whole history and nothing unsent, or a named exception comes on the way. So do all clients of a world, one after
-/// another and then each once more. Each then has its part of the server's objects.
+/// another and then each once more; where no disk is armed, the server knows them all, their files are in form 2 and they
+/// stand above its floor, a mismatch or a full history alone may come. Each then has its part of the server's objects.
 pub fn clients_catch_up()
     ensures one { (l : Later Instr State) → IsLater the_profile l → (i : ℕ) (nd : Node) → at l.world.clients i ≡ Some nd → (rounds : ℕ) → enough the_profile l.world nd ≤ rounds
         → Comes (λ x. IsException (IsArmed the_profile l.world nd) (ident_of the_profile l.world nd ≡ 0) ((client_of the_profile nd.records).second ≡ false) x ⊎ IsBelowFloor (IsBelow the_profile l nd) x) (later_outcomes the_profile l (catches_up nd.name (length l.world.messages) rounds))
@@ -63,6 +64,8 @@ pub fn clients_catch_up()
     ensures all { (l : Later Instr State) → IsLater the_profile l → (rounds : ℕ) → enough_for_all the_profile l.world ≤ rounds
         → Comes (λ x. IsException (AnyArmed the_profile l.world) (AnyUnnamed the_profile l.world) (AnyOld the_profile l.world) x ⊎ IsBelowFloor (AnyBelow the_profile l) x) (later_outcomes the_profile l (all_catch_up l.world rounds))
         ⊎ AllCurrent the_profile (after_events the_profile l (all_catch_up l.world rounds)).world }
+    ensures calm { (l : Later Instr State) → IsLater the_profile l → IsCalm the_profile l → (rounds : ℕ) → enough_for_all the_profile l.world ≤ rounds
+        → Comes (IsException ⊥ ⊥ ⊥) (later_outcomes the_profile l (all_catch_up l.world rounds)) ⊎ AllCurrent the_profile (after_events the_profile l (all_catch_up l.world rounds)).world }
     ensures objects { (l : Later Instr State) → IsLater the_profile l → (i : ℕ) (nd : Node) → at l.world.clients i ≡ Some nd → ident_of the_profile l.world nd ≢ 0 → IsCurrent the_profile l.world nd
         → (client_of the_profile nd.records).objects ≡ only_by the_profile (subset_of the_profile nd) l.kept.objects }
 {

@@ -135,7 +135,7 @@ module _ {I S : Type 0} (p : Profile I S) where
   marks_within s top h [] k = no_more
   marks_within s top h (u ∷ us) k = and_each (h k) (marks_within s top h us (suc k))
 
-  length_listed : {X : Type 0} (f : ℕ → X) (n k : ℕ) → length (listed f n k) ≡ n
+  pub length_listed : {X : Type 0} (f : ℕ → X) (n k : ℕ) → length (listed f n k) ≡ n
   length_listed f zero k = refl
   length_listed f (suc n) k = ap suc (length_listed f n (suc k))
 

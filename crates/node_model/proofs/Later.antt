@@ -51,7 +51,7 @@ take_both (suc i) (suc j) (x ∷ xs) = let r = take_both i j xs in (suc r.0, ap 
 module _ {I S : Type 0} (p : Profile I S) where
   -- ---- a client's event leaves the server
 
-  calls_leave : {A : Type 0} (w : World) (name : Name) (call : Client I S → ClientStep A) (words : World → Result A ClientRefusal → Outcome) → ((v : World) (a : Result A ClientRefusal) → (words v a).world.server ≡ v.server) → (client_calls p w name call words).world.server ≡ w.server
+  pub calls_leave : {A : Type 0} (w : World) (name : Name) (call : Client I S → ClientStep A) (words : World → Result A ClientRefusal → Outcome) → ((v : World) (a : Result A ClientRefusal) → (words v a).world.server ≡ v.server) → (client_calls p w name call words).world.server ≡ w.server
   calls_leave {A} w name call words same = on (seek (has_name name) w.clients)
     where
       ends : (q : ℕ × Node) (o : Option (List Rattle.node_model.specs.Clients.ClientRecord)) → (client_ends w q.0 q.1 (call (client_of p q.1.records)) words o).world.server ≡ w.server
@@ -62,27 +62,27 @@ module _ {I S : Type 0} (p : Profile I S) where
       on None = refl
       on (Some q) = ends q (stopped (w.stops q.1.name) (call (client_of p q.1.records)).records)
 
-  messages_leave : (v : World) (a : Result Message ClientRefusal) → (message_words v a).world.server ≡ v.server
+  pub messages_leave : (v : World) (a : Result Message ClientRefusal) → (message_words v a).world.server ≡ v.server
   messages_leave v (Ok m) = refl
   messages_leave v (Err r) = refl
 
-  made_leave : (v : World) (a : Result ℕ ClientRefusal) → (made_words v a).world.server ≡ v.server
+  pub made_leave : (v : World) (a : Result ℕ ClientRefusal) → (made_words v a).world.server ≡ v.server
   made_leave v (Ok n) = refl
   made_leave v (Err r) = refl
 
-  took_leave : (v : World) (a : Result ℕ ClientRefusal) → (took_words v a).world.server ≡ v.server
+  pub took_leave : (v : World) (a : Result ℕ ClientRefusal) → (took_words v a).world.server ≡ v.server
   took_leave v (Ok n) = refl
   took_leave v (Err r) = refl
 
-  upgrade_leave : (v : World) (a : Result Bool ClientRefusal) → (upgrade_words v a).world.server ≡ v.server
+  pub upgrade_leave : (v : World) (a : Result Bool ClientRefusal) → (upgrade_words v a).world.server ≡ v.server
   upgrade_leave v (Ok b) = refl
   upgrade_leave v (Err r) = refl
 
-  subscribe_leave : (v : World) (a : Result ⊤ ClientRefusal) → (subscribe_words v a).world.server ≡ v.server
+  pub subscribe_leave : (v : World) (a : Result ⊤ ClientRefusal) → (subscribe_words v a).world.server ≡ v.server
   subscribe_leave v (Ok m) = refl
   subscribe_leave v (Err r) = refl
 
-  starts_leave : (w : World) (name id : Uuid) (second : Bool) (version : ℕ) (objects : S) → (starts_at p w name id second version objects).world.server ≡ w.server
+  pub starts_leave : (w : World) (name id : Uuid) (second : Bool) (version : ℕ) (objects : S) → (starts_at p w name id second version objects).world.server ≡ w.server
   starts_leave w name id second version objects = on (is_node w name) (is_there (seek (has_id p id) w.clients) || is_there (seek (λ u. bytes_eq id u) w.injected))
     where
       on : (a b : Bool) → (if a then says w Rattle.node_model.specs.Worlds.NameTaken else (if b then says w Rattle.node_model.specs.Worlds.UuidTaken else says (record w { clients = w.clients ++ record { name = name; records = Rattle.node_model.specs.Starts.started p id second version objects } ∷ [] }) (Rattle.node_model.specs.Worlds.Joined name))).world.server ≡ w.server
@@ -90,7 +90,7 @@ module _ {I S : Type 0} (p : Profile I S) where
       on false true = refl
       on false false = refl
 
-  joins_leave : (w : World) (name id : Uuid) → (joins p w name id).world.server ≡ w.server
+  pub joins_leave : (w : World) (name id : Uuid) → (joins p w name id).world.server ≡ w.server
   joins_leave w name id = on (is_node w name) (is_there (seek (has_id p id) w.clients) || is_there (seek (λ u. bytes_eq id u) w.injected))
     where
       on : (a b : Bool) → (if a then says w Rattle.node_model.specs.Worlds.NameTaken else (if b then says w Rattle.node_model.specs.Worlds.UuidTaken else says (record w { clients = w.clients ++ record { name = name; records = Rattle.node_model.specs.Clients.Born id ∷ [] } ∷ [] }) (Rattle.node_model.specs.Worlds.Joined name))).world.server ≡ w.server
@@ -98,7 +98,7 @@ module _ {I S : Type 0} (p : Profile I S) where
       on false true = refl
       on false false = refl
 
-  delivers_leave : (w : World) (to : Name) (k : ℕ) → bytes_eq to server_name ≡ false → (happens p w (Delivers k to)).world.server ≡ w.server
+  pub delivers_leave : (w : World) (to : Name) (k : ℕ) → bytes_eq to server_name ≡ false → (happens p w (Delivers k to)).world.server ≡ w.server
   delivers_leave w to k off = on (is_node w to) (message_at w k)
     where
       some : (b : Bool) (m : Message) → b ≡ false → (if b then server_called p w m else client_calls p w to (λ c. take_message p c m) took_words).world.server ≡ w.server
@@ -110,7 +110,7 @@ module _ {I S : Type 0} (p : Profile I S) where
       on true (Some m) = some (bytes_eq to server_name) m off
       on false o = refl
 
-  stops_leave : (w : World) (node : Name) (k : ℕ) (leaves : Rattle.node_model.specs.Worlds.Leaves) → (happens p w (Stops node k leaves)).world.server ≡ w.server
+  pub stops_leave : (w : World) (node : Name) (k : ℕ) (leaves : Rattle.node_model.specs.Worlds.Leaves) → (happens p w (Stops node k leaves)).world.server ≡ w.server
   stops_leave w node k leaves = on (is_node w node)
     where
       on : (b : Bool) → (if b then says (record w { stops = Rattle.node_model.specs.Worlds.arm node (Some (record { at = k; leaves = leaves })) w.stops }) Rattle.node_model.specs.Worlds.Armed else says w Rattle.node_model.specs.Worlds.NoNode).world.server ≡ w.server
@@ -215,7 +215,7 @@ module _ {I S : Type 0} (p : Profile I S) where
     none_some : {m : Message} → None ≡ Some m → ⊥
     none_some e = cc
 
-    named_open : (w : World) (m : Message) → FilesOpen p w → FilesOpen p (named_by w m)
+    pub named_open : (w : World) (m : Message) → FilesOpen p w → FilesOpen p (named_by w m)
     named_open w (Bind u) f = record { clients = f.clients; server = f.server }
     named_open w (Ident u c) f = f
     named_open w (Upload c hs) f = f
@@ -274,7 +274,7 @@ module _ {I S : Type 0} (p : Profile I S) where
     event_held l h (Stops node k leaves) = beside_held l h (Stops node k leaves) (stops_leave l.world node k leaves)
     event_held l h (Injects m) = injected_held l h m
 
-    later_held : (l : Later I S) → Held l → (e : LaterEvent I) → Held (later p l e)
+    pub later_held : (l : Later I S) → Held l → (e : LaterEvent I) → Held (later p l e)
     later_held l h (Happens e) = event_held l h e
     later_held l h Trims = record { holds = h.holds; opens = h.opens; less = less_then (full l.world) l.kept (trimmed p l.kept) h.less (trims_less p l.kept (span_less (full l.world) l.kept (full_spans l.world h.opens) h.less)) }
 

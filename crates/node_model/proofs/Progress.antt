@@ -18,4 +18,7 @@ pub mod LaterLaws
 pub mod Rescuing
 pub mod Runs
 pub mod Asked
+pub mod StaysAbove
+pub mod Calm
+pub mod Readers
 mod Examples

@@ -5,7 +5,7 @@ use Rattle.node_model.specs.Messages.{Message}
 use Rattle.node_model.specs.Servers.{ServerRecord, server_of}
 use Rattle.node_model.specs.Parts.{Parts, Served, serve_by, parts_of, after_parts, no_parts}
 use Rattle.node_model.specs.Trims.{trimmed, is_trimmed, KeptLess}
-use Rattle.node_model.specs.Worlds.{World, Event, Joins, Starts, Edits, Binds, Uploads, Asks, Upgrades, Subscribes, Delivers, Restarts, Stops, Injects, at, stopped, server_name, server_moved, reply_words, message_at, named_by, names_own, starts_at, happens, empty_world}
+use Rattle.node_model.specs.Worlds.{World, Event, Starts, Delivers, Injects, at, stopped, server_name, server_moved, reply_words, message_at, named_by, names_own, starts_at, happens, empty_world}
 use Rattle.node_model.specs.Files.{FilesOpen}
 use Rattle.node_model.specs.Log.{WorldFacts, IsFair}
 

@@ -1,13 +1,13 @@
 -- Quiet worlds, the events by which a client catches up, and what may keep it from that.
-use Rattle.std.specs.Prelude.{bytes_eq, ◌≡◌, ◌≢◌, ◌⊎◌, ◌≤◌, ◌<◌, ℕ, zero, suc, ◌+◌, ◌-◌, Bool, false, true, List, [], ◌∷◌, ◌++◌, Option, Some, None, if◌then◌else◌, length, map}
+use Rattle.std.specs.Prelude.{bytes_eq, ◌≡◌, ◌≢◌, ◌⊎◌, ◌≤◌, ◌<◌, ℕ, zero, suc, ◌+◌, ◌-◌, Bool, false, true, List, [], ◌∷◌, ◌++◌, Option, Some, None, if◌then◌else◌, length, map, drop}
 use Rattle.sync_theory.specs.Logs.{of_origin}
 use Rattle.node_model.specs.Bytes.{Name}
-use Rattle.node_model.specs.Profile.{Profile, IsNamedKind, is_small}
-use Rattle.node_model.specs.Messages.{Message, Refused}
+use Rattle.node_model.specs.Profile.{Profile, IsNamedKind, is_small, restricted, fitting}
+use Rattle.node_model.specs.Messages.{Message, Sent, Refused}
 use Rattle.node_model.specs.Clients.{ClientRefusal, Mismatch, client_of, settled_from}
-use Rattle.node_model.specs.Servers.{ServerRecord, ServerRefusal, HistoryFull, IdentsFull, NeedsForm2, code_of, at_place}
+use Rattle.node_model.specs.Servers.{ServerRecord, ServerRefusal, HistoryFull, IdentsFull, NeedsForm2, code_of, at_place, sent_of, entries_from}
 use Rattle.node_model.specs.Worlds.{Node, World, Words, Declined, Replied, Stopped, NoMessage, BadMessage, OwnIdent, Event, Binds, Uploads, Asks, Delivers, Injects, at, has_name, seek, server_name, stopped, message_at, names_own, named_by, happens, outcomes, world_after}
-use Rattle.node_model.specs.Log.{ident_of, log}
+use Rattle.node_model.specs.Log.{ident_of, log, subset_of}
 use Rattle.node_model.specs.Parts.{Parts, Served, serve_by}
 use Rattle.node_model.specs.Trims.{is_trimmed}
 use Rattle.node_model.specs.Later.{Later, Happens, later_after, all_later}
@@ -137,9 +137,9 @@ module _ {I S : Type 0} (p : Profile I S) where
   made_by_all [] = 0
   made_by_all (nd ∷ nds) = length (client_of p nd.records).made + made_by_all nds
 
-  -- so many rounds are enough for each client of a world, whoever goes first
+  -- so many rounds are enough for each client of a world: one for each entry, and for each change that a client made
   abbrev pub enough_for_all : World → ℕ
-  enough_for_all w = length (log p w) + (made_by_all w.clients + (made_by_all w.clients + made_by_all w.clients))
+  enough_for_all w = length (log p w) + made_by_all w.clients
 
   -- some disk is armed, some uuid is unknown to the server, some client's file is in form 1
   abbrev pub AnyArmed : World → Type 0
@@ -216,6 +216,30 @@ module _ {I S : Type 0} (p : Profile I S) where
   abbrev pub IsBelow : Later I S → Node → Type 0
   IsBelow l nd = settled_from (client_of p nd.records).cursor (client_of p nd.records).unsent < l.kept.floor
 
-  -- so it does for some client
+  -- it doesn't
+  abbrev pub IsAbove : Later I S → Node → Type 0
+  IsAbove l nd = l.kept.floor ≤ settled_from (client_of p nd.records).cursor (client_of p nd.records).unsent
+
+  -- it does for some client
   abbrev pub AnyBelow : Later I S → Type 0
   AnyBelow l = (i : ℕ) × (nd : Node) × (at l.world.clients i ≡ Some nd) × IsBelow l nd
+
+  -- no disk is armed, the server knows each client, its file is in form 2, and it stands above the floor
+  pub record IsCalm (l : Later I S) : Type 0 where
+    pub unarmed : (x : Name) → l.world.stops x ≡ None
+    pub clients : (i : ℕ) (nd : Node) → at l.world.clients i ≡ Some nd → (ident_of p l.world nd ≢ 0) × ((client_of p nd.records).second ≡ Bool.true) × IsAbove l nd
+
+  -- ---- a client that only reads
+
+  -- what a message bears of these
+  abbrev pub load : List Sent → List Sent
+  load es = fitting (λ e. length e.body) p.most p.room es
+
+  -- so many messages bear them all
+  pub data AreBorne : ℕ → List Sent → Type 0 where
+    none_left : {k : ℕ} → AreBorne k []
+    a_message : {k : ℕ} {es : List Sent} → AreBorne k (drop (length (load es)) es) → AreBorne (suc k) es
+
+  -- the entries that a client lacks, as it gets them
+  abbrev pub lacks : World → Node → List Sent
+  lacks w nd = map (λ x. sent_of p (restricted p (subset_of p nd) x)) (entries_from p (log p w) (length (log p w) - (client_of p nd.records).cursor) (client_of p nd.records).cursor)

@@ -1,5 +1,5 @@
 -- Client reset: what a client, the heir, makes of the changes that an old client had unsent when its ident was retired.
-use Rattle.std.specs.Prelude.{◌≡◌, ℕ, suc, ◌+◌, not, List, [], ◌∷◌, ◌++◌, Option, Some, None, Result, Ok, Err, nat_lt, nat_le, ◌==◌, if◌then◌else◌}
+use Rattle.std.specs.Prelude.{ℕ, suc, ◌+◌, not, List, [], ◌∷◌, ◌++◌, Option, Some, None, Result, Ok, Err, nat_lt, nat_le, ◌==◌, if◌then◌else◌}
 use Rattle.node_model.specs.Profile.{Profile}
 use Rattle.node_model.specs.Messages.{Change, Message, Upload, Retired}
 use Rattle.node_model.specs.Clients.{Client, ClientRecord, ClientRefusal, ClientStep, Step, after_records, last, commit}

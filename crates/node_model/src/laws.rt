@@ -1,16 +1,16 @@
-ghost use Rattle.std.specs.Prelude.{Err, IfOk, List, None, Ok, Option, Some, drop, false, length, map, take, true, ◌++◌, ◌+◌, ◌-◌, ◌<◌, ◌≤◌, ◌≢◌, ◌⊎◌, ℕ, ◌≡◌};
+ghost use Rattle.std.specs.Prelude.{Err, IfOk, List, None, Ok, Option, Some, [], drop, false, length, map, take, true, ◌++◌, ◌+◌, ◌-◌, ◌<◌, ◌≤◌, ◌≢◌, ◌⊎◌, ℕ, ◌≡◌};
 ghost use Rattle.sync_theory.specs.Changesets.{Changeset};
 ghost use Rattle.node_model.specs.Bytes.{Bytes, Name, Tables, Uuid};
 ghost use Rattle.node_model.specs.Clients.{ClientRecord, ClientRefusal, ask, bind, born, client_of, commit, last, no_client, subscribe, take as take_message, upgrade, upload, upload_from};
 ghost use Rattle.node_model.specs.Files.{FilesOpen, is_growing, client_opens, client_reads, server_admits, server_opens, server_reads};
-ghost use Rattle.node_model.specs.Later.{IsLater, Later, LaterEvent, LaterFacts, first_later, later};
+ghost use Rattle.node_model.specs.Later.{IsLater, Later, LaterEvent, LaterFacts, all_later, first_later, later};
 ghost use Rattle.node_model.specs.Limits.{ClientLists, ClientNumbers, CrossSmall, IsClientRecord, IsMessage, IsServerRecord, ServerLists, ServerNumbers, WorldNumbers};
 ghost use Rattle.node_model.specs.Each.{Each};
 ghost use Rattle.node_model.specs.Log.{Stands, WorldFacts, ident_of, log, subset_of};
 ghost use Rattle.node_model.specs.Messages.{Change, Message, Retire, Retired};
 ghost use Rattle.node_model.specs.Parts.{Given, Parts, admits_part, after_parts, as_before, ask_by, at_ident, given_of, marking_by, merge_by, merged_of, no_parts, parts_of, parts_open, serve_by, served_of};
 ghost use Rattle.node_model.specs.Profile.{cross_changesets, only_by};
-ghost use Rattle.node_model.specs.Progress.{AllCurrent, AnyArmed, AnyBelow, AnyOld, AnyUnnamed, Comes, Gets, HasCaughtUp, IsArmed, IsBelow, IsBelowFloor, IsCurrent, IsException, IsQuiet, IsRoomy, after_events, after_turns, all_catch_up, catches_up, enough, enough_for_all, later_outcomes, turns};
+ghost use Rattle.node_model.specs.Progress.{AllCurrent, AnyArmed, AnyBelow, AnyOld, AnyUnnamed, AreBorne, Comes, Gets, HasCaughtUp, IsAbove, IsArmed, IsBelow, IsBelowFloor, IsCalm, IsCurrent, IsException, IsQuiet, IsRoomy, after_events, after_turns, all_catch_up, catches_up, enough, enough_for_all, lacks, later_outcomes, rounds, turns};
 ghost use Rattle.node_model.specs.Recovery.{CountIsFinal, HeirMove, IsRecovery, KeepsFinal, ListsDrops, StopsAt, SavesNow, SavesOnce, heir_after, numbers_from, numbers_of, whole_history};
 ghost use Rattle.node_model.specs.Rescues.{IsHeldUp, LivesOn, RunsAs, after_runs};
 ghost use Rattle.node_model.specs.Reports.{report_by_log, report_of};
@@ -21,7 +21,7 @@ ghost use Rattle.node_model.specs.Starts.{started, started_client};
 ghost use Rattle.node_model.specs.Trimmed.{KeptBy, TrimsAlike, trim_records};
 ghost use Rattle.node_model.specs.Fronts.{file_gives};
 ghost use Rattle.node_model.specs.Trims.{BelowFloor, KeptLess, Spans, any_trimmed, is_trimmed, kept_after, next_floor, replies_by, trimmed};
-ghost use Rattle.node_model.specs.Worlds.{ClientsGrow, Delivers, Edits, Event, IsReached, Made, Node, World, at, empty_world, happens, outcomes, world_after};
+ghost use Rattle.node_model.specs.Worlds.{ClientsGrow, Delivers, Edits, Event, IsReached, Made, Node, World, at, empty_world, happens, outcomes, server_name, world_after};
 
 use super::exchange::Exchange;
 
@@ -259,7 +259,10 @@ pub fn worlds_make_progress<E: Exchange>()
 /// The same where the server gave up history, as often as it may: in a quiet exchange all clients that the server knows
 /// have their part of the objects that it keeps, and from every such exchange a client gets there, and so do all of them,
 /// or one of the outcomes on the way is a named exception. There is one more of those: a client whose settled number lies
-/// before the server's floor may be refused by code 71.
+/// before the server's floor may be refused by code 71. Where no disk is armed, the server knows every client, their files are in form 2 and they stand above
+/// the floor, a mismatch or a full history alone is such an exception; and a client that has nothing unsent gets there with
+/// none at all, in as many rounds as it takes messages to bear what it lacks. A client that the server knows and that stands above its floor
+/// stays above it for good.
 pub fn later_worlds_make_progress<E: Exchange>()
     ensures quiet { (l : Later E.Instr E.State) → IsLater E.profile l → IsQuiet E.profile l.world → (i : ℕ) (nd : Node) → at l.world.clients i ≡ Some nd → ident_of E.profile l.world nd ≢ 0
         → (client_of E.profile nd.records).objects ≡ only_by E.profile (subset_of E.profile nd) l.kept.objects }
@@ -271,6 +274,13 @@ pub fn later_worlds_make_progress<E: Exchange>()
     ensures all { IsRoomy E.profile → (l : Later E.Instr E.State) → IsLater E.profile l → (rounds : ℕ) → enough_for_all E.profile l.world ≤ rounds
         → Comes (λ x. IsException (AnyArmed E.profile l.world) (AnyUnnamed E.profile l.world) (AnyOld E.profile l.world) x ⊎ IsBelowFloor (AnyBelow E.profile l) x) (later_outcomes E.profile l (all_catch_up l.world rounds))
         ⊎ AllCurrent E.profile (after_events E.profile l (all_catch_up l.world rounds)).world }
+    ensures calm { IsRoomy E.profile → (l : Later E.Instr E.State) → IsLater E.profile l → IsCalm E.profile l → (rounds : ℕ) → enough_for_all E.profile l.world ≤ rounds
+        → Comes (IsException ⊥ ⊥ ⊥) (later_outcomes E.profile l (all_catch_up l.world rounds)) ⊎ AllCurrent E.profile (after_events E.profile l (all_catch_up l.world rounds)).world }
+    ensures readers { (l : Later E.Instr E.State) → IsLater E.profile l → (i : ℕ) (nd : Node) → at l.world.clients i ≡ Some nd → (client_of E.profile nd.records).ident ≢ 0 → (client_of E.profile nd.records).second ≡ true
+        → (client_of E.profile nd.records).unsent ≡ [] → IsAbove E.profile l nd → l.world.stops nd.name ≡ None → l.world.stops server_name ≡ None → (n : ℕ) → AreBorne E.profile n (lacks E.profile l.world nd)
+        → HasCaughtUp E.profile (after_events E.profile l (rounds nd.name (length l.world.messages) n)).world nd.name }
+    ensures above { (l : Later E.Instr E.State) → IsLater E.profile l → (i : ℕ) (nd : Node) → at l.world.clients i ≡ Some nd → ident_of E.profile l.world nd ≢ 0 → IsAbove E.profile l nd
+        → (es : List (LaterEvent E.Instr)) (end : Node) → at (all_later E.profile l es).world.clients i ≡ Some end → IsAbove E.profile (all_later E.profile l es) end }
 {}
 
 /// A client that a mismatch or the floor holds up goes on by a reset. Run after run, each over what the old client sends

@@ -4,9 +4,9 @@ use super::exchange::Exchange;
 use super::laws::{
     breaks_are_listed, files_read_back, heirs_save_once, later_worlds_hold,
     later_worlds_make_progress, lists_stay_small, nodes_stay_within_limits, nodes_write_what_opens,
-    recoveries_end, retired_counts_are_final, server_files_give_what_is_kept, servers_answer_by_parts,
-    started_clients_have_the_objects, trimmed_servers_answer_alike, worlds_hold,
-    worlds_make_progress,
+    recoveries_end, retired_counts_are_final, server_files_give_what_is_kept,
+    servers_answer_by_parts, started_clients_have_the_objects, trimmed_servers_answer_alike,
+    worlds_hold, worlds_make_progress,
 };
 
 struct Toys;

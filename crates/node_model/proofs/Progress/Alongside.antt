@@ -47,7 +47,7 @@ pub record Moves (new : Message → Type 0) (w v : World) : Type 0 where
 unmoved : (nd : Node) → nd ≡ record nd { records = nd.records ++ [] }
 unmoved nd = ap (λ l. record nd { records = l }) (sym (append-nil nd.records))
 
-moves_same : (new : Message → Type 0) (w : World) → Moves new w w
+pub moves_same : (new : Message → Type 0) (w : World) → Moves new w w
 moves_same new w = record { clients = λ i end h. (end, h, [], no_more, unmoved end); stops = λ ne. ne; messages = λ k m h. inl h }
 
 moves_client : (new : Message → Type 0) (w : World) (q : ℕ × Node) (rs : List ClientRecord) → at w.clients q.0 ≡ Some q.1 → Each IsCall rs → Moves new w (client_moved w q.0 q.1 rs)
@@ -79,7 +79,7 @@ module _ {I S : Type 0} (p : Profile I S) where
   abbrev pub SentBy : World → Name → (Client I S → ClientStep Message) → Message → Type 0
   SentBy w name call m = (i : ℕ) × (nd : Node) × (at w.clients i ≡ Some nd) × (bytes_eq name nd.name ≡ true) × ((call (client_of p nd.records)).answer ≡ Ok m)
 
-  sends : (w : World) (name : Name) (call : Client I S → ClientStep Message) → ((st : Client I S) → Each IsCall (call st).records) → Moves (SentBy w name call) w (client_calls p w name call message_words).world
+  pub sends : (w : World) (name : Name) (call : Client I S → ClientStep Message) → ((st : Client I S) → Each IsCall (call st).records) → Moves (SentBy w name call) w (client_calls p w name call message_words).world
   sends w name call told = on (seek (has_name name) w.clients) refl
     where
       on : (o : Option (ℕ × Node)) → seek (has_name name) w.clients ≡ o → Moves (SentBy w name call) w (client_called p w call message_words o).world
@@ -99,27 +99,31 @@ module _ {I S : Type 0} (p : Profile I S) where
               let c = cut_by (w.stops q.1.name) (call (client_of p q.1.records)).records stand r_is in
               moves_client (SentBy w name call) w q stand found.0 (subst (Each IsCall) c.1 (each_take c.0 (told (client_of p q.1.records))))
 
-  hears : (w : World) (name : Name) (m : Message) → Moves (λ x. ⊥) w (client_calls p w name (λ c. take_message p c m) took_words).world
-  hears w name m = on (seek (has_name name) w.clients) refl
+  -- a call whose words add nothing to the world
+  pub quietly : {A : Type 0} (w : World) (name : Name) (call : Client I S → ClientStep A) (words : World → Result A ClientRefusal → Outcome) → ((v : World) (a : Result A ClientRefusal) → (words v a).world ≡ v) → ((st : Client I S) → Each IsCall (call st).records) → Moves (λ x. ⊥) w (client_calls p w name call words).world
+  quietly w name call words same called = on (seek (has_name name) w.clients) refl
     where
-      on : (o : Option (ℕ × Node)) → seek (has_name name) w.clients ≡ o → Moves (λ x. ⊥) w (client_called p w (λ c. take_message p c m) took_words o).world
+      on : (o : Option (ℕ × Node)) → seek (has_name name) w.clients ≡ o → Moves (λ x. ⊥) w (client_called p w call words o).world
       on None is = moves_same (λ x. ⊥) w
-      on (Some q) is = ends (stopped (w.stops q.1.name) (take_message p (client_of p q.1.records) m).records) refl
+      on (Some q) is = ends (stopped (w.stops q.1.name) (call (client_of p q.1.records)).records) refl
         where
           here : at w.clients q.0 ≡ Some q.1
           here = (seek_found (has_name name) w.clients q is).here
 
-          said : (v : World) → Moves (λ x. ⊥) w v → (a : Result ℕ ClientRefusal) → Moves (λ x. ⊥) w (took_words v a).world
-          said v moves (Ok n) = moves
-          said v moves (Err r) = moves
-
-          ends : (r : Option (List ClientRecord)) → stopped (w.stops q.1.name) (take_message p (client_of p q.1.records) m).records ≡ r → Moves (λ x. ⊥) w (client_ends w q.0 q.1 (take_message p (client_of p q.1.records) m) took_words r).world
-          ends None r_is = said (client_moved w q.0 q.1 (take_message p (client_of p q.1.records) m).records) (moves_client (λ x. ⊥) w q (take_message p (client_of p q.1.records) m).records here (takes_called p (client_of p q.1.records) m)) (take_message p (client_of p q.1.records) m).answer
+          ends : (r : Option (List ClientRecord)) → stopped (w.stops q.1.name) (call (client_of p q.1.records)).records ≡ r → Moves (λ x. ⊥) w (client_ends w q.0 q.1 (call (client_of p q.1.records)) words r).world
+          ends None r_is = subst (Moves (λ x. ⊥) w) (sym (same (client_moved w q.0 q.1 (call (client_of p q.1.records)).records) (call (client_of p q.1.records)).answer)) (moves_client (λ x. ⊥) w q (call (client_of p q.1.records)).records here (called (client_of p q.1.records)))
           ends (Some stand) r_is =
-              let c = cut_by (w.stops q.1.name) (take_message p (client_of p q.1.records) m).records stand r_is in
-              moves_client (λ x. ⊥) w q stand here (subst (Each IsCall) c.1 (each_take c.0 (takes_called p (client_of p q.1.records) m)))
+              let c = cut_by (w.stops q.1.name) (call (client_of p q.1.records)).records stand r_is in
+              moves_client (λ x. ⊥) w q stand here (subst (Each IsCall) c.1 (each_take c.0 (called (client_of p q.1.records))))
 
-  hears_one : (w : World) (k : ℕ) (to : Name) → bytes_eq to server_name ≡ false → Moves (λ x. ⊥) w (happens p w (Delivers k to)).world
+  pub hears : (w : World) (name : Name) (m : Message) → Moves (λ x. ⊥) w (client_calls p w name (λ c. take_message p c m) took_words).world
+  hears w name m = quietly w name (λ c. take_message p c m) took_words said (λ c. takes_called p c m)
+    where
+      said : (v : World) (a : Result ℕ ClientRefusal) → (took_words v a).world ≡ v
+      said v (Ok n) = refl
+      said v (Err r) = refl
+
+  pub hears_one : (w : World) (k : ℕ) (to : Name) → bytes_eq to server_name ≡ false → Moves (λ x. ⊥) w (happens p w (Delivers k to)).world
   hears_one w k to off = go (is_node w to) (message_at w k)
     where
       some : (b : Bool) (m : Message) → b ≡ false → Moves (λ x. ⊥) w (if b then server_called p w m else client_calls p w to (λ c. take_message p c m) took_words).world
@@ -150,14 +154,14 @@ module _ {I S : Type 0} (p : Profile I S) where
 
   -- ---- calls that append nothing
 
-  bind_told : (st : Client I S) → Each IsCall (bind st).records
+  pub bind_told : (st : Client I S) → Each IsCall (bind st).records
   bind_told st = on st.id
     where
       on : (o : Option Uuid) → Each IsCall (if_born o (λ id. answers (Rattle.node_model.specs.Messages.Bind id))).records
       on None = no_more
       on (Some id) = no_more
 
-  named_told : (st : Client I S) (m : Message) → Each IsCall (if_named st (answers m)).records
+  pub named_told : (st : Client I S) (m : Message) → Each IsCall (if_named st (answers m)).records
   named_told st m = on st.id (st.ident == 0)
     where
       on : (o : Option Uuid) (b : Bool) → Each IsCall (if_born o (λ id. if b then refuse NotNamed else answers m)).records
@@ -165,7 +169,7 @@ module _ {I S : Type 0} (p : Profile I S) where
       on (Some id) true = no_more
       on (Some id) false = no_more
 
-  named_says : (st : Client I S) (m x : Message) → (if_named st (answers m)).answer ≡ Ok x → m ≡ x
+  pub named_says : (st : Client I S) (m x : Message) → (if_named st (answers m)).answer ≡ Ok x → m ≡ x
   named_says st m x h = on st.id (st.ident == 0) h
     where
       on : (o : Option Uuid) (b : Bool) → (if_born o (λ id. if b then refuse NotNamed else answers m)).answer ≡ Ok x → m ≡ x

@@ -1,27 +1,25 @@
 -- What a server keeps as settled of an ident, and what its client's questions say, is no more than what the client settled.
-use Rattle.std.proofs.Common.{◌≡◌, ◌≢◌, ◌⊎◌, inl, inr, ⊎_elim, ℕ, zero, suc, ◌+◌, ◌-◌, ◌<◌, ◌≤◌, Bool, true, false, ◌&&◌, ◌||◌, not, List, [], ◌∷◌, ◌++◌, Option, Some, None, Result, Ok, Err, refl, sym, ap, ap₂, ◌∙◌, subst, arith, if◌then◌else◌, ◌==◌, length, length-append, map, take, nat_le}
+use Rattle.std.proofs.Common.{◌≡◌, ◌≢◌, ◌⊎◌, inl, inr, ⊎_elim, ℕ, zero, suc, ◌-◌, ◌<◌, ◌≤◌, Bool, true, false, ◌&&◌, not, List, [], ◌∷◌, ◌++◌, Option, Some, None, Result, Ok, Err, refl, sym, ap, ◌∙◌, subst, arith, if◌then◌else◌, ◌==◌, length, nat_le}
 use Rattle.std.specs.Prelude.{bytes_eq, nat_lt}
 use Rattle.sync_theory.specs.Changesets.{Changeset}
 use Rattle.sync_theory.specs.World.{put_at}
 use Rattle.sync_theory.proofs.World.{put_same, put_other, same_or_not}
-use Rattle.node_model.specs.Bytes.{Uuid, Tables}
-use Rattle.node_model.specs.Profile.{Profile, Lawful, needs}
-use Rattle.node_model.specs.Snapshots.{Buildable}
+use Rattle.node_model.specs.Bytes.{Uuid}
+use Rattle.node_model.specs.Profile.{Profile, needs}
 use Rattle.node_model.specs.Messages.{Change, Message, Bind, Ident, Upload, Ask, Download, Refused, Stored, Ask2, Retire, Retired, AskTables}
-use Rattle.node_model.specs.Clients.{Client, ClientRecord, Born, Named, Made, Took, Form, Subset, Unsent, ok_list, settled_from, question, client_of, after_record, after_records}
+use Rattle.node_model.specs.Clients.{Client, ClientRecord, Born, Named, Made, Took, Form, Subset, Unsent, ok_list, client_of, after_record, after_records}
 use Rattle.node_model.specs.Servers.{Server, ServerRecord, Entry, Settled, ServerRefusal, ServerStep, NoSuchIdent, IdentsFull, AheadOfHistory, SelfRetire, RetiredBy, no_server, server_of, after_server, after_all, place_of, count, is_given, heir_of, merge, merged, marking, marks_new, serve, serve_changes, serve_retire, retire_for, download, download_first, download_tables, if_there, entries_from, refuses, replies}
-use Rattle.node_model.specs.Worlds.{Node, World, at, seek, is_there, server_moved}
-use Rattle.node_model.specs.Files.{FilesOpen}
+use Rattle.node_model.specs.Worlds.{Node, World, at, server_moved}
 use Rattle.node_model.specs.Log.{ident_by, ident_of}
 use Rattle.node_model.specs.Each.{Each, no_more, and_each}
-use Rattle.node_model.proofs.Lists.{place_old, place_within}
+use Rattle.node_model.proofs.Lists.{place_old}
 use Rattle.node_model.proofs.Sim.{Tells}
 use Rattle.node_model.proofs.Serving.{merging}
 use Rattle.node_model.proofs.Alone.{Opened}
 use Rattle.node_model.proofs.Holding.{Holds, server_append}
 use Rattle.node_model.proofs.Progress.Serves.{takes_same}
 use Rattle.node_model.proofs.Progress.Growing.{server_onto}
-use Rattle.node_model.proofs.Progress.Above.{Above, IsCall, called_above, IsReply}
+use Rattle.node_model.proofs.Progress.Above.{Above, IsCall, IsReply}
 
 -- ---- questions
 

@@ -27,7 +27,7 @@ pub record Done {I S : Type 0} (s : Server I) (st : Client I S) : Type 0 where
 module _ {I S : Type 0} (p : Profile I S) {Fits Bounded Old : S → Type 0} (law : Lawful p Fits) (built : Buildable p Fits Bounded Old) (roomy : IsRoomy p) where
   module _ (armed unnamed old : Type 0) (w0 : World) (name : Name) (place : ℕ) (nd0 : Node) (not_server : bytes_eq name server_name ≡ false) (arms : w0.stops nd0.name ≢ None → armed) (arms_server : w0.stops server_name ≢ None → armed) where
     abbrev At : World → Server I → Client I S → ℕ → Type 0
-    At v s st n = Here p law built armed unnamed old w0 name place nd0 not_server arms arms_server v s st n
+    At v s st n = Here p law built (IsException armed unnamed old) armed (λ a. a) w0 name place nd0 not_server arms arms_server v s st n
 
     abbrev Leads : World → List (Event I) → (World → Type 0) → Type 0
     Leads v es r = Goes p (IsException armed unnamed old) v es r
@@ -41,7 +41,7 @@ module _ {I S : Type 0} (p : Profile I S) {Fits Bounded Old : S → Type 0} (law
 
     pub done : {v : World} {s : Server I} {st : Client I S} {n : ℕ} → At v s st n → st.ident ≢ 0 → Left s st 0 → Done s st
     done {v} {s} {st} h ne left =
-        let f = facts p law built armed unnamed old w0 name place nd0 not_server arms arms_server h ne in
+        let f = facts p law built (IsException armed unnamed old) armed (λ a. a) w0 name place nd0 not_server arms arms_server h ne in
         let within = f.within in
         let owned = f.owned in
         let at_end : st.cursor ≡ length s.log = omega arith in
@@ -55,7 +55,7 @@ module _ {I S : Type 0} (p : Profile I S) {Fits Bounded Old : S → Type 0} (law
     ident_is {v} h = ap₂ (λ (x : Server I) (c : Client I S). ident_by x.ids c.id) h.server h.client
 
     pub ident_named : {v : World} {s : Server I} {st : Client I S} {n : ℕ} (h : At v s st n) → st.ident ≢ 0 → ident_of p v h.node ≡ st.ident
-    ident_named {v} {s} {st} h ne = let f = facts p law built armed unnamed old w0 name place nd0 not_server arms arms_server h ne in ident_is h ∙ ap (ident_by s.ids) f.born ∙ f.placed
+    ident_named {v} {s} {st} h ne = let f = facts p law built (IsException armed unnamed old) armed (λ a. a) w0 name place nd0 not_server arms arms_server h ne in ident_is h ∙ ap (ident_by s.ids) f.born ∙ f.placed
 
     pub has_caught_up : {v : World} {s : Server I} {st : Client I S} {n : ℕ} (h : At v s st n) → Done s st → HasCaughtUp p v name
     has_caught_up {v} {s} {st} h d = record {
@@ -72,14 +72,14 @@ module _ {I S : Type 0} (p : Profile I S) {Fits Bounded Old : S → Type 0} (law
     -- every client has its uuid
     pub born_of : {v : World} {s : Server I} {st : Client I S} {n : ℕ} (h : At v s st n) → (id : Uuid) × (st.id ≡ Some id)
     born_of {v} {s} {st} h =
-        let i = holds p law built armed unnamed old w0 name place nd0 not_server arms arms_server h in
-        let w = i.sim.clients place h.node (at_node p law built armed unnamed old w0 name place nd0 not_server arms arms_server h) in
+        let i = holds p law built (IsException armed unnamed old) armed (λ a. a) w0 name place nd0 not_server arms arms_server h in
+        let w = i.sim.clients place h.node (at_node p law built (IsException armed unnamed old) armed (λ a. a) w0 name place nd0 not_server arms arms_server h) in
         (w.id, ap (λ c. c.id) (sym h.client) ∙ w.born)
 
     -- ident 0 has no entries
     pub no_zero : {v : World} {s : Server I} {st : Client I S} {n : ℕ} (h : At v s st n) → count s 0 ≡ 0
     no_zero {v} {s} h =
-        let i = holds p law built armed unnamed old w0 name place nd0 not_server arms arms_server h in
+        let i = holds p law built (IsException armed unnamed old) armed (λ a. a) w0 name place nd0 not_server arms arms_server h in
         let a = i.sim.ahead 0 in
         let b = ap length (sym a.1 ∙ i.sim.blank_mades 0 (inl refl)) in
         let l = length-append (of_origin 0 i.n.log) a.0 in
@@ -88,9 +88,9 @@ module _ {I S : Type 0} (p : Profile I S) {Fits Bounded Old : S → Type 0} (law
 
     -- what is integrated of it isn't less once it is bound
     pub still_count : {v : World} {s s2 : Server I} {st st2 : Client I S} {n m : ℕ} (h : At v s st n) {v2 : World} (h2 : At v2 s2 st2 m) (id : Uuid) → st.id ≡ Some id → Bound p law built armed unnamed old w0 name place nd0 not_server arms arms_server roomy s s2 st st2 id → count s (place_of id s.ids) ≤ count s2 st2.ident
-    still_count {v} {s} {s2} {st} {st2} h h2 id born b = on (same_or_not (place_of id s.ids) 0) (facts p law built armed unnamed old w0 name place nd0 not_server arms arms_server h2 b.named)
+    still_count {v} {s} {s2} {st} {st2} h h2 id born b = on (same_or_not (place_of id s.ids) 0) (facts p law built (IsException armed unnamed old) armed (λ a. a) w0 name place nd0 not_server arms arms_server h2 b.named)
       where
-        on : (place_of id s.ids ≡ 0) ⊎ (place_of id s.ids ≢ 0) → Facts p law built armed unnamed old w0 name place nd0 not_server arms arms_server s2 st2 → count s (place_of id s.ids) ≤ count s2 st2.ident
+        on : (place_of id s.ids ≡ 0) ⊎ (place_of id s.ids ≢ 0) → Facts p law built (IsException armed unnamed old) armed (λ a. a) w0 name place nd0 not_server arms arms_server s2 st2 → count s (place_of id s.ids) ≤ count s2 st2.ident
         on (inl z) f = let e = ap (count s) z ∙ no_zero h in omega arith
         on (inr nz) f =
             let ids_are : s2.ids ≡ s.ids = b.ids ∙ ap (λ l. s.ids ++ l) (b.none_more nz) ∙ append-nil s.ids in
@@ -106,13 +106,13 @@ module _ {I S : Type 0} (p : Profile I S) {Fits Bounded Old : S → Type 0} (law
     still_left : {v : World} {s s2 : Server I} {st st2 : Client I S} {n m : ℕ} (h : At v s st n) {v2 : World} (h2 : At v2 s2 st2 m) (id : Uuid) → st.id ≡ Some id → Bound p law built armed unnamed old w0 name place nd0 not_server arms arms_server roomy s s2 st st2 id → (k : ℕ)
         → length s.log + length st.made ≤ st.cursor + count s (place_of id s.ids) + k → Left s2 st2 k
     still_left {v} {s} {s2} {st} {st2} h h2 id born b k left =
-        let f = facts p law built armed unnamed old w0 name place nd0 not_server arms arms_server h2 b.named in
+        let f = facts p law built (IsException armed unnamed old) armed (λ a. a) w0 name place nd0 not_server arms arms_server h2 b.named in
         let made_is = ap length b.made in
         let log_is = ap length b.log in
         let cursor_is = b.cursor in
         on (same_or_not (place_of id s.ids) 0) f made_is log_is cursor_is
       where
-        on : (place_of id s.ids ≡ 0) ⊎ (place_of id s.ids ≢ 0) → Facts p law built armed unnamed old w0 name place nd0 not_server arms arms_server s2 st2 → length st2.made ≡ length st.made → length s2.log ≡ length s.log → st2.cursor ≡ st.cursor → Left s2 st2 k
+        on : (place_of id s.ids ≡ 0) ⊎ (place_of id s.ids ≢ 0) → Facts p law built (IsException armed unnamed old) armed (λ a. a) w0 name place nd0 not_server arms arms_server s2 st2 → length st2.made ≡ length st.made → length s2.log ≡ length s.log → st2.cursor ≡ st.cursor → Left s2 st2 k
         on (inl z) f made_is log_is cursor_is = let e = ap (count s) z ∙ no_zero h in omega arith
         on (inr nz) f made_is log_is cursor_is =
             let ids_are : s2.ids ≡ s.ids = b.ids ∙ ap (λ l. s.ids ++ l) (b.none_more nz) ∙ append-nil s.ids in
@@ -138,7 +138,7 @@ module _ {I S : Type 0} (p : Profile I S) {Fits Bounded Old : S → Type 0} (law
         then_ v2 s1 s2 st1 st2 h2 b same on (done h2 (λ z. b.named (sym same.ident ∙ z)) none)))
 
   module _ (w : World) (reached : Valid p w) (name : Name) (not_server : bytes_eq name server_name ≡ false) (place : ℕ) (nd : Node) (found : seek (has_name name) w.clients ≡ Some (place, nd)) where
-    start : Here p law built (IsArmed p w nd) (ident_of p w nd ≡ 0) ((client_of p nd.records).second ≡ false) w name place nd not_server (λ h. inl h) (λ h. inr h) w (server_of p w.server) (client_of p nd.records) (length w.messages)
+    start : Here p law built (IsException (IsArmed p w nd) (ident_of p w nd ≡ 0) ((client_of p nd.records).second ≡ false)) (IsArmed p w nd) (λ a. a) w name place nd not_server (λ h. inl h) (λ h. inr h) w (server_of p w.server) (client_of p nd.records) (length w.messages)
     start = record { reached = reached; node = nd; found = found; name_is = refl; stops = λ x e. e; others = λ j ne. refl; names = refl; client = refl; server = refl; messages = refl }
 
     pub one_catches_up : (k : ℕ) → enough p w nd ≤ k → Comes (IsException (IsArmed p w nd) (ident_of p w nd ≡ 0) ((client_of p nd.records).second ≡ false)) (outcomes p w (catches_up name (length w.messages) k)) ⊎ HasCaughtUp p (world_after p w (catches_up name (length w.messages) k)) name

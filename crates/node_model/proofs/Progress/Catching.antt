@@ -71,10 +71,7 @@ module _ {I S : Type 0} (p : Profile I S) where
   goes_on q w e es r o is (inr (inl c)) = inl (comes_later (subst (λ z. Comes q (outcomes p z.world es)) (sym is) c))
   goes_on q w e es r o is (inr (inr h)) = inr (subst (λ z. r (world_after p z.world es)) (sym is) h)
 
-  module _ {Fits Bounded Old : S → Type 0} (law : Lawful p Fits) (built : Buildable p Fits Bounded Old) (armed unnamed old : Type 0) (w0 : World) (name : Name) (place : ℕ) (nd0 : Node) (not_server : bytes_eq name server_name ≡ false) (arms : w0.stops nd0.name ≢ None → armed) (arms_server : w0.stops server_name ≢ None → armed) where
-    abbrev pub q : Words → Type 0
-    q = IsException armed unnamed old
-
+  module _ {Fits Bounded Old : S → Type 0} (law : Lawful p Fits) (built : Buildable p Fits Bounded Old) (q : Words → Type 0) (armed : Type 0) (stop : armed → q Stopped) (w0 : World) (name : Name) (place : ℕ) (nd0 : Node) (not_server : bytes_eq name server_name ≡ false) (arms : w0.stops nd0.name ≢ None → armed) (arms_server : w0.stops server_name ≢ None → armed) where
     -- a world since w0 in which the client stands for st and the server for s, and so many messages were made
     pub record Here (v : World) (s : Server I) (st : Client I S) (n : ℕ) : Type 0 where
       pub reached : Valid p v
@@ -129,7 +126,7 @@ module _ {I S : Type 0} (p : Profile I S) where
         ends = event ∙ called_is h call (answers m) is message_words
 
         on : (o : Option (List ClientRecord)) → stopped (v.stops h.node.name) [] ≡ o → Goes q v (e ∷ es) r
-        on (Some stand) o_is = goes_on q v e es r (says (client_moved v place h.node stand) Stopped) (ends ∙ ap (client_ends v place h.node (answers m) message_words) o_is) (inl (stop_of_client h (stop_armed (v.stops h.node.name) [] stand o_is)))
+        on (Some stand) o_is = goes_on q v e es r (says (client_moved v place h.node stand) Stopped) (ends ∙ ap (client_ends v place h.node (answers m) message_words) o_is) (inl (stop (stop_of_client h (stop_armed (v.stops h.node.name) [] stand o_is))))
         on None o_is =
             let to : happens p v e ≡ messaged (client_moved v place h.node []) m = ends ∙ ap (client_ends v place h.node (answers m) message_words) o_is in
             let reached : Valid p (messaged (client_moved v place h.node []) m).world = subst (λ o. Valid p o.world) to (valid_step p law built v e h.reached) in
@@ -168,7 +165,7 @@ module _ {I S : Type 0} (p : Profile I S) where
             ∙ called_is h (λ c. take_message p c m) did is took_words
 
         on : (o : Option (List ClientRecord)) → stopped (v.stops h.node.name) did.records ≡ o → Goes q v (Delivers k name ∷ es) r
-        on (Some stand) o_is = goes_on q v (Delivers k name) es r (says (client_moved v place h.node stand) Stopped) (ends ∙ ap (client_ends v place h.node did took_words) o_is) (inl (stop_of_client h (stop_armed (v.stops h.node.name) did.records stand o_is)))
+        on (Some stand) o_is = goes_on q v (Delivers k name) es r (says (client_moved v place h.node stand) Stopped) (ends ∙ ap (client_ends v place h.node did took_words) o_is) (inl (stop (stop_of_client h (stop_armed (v.stops h.node.name) did.records stand o_is))))
         on None o_is = answered did.answer refl
           where
             answered : (a : Result ℕ ClientRefusal) → did.answer ≡ a → Goes q v (Delivers k name ∷ es) r
@@ -191,7 +188,7 @@ module _ {I S : Type 0} (p : Profile I S) where
         ends = ap (delivers p v server_name) there ∙ ap (λ d. server_ends v d (stopped (v.stops server_name) d.records)) (ap (λ x. serve p x m) h.server ∙ is)
 
         on : (o : Option (List ServerRecord)) → stopped (v.stops server_name) did.records ≡ o → Goes q v (Delivers k server_name ∷ es) r
-        on (Some stand) o_is = goes_on q v (Delivers k server_name) es r (says (server_moved v stand) Stopped) (ends ∙ ap (server_ends v did) o_is) (inl (stop_of_server h (stop_armed (v.stops server_name) did.records stand o_is)))
+        on (Some stand) o_is = goes_on q v (Delivers k server_name) es r (says (server_moved v stand) Stopped) (ends ∙ ap (server_ends v did) o_is) (inl (stop (stop_of_server h (stop_armed (v.stops server_name) did.records stand o_is))))
         on None o_is =
             let to : happens p v (Delivers k server_name) ≡ reply_words (server_moved v did.records) did.answer = ends ∙ ap (server_ends v did) o_is in
             let reached : Valid p (reply_words (server_moved v did.records) did.answer).world = subst (λ o. Valid p o.world) to (valid_step p law built v (Delivers k server_name) h.reached) in

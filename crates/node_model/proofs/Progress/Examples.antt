@@ -5,12 +5,14 @@ use Rattle.sync_theory.specs.Toy.{Toy, Set, Add, Column, Sheet}
 use Rattle.node_model.specs.Bytes.{Name, Uuid}
 use Rattle.node_model.specs.Messages.{Ident, Download, Refused, Stored}
 use Rattle.node_model.specs.Profile.{Profile}
-use Rattle.node_model.specs.Clients.{client_of, Mismatch, WasRefused}
+use Rattle.node_model.specs.Clients.{client_of, Mismatch, WasRefused, ClientRecord, Born, Named, Made, Took}
 use Rattle.node_model.specs.Servers.{server_of, server_objects}
 use Rattle.node_model.specs.Worlds.{World, Event, Joins, Edits, Stops, Upgrades, Messaged, Replied, Took, Stopped, NoMessage, Declined, Drop, empty_world, world_after, outcomes, server_name, Starts, Subscribes}
 use Rattle.std.specs.Prelude.{sum_by}
 use Rattle.node_model.specs.Toy.{toy, toy_spell, toy_weight}
 use Rattle.node_model.specs.Progress.{catches_up, all_catch_up, enough_for_all, IsRoomy}
+use Rattle.node_model.specs.Resets.{IsHeir, Handled, SavedAs, recover}
+use Rattle.node_model.specs.Rescues.{after_runs, rescue_frames}
 
 abbrev A : Name
 A = 65 ∷ []
@@ -67,6 +69,19 @@ mismatched : outcomes toy stuck (catches_up B 6 2) ≡
     ∷ Messaged 9 ∷ Replied 10 (Refused 2 1 2 0) ∷ Declined (WasRefused 1 2) ∷ Messaged 11 ∷ Replied 12 (Download 2 0 (record { origin = 1; number = 1; ms = 1; body = 2 ∷ 1 ∷ [] } ∷ [])) ∷ Declined (Mismatch 0 1 2)
     ∷ Messaged 13 ∷ Replied 14 (Refused 2 1 2 0) ∷ Declined (WasRefused 1 2) ∷ Messaged 15 ∷ Replied 16 (Download 2 0 (record { origin = 1; number = 1; ms = 1; body = 2 ∷ 1 ∷ [] } ∷ [])) ∷ Declined (Mismatch 0 1 2) ∷ []
 mismatched = refl
+
+-- a reset lets its change go on: an heir that has A's column saves it, without B's, which is dropped
+abbrev held : List ClientRecord
+held = Born (uuid 2) ∷ Named 2 ∷ Made 1 2 (2 ∷ 2 ∷ []) ∷ []
+
+abbrev heir : List ClientRecord
+heir = Born (uuid 3) ∷ Named 3 ∷ Took 1 1 1 (2 ∷ 1 ∷ []) ∷ []
+
+saved : after_runs toy (client_of toy held) 0 1 heir ≡ heir ++ Made 1 2 [] ∷ []
+saved = refl
+
+dropped : (recover toy (client_of toy heir) (rescue_frames toy (client_of toy held) 3 0 0)).answers ≡ (IsHeir 2 0 ∷ []) ∷ (Handled 1 (SavedAs 1 ((0, 12) ∷ [])) ∷ []) ∷ []
+dropped = refl
 
 -- a client of form 1 is kept from an entry of form 2, by neither a mismatch nor a full history
 abbrev old : World

@@ -48,7 +48,7 @@ module _ {I S : Type 0} (p : Profile I S) where
   module _ {Fits Bounded Old : S → Type 0} (law : Lawful p Fits) (built : Buildable p Fits Bounded Old) (roomy : IsRoomy p) where
     module _ (A U O : Type 0) (v : World) (reached : Valid p v) (i : ℕ) (nd : Node) (found : seek (has_name nd.name) v.clients ≡ Some (i, nd)) (not_server : bytes_eq nd.name server_name ≡ false) (arms : (x : Name) → v.stops x ≢ None → A) where
       abbrev At : World → Server I → Client I S → ℕ → Type 0
-      At v2 s st n = Here p law built A U O v nd.name i nd not_server (arms nd.name) (arms server_name) v2 s st n
+      At v2 s st n = Here p law built (IsException A U O) A (λ a. a) v nd.name i nd not_server (arms nd.name) (arms server_name) v2 s st n
 
       turned : {v2 : World} {s1 s2 : Server I} {st1 st2 : Client I S} {n : ℕ} (h : At v2 s2 st2 n) (id : Uuid) → (client_of p nd.records).id ≡ Some id
           → Bound p law built A U O v nd.name i nd not_server (arms nd.name) (arms server_name) roomy (server_of p v.server) s1 (client_of p nd.records) st1 id
@@ -61,7 +61,7 @@ module _ {I S : Type 0} (p : Profile I S) where
           record {
             reached = h.reached;
             node = h.node;
-            here = at_node p law built A U O v nd.name i nd not_server (arms nd.name) (arms server_name) h;
+            here = at_node p law built (IsException A U O) A (λ a. a) v nd.name i nd not_server (arms nd.name) (arms server_name) h;
             name = h.name_is;
             second = ap (λ (c : Client I S). c.second) h.client ∙ same.second ∙ b.second;
             named = λ z. ne (sym is ∙ z);

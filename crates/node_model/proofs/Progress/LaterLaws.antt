@@ -15,7 +15,7 @@ use Rattle.node_model.specs.Later.{Later, LaterEvent, Happens, Trims, later, all
 use Rattle.node_model.specs.Log.{as_log, ident_of, subset_of}
 use Rattle.node_model.specs.Starts.{started}
 use Rattle.node_model.specs.Worlds.{Node, World, Event, Joins, Starts, Edits, Binds, Uploads, Asks, Upgrades, Subscribes, Delivers, Restarts, Stops, Injects, Words, at, seek, has_name, stopped, server_name, named_by, names_own, message_at, happens, outcomes, world_after}
-use Rattle.node_model.specs.Progress.{Comes, IsException, IsBelowFloor, IsArmed, AnyArmed, AnyUnnamed, AnyOld, IsBelow, AnyBelow, IsRoomy, IsCurrent, AllCurrent, HasCaughtUp, enough, enough_for_all, binds_at, uploads_at, asks_at, rounds, after_rounds, catches_up, sweep, after_sweep, all_catch_up, later_outcomes, after_events}
+use Rattle.node_model.specs.Progress.{AreBorne, lacks, IsAbove, Comes, IsException, IsBelowFloor, IsArmed, AnyArmed, AnyUnnamed, AnyOld, IsBelow, AnyBelow, IsRoomy, IsCurrent, AllCurrent, HasCaughtUp, enough, enough_for_all, binds_at, uploads_at, asks_at, rounds, after_rounds, catches_up, sweep, after_sweep, all_catch_up, later_outcomes, after_events}
 use Rattle.node_model.specs.Each.{Each, no_more, and_each}
 use Rattle.node_model.proofs.Lists.{at_below, all_most, rising_drop, drop_length, map_both}
 use Rattle.node_model.proofs.Sim.{Fresh, Given}
@@ -26,6 +26,7 @@ use Rattle.node_model.proofs.Progress.Valid.{Valid}
 use Rattle.node_model.proofs.Progress.Quiet.{current_objects}
 use Rattle.node_model.proofs.Progress.Above.{Above}
 use Rattle.node_model.proofs.Progress.Alongside.{Along, AllPart, no_part, a_part, alongside}
+use Rattle.node_model.proofs.Progress.Readers.{reads}
 use Rattle.node_model.proofs.Progress.Laws.{catches_up_law, all_catch_up_law}
 
 -- ---- rising bases
@@ -53,10 +54,31 @@ originals (o ∷ os) = ap (λ l. o ∷ l) (originals os)
 nothing_there : {X : Type 0} (xs : List X) (k : ℕ) (x : X) → length xs ≤ k → at xs k ≡ Some x → ⊥
 nothing_there xs k x le h = let lt = at_below xs k x h in omega arith
 
+-- below the floor nobody is
+never_below : (x : Words) → IsBelowFloor ⊥ x → ⊥
+never_below (Rattle.node_model.specs.Worlds.Replied place m) b = b.1
+never_below (Rattle.node_model.specs.Worlds.Joined name) b = b
+never_below (Rattle.node_model.specs.Worlds.Made number) b = b
+never_below (Rattle.node_model.specs.Worlds.Messaged place) b = b
+never_below (Rattle.node_model.specs.Worlds.Took cursor) b = b
+never_below Rattle.node_model.specs.Worlds.Opened b = b
+never_below Rattle.node_model.specs.Worlds.Armed b = b
+never_below Rattle.node_model.specs.Worlds.Stopped b = b
+never_below Rattle.node_model.specs.Worlds.Upgraded b = b
+never_below Rattle.node_model.specs.Worlds.Current b = b
+never_below Rattle.node_model.specs.Worlds.SubscribedTo b = b
+never_below (Rattle.node_model.specs.Worlds.Declined why) b = b
+never_below Rattle.node_model.specs.Worlds.NameTaken b = b
+never_below Rattle.node_model.specs.Worlds.UuidTaken b = b
+never_below Rattle.node_model.specs.Worlds.NoNode b = b
+never_below Rattle.node_model.specs.Worlds.NoMessage b = b
+never_below Rattle.node_model.specs.Worlds.BadMessage b = b
+never_below Rattle.node_model.specs.Worlds.OwnIdent b = b
+
 module _ {I S : Type 0} (p : Profile I S) where
   -- ---- names where the server gives up history
 
-  served_same : (w : World) (kept : Rattle.node_model.specs.Parts.Parts I S) (m : Message) → (later_served p w kept m).world.clients ≡ w.clients
+  pub served_same : (w : World) (kept : Rattle.node_model.specs.Parts.Parts I S) (m : Message) → (later_served p w kept m).world.clients ≡ w.clients
   served_same w kept m = on (stopped (w.stops server_name) (serve_by p kept m).records)
     where
       on : (o : Option (List ServerRecord)) → (later_ends p w kept (serve_by p kept m) o).world.clients ≡ w.clients
@@ -103,7 +125,7 @@ module _ {I S : Type 0} (p : Profile I S) where
     later_is_valid l r = let v = later_valid l r in record { holds = v.0.holds; opens = v.0.opens; apart = v.1 }
 
     -- a client whose settled number isn't below a version
-    above_at : (w : World) (h : Holds p w) (floor i : ℕ) (nd : Node) → at w.clients i ≡ Some nd → floor ≤ settled_from (client_of p nd.records).cursor (client_of p nd.records).unsent → Above p floor (client_of p nd.records)
+    pub above_at : (w : World) (h : Holds p w) (floor i : ℕ) (nd : Node) → at w.clients i ≡ Some nd → floor ≤ settled_from (client_of p nd.records).cursor (client_of p nd.records).unsent → Above p floor (client_of p nd.records)
     above_at w h floor i nd here le =
         let k = h.sim.clients i nd here in
         ⊎_elim (λ f. fresh f.1) (λ g. given (Rattle.node_model.specs.Servers.place_of k.id (server_of p w.server).ids) g.1) k.is
@@ -185,6 +207,13 @@ module _ {I S : Type 0} (p : Profile I S) where
       below_or : (i : ℕ) (nd : Node) → at l.world.clients i ≡ Some nd → Above p l.kept.floor (client_of p nd.records) ⊎ IsBelow p l nd
       below_or i nd here = ⊎_elim (λ le. inl (above_at l.world held.holds l.kept.floor i nd here le)) (λ gt. inr gt) (le_or_lt l.kept.floor (settled_from (client_of p nd.records).cursor (client_of p nd.records).unsent))
 
+      -- one client alone has a name
+      one : (i : ℕ) (nd : Node) → at l.world.clients i ≡ Some nd → (j : ℕ) (x : Node) → at l.world.clients j ≡ Some x → x.name ≡ nd.name → x ≡ nd
+      one i nd here j x there same = ap (λ z. z.1) (pairs (j, x) (i, nd) (sym (apart j x there).0 ∙ ap (λ name. seek (has_name name) l.world.clients) same ∙ (apart i nd here).0))
+        where
+          pairs : (a b : ℕ × Node) → Some a ≡ Some b → a ≡ b
+          pairs a b e = cc
+
       -- what came with the whole history comes here too, or a refusal for want of it
       over : (q : Words → Type 0) (armed below : Type 0) (stop : armed → q Rattle.node_model.specs.Worlds.Stopped) (of : Name → Type 0) (es : List (Event I)) (r : World → Type 0) → Along p law built q armed below stop of l.kept.floor (length l.world.messages) l → AllPart p law built q armed below stop of l.kept.floor (length l.world.messages) es
           → Comes q (outcomes p l.world es) ⊎ r (world_after p l.world es) → Comes (λ x. q x ⊎ IsBelowFloor below x) (later_outcomes p l es) ⊎ r (after_events p l es).world
@@ -198,6 +227,26 @@ module _ {I S : Type 0} (p : Profile I S) where
           widen (x ∷ xs) (Rattle.node_model.specs.Progress.comes_now h) = Rattle.node_model.specs.Progress.comes_now (inl h)
           widen (x ∷ xs) (Rattle.node_model.specs.Progress.comes_later c) = Rattle.node_model.specs.Progress.comes_later (widen xs c)
 
+      -- a client that only reads
+      pub later_reads : (i : ℕ) (nd : Node) → at l.world.clients i ≡ Some nd → (client_of p nd.records).ident ≢ 0 → (client_of p nd.records).second ≡ true → (client_of p nd.records).unsent ≡ [] → IsAbove p l nd → l.world.stops nd.name ≡ None → l.world.stops server_name ≡ None → (k : ℕ) → AreBorne p k (lacks p l.world nd)
+          → HasCaughtUp p (after_events p l (rounds nd.name (length l.world.messages) k)).world nd.name
+      later_reads i nd here ne second none up unarmed unarmed_server k borne = ⊎_elim (λ c. absurd (never_comes (later_outcomes p l (rounds nd.name (length l.world.messages) k)) c)) (λ done. done)
+          (over (λ x. ⊥) ⊥ ⊥ (λ a. a) (λ x. x ≡ nd.name) (rounds nd.name (length l.world.messages) k) (λ v. HasCaughtUp p v nd.name)
+          (record {
+            held = held;
+            at_floor = refl;
+            arms = λ ne. ne unarmed_server;
+            above = λ j x there same. inl (subst (λ (y : Node). Above p l.kept.floor (client_of p y.records)) (sym (one i nd here j x there same)) (above_at l.world held.holds l.kept.floor i nd here up));
+            high = λ j m gt h. absurd (nothing_there l.world.messages j m gt h);
+          })
+          (round_part (λ x. ⊥) ⊥ ⊥ (λ a. a) (λ x. x ≡ nd.name) l.kept.floor (length l.world.messages) nd.name refl k (length l.world.messages) (omega arith))
+          (reads p law built l.world nd.name i nd (apart i nd here).1 (λ ne. ne unarmed) (λ ne. ne unarmed_server) k (record { reached = valid; node = nd; found = (apart i nd here).0; name_is = refl; stops = λ x e. e; others = λ j ne. refl; names = refl; client = refl; server = refl; messages = refl }) ne none second borne))
+        where
+          never_comes : (ws : List Words) → Comes (λ x. ⊥ ⊎ IsBelowFloor ⊥ x) ws → ⊥
+          never_comes [] c = elim c [ ]
+          never_comes (x ∷ xs) (Rattle.node_model.specs.Progress.comes_now h) = ⊎_elim (λ z. z) (λ b. never_below x b) h
+          never_comes (x ∷ xs) (Rattle.node_model.specs.Progress.comes_later c) = never_comes xs c
+
       module _ (roomy : IsRoomy p) where
         pub later_one : (i : ℕ) (nd : Node) → at l.world.clients i ≡ Some nd → (k : ℕ) → enough p l.world nd ≤ k
             → Comes (λ x. IsException (IsArmed p l.world nd) (ident_of p l.world nd ≡ 0) ((client_of p nd.records).second ≡ false) x ⊎ IsBelowFloor (IsBelow p l nd) x) (later_outcomes p l (catches_up nd.name (length l.world.messages) k))
@@ -208,17 +257,11 @@ module _ {I S : Type 0} (p : Profile I S) where
               held = held;
               at_floor = refl;
               arms = λ ne. inr ne;
-              above = λ j x there same. subst (λ (y : Node). Above p l.kept.floor (client_of p y.records) ⊎ IsBelow p l nd) (sym (one j x there same)) (below_or i nd here);
+              above = λ j x there same. subst (λ (y : Node). Above p l.kept.floor (client_of p y.records) ⊎ IsBelow p l nd) (sym (one i nd here j x there same)) (below_or i nd here);
               high = λ j m gt h. absurd (nothing_there l.world.messages j m gt h);
             })
             (catch_part (IsException (IsArmed p l.world nd) (ident_of p l.world nd ≡ 0) ((client_of p nd.records).second ≡ false)) (IsArmed p l.world nd) (IsBelow p l nd) (λ a. a) (λ x. x ≡ nd.name) l.kept.floor (length l.world.messages) nd.name refl (length l.world.messages) k (omega arith))
             (catches_up_law p law built roomy l.world valid i nd here k le)
-          where
-            pairs : (a b : ℕ × Node) → Some a ≡ Some b → a ≡ b
-            pairs a b e = cc
-
-            one : (j : ℕ) (x : Node) → at l.world.clients j ≡ Some x → x.name ≡ nd.name → x ≡ nd
-            one j x there same = ap (λ z. z.1) (pairs (j, x) (i, nd) (sym (apart j x there).0 ∙ ap (λ name. seek (has_name name) l.world.clients) same ∙ (apart i nd here).0))
 
         pub later_all : (k : ℕ) → enough_for_all p l.world ≤ k
             → Comes (λ x. IsException (AnyArmed p l.world) (AnyUnnamed p l.world) (AnyOld p l.world) x ⊎ IsBelowFloor (AnyBelow p l) x) (later_outcomes p l (all_catch_up l.world k)) ⊎ AllCurrent p (after_events p l (all_catch_up l.world k)).world

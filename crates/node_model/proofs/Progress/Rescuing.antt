@@ -5,25 +5,25 @@ use Rattle.std.proofs.lemmas.Bool.{lt-ltb}
 use Rattle.sync_theory.specs.Logs.{of_origin}
 use Rattle.sync_theory.proofs.Logs.{length_snoc}
 use Rattle.sync_theory.proofs.Server.{test_true}
-use Rattle.sync_theory.proofs.World.{le_or_lt, same_or_not}
-use Rattle.node_model.specs.Profile.{Profile, Lawful, is_small, fitting}
+use Rattle.sync_theory.proofs.World.{le_or_lt}
+use Rattle.node_model.specs.Profile.{Profile, Lawful, fitting}
 use Rattle.node_model.specs.Snapshots.{Buildable}
-use Rattle.node_model.specs.Messages.{Change, Message, Upload, Retired}
+use Rattle.node_model.specs.Messages.{Change, Upload, Retired}
 use Rattle.node_model.specs.Clients.{Client, ClientRecord, ClientRefusal, Made, Original, Unsent, ok_list, no_client, client_of, after_record, after_records, change_of, last, unsent_above, to_upload_from, commit}
-use Rattle.node_model.specs.Servers.{Server, ServerRecord, no_server, server_of, count}
-use Rattle.node_model.specs.Files.{client_opens, server_opens}
-use Rattle.node_model.specs.Resets.{HeirAnswer, Integrated, Known, SavedAs, ResetRefusal, NotMine, Skips, ByClient, HeirStep, RecoveryLine, Recovered, IsHeir, Refuses, saved, heir, heir_read, heir_refuses, heir_says, heir_answer, heir_commits, handled, says_only, count_known, recover_changes, recover_upload, recover_frames, recover}
-use Rattle.node_model.specs.Recovery.{IsSaved, SavesOnce, IsRecovery, HeirMove, heir_after, numbers_from, numbers_of, whole_history, StopsAt}
+use Rattle.node_model.specs.Servers.{ServerRecord, no_server, server_of, count}
+use Rattle.node_model.specs.Files.{client_opens}
+use Rattle.node_model.specs.Resets.{HeirAnswer, Integrated, Known, SavedAs, ResetRefusal, NotMine, Skips, ByClient, Recovered, IsHeir, Refuses, saved, heir, heir_read, heir_refuses, heir_says, heir_answer, heir_commits, handled, says_only, recover_changes, recover_upload, recover_frames, recover}
+use Rattle.node_model.specs.Recovery.{IsRecovery, HeirMove, heir_after, numbers_from, StopsAt}
 use Rattle.node_model.specs.Rescues.{rescue_frames, after_run, after_runs, IsHeldUp, LivesOn}
 use Rattle.node_model.specs.Progress.{IsRoomy}
 use Rattle.node_model.specs.Worlds.{Node, World, at}
-use Rattle.node_model.proofs.Lists.{at_map, at_of_map, at_below, length_map, map_both}
+use Rattle.node_model.proofs.Lists.{at_map, length_map}
 use Rattle.node_model.proofs.Sim.{as_log}
 use Rattle.node_model.proofs.Own.{after_append}
 use Rattle.node_model.proofs.Alone.{opened_first, opened_more}
 use Rattle.node_model.proofs.Final.{history_numbers}
 use Rattle.node_model.proofs.Recovering.{saves_once}
-use Rattle.node_model.proofs.Heirs.{IsMade, HeirDid, quiet, made, heir_did, heir_stops_named, id_records, id_first}
+use Rattle.node_model.proofs.Heirs.{HeirDid, quiet, made, heir_did, heir_stops_named, id_records, id_first}
 use Rattle.node_model.proofs.Opening.{calm, client_opens_on}
 use Rattle.node_model.proofs.Running.{recover_opens}
 use Rattle.node_model.proofs.Small.{client_lists}
@@ -235,9 +235,10 @@ module _ {I S : Type 0} (p : Profile I S) where
           counted : (us : List (Unsent I)) (sent : List (Original I)) → ((j : ℕ) (o : Original I) → at (sent ++ map (λ (u : Unsent I). u.original) us) j ≡ Some o → o.number ≡ suc j) → Counted (length sent) us
           counted [] sent all = tt
           counted (u ∷ us) sent all =
-              let more : length (sent ++ u.original ∷ []) ≡ suc (length sent) = length_snoc sent u.original in
-              (all (length sent) u.original (at_next sent (map (λ (u : Unsent I). u.original) us) u.original),
-              subst (λ k. Counted k us) more (counted us (sent ++ u.original ∷ []) (λ j o e. all j o (ap (λ l. at l j) (sym (Rattle.std.proofs.Common.append_assoc sent (u.original ∷ []) (map (λ (u : Unsent I). u.original) us))) ∙ e))))
+              let more : length (sent ++ u.original ∷ []) ≡ suc (length sent) = length_snoc sent u.original in (
+                all (length sent) u.original (at_next sent (map (λ (u : Unsent I). u.original) us) u.original),
+                subst (λ k. Counted k us) more (counted us (sent ++ u.original ∷ []) (λ j o e. all j o (ap (λ l. at l j) (sym (Rattle.std.proofs.Common.append_assoc sent (u.original ∷ []) (map (λ (u : Unsent I). u.original) us))) ∙ e))),
+              )
 
           shorter : {n : ℕ} → n ≡ length (of_origin (client_of p nd.records).ident (take (client_of p nd.records).cursor h.n.log)) → n ≤ count (server_of p w.server) (client_of p nd.records).ident
           shorter {n} e =

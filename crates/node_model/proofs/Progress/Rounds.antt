@@ -46,7 +46,7 @@ hinders unnamed old (RetiredBy c) m o = absurd m
 hinders unnamed old (Trimmed n) m o = absurd m
 
 -- what a download of the exchange is declined by
-stops_it : (why : ClientRefusal) → MayDecline why → IsOfTake why → MayStop why
+pub stops_it : (why : ClientRefusal) → MayDecline why → IsOfTake why → MayStop why
 stops_it NotBorn m o = absurd m
 stops_it AlreadyBorn m o = absurd m
 stops_it NotNamed m o = absurd m
@@ -93,13 +93,13 @@ module _ {I S : Type 0} (p : Profile I S) {Fits Bounded Old : S → Type 0} (law
   Q = IsException armed unnamed old
 
   abbrev At : World → Server I → Client I S → ℕ → Type 0
-  At v s st n = Here p law built armed unnamed old w0 name place nd0 not_server arms arms_server v s st n
+  At v s st n = Here p law built (IsException armed unnamed old) armed (λ a. a) w0 name place nd0 not_server arms arms_server v s st n
 
   abbrev Leads : World → List (Event I) → (World → Type 0) → Type 0
   Leads v es r = Goes p (IsException armed unnamed old) v es r
 
-  known : {v : World} {s : Server I} {st : Client I S} {n : ℕ} → At v s st n → st.ident ≢ 0 → Facts p law built armed unnamed old w0 name place nd0 not_server arms arms_server s st
-  known h ne = facts p law built armed unnamed old w0 name place nd0 not_server arms arms_server h ne
+  known : {v : World} {s : Server I} {st : Client I S} {n : ℕ} → At v s st n → st.ident ≢ 0 → Facts p law built (IsException armed unnamed old) armed (λ a. a) w0 name place nd0 not_server arms arms_server s st
+  known h ne = facts p law built (IsException armed unnamed old) armed (λ a. a) w0 name place nd0 not_server arms arms_server h ne
 
   -- a client takes what it was told about its upload
   took_stored : (st : Client I S) (number : ℕ) (id : Uuid) → st.id ≡ Some id → take_message p st (Stored st.ident number) ≡ answers st.cursor
@@ -111,11 +111,11 @@ module _ {I S : Type 0} (p : Profile I S) {Fits Bounded Old : S → Type 0} (law
       → ((v2 : World) (s2 : Server I) → At v2 s2 st (suc (suc n)) → HasServed p s s2 st.ident (to_upload p st) (Stored st.ident (count s2 st.ident)) → Each (λ x. x.number ≤ count s2 st.ident) (to_upload p st) → Leads v2 rest r)
       → Leads v (uploads_at name n ++ rest) r
   uploaded {v} {s} {st} {n} h ne rest r then_ =
-      messages p law built armed unnamed old w0 name place nd0 not_server arms arms_server h (Uploads name) (upload p) refl m (named_calls p law built armed unnamed old w0 name place nd0 not_server arms arms_server st (answers m) f.id f.born ne) (Delivers (suc n) server_name ∷ Delivers (suc (suc n)) name ∷ rest) r
-      (λ v2 h2 there. serves p law built armed unnamed old w0 name place nd0 not_server arms arms_server h2 (suc n) m there (serve_changes p s st.ident hs) (yes (is_given s st.ident) (serve_changes p s st.ident hs) (refuses st.ident 0 (NoSuchIdent (length s.ids))) f.given) (Delivers (suc (suc n)) name ∷ rest) r
-      (λ v3 h3 replied. replies_ v3 h3 replied (upload_refused p law built armed unnamed old w0 name place nd0 not_server arms arms_server h2 n st.ident hs there) (has_served p hs s st.ident)))
+      messages p law built (IsException armed unnamed old) armed (λ a. a) w0 name place nd0 not_server arms arms_server h (Uploads name) (upload p) refl m (named_calls p law built (IsException armed unnamed old) armed (λ a. a) w0 name place nd0 not_server arms arms_server st (answers m) f.id f.born ne) (Delivers (suc n) server_name ∷ Delivers (suc (suc n)) name ∷ rest) r
+      (λ v2 h2 there. serves p law built (IsException armed unnamed old) armed (λ a. a) w0 name place nd0 not_server arms arms_server h2 (suc n) m there (serve_changes p s st.ident hs) (yes (is_given s st.ident) (serve_changes p s st.ident hs) (refuses st.ident 0 (NoSuchIdent (length s.ids))) f.given) (Delivers (suc (suc n)) name ∷ rest) r
+      (λ v3 h3 replied. replies_ v3 h3 replied (upload_refused p law built (IsException armed unnamed old) armed (λ a. a) w0 name place nd0 not_server arms arms_server h2 n st.ident hs there) (has_served p hs s st.ident)))
     where
-      f : Facts p law built armed unnamed old w0 name place nd0 not_server arms arms_server s st
+      f : Facts p law built (IsException armed unnamed old) armed (λ a. a) w0 name place nd0 not_server arms arms_server s st
       f = known h ne
 
       hs : List Change
@@ -128,7 +128,7 @@ module _ {I S : Type 0} (p : Profile I S) {Fits Bounded Old : S → Type 0} (law
           → HasServed p s (after_all p s (serve_changes p s st.ident (to_upload p st)).records) st.ident (to_upload p st) (serve_changes p s st.ident (to_upload p st)).answer
           → ((spot : ℕ) → Q (Replied spot (serve_changes p s st.ident (to_upload p st)).answer)) ⊎ Leads v3 (Delivers (suc (suc n)) name ∷ rest) r
       replies_ v3 h3 replied fair x = ⊎_elim
-          (λ a. inr (takes p law built armed unnamed old w0 name place nd0 not_server arms arms_server h3 (suc (suc n)) (Stored st.ident (count (after_all p s (serve_changes p s st.ident (to_upload p st)).records) st.ident)) (replied ∙ ap (λ z. Some z) a.0) (answers st.cursor) (took_stored st (count (after_all p s (serve_changes p s st.ident (to_upload p st)).records) st.ident) f.id f.born) rest r
+          (λ a. inr (takes p law built (IsException armed unnamed old) armed (λ a. a) w0 name place nd0 not_server arms arms_server h3 (suc (suc n)) (Stored st.ident (count (after_all p s (serve_changes p s st.ident (to_upload p st)).records) st.ident)) (replied ∙ ap (λ z. Some z) a.0) (answers st.cursor) (took_stored st (count (after_all p s (serve_changes p s st.ident (to_upload p st)).records) st.ident) f.id f.born) rest r
           (λ why e. absurd (no_answer st.cursor why e))
           (λ j v4 e h4. then_ v4 (after_all p s (serve_changes p s st.ident (to_upload p st)).records) h4 (record { ids = x.ids; more = x.more; log = x.log; counts = x.counts; others = x.others; answer = inl (refl, a.1) }) a.1)))
           (λ b. let t = subst IsUploadFair b.2 fair in inl (λ spot. subst (λ z. Q (Replied spot z)) (sym b.2) (t.0, t.1, t.2, hinders unnamed old t.0 t.3 t.4)))
@@ -163,7 +163,7 @@ module _ {I S : Type 0} (p : Profile I S) {Fits Bounded Old : S → Type 0} (law
           (entries_small p law (server_of p v.server).log (subst (SmallLog p) i.sim.log_is i.sim.small) (length (server_of p v.server).log - k) k) refl
         where
           i : Holds p v
-          i = holds p law built armed unnamed old w0 name place nd0 not_server arms arms_server h
+          i = holds p law built (IsException armed unnamed old) armed (λ a. a) w0 name place nd0 not_server arms arms_server h
 
           log_is : i.n.log ≡ (server_of p v.server).log
           log_is = i.sim.log_is
@@ -288,19 +288,19 @@ module _ {I S : Type 0} (p : Profile I S) {Fits Bounded Old : S → Type 0} (law
         → ((v2 : World) (s2 : Server I) (st2 : Client I S) (e : ℕ) → At v2 s2 st2 (suc (suc n)) → Marked s s2 → SameClient p st st2 → st2.cursor ≡ st.cursor + e → (st.cursor < length s.log → 1 ≤ e) → Leads v2 rest r)
         → Leads v (asks_at name n ++ rest) r
     downloaded {v} {s} {st} {n} h ne old_is rest r then_ =
-        messages p law built armed unnamed old w0 name place nd0 not_server arms arms_server h (Asks name) ask refl (question st st.subset) (named_calls p law built armed unnamed old w0 name place nd0 not_server arms arms_server st (answers (question st st.subset)) f.id f.born ne) (Delivers (suc n) server_name ∷ Delivers (suc (suc n)) name ∷ rest) r
+        messages p law built (IsException armed unnamed old) armed (λ a. a) w0 name place nd0 not_server arms arms_server h (Asks name) ask refl (question st st.subset) (named_calls p law built (IsException armed unnamed old) armed (λ a. a) w0 name place nd0 not_server arms arms_server st (answers (question st st.subset)) f.id f.born ne) (Delivers (suc n) server_name ∷ Delivers (suc (suc n)) name ∷ rest) r
         (λ v2 h2 there. on v2 h2 there (serve p s (question st st.subset)) refl (asks_for h2 ne st.subset))
       where
-        f : Facts p law built armed unnamed old w0 name place nd0 not_server arms arms_server s st
+        f : Facts p law built (IsException armed unnamed old) armed (λ a. a) w0 name place nd0 not_server arms arms_server s st
         f = known h ne
 
         takes_it : (v3 : World) (s3 : Server I) (es : List Sent) → Marked s s3 → At v3 s3 st (suc (suc n)) → message_at v3 (suc (suc n)) ≡ Some (Download st.ident st.cursor es) → (st.cursor < length s.log → 1 ≤ length es) → Leads v3 (Delivers (suc (suc n)) name ∷ rest) r
         takes_it v3 s3 es marks h3 there bears =
             let x = has_taken p es st in
-            takes p law built armed unnamed old w0 name place nd0 not_server arms arms_server h3 (suc (suc n)) (Download st.ident st.cursor es) there (take_entries p st es) (took_download st es f.id f.born) rest r
+            takes p law built (IsException armed unnamed old) armed (λ a. a) w0 name place nd0 not_server arms arms_server h3 (suc (suc n)) (Download st.ident st.cursor es) there (take_entries p st es) (took_download st es f.id f.born) rest r
             (λ why e. ⊎_elim
             (λ a. absurd (no_answer (after_records p st (take_entries p st es).records).cursor why (sym a.0 ∙ e)))
-            (λ a. let same : a.0 ≡ why = errs a.0 why (sym a.1 ∙ e) in stops_it why (declined p law built armed unnamed old w0 name place nd0 not_server arms arms_server h3 (suc n) (Download st.ident st.cursor es) there why (ap (λ d. d.answer) (took_download st es f.id f.born) ∙ e)) (subst IsOfTake same a.2))
+            (λ a. let same : a.0 ≡ why = errs a.0 why (sym a.1 ∙ e) in stops_it why (declined p law built (IsException armed unnamed old) armed (λ a. a) w0 name place nd0 not_server arms arms_server h3 (suc n) (Download st.ident st.cursor es) there why (ap (λ d. d.answer) (took_download st es f.id f.born) ∙ e)) (subst IsOfTake same a.2))
             x.ends)
             (λ j v4 e h4. ⊎_elim
             (λ a. then_ v4 s3 (after_records p st (take_entries p st es).records) (length es) h4 marks x.same a.1 bears)
@@ -313,7 +313,7 @@ module _ {I S : Type 0} (p : Profile I S) {Fits Bounded Old : S → Type 0} (law
         on : (v2 : World) → At v2 s st (suc n) → message_at v2 (suc n) ≡ Some (question st st.subset) → (did : ServerStep) → serve p s (question st st.subset) ≡ did → Answered s st did
             → Leads v2 (Delivers (suc n) server_name ∷ Delivers (suc (suc n)) name ∷ rest) r
         on v2 h2 there did did_is a =
-            serves p law built armed unnamed old w0 name place nd0 not_server arms arms_server h2 (suc n) (question st st.subset) there did did_is (Delivers (suc (suc n)) name ∷ rest) r
+            serves p law built (IsException armed unnamed old) armed (λ a. a) w0 name place nd0 not_server arms arms_server h2 (suc n) (question st st.subset) there did did_is (Delivers (suc (suc n)) name ∷ rest) r
             (λ v3 h3 there3. ⊎_elim
             (λ b. inr (takes_it v3 (after_all p s did.records) b.0 a.0 h3 (there3 ∙ ap (λ z. Some z) b.1.is) b.1.bears))
             (λ b. inl (λ spot. subst (λ z. Q (Replied spot z)) (sym b.1) (NeedsForm2 st.cursor, refl, refl, old_is b.0)))
@@ -364,7 +364,7 @@ module _ {I S : Type 0} (p : Profile I S) {Fits Bounded Old : S → Type 0} (law
     same_then x y = record { id = y.id ∙ x.id; ident = y.ident ∙ x.ident; second = y.second ∙ x.second; subset = y.subset ∙ x.subset; made = y.made ∙ x.made }
 
     -- at the end of the history nothing is left unsent, or the next upload adds to it
-    gained : (s s2 : Server I) (st : Client I S) → Facts p law built armed unnamed old w0 name place nd0 not_server arms arms_server s st → st.cursor ≡ length s.log → Each (λ x. x.number ≤ count s2 st.ident) (to_upload p st) → (length st.made ≡ count s st.ident) ⊎ (count s st.ident < count s2 st.ident)
+    gained : (s s2 : Server I) (st : Client I S) → Facts p law built (IsException armed unnamed old) armed (λ a. a) w0 name place nd0 not_server arms arms_server s st → st.cursor ≡ length s.log → Each (λ x. x.number ≤ count s2 st.ident) (to_upload p st) → (length st.made ≡ count s st.ident) ⊎ (count s st.ident < count s2 st.ident)
     gained s s2 st f at_end each = on st.unsent refl
       where
         sent_is : length f.sent ≡ count s st.ident
@@ -393,7 +393,7 @@ module _ {I S : Type 0} (p : Profile I S) {Fits Bounded Old : S → Type 0} (law
         then_ v3 s3 st3 h3 same on
         (left s3 st3 e on.more on.log on.counts (each_counted st.ident marks each) same cursor (λ lt. bears (subst (λ l. st.cursor < length l) marks.log lt)) (known h3 (λ z. ne (sym same.ident ∙ z))))))
       where
-        left : (s2 : Server I) (st3 : Client I S) (e more : ℕ) → length s2.log ≡ length s.log + more → count s2 st.ident ≡ count s st.ident + more → Each (λ x. x.number ≤ count s2 st.ident) (to_upload p st) → SameClient p st st3 → st3.cursor ≡ st.cursor + e → (st.cursor < length s2.log → 1 ≤ e) → Facts p law built armed unnamed old w0 name place nd0 not_server arms arms_server s2 st3 → Within s2 st3 k
+        left : (s2 : Server I) (st3 : Client I S) (e more : ℕ) → length s2.log ≡ length s.log + more → count s2 st.ident ≡ count s st.ident + more → Each (λ x. x.number ≤ count s2 st.ident) (to_upload p st) → SameClient p st st3 → st3.cursor ≡ st.cursor + e → (st.cursor < length s2.log → 1 ≤ e) → Facts p law built (IsException armed unnamed old) armed (λ a. a) w0 name place nd0 not_server arms arms_server s2 st3 → Within s2 st3 k
         left s2 st3 e more log counts each same cursor bears f3 =
             let f = known h ne in
             let made_is = ap length same.made in
@@ -403,7 +403,7 @@ module _ {I S : Type 0} (p : Profile I S) {Fits Bounded Old : S → Type 0} (law
             let owned = f.owned in
             by_gain e cursor bears f made_is count_is within3 within1 owned
           where
-            by_gain : (e : ℕ) → st3.cursor ≡ st.cursor + e → (st.cursor < length s2.log → 1 ≤ e) → Facts p law built armed unnamed old w0 name place nd0 not_server arms arms_server s st → length st3.made ≡ length st.made → count s2 st3.ident ≡ count s2 st.ident → st3.cursor ≤ length s2.log → st.cursor ≤ length s.log → count s st.ident ≤ length st.made → Within s2 st3 k
+            by_gain : (e : ℕ) → st3.cursor ≡ st.cursor + e → (st.cursor < length s2.log → 1 ≤ e) → Facts p law built (IsException armed unnamed old) armed (λ a. a) w0 name place nd0 not_server arms arms_server s st → length st3.made ≡ length st.made → count s2 st3.ident ≡ count s2 st.ident → st3.cursor ≤ length s2.log → st.cursor ≤ length s.log → count s st.ident ≤ length st.made → Within s2 st3 k
             by_gain (suc e) cursor bears f made_is count_is within3 within1 owned = omega arith
             by_gain zero cursor bears f made_is count_is within3 within1 owned = ⊎_elim
                 (λ lt. let le = bears lt in absurd (omega arith))
@@ -425,7 +425,7 @@ module _ {I S : Type 0} (p : Profile I S) {Fits Bounded Old : S → Type 0} (law
         (by_gain s3 st3 on.more e on.log on.counts (each_counted st.ident marks each) cursor (λ lt. bears (subst (λ l. st.cursor < length l) marks.log lt)) (known h ne) (ap length same.made) (ap (count s3) same.ident) (known h3 (λ z. ne (sym same.ident ∙ z))))))
       where
         by_gain : (s2 : Server I) (st3 : Client I S) (more e : ℕ) → length s2.log ≡ length s.log + more → count s2 st.ident ≡ count s st.ident + more → Each (λ x. x.number ≤ count s2 st.ident) (to_upload p st) → st3.cursor ≡ st.cursor + e → (st.cursor < length s2.log → 1 ≤ e)
-            → Facts p law built armed unnamed old w0 name place nd0 not_server arms arms_server s st → length st3.made ≡ length st.made → count s2 st3.ident ≡ count s2 st.ident → Facts p law built armed unnamed old w0 name place nd0 not_server arms arms_server s2 st3
+            → Facts p law built (IsException armed unnamed old) armed (λ a. a) w0 name place nd0 not_server arms arms_server s st → length st3.made ≡ length st.made → count s2 st3.ident ≡ count s2 st.ident → Facts p law built (IsException armed unnamed old) armed (λ a. a) w0 name place nd0 not_server arms arms_server s2 st3
             → (st.cursor + count s st.ident < st3.cursor + count s2 st3.ident) ⊎ Within s2 st3 0
         by_gain s2 st3 more (suc e) log counts each cursor bears f made_is count_is f3 = inl (omega arith)
         by_gain s2 st3 (suc more) zero log counts each cursor bears f made_is count_is f3 = inl (omega arith)
@@ -465,7 +465,7 @@ module _ {I S : Type 0} (p : Profile I S) {Fits Bounded Old : S → Type 0} (law
         → ((v2 : World) (s2 : Server I) (st2 : Client I S) → At v2 s2 st2 (suc (suc n)) → Bound s s2 st st2 id → Leads v2 rest r)
         → Leads v (binds_at name n ++ rest) r
     bound {v} {s} {st} {n} h id born new_is rest r then_ =
-        messages p law built armed unnamed old w0 name place nd0 not_server arms arms_server h (Binds name) bind refl (Bind id) (ap (λ o. if_born o (λ i. answers (Bind i))) born) (Delivers (suc n) server_name ∷ Delivers (suc (suc n)) name ∷ rest) r
+        messages p law built (IsException armed unnamed old) armed (λ a. a) w0 name place nd0 not_server arms arms_server h (Binds name) bind refl (Bind id) (ap (λ o. if_born o (λ i. answers (Bind i))) born) (Delivers (suc n) server_name ∷ Delivers (suc (suc n)) name ∷ rest) r
         (λ v2 h2 there. on (place_of id s.ids == 0) refl (length s.ids == p.full) refl v2 h2 there)
       where
         named_now : (s2 : Server I) (c : ℕ) (v3 : World) → At v3 s2 st (suc (suc n)) → message_at v3 (suc (suc n)) ≡ Some (Ident id c) → c ≢ 0 → s2.log ≡ s.log → (more : List Uuid) → s2.ids ≡ s.ids ++ more → (place_of id s.ids ≢ 0 → more ≡ []) → Leads v3 (Delivers (suc (suc n)) name ∷ rest) r
@@ -476,11 +476,11 @@ module _ {I S : Type 0} (p : Profile I S) {Fits Bounded Old : S → Type 0} (law
 
             first : (a : Bool) → (st.ident == 0) ≡ a → (b : Bool) → (st.ident == c) ≡ b → Leads v3 (Delivers (suc (suc n)) name ∷ rest) r
             first true a_is b b_is =
-                takes p law built armed unnamed old w0 name place nd0 not_server arms arms_server h3 (suc (suc n)) (Ident id c) there (appends (Named c) st.cursor) (to ∙ yes (st.ident == 0) (appends (Named c) st.cursor) (if st.ident == c then answers st.cursor else refuse (IdentDiffers st.ident c)) a_is) rest r
+                takes p law built (IsException armed unnamed old) armed (λ a. a) w0 name place nd0 not_server arms arms_server h3 (suc (suc n)) (Ident id c) there (appends (Named c) st.cursor) (to ∙ yes (st.ident == 0) (appends (Named c) st.cursor) (if st.ident == c then answers st.cursor else refuse (IdentDiffers st.ident c)) a_is) rest r
                 (λ why e. absurd (no_answer st.cursor why e))
                 (λ j v4 e h4. then_ v4 s2 (record st { ident = c }) h4 (record { log = log_is; more = more; ids = ids; none_more = none; named = given; kept_ident = λ ne. absurd (ne (eqb-true st.ident 0 a_is)); same_id = refl; second = refl; subset = refl; made = refl; cursor = refl }))
             first false a_is true b_is =
-                takes p law built armed unnamed old w0 name place nd0 not_server arms arms_server h3 (suc (suc n)) (Ident id c) there (answers st.cursor) (to ∙ no (st.ident == 0) (appends (Named c) st.cursor) (if st.ident == c then answers st.cursor else refuse (IdentDiffers st.ident c)) a_is ∙ yes (st.ident == c) (answers st.cursor) (refuse (IdentDiffers st.ident c)) b_is) rest r
+                takes p law built (IsException armed unnamed old) armed (λ a. a) w0 name place nd0 not_server arms arms_server h3 (suc (suc n)) (Ident id c) there (answers st.cursor) (to ∙ no (st.ident == 0) (appends (Named c) st.cursor) (if st.ident == c then answers st.cursor else refuse (IdentDiffers st.ident c)) a_is ∙ yes (st.ident == c) (answers st.cursor) (refuse (IdentDiffers st.ident c)) b_is) rest r
                 (λ why e. absurd (no_answer st.cursor why e))
                 (λ j v4 e h4. then_ v4 s2 st h4 (record { log = log_is; more = more; ids = ids; none_more = none; named = λ z. let t = test_true st.ident 0 z in absurd (both_of a_is t); kept_ident = λ ne. refl; same_id = refl; second = refl; subset = refl; made = refl; cursor = refl }))
               where
@@ -488,21 +488,21 @@ module _ {I S : Type 0} (p : Profile I S) {Fits Bounded Old : S → Type 0} (law
                 both_of e f = cc
             first false a_is false b_is =
                 let is : take_message p st (Ident id c) ≡ refuse (IdentDiffers st.ident c) = to ∙ no (st.ident == 0) (appends (Named c) st.cursor) (if st.ident == c then answers st.cursor else refuse (IdentDiffers st.ident c)) a_is ∙ no (st.ident == c) (answers st.cursor) (refuse (IdentDiffers st.ident c)) b_is in
-                absurd (declined p law built armed unnamed old w0 name place nd0 not_server arms arms_server h3 (suc n) (Ident id c) there (IdentDiffers st.ident c) (ap (λ d. d.answer) is))
+                absurd (declined p law built (IsException armed unnamed old) armed (λ a. a) w0 name place nd0 not_server arms arms_server h3 (suc n) (Ident id c) there (IdentDiffers st.ident c) (ap (λ d. d.answer) is))
 
         on : (a : Bool) → (place_of id s.ids == 0) ≡ a → (b : Bool) → (length s.ids == p.full) ≡ b → (v2 : World) → At v2 s st (suc n) → message_at v2 (suc n) ≡ Some (Bind id) → Leads v2 (Delivers (suc n) server_name ∷ Delivers (suc (suc n)) name ∷ rest) r
         on false a_is b b_is v2 h2 there =
             let is : serve p s (Bind id) ≡ replies (Ident id (place_of id s.ids)) = ap (λ t. if not t then replies (Ident id (place_of id s.ids)) else (if length s.ids == p.full then refuses 0 0 (IdentsFull (length s.ids)) else record { records = Rattle.node_model.specs.Servers.Client id ∷ []; answer = Ident id (suc (length s.ids)) })) a_is in
-            serves p law built armed unnamed old w0 name place nd0 not_server arms arms_server h2 (suc n) (Bind id) there (replies (Ident id (place_of id s.ids))) is (Delivers (suc (suc n)) name ∷ rest) r
+            serves p law built (IsException armed unnamed old) armed (λ a. a) w0 name place nd0 not_server arms arms_server h2 (suc n) (Bind id) there (replies (Ident id (place_of id s.ids))) is (Delivers (suc (suc n)) name ∷ rest) r
             (λ v3 h3 there3. inr (named_now s (place_of id s.ids) v3 h3 there3 (λ z. let t = test_true (place_of id s.ids) 0 z in absurd (both_of a_is t)) refl [] (sym (append-nil s.ids)) (λ z. refl)))
           where
             both_of : {b : Bool} → b ≡ false → b ≡ true → ⊥
             both_of e f = cc
         on true a_is true b_is v2 h2 there =
             let is : serve p s (Bind id) ≡ refuses 0 0 (IdentsFull (length s.ids)) = ap₂ (λ t u. if not t then replies (Ident id (place_of id s.ids)) else (if u then refuses 0 0 (IdentsFull (length s.ids)) else record { records = Rattle.node_model.specs.Servers.Client id ∷ []; answer = Ident id (suc (length s.ids)) })) a_is b_is in
-            serves p law built armed unnamed old w0 name place nd0 not_server arms arms_server h2 (suc n) (Bind id) there (refuses 0 0 (IdentsFull (length s.ids))) is (Delivers (suc (suc n)) name ∷ rest) r
+            serves p law built (IsException armed unnamed old) armed (λ a. a) w0 name place nd0 not_server arms arms_server h2 (suc n) (Bind id) there (refuses 0 0 (IdentsFull (length s.ids))) is (Delivers (suc (suc n)) name ∷ rest) r
             (λ v3 h3 there3. inl (λ spot. (IdentsFull (length s.ids), refl, refl, new_is (eqb-true (place_of id s.ids) 0 a_is))))
         on true a_is false b_is v2 h2 there =
             let is : serve p s (Bind id) ≡ record { records = Rattle.node_model.specs.Servers.Client id ∷ []; answer = Ident id (suc (length s.ids)) } = ap₂ (λ t u. if not t then replies (Ident id (place_of id s.ids)) else (if u then refuses 0 0 (IdentsFull (length s.ids)) else record { records = Rattle.node_model.specs.Servers.Client id ∷ []; answer = Ident id (suc (length s.ids)) })) a_is b_is in
-            serves p law built armed unnamed old w0 name place nd0 not_server arms arms_server h2 (suc n) (Bind id) there (record { records = Rattle.node_model.specs.Servers.Client id ∷ []; answer = Ident id (suc (length s.ids)) }) is (Delivers (suc (suc n)) name ∷ rest) r
+            serves p law built (IsException armed unnamed old) armed (λ a. a) w0 name place nd0 not_server arms arms_server h2 (suc n) (Bind id) there (record { records = Rattle.node_model.specs.Servers.Client id ∷ []; answer = Ident id (suc (length s.ids)) }) is (Delivers (suc (suc n)) name ∷ rest) r
             (λ v3 h3 there3. inr (named_now (record s { ids = s.ids ++ id ∷ [] }) (suc (length s.ids)) v3 h3 there3 (λ z. absurd (omega arith)) refl (id ∷ []) refl (λ ne. absurd (ne (eqb-true (place_of id s.ids) 0 a_is)))))

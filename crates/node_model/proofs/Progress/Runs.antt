@@ -1,14 +1,14 @@
 -- What a run of recovery appends is what a list of its client's transactions does in a world.
-use Rattle.std.proofs.Common.{append-nil, append_assoc, ◌≡◌, ℕ, suc, Bool, true, false, List, [], ◌∷◌, ◌++◌, Option, Some, None, Result, Ok, Err, refl, sym, ap, ◌∙◌, subst, if◌then◌else◌, ◌==◌}
+use Rattle.std.proofs.Common.{append-nil, append_assoc, ◌≡◌, ℕ, Bool, true, false, List, [], ◌∷◌, ◌++◌, Option, Some, None, Result, Ok, Err, refl, sym, ap, ◌∙◌, subst, if◌then◌else◌, ◌==◌}
 use Rattle.std.specs.Prelude.{bytes_eq}
 use Rattle.node_model.specs.Bytes.{Name}
 use Rattle.node_model.specs.Profile.{Profile, Lawful}
 use Rattle.node_model.specs.Snapshots.{Buildable}
 use Rattle.node_model.specs.Messages.{Change, Message, Bind, Ident, Upload, Ask, Download, Refused, Stored, Ask2, Retire, Retired, AskTables}
-use Rattle.node_model.specs.Clients.{Client, ClientRecord, ClientRefusal, ClientStep, client_of, after_records, commit}
-use Rattle.node_model.specs.Resets.{HeirAnswer, ResetRefusal, NotMine, Refuses, IsHeir, Recovered, saved, heir, handled, says_only, count_known, recover_changes, recover_upload, recover_frame, recover_frames, recover}
+use Rattle.node_model.specs.Clients.{ClientRecord, ClientRefusal, client_of, after_records, commit}
+use Rattle.node_model.specs.Resets.{HeirAnswer, ResetRefusal, NotMine, Refuses, IsHeir, saved, heir, handled, says_only, count_known, recover_changes, recover_upload, recover_frame, recover_frames}
 use Rattle.node_model.specs.Rescues.{AllEdits, no_edits, an_edit, RunsAs}
-use Rattle.node_model.specs.Worlds.{Node, World, Event, Edits, Outcome, at, stopped, made_words, client_moved, client_ends, client_called, happens, world_after}
+use Rattle.node_model.specs.Worlds.{Node, World, Event, Edits, at, stopped, made_words, client_moved, client_ends, client_called, happens, world_after}
 use Rattle.node_model.proofs.Lists.{at_put}
 use Rattle.node_model.proofs.Own.{after_append}
 use Rattle.node_model.proofs.Heirs.{heir_cases}

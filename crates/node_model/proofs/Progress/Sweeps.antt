@@ -10,7 +10,7 @@ use Rattle.node_model.specs.Clients.{Client, client_of}
 use Rattle.node_model.specs.Servers.{Server, server_of, place_of, count}
 use Rattle.node_model.specs.Worlds.{Node, World, Event, Words, at, seek, has_name, server_name, happens, world_after}
 use Rattle.node_model.specs.Log.{ident_by, ident_of}
-use Rattle.node_model.specs.Progress.{Comes, comes_now, comes_later, IsException, IsRoomy, enough, rounds, after_rounds, binds_at, catches_up, sweep, after_sweep, made_by_all}
+use Rattle.node_model.specs.Progress.{Comes, comes_now, comes_later, IsException, IsRoomy, enough, missing, rounds, after_rounds, binds_at, catches_up, sweep, after_sweep, made_by_all}
 use Rattle.node_model.proofs.Lists.{place_old, place_one, at_map, at_below, length_map}
 use Rattle.node_model.proofs.Sim.{uuid_of}
 use Rattle.node_model.proofs.Calling.{named_as}
@@ -24,11 +24,18 @@ use Rattle.node_model.proofs.Progress.Valid.{Valid}
 none_comes : (q : Words → Type 0) → Comes q [] → ⊥
 none_comes q c = elim c [ ]
 
--- a list of nodes and what they made
-pub made_within : {I S : Type 0} (p : Profile I S) (nds : List Node) (j : ℕ) (x : Node) → at nds j ≡ Some x → length (client_of p x.records).made ≤ made_by_all p nds
-made_within p [] j x h = cc
-made_within p (z ∷ nds) zero x h = let same : z ≡ x = cc in let e = ap (λ (y : Node). length (client_of p y.records).made) same in omega arith
-made_within p (z ∷ nds) (suc j) x h = let le = made_within p nds j x h in omega arith
+-- what these nodes owe together
+abbrev pub dues : (Node → ℕ) → List Node → ℕ
+dues due [] = 0
+dues due (x ∷ xs) = due x + dues due xs
+
+pub dues_made : {I S : Type 0} (p : Profile I S) (nds : List Node) → dues (λ x. length (client_of p x.records).made) nds ≡ made_by_all p nds
+dues_made p [] = refl
+dues_made p (x ∷ nds) = ap (λ n. length (client_of p x.records).made + n) (dues_made p nds)
+
+pub dues_none : (nds : List Node) → dues (λ x. 0) nds ≡ 0
+dues_none [] = refl
+dues_none (x ∷ nds) = let e = dues_none nds in omega arith
 
 module _ {I S : Type 0} (p : Profile I S) where
   pub goes_cons : (q : Words → Type 0) (w : World) (e : Event I) (es : List (Event I)) (r : World → Type 0) → Goes p q (happens p w e).world es r → Goes p q w (e ∷ es) r
@@ -79,7 +86,7 @@ module _ {I S : Type 0} (p : Profile I S) where
 
     module _ (A U O : Type 0) (v : World) (reached : Valid p v) (i : ℕ) (nd : Node) (found : seek (has_name nd.name) v.clients ≡ Some (i, nd)) (not_server : bytes_eq nd.name server_name ≡ false) (arms : (x : Name) → v.stops x ≢ None → A) where
       abbrev At : World → Server I → Client I S → ℕ → Type 0
-      At v2 s st n = Here p law built A U O v nd.name i nd not_server (arms nd.name) (arms server_name) v2 s st n
+      At v2 s st n = Here p law built (IsException A U O) A (λ a. a) v nd.name i nd not_server (arms nd.name) (arms server_name) v2 s st n
 
       to_after : {v2 : World} {s1 s2 : Server I} {st1 st2 : Client I S} {n : ℕ} (h : At v2 s2 st2 n) (id : Uuid) → (client_of p nd.records).id ≡ Some id
           → Bound p law built A U O v nd.name i nd not_server (arms nd.name) (arms server_name) roomy (server_of p v.server) s1 (client_of p nd.records) st1 id
@@ -92,7 +99,7 @@ module _ {I S : Type 0} (p : Profile I S) where
           stops = h.stops;
           names = h.names;
           others = h.others;
-          here = at_node p law built A U O v nd.name i nd not_server (arms nd.name) (arms server_name) h;
+          here = at_node p law built (IsException A U O) A (λ a. a) v nd.name i nd not_server (arms nd.name) (arms server_name) h;
           ids = b.more;
           ids_are = ap (λ (x : Server I). x.ids) h.server ∙ on.ids ∙ b.ids;
           more = on.more;
@@ -167,6 +174,23 @@ module _ {I S : Type 0} (p : Profile I S) where
       all = (flushed_stays v v2 i nd nd2 t j x ne h (d.named, d.all)).1;
     }
 
+    -- the history grows by no more than a client made, and by nothing where all that is there
+    pub adds_made : (v v2 : World) (i : ℕ) (nd nd2 : Node) → Stepped v v2 i nd nd2 → length (server_of p v2.server).log ≤ length (server_of p v.server).log + length (client_of p nd.records).made
+    adds_made v v2 i nd nd2 t =
+        let l = t.log in
+        let c = t.counts in
+        let d = t.done.all in
+        let m = ap length t.made in
+        omega arith
+
+    pub adds_none : (v v2 : World) (i : ℕ) (nd nd2 : Node) → Flushed v nd → Stepped v v2 i nd nd2 → length (server_of p v2.server).log ≤ length (server_of p v.server).log + 0
+    adds_none v v2 i nd nd2 f t = let e = nothing_more v v2 i nd nd2 f t in omega arith
+
+    pub owes_none : (v : World) → Valid p v → (i : ℕ) (nd : Node) → at v.clients i ≡ Some nd → Flushed v nd → missing p v nd ≤ 0
+    owes_none v r i nd here f =
+        let e : length (of_origin (ident_of p v nd) (server_of p v.server).log) ≡ length (client_of p nd.records).made = ap (count (server_of p v.server)) (ident_at v r i nd here f.0) ∙ f.1 in
+        omega arith
+
     -- ---- a sweep
 
     -- a node of this world that stands for one that is still to catch up
@@ -215,7 +239,9 @@ module _ {I S : Type 0} (p : Profile I S) where
     module _ (A U O : Type 0) (Inv : World → Type 0) (P : World → Node → Type 0)
         (inv_stays : (v v2 : World) (i : ℕ) (nd nd2 : Node) → Inv v → at v.clients i ≡ Some nd → Stepped v v2 i nd nd2 → Inv v2)
         (stays : (v v2 : World) (i : ℕ) (nd nd2 : Node) → Inv v → at v.clients i ≡ Some nd → Stepped v v2 i nd nd2 → (j : ℕ) (x : Node) → j ≢ i → at v.clients j ≡ Some x → P v x → P v2 x)
-        (now : (v v2 : World) (i : ℕ) (nd nd2 : Node) → Stepped v v2 i nd nd2 → P v2 nd2) (total k : ℕ) where
+        (now : (v v2 : World) (i : ℕ) (nd nd2 : Node) → Stepped v v2 i nd nd2 → P v2 nd2) (due : Node → ℕ)
+        (owes : (v : World) → Valid p v → (i : ℕ) (nd x : Node) → Inv v → at v.clients i ≡ Some nd → length (client_of p nd.records).made ≡ length (client_of p x.records).made → missing p v nd ≤ due x)
+        (adds : (v v2 : World) (i : ℕ) (nd nd2 x : Node) → Inv v → at v.clients i ≡ Some nd → length (client_of p nd.records).made ≡ length (client_of p x.records).made → Stepped v v2 i nd nd2 → length (server_of p v2.server).log ≤ length (server_of p v.server).log + due x) (k : ℕ) where
       same_node : (v v2 : World) (i : ℕ) (nd nd2 : Node) → at v.clients i ≡ Some nd → Stepped v v2 i nd nd2 → (j : ℕ) (x : Node) → at v.clients j ≡ Some x → SameNode v2 j x
       same_node v v2 i nd nd2 here t j x h = ⊎_elim
           (λ is.
@@ -235,10 +261,10 @@ module _ {I S : Type 0} (p : Profile I S) where
 
       -- clients from place i on catch up; those before are as wanted
       pub sweeps : (nds : List Node) (i : ℕ) (v : World) (n : ℕ) → Valid p v → length v.messages ≡ n → ((x : Name) → v.stops x ≢ None → A) → Inv v → ((j : ℕ) (x : Node) → at nds j ≡ Some x → StandsFor U O v (i + j) x) → length v.clients ≡ i + length nds
-          → length (server_of p v.server).log + (made_by_all p nds + total) ≤ k → ((j : ℕ) (x : Node) → at nds j ≡ Some x → length (client_of p x.records).made ≤ total)
+          → length (server_of p v.server).log + dues due nds ≤ k
           → ((j : ℕ) (y : Node) → j < i → at v.clients j ≡ Some y → P v y)
-          → Goes p (IsException A U O) v (sweep nds n k) (λ v2. Swept Inv P v v2 (after_sweep nds n k) (made_by_all p nds))
-      sweeps [] i v n reached n_is arms inv left len budget small before = inr (record {
+          → Goes p (IsException A U O) v (sweep nds n k) (λ v2. Swept Inv P v v2 (after_sweep nds n k) (dues due nds))
+      sweeps [] i v n reached n_is arms inv left len budget before = inr (record {
         reached = reached;
         stops = λ x e. e;
         names = refl;
@@ -248,18 +274,17 @@ module _ {I S : Type 0} (p : Profile I S) where
         same = λ j x h. record { node = x; here = h; made = refl; second = refl };
         all = λ j y h. let b = at_below v.clients j y h in before j y (omega arith) h;
       })
-      sweeps (x ∷ nds) i v n reached n_is arms inv left len budget small before =
-          goes_append (IsException A U O) (catches_up x.name n k) (sweep nds (after_rounds (suc (suc n)) k) k) v (λ v2. After v v2 i s.node (after_rounds (suc (suc n)) k)) (λ v3. Swept Inv P v v3 (after_sweep nds (after_rounds (suc (suc n)) k) k) (length (client_of p x.records).made + made_by_all p nds))
+      sweeps (x ∷ nds) i v n reached n_is arms inv left len budget before =
+          goes_append (IsException A U O) (catches_up x.name n k) (sweep nds (after_rounds (suc (suc n)) k) k) v (λ v2. After v v2 i s.node (after_rounds (suc (suc n)) k)) (λ v3. Swept Inv P v v3 (after_sweep nds (after_rounds (suc (suc n)) k) k) (due x + dues due nds))
           (subst (λ name. Goes p (IsException A U O) v (catches_up name n k) (λ v2. After v v2 i s.node (after_rounds (suc (suc n)) k))) s.name
           (stepping A U O v reached i s.node apart.0 apart.1 arms s.naming s.olding k enough_ n n_is))
           (λ v2 a.
-          goes_map (IsException A U O) v2 (sweep nds (after_rounds (suc (suc n)) k) k) (λ v3. Swept Inv P v2 v3 (after_sweep nds (after_rounds (suc (suc n)) k) k) (made_by_all p nds)) (λ v3. Swept Inv P v v3 (after_sweep nds (after_rounds (suc (suc n)) k) k) (length (client_of p x.records).made + made_by_all p nds)) (λ v3 w. joined v2 a v3 w)
+          goes_map (IsException A U O) v2 (sweep nds (after_rounds (suc (suc n)) k) k) (λ v3. Swept Inv P v2 v3 (after_sweep nds (after_rounds (suc (suc n)) k) k) (dues due nds)) (λ v3. Swept Inv P v v3 (after_sweep nds (after_rounds (suc (suc n)) k) k) (due x + dues due nds)) (λ v3 w. joined v2 a v3 w)
           (sweeps nds (suc i) v2 (after_rounds (suc (suc n)) k) a.stepped.reached a.messages (λ y ne. arms y (λ z. ne (a.stepped.stops y z)))
           (inv_stays v v2 i s.node a.node inv s.here a.stepped)
           (λ j y h. later v2 a j y h)
           (longer v2 a)
           (cheaper v2 a)
-          (λ j y h. small (suc j) y h)
           (λ j y lt h. earlier v2 a j y lt h)))
         where
           s : StandsFor U O v i x
@@ -269,19 +294,12 @@ module _ {I S : Type 0} (p : Profile I S) where
           apart = reached.apart i s.node s.here
 
           enough_ : enough p v s.node ≤ k
-          enough_ = let m = s.made in let le = small 0 x refl in omega arith
+          enough_ = let le = owes v reached i s.node x inv s.here s.made in omega arith
 
-          added : (v2 : World) (a : After v v2 i s.node (after_rounds (suc (suc n)) k)) → length (server_of p v2.server).log ≤ length (server_of p v.server).log + length (client_of p x.records).made
-          added v2 a =
-              let t = a.stepped in
-              let l = t.log in
-              let c = t.counts in
-              let d = t.done.all in
-              let m = ap length t.made in
-              let o = s.made in
-              omega arith
+          added : (v2 : World) (a : After v v2 i s.node (after_rounds (suc (suc n)) k)) → length (server_of p v2.server).log ≤ length (server_of p v.server).log + due x
+          added v2 a = adds v v2 i s.node a.node x inv s.here s.made a.stepped
 
-          cheaper : (v2 : World) (a : After v v2 i s.node (after_rounds (suc (suc n)) k)) → length (server_of p v2.server).log + (made_by_all p nds + total) ≤ k
+          cheaper : (v2 : World) (a : After v v2 i s.node (after_rounds (suc (suc n)) k)) → length (server_of p v2.server).log + dues due nds ≤ k
           cheaper v2 a = let le = added v2 a in omega arith
 
           longer : (v2 : World) (a : After v v2 i s.node (after_rounds (suc (suc n)) k)) → length v2.clients ≡ suc i + length nds
@@ -311,7 +329,7 @@ module _ {I S : Type 0} (p : Profile I S) where
               below : j ≢ i → j < i
               below ne = omega (arith, ne)
 
-          joined : (v2 : World) (a : After v v2 i s.node (after_rounds (suc (suc n)) k)) (v3 : World) → Swept Inv P v2 v3 (after_sweep nds (after_rounds (suc (suc n)) k) k) (made_by_all p nds) → Swept Inv P v v3 (after_sweep nds (after_rounds (suc (suc n)) k) k) (length (client_of p x.records).made + made_by_all p nds)
+          joined : (v2 : World) (a : After v v2 i s.node (after_rounds (suc (suc n)) k)) (v3 : World) → Swept Inv P v2 v3 (after_sweep nds (after_rounds (suc (suc n)) k) k) (dues due nds) → Swept Inv P v v3 (after_sweep nds (after_rounds (suc (suc n)) k) k) (due x + dues due nds)
           joined v2 a v3 w = record {
             reached = w.reached;
             stops = λ y e. w.stops y (a.stepped.stops y e);
