@@ -1,5 +1,5 @@
 -- What can be saved on a state can be saved on a part of it that has all tables and each object that is named.
-use Rattle.std.proofs.Common.{◌≡◌, ℕ, suc, Bool, true, false, cond, List, [], ◌∷◌, ◌++◌, Option, None, Some, is_some, Ok, Err, refl, sym, ap, ◌∙◌, subst}
+use Rattle.std.proofs.Common.{◌≡◌, ℕ, suc, Bool, true, false, cond, List, [], ◌∷◌, ◌++◌, Option, None, Some, is_some, Err, refl, sym, ap, ◌∙◌, subst}
 use Rattle.std.specs.Prelude.{if◌then◌else◌}
 use Rattle.std.specs.Option.{option_map, option_map_or, option_and_then}
 use Rattle.std.specs.Ordering.{eq_by_cmp}
@@ -15,7 +15,7 @@ use Rattle.sync_base.specs.Effects.{ObjectName, CellPath, Edit, Effect, NewTable
 use Rattle.sync_base.specs.Lemmas.Looks.{object_total, object_exact}
 use Rattle.sync_base.specs.Lemmas.Maps.{get-map_with}
 use Rattle.sync_base.specs.Objects.{object_of}
-use Rattle.sync_base.specs.States.{State, Tables, Cells, object_cmp, column_in, has, shape_rank}
+use Rattle.sync_base.specs.States.{State, Tables, Cells, object_cmp, column_in, shape_rank}
 use Rattle.sync_law.specs.Coded.{apply, state_or_code}
 use Rattle.node_model.specs.Resets.{Saved, saved_from, saved, tried}
 use Rattle.node_instance.specs.Adapting.{adapt, spot_at}

@@ -42,7 +42,11 @@ fn within(spot: Between, len: usize) -> Between
     let Ok(prior) = u32::try_from(len) else {
         return spot;
     };
-    let place = if spot.place() <= prior { spot.place() } else { prior };
+    let place = if spot.place() <= prior {
+        spot.place()
+    } else {
+        prior
+    };
     match Between::new(place, prior) {
         Ok(fitted) => fitted,
         Err(_) => unreachable!(),

@@ -5,8 +5,8 @@ ghost use Rattle.sync_base.specs.Effects.{effect_of, is_effect};
 ghost use Rattle.sync_reset.specs.Saved.{outcome};
 
 use super::adapting::adapted;
-use super::part::apply;
 use super::answer::Dropped;
+use super::part::apply;
 use std::alloc::Global;
 use sync_base::{Instr, NoMemory};
 use sync_store::Store;
