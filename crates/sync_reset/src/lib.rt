@@ -5,6 +5,8 @@ mod adapting;
 mod answer;
 mod part;
 mod saving;
+#[cfg(test)]
+mod tests;
 mod trial;
 
 pub use answer::{Dropped, Saved};
