@@ -8,6 +8,8 @@ mod cutter;
 mod growing;
 mod objects;
 mod schema;
+#[cfg(test)]
+mod tests;
 mod whole;
 
 pub use building::build;
