@@ -17,7 +17,8 @@ use Rattle.node_instance.specs.Profile.{the_profile}
 use Rattle.node_instance.specs.Seen.{client_seen, read_client}
 use Rattle.node_client.specs.declared.beginning.Found.{Found}
 use Rattle.node_client.specs.declared.beginning.Found.TheVariants as founds
-use Rattle.node_client.specs.Parts.{lists_of, none_read, part_bytes, CutRun, Finds, IsBadPart, IsPart, RunOf, WholeRun}
+use Rattle.sync_snapshot.specs.Grown.{lists_of}
+use Rattle.node_client.specs.Parts.{none_read, part_bytes, CutRun, Finds, IsBadPart, IsPart, RunOf, WholeRun}
 use Rattle.node_client.proofs.Parts.{read_more}
 
 -- ---- a record with another tag is no part

@@ -22,7 +22,8 @@ use Rattle.node_client.specs.declared.opening.ReadRefusal.{ReadRefusal}
 use Rattle.node_client.specs.declared.opening.ReadRefusal.TheVariants as reads
 use Rattle.node_client.specs.declared.replica.Replica.{Replica}
 use Rattle.node_client.specs.Keeping.{Keeps}
-use Rattle.node_client.specs.Parts.{lists_of, part_bytes, Closed, Closes, CutRun, Ended, FindsRun, IsFloor, IsNoFloor, IsOfState, Named, RunOf, Unclosed, WholeRun}
+use Rattle.sync_snapshot.specs.Grown.{lists_of}
+use Rattle.node_client.specs.Parts.{part_bytes, Closed, Closes, CutRun, Ended, FindsRun, IsFloor, IsNoFloor, IsOfState, Named, RunOf, Unclosed, WholeRun}
 use Rattle.node_client.specs.Reading.{ReadSome, ReadsOn, read_puts}
 use Rattle.node_client.specs.Seen.{Past, seen}
 use Rattle.node_client.proofs.Parts.{IsOther, admits_open, after_parts, all_admit, cut_at, floor_admits, growing, named_not, not_blank, not_blank_floor, others_refused, part, refuses, refuses_none, same_length, stops_behind, stops_last, stops_named, stops_unread, walk, with_parts}

@@ -12,26 +12,12 @@ use Rattle.node_model.specs.Profile.{Profile}
 use Rattle.node_model.specs.Snapshots.{grown}
 use Rattle.node_instance.specs.Profile.{the_profile, unspell}
 use Rattle.node_instance.specs.Seen.{client_bytes, read_client}
+use Rattle.sync_snapshot.specs.Grown.{lists_of}
 use Rattle.node_client.specs.declared.beginning.Found.{Found}
 use Rattle.node_client.specs.declared.beginning.Found.TheVariants as founds
-use Rattle.node_client.specs.declared.beginning.GrowRefusal.{GrowRefusal}
-use Rattle.node_client.specs.declared.beginning.GrowRefusal.TheVariants as refusals
 use Rattle.node_client.specs.declared.opening.ReadRefusal.{ReadRefusal}
 use Rattle.node_client.specs.declared.opening.ReadRefusal.TheVariants as reads
 use Rattle.node_client.specs.declared.replica.Replica.{Replica}
-
--- the lists of instructions of changesets
-abbrev pub lists_of : List Changes → List (List Instr)
-lists_of parts = map (λ part. part.instrs) parts
-
--- the state that the model has, or the part that it names; after want of memory nothing is said
-abbrev pub Names : GrowRefusal → Result State ℕ → Type 0
-Names (refusals.BadPart place) r = r ≡ Err place
-Names refusals.NoMemory r = Unit {0}
-
-abbrev pub Grows : Result State GrowRefusal → Result State ℕ → Type 0
-Grows (Ok s) r = r ≡ Ok s
-Grows (Err why) r = Names why r
 
 -- each of these bodies is a list of instructions that the form allows
 pub data AreRead {I S : Type 0} (p : Profile I S) (second : Bool) : List Bytes → List (List I) → Type 0 where

@@ -2,11 +2,10 @@ ghost use Rattle.std.specs.Prelude.{◌≡◌, ◌⊎◌, ◌≤◌, ◌<◌, �
 ghost use Rattle.sync_journal.specs.Records.{lists};
 ghost use Rattle.node_model.specs.Clients as model;
 ghost use Rattle.node_model.specs.Files as files;
-ghost use Rattle.node_model.specs.Snapshots as snapshots;
-ghost use Rattle.node_instance.specs.Profile.{the_profile};
 ghost use Rattle.node_instance.specs.Seen.{read_client};
 ghost use Rattle.node_client.specs.Keeping.{Keeps};
-ghost use Rattle.node_client.specs.Parts.{lists_of, Closes, Ended, Finds, FindsBody, FindsFloor, FindsRun, Grows, IsOfState, Named};
+ghost use Rattle.sync_snapshot.specs.Grown.{lists_of};
+ghost use Rattle.node_client.specs.Parts.{Closes, Ended, Finds, FindsBody, FindsFloor, FindsRun, IsOfState, Named};
 ghost use Rattle.node_client.specs.Reading.{ReadsOn};
 ghost use Rattle.node_client.specs.Seen.{Past, seen};
 
@@ -17,7 +16,7 @@ use crate::replica::Replica;
 use node_records::{ClientRecord, RecordRefusal};
 use std::alloc::Global;
 use sync_data::{Changeset, NoMemory};
-use sync_store::Store;
+use sync_snapshot::{GrowRefusal, grown};
 
 /// The tag of a part of a state, and that of its version (docs/FORMATS.md, "Records").
 const PART: u8 = 11;
@@ -30,21 +29,6 @@ pub(crate) enum Found {
     Part(Changeset),
     BadPart,
     Other,
-}
-
-/// Why no state was grown of parts: the part at this place, counted from 0, is wrong; or memory ran out.
-#[derive(Clone, Copy)]
-pub(crate) enum GrowRefusal {
-    BadPart { place: u32 },
-    NoMemory,
-}
-
-/// The state of which these are the parts.
-fn grow(_alloc: Global, parts: &[Changeset]) -> Result<Store, GrowRefusal>
-    ensures { Grows result (snapshots.grown the_profile (lists_of parts.now)) }
-{
-    let _ = parts;
-    Err(GrowRefusal::NoMemory)
 }
 
 /// Whether the bytes have the tag of a part or a version.
@@ -83,7 +67,7 @@ fn end_of(alloc: Global, run: &[Changeset]) -> Result<usize, NoMemory>
     ensures number { IfOk result (λ number. Named (lists_of run.now) number ⊎ Ended (lists_of run.now) number) }
     ensures within { IfOk result (λ number. number < length run.now) }
 {
-    match grow(alloc, run) {
+    match grown(alloc, run) {
         Ok(_) => Ok(run.len() - 1),
         Err(GrowRefusal::BadPart { place }) => {
             let place = place as usize;
@@ -190,7 +174,7 @@ impl Replica {
             Ok(floor) => floor,
             Err(refusal) => return Err(refusal),
         };
-        match grow(alloc, run) {
+        match grown(alloc, run) {
             Ok(objects) => match floor {
                 Some(version) => {
                     self.floor = Some(version);

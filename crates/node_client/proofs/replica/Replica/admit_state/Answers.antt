@@ -3,7 +3,8 @@ use Rattle.std.specs.Prelude.{◌⊎◌}
 use Rattle.sync_data.specs.Payload.{Changes}
 use Rattle.sync_journal.specs.Records.{lists}
 use Rattle.sync_journal.proofs.Gates.{left_at, none_left}
-use Rattle.node_client.specs.Parts.{lists_of, Ended, Named}
+use Rattle.sync_snapshot.specs.Grown.{lists_of}
+use Rattle.node_client.specs.Parts.{Ended, Named}
 use Rattle.node_client.proofs.States.{blank_refused, close_refused, closed_on, closes_none, closes_some, end_refused, run_refused}
 use Rattle.node_client.proofs.replica.Replica.admit_state.Goals as goal
 
