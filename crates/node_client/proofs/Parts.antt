@@ -2,7 +2,7 @@
 use Rattle.std.proofs.Common.{◌≡◌, ℕ, zero, suc, ◌+◌, ◌<◌, ◌≤◌, Bool, true, false, not, ◌&&◌, List, [], ◌∷◌, ◌++◌, length, map, Option, Some, None, Result, Ok, Err, refl, ap, ◌∙◌, sym, subst, append_assoc, append-nil, length-append, arith, ◌==◌, if◌then◌else◌}
 use Rattle.node_model.specs.Bytes.{Bytes}
 use Rattle.node_model.specs.Clients.{Client, ClientRecord, after_record, after_records, ok_list}
-use Rattle.node_model.specs.Files.{bodies_ahead, client_admits, client_opens, client_reads, is_blank, is_empty, is_fine, is_growing, is_place, part_and, part_body, part_fits, parts_grow, read_one, read_parts, read_put, readable}
+use Rattle.node_model.specs.Files.{bodies_ahead, client_admits, client_opens, client_reads, is_blank, is_empty, is_fine, is_growing, is_place, part_and, part_fits, parts_grow, read_one, read_parts, read_put, readable}
 use Rattle.node_model.specs.Profile.{Profile, needs}
 use Rattle.node_model.specs.Snapshots.{grown}
 use Rattle.node_model.specs.Worlds.{is_there}

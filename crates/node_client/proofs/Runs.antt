@@ -8,11 +8,10 @@ use Rattle.sync_data.specs.declared.memory.NoMemory.{NoMemory}
 use Rattle.sync_journal.specs.Records.{lists}
 use Rattle.sync_io.specs.Formats.{◌>>=◌}
 use Rattle.node_model.specs.Bytes.{Bytes}
-use Rattle.node_model.specs.Clients.{ClientRecord}
 use Rattle.node_model.specs.Files.{bodies_ahead, body_and, part_body}
 use Rattle.node_records.specs.declared.client.ClientRecord.{ClientRecord as CodeRecord}
 use Rattle.node_records.specs.declared.client.ClientRecord.TheVariants as codes
-use Rattle.node_records.specs.Reading.{fields_in, client_forms, record_in, id_in, ident_in, made_in, made_of, took_in, took_of, form_in, names_in, version_in}
+use Rattle.node_records.specs.Reading.{id_in, ident_in, made_in, made_of, took_in, took_of, form_in, names_in, version_in}
 use Rattle.node_instance.specs.Profile.{the_profile}
 use Rattle.node_instance.specs.Seen.{client_seen, read_client}
 use Rattle.node_client.specs.declared.beginning.Found.{Found}

@@ -1,5 +1,5 @@
 -- A client's file that begins with a state: what opening makes of it.
-use Rattle.std.proofs.Common.{◌≡◌, ℕ, zero, suc, ◌+◌, ◌≤◌, ◌<◌, Bool, true, false, not, ◌&&◌, List, [], ◌∷◌, ◌++◌, length, map, drop, Vec, Option, Some, None, Result, Ok, Err, refl, ap, ◌∙◌, sym, subst, append-nil, append_assoc, length-append, arith, inl, inr}
+use Rattle.std.proofs.Common.{◌≡◌, ℕ, zero, suc, ◌+◌, ◌≤◌, ◌<◌, Bool, true, false, not, ◌&&◌, List, [], ◌∷◌, ◌++◌, length, map, drop, Vec, Option, Some, None, Result, Ok, Err, refl, ap, ◌∙◌, sym, subst, append-nil, length-append, arith, inl, inr}
 use Rattle.std.specs.Prelude.{◌⊎◌}
 use Rattle.std.specs.declared.alloc.Global.{Global}
 use Rattle.sync_data.specs.Payload.{Changes}
@@ -23,10 +23,10 @@ use Rattle.node_client.specs.declared.opening.ReadRefusal.TheVariants as reads
 use Rattle.node_client.specs.declared.replica.Replica.{Replica}
 use Rattle.node_client.specs.Keeping.{Keeps}
 use Rattle.sync_snapshot.specs.Grown.{lists_of}
-use Rattle.node_client.specs.Parts.{part_bytes, Closed, Closes, CutRun, Ended, FindsRun, IsFloor, IsNoFloor, IsOfState, Named, RunOf, Unclosed, WholeRun}
+use Rattle.node_client.specs.Parts.{part_bytes, Closed, Closes, CutRun, Ended, FindsRun, IsFloor, IsNoFloor, IsOfState, Named, Unclosed, WholeRun}
 use Rattle.node_client.specs.Reading.{ReadSome, ReadsOn, read_puts}
 use Rattle.node_client.specs.Seen.{Past, seen}
-use Rattle.node_client.proofs.Parts.{IsOther, admits_open, after_parts, all_admit, cut_at, floor_admits, growing, named_not, not_blank, not_blank_floor, others_refused, part, refuses, refuses_none, same_length, stops_behind, stops_last, stops_named, stops_unread, walk, with_parts}
+use Rattle.node_client.proofs.Parts.{IsOther, admits_open, after_parts, all_admit, cut_at, floor_admits, growing, not_blank, not_blank_floor, others_refused, part, refuses, refuses_none, same_length, stops_behind, stops_last, stops_named, stops_unread, walk, with_parts}
 use Rattle.node_client.proofs.Records.{past_of, puts_more}
 use Rattle.node_client.proofs.Runs.{length_lists}
 

@@ -4,7 +4,6 @@ use Rattle.std.specs.declared.alloc.Global.{Global}
 use Rattle.sync_data.specs.Payload.{Changes}
 use Rattle.sync_data.specs.declared.instr.Instr.{Instr}
 use Rattle.sync_data.specs.declared.memory.NoMemory.{NoMemory}
-use Rattle.sync_base.specs.States.{State}
 use Rattle.node_model.specs.Bytes.{Bytes}
 use Rattle.node_model.specs.Clients.{ClientRecord}
 use Rattle.node_model.specs.Files.{bodies_ahead, is_fine, is_place, part_body, readable}
