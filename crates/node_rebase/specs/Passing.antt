@@ -1,5 +1,5 @@
 -- One unsent changeset and the entry as carried to it.
-use Rattle.std.specs.Prelude.{◌≡◌, ℕ, Ok, Err}
+use Rattle.std.specs.Prelude.{◌≡◌, ℕ, Err}
 use Rattle.sync_data.specs.declared.instr.Instr.{Instr}
 use Rattle.sync_data.specs.Payload.{Changes}
 use Rattle.sync_base.specs.declared.answers.Mismatch as base

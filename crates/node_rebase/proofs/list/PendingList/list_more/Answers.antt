@@ -1,4 +1,4 @@
-use Rattle.std.proofs.Common.{◌≡◌, ◌<◌, length, sym, ap, ◌∙◌, subst, arith}
+use Rattle.std.proofs.Common.{◌<◌, length, sym, ap, ◌∙◌, subst, arith}
 use Rattle.node_model.specs.Clients.{Unsent}
 use Rattle.sync_data.specs.declared.instr.Instr.{Instr}
 use Rattle.sync_rivals.specs.Lists.{StandsAt}
