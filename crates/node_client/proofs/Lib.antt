@@ -9,6 +9,9 @@ pub mod Calls
 pub mod Taken
 pub mod Downloads
 pub mod Records
+pub mod Parts
+pub mod Runs
+pub mod States
 pub mod Asking
 pub mod Uploads
 pub mod Leaving

@@ -1,5 +1,5 @@
 -- Which instruction of a list is the first that tables don't admit.
-use Rattle.std.proofs.Common.{◌≡◌, ℕ, suc, ◌+◌, true, false, List, [], ◌∷◌, Option, None, Some, drop, refl, ap, ◌∙◌, arith}
+use Rattle.std.proofs.Common.{◌≡◌, ℕ, suc, ◌+◌, true, false, List, [], ◌∷◌, None, Some, drop, refl, ap, ◌∙◌, arith}
 use Rattle.std.specs.Prelude.{◌&&◌, if◌then◌else◌}
 use Rattle.sync_data.specs.declared.instr.Instr.{Instr}
 use Rattle.sync_subset.specs.Tables.{Tables, admits}

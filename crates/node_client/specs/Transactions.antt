@@ -1,5 +1,5 @@
 -- How a client in memory makes a transaction.
-use Rattle.std.specs.Prelude.{◌≡◌, ℕ, suc, List, [], ◌∷◌, ◌++◌, Result, Ok, Err}
+use Rattle.std.specs.Prelude.{◌≡◌, ℕ, suc, List, Result, Ok, Err}
 use Rattle.sync_data.specs.declared.instr.Instr.{Instr}
 use Rattle.node_model.specs.Clients.{ClientRecord, ClientRefusal, Original, after_record, appends, commit_born, refuse}
 use Rattle.node_instance.specs.Profile.{the_profile}

@@ -1,7 +1,7 @@
-//! A client of the exchange: its journal, its objects, its cursor and its unsent changesets. A file that begins with a state
-//! isn't opened yet: `Client::open` answers `NoMemory` there.
+//! A client of the exchange: its journal, its objects, its cursor and its unsent changesets.
 #![tactic(auto)]
 
+mod beginning;
 mod client;
 mod entries;
 mod files;

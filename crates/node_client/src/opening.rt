@@ -1,14 +1,15 @@
-ghost use Rattle.std.specs.Prelude.{◌≡◌, ◌≤◌, ◌<◌, List, length, IfOk, IfErr, Some, None, true, false};
+ghost use Rattle.std.specs.Prelude.{◌≡◌, ◌≤◌, ◌<◌, ◌+◌, List, drop, length, IfOk, IfErr, Some, None, true, false};
 ghost use Rattle.node_model.specs.Clients as model;
 ghost use Rattle.node_model.specs.Limits.{ClientLists};
 ghost use Rattle.node_instance.specs.Profile.{the_profile};
 ghost use Rattle.node_instance.specs.Seen.{client_seen};
 ghost use Rattle.node_client.specs.Keeping.{Keeps};
 ghost use Rattle.node_client.specs.Opening.{Admits, IsEmpty, IsPast};
-ghost use Rattle.node_client.specs.Reading.{Reads, ReadsOne};
+ghost use Rattle.node_client.specs.Reading.{Reads, ReadsOn, ReadsOne};
 ghost use Rattle.sync_journal.specs.Records.{lists};
 ghost use Rattle.node_client.specs.Seen.{Past, seen};
 
+use crate::beginning::is_of_state;
 use crate::entries::changes_of;
 use crate::let_go::let_go;
 use crate::refusal::ClientRefusal;
@@ -21,7 +22,7 @@ use sync_store::Store;
 use sync_subset::Subset;
 
 /// The most bytes of a record (docs/FORMATS.md, "The journal").
-const LONGEST: usize = 67_108_864;
+pub(crate) const LONGEST: usize = 67_108_864;
 
 /// Why records aren't read: the first that a client wouldn't have written has that number, counted from 0; or memory ran
 /// out.
@@ -88,6 +89,7 @@ impl Replica {
                 Ok(true)
             }
             ClientRecord::Subset { tables } => self.admit_subset(tables),
+            // Those are read together (`admit_state`).
             ClientRecord::Part { .. } | ClientRecord::Floor { .. } => Err(NoMemory),
         }
     }
@@ -177,14 +179,35 @@ impl Replica {
         requires { IsEmpty self.old }
         ensures { Reads (lists records.now) self.new result }
     {
-        for place in 0..records.len() {
-            match self.read(alloc, records[place].as_slice()) {
-                Ok(true) => {}
-                Ok(false) => return Err(ReadRefusal::BadRecord { place }),
-                Err(NoMemory) => return Err(ReadRefusal::NoMemory),
+        let mut place = 0;
+        while place < records.len() {
+            match self.read_at(alloc, records, place) {
+                Ok(next) => place = next,
+                Err(refusal) => return Err(refusal),
             }
         }
         Ok(())
+    }
+
+    /// Reads the record at that place, or the state that begins there; answers the place behind it.
+    fn read_at(
+        &mut self,
+        alloc: Global,
+        records: &[Vec<u8>],
+        place: usize,
+    ) -> Result<usize, ReadRefusal>
+        requires { place < length records.now }
+        ensures { (before : List model.ClientRecord) → Keeps before self.old → ReadsOn before self.new (lists (drop place records.now)) (λ n. lists (drop (place + n) records.now)) place result }
+    {
+        let bytes = records[place].as_slice();
+        if is_of_state(bytes) {
+            return self.admit_state(alloc, records, place);
+        }
+        match self.read(alloc, bytes) {
+            Ok(true) => Ok(place + 1),
+            Ok(false) => Err(ReadRefusal::BadRecord { place }),
+            Err(NoMemory) => Err(ReadRefusal::NoMemory),
+        }
     }
 
     /// Whether the bytes are a record that a client would have written; then it stands for it too.

@@ -1,4 +1,4 @@
-use Rattle.std.proofs.Common.{◌≡◌, true, false, not, Result, Ok, ap, sym, subst, ◌∙◌}
+use Rattle.std.proofs.Common.{◌≡◌, true, false, not, Ok, ap, sym, subst, ◌∙◌}
 use Rattle.std.specs.Prelude.{IfOk}
 use Rattle.node_messages.specs.Parts.{AskParts}
 use Rattle.node_model.specs.Messages.{Ask, Ask2, AskTables}

@@ -1,4 +1,4 @@
-use Rattle.std.proofs.Common.{ℕ, subst}
+use Rattle.std.proofs.Common.{subst}
 use Rattle.node_model.specs.Clients.{ClientStep}
 use Rattle.node_model.specs.Messages.{Message}
 use Rattle.node_client.specs.Sending.{Sends}

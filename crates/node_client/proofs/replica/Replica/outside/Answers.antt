@@ -1,4 +1,4 @@
-use Rattle.std.proofs.Common.{◌≡◌, true, Option, None, sym, subst}
+use Rattle.std.proofs.Common.{◌≡◌, true, Option, sym, subst}
 use Rattle.node_model.specs.Profile.{all_admitted}
 use Rattle.node_instance.specs.Profile.{the_profile}
 use Rattle.sync_subset.specs.Tables.{Tables}
