@@ -1,21 +1,25 @@
 -- The front of a trimmed file, phase by phase.
-use Rattle.std.proofs.Common.{◌≡◌, ℕ, suc, ◌+◌, ◌-◌, ◌<◌, ◌≤◌, Bool, true, false, not, ◌&&◌, List, [], ◌∷◌, ◌++◌, Option, Some, None, Result, Ok, Err, if◌then◌else◌, refl, sym, ap, ◌∙◌, subst, arith, length, map, drop, take, get_or, length-append}
+use Rattle.std.proofs.Common.{◌≡◌, ℕ, zero, suc, ◌==◌, ◌+◌, ◌-◌, ◌<◌, ◌≤◌, Bool, true, false, not, ◌&&◌, List, [], ◌∷◌, ◌++◌, Option, Some, None, Result, Ok, Err, if◌then◌else◌, refl, sym, ap, ◌∙◌, subst, arith, length, map, drop, take, get_or, length-append}
 use Rattle.std.proofs.lemmas.List.{map-append}
-use Rattle.std.specs.Option.{option_map}
+use Rattle.std.specs.Option.{is_some, option_map}
+use Rattle.std.proofs.lemmas.Bool.{ne_eqb}
 use Rattle.sync_data.specs.Payload.{Changes}
 use Rattle.node_instance.specs.Seen.{server_seen}
 use Rattle.sync_data.specs.declared.instr.Instr.{Instr}
 use Rattle.sync_base.specs.States.{State}
 use Rattle.node_model.specs.Clients.{ok_list}
 use Rattle.node_model.specs.Files.{readable}
-use Rattle.node_model.specs.Fronts.{Front, front_behind, front_parts, leading, of_kind, part_of, part_step, taking_all, then_at, walk}
+use Rattle.node_model.specs.Fronts.{Front, front_behind, front_parts, leading, of_kind, part_of, part_step, retired_step, taking_all, then_at, uuid_step, walk}
+use Rattle.node_model.specs.Bytes.{Uuid}
+use Rattle.node_model.specs.Parts.{Given}
 use Rattle.node_model.specs.Profile.{needs}
-use Rattle.node_model.specs.Servers.{ServerRecord}
+use Rattle.node_model.specs.Servers.{ServerRecord, place_of}
 use Rattle.node_model.specs.Snapshots.{grown}
 use Rattle.node_model.specs.Worlds.{is_there}
 use Rattle.node_instance.specs.Profile.{the_profile, unspell}
 use Rattle.node_records.specs.declared.server.ServerRecord.{ServerRecord as CodeRecord}
-use Rattle.node_server.specs.Fronting.{Fronts, Grows, RefusedAt, Walks, instrs_of, seen_from}
+use Rattle.node_server.specs.Fronting.{Fronts, Grows, RefusedAt, Walks, can_retire, instrs_of, seen_from, uuids_of}
+use Rattle.node_server.specs.Integrating.{found}
 use Rattle.node_server.specs.declared.kept.Kept.{Kept}
 use Rattle.node_server.specs.declared.opening.ReadRefusal.{ReadRefusal}
 use Rattle.node_server.specs.declared.opening.ReadRefusal.TheVariants as refusals
@@ -133,3 +137,28 @@ one_state a b s t e f g = got (sym g ∙ ap (λ l. grown the_profile (instrs_of 
   where
     got : {x y : State} → ◌≡◌ {A = Result State ℕ} (Ok x) (Ok y) → x ≡ y
     got e = cc
+
+-- ---- retired idents, one more
+pub retires_not : (given : ℕ) (told qs : List (ℕ × ℕ)) (ident by : ℕ) → told ≡ qs → (b : Bool) → b ≡ can_retire given told ident by → b ≡ false → retired_step given qs (ident, by) ≡ None
+retires_not given told qs ident by e b says is = ap (λ t. if t then Some (qs ++ (ident, by) ∷ []) else None) (ap (λ l. can_retire given l ident by) (sym e) ∙ sym says ∙ is)
+
+pub retires : (given : ℕ) (told qs now : List (ℕ × ℕ)) (ident by : ℕ) → told ≡ qs → (b : Bool) → b ≡ can_retire given told ident by → b ≡ true → now ≡ qs ++ (ident, by) ∷ [] → retired_step given qs (ident, by) ≡ Some now
+retires given told qs now ident by e b says is after = ap (λ t. if t then Some (qs ++ (ident, by) ∷ []) else None) (ap (λ l. can_retire given l ident by) (sym e) ∙ sym says ∙ is) ∙ ap (λ l. Some l) (sym after)
+
+-- ---- uuids, one more
+place_found : (n : ℕ) → is_some (found n) ≡ true → (n == 0) ≡ false
+place_found zero e = cc
+place_found (suc n) e = ne_eqb (suc n) 0 (λ f. absurd (omega (arith, f)))
+
+place_free : (n : ℕ) → is_some (found n) ≡ false → (n == 0) ≡ true
+place_free zero e = refl
+place_free (suc n) e = cc
+
+pub uuid_known : (told gs : List (Given Instr)) (id : Uuid) → told ≡ gs → is_some (found (place_of id (uuids_of told))) ≡ true → uuid_step (uuids_of gs) id ≡ None
+uuid_known told gs id e known = ap (λ t. if t then Some (uuids_of gs ++ id ∷ []) else None) (ap (λ l. place_of id (uuids_of l) == 0) (sym e) ∙ place_found (place_of id (uuids_of told)) known)
+
+pub uuid_new : (told gs now : List (Given Instr)) (id : Uuid) (g : Given Instr) → told ≡ gs → is_some (found (place_of id (uuids_of told))) ≡ false → g.uuid ≡ id → now ≡ gs ++ g ∷ [] → uuid_step (uuids_of gs) id ≡ Some (uuids_of now)
+uuid_new told gs now id g e free same after =
+    ap (λ t. if t then Some (uuids_of gs ++ id ∷ []) else None) (ap (λ l. place_of id (uuids_of l) == 0) (sym e) ∙ place_free (place_of id (uuids_of told)) free)
+    ∙ ap (λ u. Some (uuids_of gs ++ u ∷ [])) (sym same)
+    ∙ ap (λ l. Some l) (sym (ap uuids_of after ∙ map-append (λ (h : Given Instr). h.uuid) gs (g ∷ [])))

@@ -183,3 +183,67 @@ module _ {A B : Type 0} (kind : ServerRecord → Option A) (step : B → A → O
 
     pub loop_full : n ≡ m → (walked begun ≡ Ok now) × (n ≡ length (take m (leading (of_kind kind) (seen_from first records))))
     loop_full e = walk_ends kind step m (seen_from first records) (seen_from place records) n begun now s.so_far (none_more kind step m (seen_from first records) (seen_from place records) n e)
+
+-- ---- a loop that passes over the records of a kind
+abbrev pub passed_over : {A : Type 0} → Unit {0} → A → Option (Unit {0})
+passed_over u x = Some tt
+
+module _ {A : Type 0} (kind : ServerRecord → Option A) (records : List (Option CodeRecord)) (first : ℕ) where
+  abbrev pub PassedSoFar : ℕ → Type 0
+  PassedSoFar place = LoopSoFar kind passed_over (length (seen_from first records)) records first place tt tt (place - first)
+
+  module _ (within : first ≤ length records) where
+    pub pass_begins : PassedSoFar first
+    pass_begins =
+        let none : 0 ≡ first - first = omega arith in
+        subst (LoopSoFar kind passed_over (length (seen_from first records)) records first first tt tt) none (loop_begins kind passed_over (length (seen_from first records)) records first tt)
+
+    whole : (place : ℕ) → first ≤ place → (walked kind passed_over (length (seen_from first records)) records first tt ≡ Ok tt) × (place - first ≡ length (take (length (seen_from first records)) (leading (of_kind kind) (seen_from first records)))) → place ≡ first + length (leading (of_kind kind) (seen_from first records))
+    whole place h e =
+        let size = e.1 ∙ ap length (all_of_kind kind (seen_from first records)) in
+        omega (arith, size, h)
+
+    pub pass_next : (place : ℕ) → first ≤ place → PassedSoFar place → place < length records → (r : Option CodeRecord) → r ≡ get_or records place r → (x : A) → of_kind kind (option_map server_seen r) ≡ Some x → PassedSoFar (place + 1)
+    pass_next place h s lt r is x e =
+        let long = from_length records first within in
+        let few : place - first < length (seen_from first records) = omega (arith, long, lt, h) in
+        let count : place - first + 1 ≡ place + 1 - first = omega (arith, h) in
+        subst (LoopSoFar kind passed_over (length (seen_from first records)) records first (place + 1) tt tt) count
+        (loop_next kind passed_over (length (seen_from first records)) records first place tt tt (place - first) s r x tt few lt is e refl)
+
+    pub pass_other : (place : ℕ) → first ≤ place → PassedSoFar place → place < length records → (r : Option CodeRecord) → r ≡ get_or records place r → of_kind kind (option_map server_seen r) ≡ None → place ≡ first + length (leading (of_kind kind) (seen_from first records))
+    pass_other place h s lt r is e = whole place h (loop_other kind passed_over (length (seen_from first records)) records first place tt tt (place - first) s r lt is e)
+
+    pub pass_done : (place : ℕ) → first ≤ place → PassedSoFar place → length records ≤ place → place ≡ first + length (leading (of_kind kind) (seen_from first records))
+    pass_done place h s le = whole place h (loop_done kind passed_over (length (seen_from first records)) records first place tt tt (place - first) s le)
+
+-- ---- a loop that keeps what a walk makes of all records of a kind
+module _ {A B : Type 0} (kind : ServerRecord → Option A) (step : B → A → Option B) (records : List (Option CodeRecord)) (first : ℕ) where
+  abbrev pub KeptSoFar : ℕ → B → B → ℕ → Type 0
+  KeptSoFar place begun now n = LoopSoFar kind step (length (seen_from first records)) records first place begun now n
+
+  module _ (within : first ≤ length records) where
+    pub keep_begins : (b : B) → KeptSoFar first b b 0
+    keep_begins b = loop_begins kind step (length (seen_from first records)) records first b
+
+    pub keep_next : (place : ℕ) (begun now next : B) (n : ℕ) (r : Option CodeRecord) (x : A) → KeptSoFar place begun now n → place < length records → r ≡ get_or records place r → of_kind kind (option_map server_seen r) ≡ Some x → step now x ≡ Some next → KeptSoFar (place + 1) begun next (n + 1)
+    keep_next place begun now next n r x s lt is e made =
+        let long = from_length records first within in
+        let here = s.here in
+        loop_next kind step (length (seen_from first records)) records first place begun now n s r x next (omega (arith, long, here, lt)) lt is e made
+
+    pub keep_refuses : (place : ℕ) (begun now : B) (n : ℕ) (r : Option CodeRecord) (x : A) → KeptSoFar place begun now n → place < length records → r ≡ get_or records place r → of_kind kind (option_map server_seen r) ≡ Some x → step now x ≡ None → RefusedAt first place (walk step begun (leading (of_kind kind) (seen_from first records)))
+    keep_refuses place begun now n r x s lt is e none =
+        let long = from_length records first within in
+        let here = s.here in
+        subst (λ l. RefusedAt first place (walk step begun l)) (all_of_kind kind (seen_from first records))
+        (loop_refuses kind step (length (seen_from first records)) records first place begun now n s r x (omega (arith, long, here, lt)) lt is e none)
+
+    pub keep_whole : (begun now : B) (n : ℕ) → (walked kind step (length (seen_from first records)) records first begun ≡ Ok now) × (n ≡ length (take (length (seen_from first records)) (leading (of_kind kind) (seen_from first records)))) → (walk step begun (leading (of_kind kind) (seen_from first records)) ≡ Ok now) × (n ≡ length (leading (of_kind kind) (seen_from first records)))
+    keep_whole begun now n e = subst (λ l. (walk step begun l ≡ Ok now) × (n ≡ length l)) (all_of_kind kind (seen_from first records)) e
+
+    pub keep_other : (place : ℕ) (begun now : B) (n : ℕ) (r : Option CodeRecord) → KeptSoFar place begun now n → place < length records → r ≡ get_or records place r → of_kind kind (option_map server_seen r) ≡ None → (walk step begun (leading (of_kind kind) (seen_from first records)) ≡ Ok now) × (n ≡ length (leading (of_kind kind) (seen_from first records)))
+    keep_other place begun now n r s lt is e = keep_whole begun now n (loop_other kind step (length (seen_from first records)) records first place begun now n s r lt is e)
+
+    pub keep_done : (place : ℕ) (begun now : B) (n : ℕ) → KeptSoFar place begun now n → length records ≤ place → (walk step begun (leading (of_kind kind) (seen_from first records)) ≡ Ok now) × (n ≡ length (leading (of_kind kind) (seen_from first records)))
+    keep_done place begun now n s le = keep_whole begun now n (loop_done kind step (length (seen_from first records)) records first place begun now n s le)

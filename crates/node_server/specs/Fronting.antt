@@ -1,11 +1,13 @@
 -- How the records at the front of a trimmed file are read.
-use Rattle.std.specs.Prelude.{◌≡◌, ◌≤◌, ◌+◌, ℕ, Bool, true, List, [], ◌∷◌, length, map, drop, take, Option, Some, None, Result, Ok, Err}
+use Rattle.std.specs.Prelude.{◌≡◌, ◌≤◌, ◌+◌, ◌&&◌, ◌==◌, not, ℕ, Bool, true, List, [], ◌∷◌, length, map, drop, take, Option, Some, None, Result, Ok, Err}
 use Rattle.std.specs.Option.{option_map}
 use Rattle.sync_data.specs.Payload.{Changes}
 use Rattle.sync_data.specs.declared.instr.Instr.{Instr}
 use Rattle.sync_base.specs.States.{State}
-use Rattle.node_model.specs.Fronts.{Counted as ModelCounted, Front}
-use Rattle.node_model.specs.Servers.{ServerRecord}
+use Rattle.node_model.specs.Fronts.{Counted as ModelCounted, Front, is_among}
+use Rattle.node_model.specs.Bytes.{Uuid}
+use Rattle.node_model.specs.Parts.{Given}
+use Rattle.node_model.specs.Servers.{ServerRecord, heir_of, is_retired}
 use Rattle.node_model.specs.Snapshots.{grown}
 use Rattle.node_instance.specs.Profile.{the_profile}
 use Rattle.node_instance.specs.Seen.{server_bytes, server_seen}
@@ -30,6 +32,14 @@ counted_seen c = record { ident = c.ident; number = c.number; base = c.base; set
 -- the lists of instructions of changesets
 abbrev pub instrs_of : List Changes → List (List Instr)
 instrs_of vs = map (λ v. v.instrs) vs
+
+-- the uuids of idents
+abbrev pub uuids_of : List (Given Instr) → List Uuid
+uuids_of gs = map (λ g. g.uuid) gs
+
+-- of so many idents this one isn't retired yet, and can be for another
+abbrev pub can_retire : ℕ → List (ℕ × ℕ) → ℕ → ℕ → Bool
+can_retire given retired ident by = (is_among given ident && is_among given by) && (not (ident == by) && not (is_retired (heir_of ident retired)))
 
 -- a walk over records from a place on refuses one of them
 pub record RefusedAt {B : Type 0} (first place : ℕ) (walk : Result B ℕ) : Type 0 where

@@ -1,22 +1,24 @@
 //! The records at the front of a trimmed file: the parts of a state, its version, the idents, their counts, the entries
 //! of the history, and those that changes of an ident crossed.
-ghost use Rattle.std.specs.Prelude.{◌≡◌, ◌≤◌, ◌<◌, [], ℕ, length, is_some, IfOk, IfSome, true};
+ghost use Rattle.std.specs.Prelude.{◌≡◌, ◌≤◌, ◌<◌, [], length, IfOk, IfSome, true};
 ghost use Rattle.std.specs.Option.{option_map};
-ghost use Rattle.sync_base.specs.States.{State};
 ghost use Rattle.node_instance.specs.Profile.{fits_changeset, the_profile, unspell};
 ghost use Rattle.node_model.specs.Files.{readable};
-ghost use Rattle.node_model.specs.Fronts.{count_is, front_behind, front_parts, front_uuids, leading, of_kind, part_of, part_step, retired_is, taking_all, uuid_is, walk};
-ghost use Rattle.node_server.specs.Fronting.{Fronts, Grows, Walks, instrs_of, seen, seen_from};
+ghost use Rattle.node_model.specs.Fronts.{count_is, front_alone, front_behind, front_counts, front_parts, front_uuids, of_kind, leading, part_of, part_step, taking, taking_all, uuid_is, walk};
+ghost use Rattle.node_server.specs.Fronting.{Fronts, Grows, Walks, instrs_of, seen_from, uuids_of};
 
+use crate::given::Given;
+use crate::history::History;
 use crate::kept::Kept;
-use crate::kinds::{Found, as_client, as_count, as_floor, as_part, as_retired};
+use crate::kinds::{Found, as_floor, as_part};
 use crate::lists::keep;
 use crate::merging::{ChangeHead, read};
 use crate::opening::{LONGEST, ReadRefusal};
 use crate::refusal::ChangeRefusal;
+use crate::uuids::{counts_at, read_idents, read_retired, skip_clients, skip_retired};
 use crate::version::needs_second;
 use std::alloc::Global;
-use sync_base::{Changeset, Id, Ident, NoMemory};
+use sync_base::{Changeset, Ident, NoMemory};
 use sync_store::Store;
 
 /// The changeset that the bytes spell, if they spell one that the form allows.
@@ -86,6 +88,8 @@ fn grown_of(_alloc: Global, _first: usize, _parts: &[Changeset]) -> Result<Store
 }
 
 impl Kept {
+    ghost use Rattle.node_server.specs.Kept.{parts};
+
     /// Reads the front of a trimmed file from a place on, behind its Form if it has one.
     pub(crate) fn front_parts(
         alloc: Global,
@@ -139,6 +143,69 @@ impl Kept {
 
     /// The same behind the floor.
     fn front_idents(
+        alloc: Global,
+        records: &[Found],
+        place: usize,
+        second: bool,
+        below: Store,
+        objects: Store,
+        floor: u32,
+    ) -> Result<(Kept, usize), ReadRefusal>
+        requires positive { 1 ≤ place }
+        requires within { place ≤ length records.now }
+        requires same { objects ≡ below }
+        ensures { Fronts result (taking_all (of_kind uuid_is) (seen_from place records.now) (front_uuids the_profile second below floor place)) }
+    {
+        let ids_end = skip_clients(records, place);
+        let retired_end = skip_retired(records, ids_end);
+        if !counts_at(records, retired_end) {
+            if floor > 0 {
+                return Err(ReadRefusal::BadRecord { place: place - 1 });
+            }
+            return Ok((Kept::alone(alloc, second, below, objects), place));
+        }
+        if ids_end == place {
+            return Err(ReadRefusal::BadRecord { place });
+        }
+        let idents = match read_idents(alloc, records, place) {
+            Ok(idents) => idents,
+            Err(refusal) => return Err(refusal),
+        };
+        let retired = match read_retired(alloc, records, ids_end, idents.len()) {
+            Ok(retired) => retired,
+            Err(refusal) => return Err(refusal),
+        };
+        Kept::front_counts(
+            alloc,
+            records,
+            retired_end,
+            second,
+            below,
+            objects,
+            floor,
+            idents,
+            retired,
+        )
+    }
+
+    /// What is kept of a state and nothing else.
+    fn alone(alloc: Global, second: bool, below: Store, objects: Store) -> Kept
+        requires { objects ≡ below }
+        ensures { parts result ≡ (front_alone the_profile second below 0 0).parts }
+    {
+        let mut history = History::new(alloc);
+        if second {
+            history.upgrade();
+        }
+        Kept {
+            history,
+            objects,
+            below,
+        }
+    }
+
+    /// The same behind the retired idents.
+    fn front_counts(
         _alloc: Global,
         _records: &[Found],
         _place: usize,
@@ -146,12 +213,14 @@ impl Kept {
         _below: Store,
         _objects: Store,
         _floor: u32,
+        _idents: Vec<Given>,
+        _retired: Vec<(Ident, Ident)>,
     ) -> Result<(Kept, usize), ReadRefusal>
-        requires positive { 1 ≤ _place }
         requires within { _place ≤ length _records.now }
         requires same { _objects ≡ _below }
-        ensures { Fronts result (taking_all (of_kind uuid_is) (seen_from _place _records.now) (front_uuids the_profile _second _below _floor _place)) }
+        ensures { Fronts result (taking (of_kind count_is) (length _idents.items) (seen_from _place _records.now) (front_counts the_profile _second _below _floor (uuids_of _idents.items) _retired.items _place)) }
     {
+        // Counts aren't read yet.
         Err(ReadRefusal::NoMemory)
     }
 }

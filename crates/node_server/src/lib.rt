@@ -19,6 +19,7 @@ mod retiring;
 mod server;
 #[cfg(test)]
 mod tests;
+mod uuids;
 mod version;
 
 pub use counts::Counts;
