@@ -118,7 +118,7 @@ take_short (suc n) [] = omega arith
 take_short (suc n) (x ∷ xs) = let e = take_short n xs in omega (arith, e)
 
 module _ {A : Type 0} (kind : ServerRecord → Option A) where
-  lead_short : (file : List (Option ServerRecord)) → length (leading (of_kind kind) file) ≤ length file
+  pub lead_short : (file : List (Option ServerRecord)) → length (leading (of_kind kind) file) ≤ length file
   lead_short [] = omega arith
   lead_short (o ∷ os) = on (of_kind kind o) (lead_short os)
     where

@@ -12,6 +12,9 @@ pub mod Changed
 pub mod Pairs
 pub mod Uploading
 pub mod Continuing
+pub mod Spelled
+pub mod Walking
+pub mod Fronted
 pub mod Records
 pub mod Leaving
 pub mod Strokes

@@ -9,4 +9,5 @@ pub mod Readers
 pub mod Retiring
 pub mod Serving
 pub mod Opening
+pub mod Fronting
 pub mod Files

@@ -15,7 +15,7 @@ use std::alloc::Global;
 use sync_base::{Id, Ident, NoMemory};
 
 /// The most bytes of a record (docs/FORMATS.md, "The journal").
-const LONGEST: usize = 67_108_864;
+pub(crate) const LONGEST: usize = 67_108_864;
 
 /// Why records aren't read: the first that a server wouldn't have written has that number, counted from 0; or memory ran
 /// out.
