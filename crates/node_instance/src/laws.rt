@@ -1,4 +1,4 @@
-ghost use Rattle.std.specs.Prelude.{◌≡◌, ◌≢◌, ◌⊎◌, ◌≤◌, ◌↔◌, ℕ, List, Ok, Err, Some, false, true, length};
+ghost use Rattle.std.specs.Prelude.{◌≡◌, ◌≢◌, ◌⊎◌, ◌≤◌, ◌↔◌, ℕ, List, None, Ok, Err, Some, [], false, true, length};
 ghost use Rattle.sync_theory.specs.Restricting.{Restricts};
 ghost use Rattle.sync_data.specs.declared.instr.Instr.{Instr};
 ghost use Rattle.sync_base.specs.States.{State, IsState};
@@ -12,8 +12,8 @@ ghost use Rattle.node_model.specs.Clients.{client_of};
 ghost use Rattle.node_model.specs.Later.{IsLater, Later};
 ghost use Rattle.node_model.specs.Log.{ident_of, subset_of};
 ghost use Rattle.node_model.specs.Profile.{LawfulParts, only_by};
-ghost use Rattle.node_model.specs.Progress.{AllCurrent, AnyArmed, AnyBelow, AnyOld, AnyUnnamed, Comes, HasCaughtUp, IsArmed, IsBelow, IsBelowFloor, IsCalm, IsCurrent, IsException, IsRoomy, after_events, all_catch_up, catches_up, enough, enough_for_all, later_outcomes};
-ghost use Rattle.node_model.specs.Worlds.{Node, at};
+ghost use Rattle.node_model.specs.Progress.{AllCurrent, AnyArmed, AnyBelow, AnyOld, AnyUnnamed, AreBorne, Comes, HasCaughtUp, IsAbove, IsArmed, IsBelow, IsBelowFloor, IsCalm, IsCurrent, IsException, IsRoomy, after_events, all_catch_up, catches_up, enough, enough_for_all, lacks, later_outcomes, rounds};
+ghost use Rattle.node_model.specs.Worlds.{Node, at, server_name};
 ghost use Rattle.node_instance.specs.Adapting.{adapt};
 ghost use Rattle.node_instance.specs.Profile.{fits_changeset, the_profile, unspell, weight};
 
@@ -55,8 +55,9 @@ pub fn messages_bear_each_changeset()
 /// Whatever happened, and however often the server gave up history: a client of this project's instructions that binds,
 /// uploads and asks in turn, for as many rounds as it lacks entries and the server lacks its changes, ends with its ident,
 /// the whole history and nothing unsent, or a named exception comes on the way. So do all clients of a world, one after
-/// another and then each once more; where no disk is armed, the server knows them all, their files are in form 2 and they
-/// stand above its floor, a mismatch or a full history alone may come. Each then has its part of the server's objects.
+/// another and then each once more. Where no disk is armed, the server knows them all, their files are in form 2 and they
+/// stand above its floor, a mismatch or a full history alone may come; and where such a client has nothing unsent, nothing
+/// at all. Each then has its part of the server's objects.
 pub fn clients_catch_up()
     ensures one { (l : Later Instr State) → IsLater the_profile l → (i : ℕ) (nd : Node) → at l.world.clients i ≡ Some nd → (rounds : ℕ) → enough the_profile l.world nd ≤ rounds
         → Comes (λ x. IsException (IsArmed the_profile l.world nd) (ident_of the_profile l.world nd ≡ 0) ((client_of the_profile nd.records).second ≡ false) x ⊎ IsBelowFloor (IsBelow the_profile l nd) x) (later_outcomes the_profile l (catches_up nd.name (length l.world.messages) rounds))
@@ -66,6 +67,9 @@ pub fn clients_catch_up()
         ⊎ AllCurrent the_profile (after_events the_profile l (all_catch_up l.world rounds)).world }
     ensures calm { (l : Later Instr State) → IsLater the_profile l → IsCalm the_profile l → (rounds : ℕ) → enough_for_all the_profile l.world ≤ rounds
         → Comes (IsException ⊥ ⊥ ⊥) (later_outcomes the_profile l (all_catch_up l.world rounds)) ⊎ AllCurrent the_profile (after_events the_profile l (all_catch_up l.world rounds)).world }
+    ensures readers { (l : Later Instr State) → IsLater the_profile l → (i : ℕ) (nd : Node) → at l.world.clients i ≡ Some nd → (client_of the_profile nd.records).ident ≢ 0 → (client_of the_profile nd.records).second ≡ true
+        → (client_of the_profile nd.records).unsent ≡ [] → IsAbove the_profile l nd → l.world.stops nd.name ≡ None → l.world.stops server_name ≡ None → (n : ℕ) → AreBorne the_profile n (lacks the_profile l.world nd)
+        → HasCaughtUp the_profile (after_events the_profile l (rounds nd.name (length l.world.messages) n)).world nd.name }
     ensures objects { (l : Later Instr State) → IsLater the_profile l → (i : ℕ) (nd : Node) → at l.world.clients i ≡ Some nd → ident_of the_profile l.world nd ≢ 0 → IsCurrent the_profile l.world nd
         → (client_of the_profile nd.records).objects ≡ only_by the_profile (subset_of the_profile nd) l.kept.objects }
 {

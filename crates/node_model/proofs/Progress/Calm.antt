@@ -1,15 +1,12 @@
 -- Where no disk is armed, the server knows every client, their files are in form 2 and they stand above the floor, nothing but a mismatch
 -- or a full history keeps them from the end.
-use Rattle.std.proofs.Common.{◌≡◌, ◌≢◌, ◌⊎◌, inl, inr, ⊎_elim, ℕ, ◌<◌, ◌≤◌, true, false, List, [], ◌∷◌, Some, None, Bool, arith, length}
-use Rattle.node_model.specs.Bytes.{Name}
+use Rattle.std.proofs.Common.{◌≡◌, ◌⊎◌, inl, inr, ⊎_elim, ℕ, ◌<◌, ◌≤◌, true, false, List, [], ◌∷◌, Bool, arith}
 use Rattle.node_model.specs.Profile.{Profile, Lawful}
 use Rattle.node_model.specs.Snapshots.{Buildable}
 use Rattle.node_model.specs.Messages.{Message, Bind, Ident, Upload, Ask, Download, Refused, Stored, Ask2, Retire, Retired, AskTables}
-use Rattle.node_model.specs.Clients.{ClientRefusal, client_of, settled_from}
 use Rattle.node_model.specs.Servers.{ServerRefusal, NumberGap, BaseBack, AheadOfHistory, HistoryFull, BadBytes, NoSuchIdent, IdentsFull, NotForServer, NeedsForm2, IdentRetired, SelfRetire, RetiredBy, Trimmed}
 use Rattle.node_model.specs.Later.{Later, IsLater}
-use Rattle.node_model.specs.Worlds.{Node, World, Words, Joined, Made, Messaged, Took, Replied, Opened, Armed, Stopped, Upgraded, Current, SubscribedTo, Declined, NameTaken, UuidTaken, NoNode, NoMessage, BadMessage, OwnIdent, at}
-use Rattle.node_model.specs.Log.{ident_of}
+use Rattle.node_model.specs.Worlds.{Words, Joined, Made, Messaged, Took, Replied, Opened, Armed, Stopped, Upgraded, Current, SubscribedTo, Declined, NameTaken, UuidTaken, NoNode, NoMessage, BadMessage, OwnIdent}
 use Rattle.node_model.specs.Progress.{MayHinder, IsException, IsBelowFloor, Comes, comes_now, comes_later, AnyArmed, AnyUnnamed, AnyOld, AnyBelow, IsCalm, IsRoomy, AllCurrent, enough_for_all, all_catch_up, later_outcomes, after_events}
 use Rattle.node_model.proofs.Progress.LaterLaws.{later_all}
 

@@ -11,7 +11,7 @@ use Rattle.node_model.specs.Clients.{Client, ClientRecord, ClientRefusal, Client
 use Rattle.node_model.specs.Servers.{Server, ServerRecord, ServerStep, no_server, server_of, after_all, place_of, count, is_given, serve, serve_changes}
 use Rattle.node_model.specs.Worlds.{Node, World, Event, Delivers, Outcome, Words, says, Stop, Stopped, Replied, Took, Declined, at, put, seek, further, is_there, stopped, has_name, server_name, messaged, message_words, took_words, reply_words, client_moved, client_ends, client_called, client_calls, server_moved, server_ends, server_called, is_node, delivers, message_at, happens, world_after, outcomes}
 use Rattle.node_model.specs.Log.{MayDecline}
-use Rattle.node_model.specs.Progress.{IsException, Comes, comes_now, comes_later}
+use Rattle.node_model.specs.Progress.{Comes, comes_now, comes_later}
 use Rattle.node_model.specs.Each.{Each, and_each}
 use Rattle.node_model.proofs.Lists.{seek_found, at_put_other, map_put, at_new, at_map, length_map}
 use Rattle.node_model.proofs.Own.{after_append}

@@ -6,7 +6,7 @@ use Rattle.node_model.specs.Clients.{client_of}
 use Rattle.node_model.specs.Servers.{server_of}
 use Rattle.node_model.specs.Worlds.{Node, World, Event, at, outcomes, world_after}
 use Rattle.node_model.specs.Log.{ident_of, log}
-use Rattle.node_model.specs.Progress.{Comes, IsException, IsArmed, IsRoomy, HasCaughtUp, enough, catches_up, sweep, after_sweep, all_catch_up, made_by_all, enough_for_all, AnyArmed, AnyUnnamed, AnyOld, AllCurrent, after_turns, Gets}
+use Rattle.node_model.specs.Progress.{Comes, IsException, IsArmed, IsRoomy, HasCaughtUp, enough, catches_up, sweep, after_sweep, all_catch_up, enough_for_all, AnyArmed, AnyUnnamed, AnyOld, AllCurrent, after_turns, Gets}
 use Rattle.node_model.proofs.Lists.{at_map, length_map}
 use Rattle.node_model.proofs.Progress.Catching.{Goes}
 use Rattle.node_model.proofs.Progress.CatchUp.{one_catches_up}

@@ -1,28 +1,27 @@
 -- A client with nothing unsent gets to the end of the history whatever stands there, in as many rounds as messages bear what it lacks.
-use Rattle.std.proofs.Common.{◌≡◌, ◌≢◌, ◌⊎◌, inl, inr, ⊎_elim, ℕ, zero, suc, ◌+◌, ◌-◌, ◌<◌, ◌≤◌, Bool, true, false, ◌&&◌, not, List, [], ◌∷◌, ◌++◌, Option, Some, None, Result, Ok, Err, refl, sym, ap, ◌∙◌, subst, arith, if◌then◌else◌, ◌==◌, length, drop, map, nat_lt}
+use Rattle.std.proofs.Common.{◌≡◌, ◌≢◌, inr, ⊎_elim, ℕ, zero, suc, ◌+◌, ◌-◌, ◌≤◌, Bool, true, false, not, List, [], ◌∷◌, ◌++◌, Option, Some, None, Result, Ok, Err, refl, sym, ap, ◌∙◌, subst, arith, if◌then◌else◌, ◌==◌, length, drop, map, nat_lt}
 use Rattle.std.specs.Prelude.{bytes_eq}
 use Rattle.std.proofs.lemmas.Bool.Decides.{nat_tests}
 use Rattle.sync_theory.specs.Changesets.{Changeset}
 use Rattle.sync_theory.specs.Grid.{rebase, tail}
 use Rattle.sync_theory.proofs.Server.{test_true}
-use Rattle.node_model.specs.Bytes.{Name, Uuid, Tables}
-use Rattle.node_model.specs.Profile.{Profile, Lawful, Stuck, apply_all, cross_changesets, needs, restricted, fitting}
+use Rattle.node_model.specs.Bytes.{Name, Tables}
+use Rattle.node_model.specs.Profile.{Profile, Lawful, Stuck, apply_all, cross_changesets, restricted, fitting}
 use Rattle.node_model.specs.Snapshots.{Buildable}
 use Rattle.node_model.specs.Messages.{Change, Sent, Message, Upload, Ask, Ask2, Download, Stored}
-use Rattle.node_model.specs.Clients.{Client, ClientRecord, ClientRefusal, NotBorn, AlreadyBorn, NotNamed, TooLarge, NumbersFull, OldForm, NotSubscribed, Break, NotMine, IdentDiffers, Gap, BadBody, OldEntry, Mismatch, Forked, NotApplicable, WasRefused, Subscribed, TooLate, Unsent, answers, refuse, if_born, changeset_of, carried_to, change_of, to_upload, upload, ask, question, settled_from, ok_list, client_of, after_record, after_records, takes_entry, crossed, applied_refusal, own_refusal, crossed_refusal, read_refusal, entry_refusal, sent_changeset, take_one, took, take_entries, take_born, take as take_message}
-use Rattle.node_model.specs.Servers.{Server, ServerRecord, ServerStep, Settled, NoSuchIdent, AheadOfHistory, server_of, after_all, count, is_given, marks_new, marking, serve, serve_changes, sent_of, download, download_tables, if_there, entries_from, history_of, refuses, replies}
-use Rattle.node_model.specs.Worlds.{Node, World, Event, Uploads, Asks, Delivers, Words, Stopped, seek, has_name, server_name, message_at, world_after, outcomes, at}
-use Rattle.node_model.specs.Log.{ident_by, ident_of, subset_of}
-use Rattle.node_model.specs.Progress.{MayStop, Comes, HasCaughtUp, AreBorne, none_left, a_message, load, lacks, uploads_at, asks_at, rounds}
+use Rattle.node_model.specs.Clients.{Client, ClientRefusal, NotBorn, AlreadyBorn, NotNamed, TooLarge, NumbersFull, OldForm, NotSubscribed, Break, NotMine, IdentDiffers, Gap, BadBody, OldEntry, Mismatch, Forked, NotApplicable, WasRefused, Subscribed, TooLate, answers, refuse, if_born, changeset_of, carried_to, change_of, to_upload, upload, ask, question, settled_from, ok_list, client_of, after_record, after_records, takes_entry, crossed, applied_refusal, own_refusal, crossed_refusal, read_refusal, entry_refusal, sent_changeset, take_one, took, take_entries, take_born, take as take_message}
+use Rattle.node_model.specs.Servers.{Server, ServerStep, Settled, NoSuchIdent, AheadOfHistory, server_of, after_all, count, is_given, marks_new, marking, serve, serve_changes, sent_of, download, download_tables, if_there, entries_from, history_of, refuses, replies}
+use Rattle.node_model.specs.Worlds.{Node, World, Event, Uploads, Asks, Delivers, Words, server_name, message_at}
+use Rattle.node_model.specs.Log.{ident_by, ident_of}
+use Rattle.node_model.specs.Progress.{MayStop, HasCaughtUp, AreBorne, none_left, a_message, load, uploads_at, asks_at, rounds}
 use Rattle.node_model.proofs.Lists.{listed}
 use Rattle.node_model.proofs.Folding.{length_listed}
 use Rattle.node_model.proofs.Keeping.{listed_drop, entries_listed}
 use Rattle.node_model.proofs.Own.{good_of}
 use Rattle.node_model.proofs.Holding.{Holds}
-use Rattle.node_model.proofs.Progress.Serves.{SameClient, HasTaken, has_taken, IsOfTake}
+use Rattle.node_model.proofs.Progress.Serves.{SameClient, has_taken, IsOfTake}
 use Rattle.node_model.proofs.Progress.Catching.{Goes, Here, messages, takes, serves, holds, declined, Facts, facts, named_calls}
 use Rattle.node_model.proofs.Progress.Rounds.{stops_it}
-use Rattle.node_model.proofs.Progress.Valid.{Valid}
 
 yes : {A : Type 0} (b : Bool) (x y : A) → b ≡ true → (if b then x else y) ≡ x
 yes true x y e = refl
