@@ -112,7 +112,7 @@ drop_long zero xs h = omega arith
 drop_long (suc n) [] h = absurd (omega arith)
 drop_long (suc n) (x ∷ xs) h = let e = drop_long n xs (omega arith) in omega (arith, e)
 
-take_short : {A : Type 0} (n : ℕ) (xs : List A) → length (take n xs) ≤ length xs
+pub take_short : {A : Type 0} (n : ℕ) (xs : List A) → length (take n xs) ≤ length xs
 take_short zero xs = omega arith
 take_short (suc n) [] = omega arith
 take_short (suc n) (x ∷ xs) = let e = take_short n xs in omega (arith, e)

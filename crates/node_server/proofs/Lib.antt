@@ -15,6 +15,7 @@ pub mod Continuing
 pub mod Spelled
 pub mod Walking
 pub mod Fronted
+pub mod Tallies
 pub mod Records
 pub mod Leaving
 pub mod Strokes
