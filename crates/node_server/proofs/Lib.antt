@@ -16,6 +16,8 @@ pub mod Spelled
 pub mod Walking
 pub mod Fronted
 pub mod Tallies
+pub mod There
+pub mod Begun
 pub mod Records
 pub mod Leaving
 pub mod Strokes
