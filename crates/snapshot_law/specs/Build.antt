@@ -2,7 +2,6 @@
 use Rattle.std.specs.Prelude.{ℕ, suc, Bool, false, if◌then◌else◌, List, [], ◌∷◌, ◌++◌, map, Option, Some, None}
 use Rattle.std.specs.Ordering.{eq_by_cmp}
 use Rattle.std.specs.FinMap as fin
-use Rattle.std.specs.FinSet as set
 use Rattle.sync_data.specs.Orders.{value_cmp}
 use Rattle.sync_data.specs.declared.column.Column.{Column}
 use Rattle.sync_data.specs.declared.instr.Instr.{Instr}
@@ -11,6 +10,7 @@ use Rattle.sync_base.specs.Effects.{ObjectName, Edit, Effect, Set, Insert, Inclu
 use Rattle.sync_base.specs.States.{State, Table, Cell, Cells, One, Many, Members, Dict, column_in}
 use Rattle.sync_base.specs.After.{default_of}
 use Rattle.node_model.specs.Cuts.{cut}
+use Rattle.store_walks.specs.Along.{in_order}
 
 -- one list behind the other
 abbrev pub joined : {A : Type 0} → List (List A) → List A
@@ -46,7 +46,7 @@ is_default v (Dict m) = false
 abbrev pub edits_of : Cell → Cell → List Edit
 edits_of default (One v) = if is_default v default then [] else Set v ∷ []
 edits_of default (Many xs) = insertions 0 xs
-edits_of default (Members xs) = map (λ v. Include v) (set.items xs)
+edits_of default (Members xs) = map (λ v. Include v) (in_order xs)
 edits_of default (Dict m) = map (λ e. Bind e.0 (Some e.1)) (fin.entries m)
 
 -- a cell of a column of its table

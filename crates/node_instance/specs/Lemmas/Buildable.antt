@@ -2,7 +2,6 @@
 use Rattle.std.specs.Prelude.{◌≡◌, ℕ, suc, ◌+◌, ◌≤◌, true, false, cond, not, List, [], ◌∷◌, map, length, is_some, Option, Some, refl}
 use Rattle.std.specs.List.{list_any, AllByRecursion}
 use Rattle.std.specs.Ordering.{eq_by_cmp}
-use Rattle.std.specs.FinSet as set
 use Rattle.std.proofs.Common.{sym, ◌∙◌, ap, arith}
 use Rattle.std.proofs.lemmas.Bool.{le-ltb}
 use Rattle.sync_theory.specs.Lists.{run}
@@ -28,6 +27,8 @@ use Rattle.sync_base.specs.States.{State, Cell, One, Many, Members, Dict, IsStat
 use Rattle.sync_law.specs.CodedLaw.{applies}
 use Rattle.sync_codec.specs.Spelling.{needs_second, has_dictionaries}
 use Rattle.sync_codec.specs.Valid.{IsGap}
+use Rattle.store_walks.specs.Along.{in_order}
+use Rattle.store_walks.specs.Sets.{contains-in_order}
 use Rattle.snapshot_law.specs.Build.{insertions, is_default, edits_of, built_list}
 use Rattle.snapshot_law.specs.Lemmas.Edits.{or_true, or_first}
 use Rattle.snapshot_law.specs.Lemmas.Runs.{built-no_state, built_runs}
@@ -57,7 +58,7 @@ light_members p h (v ∷ vs) g =
 light_edits : (p : CellPath) → IsHeldPath p → (default x : Cell) → IsHeldCell (names_of p.0 p.1) x → Each (LightEdit p) (edits_of default x)
 light_edits p h default (One v) g = elim (is_default v default) as (λ b. Each (LightEdit p) (cond b [] (Set v ∷ []))) [ true ↦ no_more | false ↦ and_each (light_set p v h g) no_more ]
 light_edits p h default (Many xs) g = light_insertions p h xs 0 (let few = g.0 in omega (arith, few)) g.1
-light_edits p h default (Members xs) g = light_members p h (set.items xs) (λ v e. g v (set.contains-items xs v ∙ e))
+light_edits p h default (Members xs) g = light_members p h (in_order xs) (λ v e. g v (contains-in_order xs v ∙ e))
 light_edits p h default (Dict m) g = each_entry name_total name_exact (LightEdit p) (λ e. Bind e.0 (Some e.1)) m (λ k v here. let b = g k v here in light_bind p k v h b.0 b.1)
 
 path_held : (s : State) → IsBounded s → (o : ObjectName) (c : List ℕ) (def : Column) → has s o ≡ true → column_in s.tables o.0 c ≡ Some def → IsHeldPath (o, c)
@@ -86,7 +87,7 @@ is_dictionary shape e = absurd (omega (arith, e))
 old_edits : (p : CellPath) (col : Column) (default x : Cell) → cell_rank x ≡ shape_rank col.shape → has_dictionaries col.shape ≡ false → Each (OldEdit p) (edits_of default x)
 old_edits p col default (One v) r h = elim (is_default v default) as (λ b. Each (OldEdit p) (cond b [] (Set v ∷ []))) [ true ↦ no_more | false ↦ and_each refl no_more ]
 old_edits p col default (Many xs) r h = old_insertions p xs 0
-old_edits p col default (Members xs) r h = each_map (OldEdit p) (λ v. Include v) (set.items xs) (each_all (λ v. OldEdit p (Include v)) (set.items xs) (λ v. refl))
+old_edits p col default (Members xs) r h = each_map (OldEdit p) (λ v. Include v) (in_order xs) (each_all (λ v. OldEdit p (Include v)) (in_order xs) (λ v. refl))
 old_edits p col default (Dict m) r h = clash (has_dictionaries col.shape) (is_dictionary col.shape r) h
 
 all_old : (s : State) → IsState s → IsOldState s → Each (λ i. needs_second i ≡ false) (built_list s)

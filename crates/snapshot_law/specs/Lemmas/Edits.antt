@@ -20,6 +20,8 @@ use Rattle.sync_base.specs.Lemmas.Looks.{name_total, name_exact}
 use Rattle.sync_base.specs.Lemmas.Maps.{tied_is}
 use Rattle.sync_base.specs.Lemmas.Shaped.{IsEdit}
 use Rattle.sync_base.specs.States.{Tables, Cell, One, Many, Members, Dict, Each, CellFits, cell_rank, shape_rank, fits}
+use Rattle.store_walks.specs.Along.{in_order}
+use Rattle.store_walks.specs.Sets.{contains-in_order}
 use Rattle.snapshot_law.specs.Build.{insertions, edits_of}
 use Rattle.snapshot_law.specs.Lemmas.Maps.{walk, joined_singles}
 
@@ -99,8 +101,8 @@ turns_at ts col shapes.One (One v) r e h =
     ] refl
 turns_at ts col shapes.List (Many xs) r e h = inserted ts col r xs [] 0 refl h
 turns_at ts col shapes.Set (Members xs) r e h =
-    included ts col r (set.items xs) set.empty xs (λ v g. h v (set.contains-items xs v ∙ g))
-    (λ v. set.contains-items xs v ∙ or_false (list_any (eq_by_cmp value_cmp v) (set.items xs)) ∙ ap (λ b. list_any (eq_by_cmp value_cmp v) (set.items xs) || b) (sym (set.contains-empty value_cmp v)))
+    included ts col r (in_order xs) set.empty xs (λ v g. h v (contains-in_order xs v ∙ g))
+    (λ v. contains-in_order xs v ∙ or_false (list_any (eq_by_cmp value_cmp v) (in_order xs)) ∙ ap (λ b. list_any (eq_by_cmp value_cmp v) (in_order xs) || b) (sym (set.contains-empty value_cmp v)))
 turns_at ts col shapes.Dict (Dict m) r e h =
     subst (λ es. Turns ts col es (Dict fin.empty) (Dict m)) (joined_singles (λ (p : List ℕ × Value). Bind p.0 (Some p.1)) (fin.entries m))
     (walk name_total name_exact (Turns ts col) (λ x. refl) (turns_on ts col) (λ p. Bind p.0 (Some p.1) ∷ []) Dict m

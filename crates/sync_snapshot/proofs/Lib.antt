@@ -1,0 +1,4 @@
+mod Applied
+mod Cutting
+mod Held
+mod Lists
