@@ -1,0 +1,7 @@
+mod Lists
+mod Idents
+mod Versions
+mod Crossed
+mod Floors
+mod States
+mod Trimming
