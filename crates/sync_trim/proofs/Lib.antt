@@ -1,7 +1,7 @@
-mod Lists
-mod Idents
+mod Pieces
+mod Given
 mod Versions
 mod Crossed
 mod Floors
 mod States
-mod Trimming
+mod Whole

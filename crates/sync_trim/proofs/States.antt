@@ -5,6 +5,7 @@ use Rattle.std.specs.Option.{option_map}
 use Rattle.std.proofs.lemmas.Slice.Eq.{bytes_eq-Decides}
 use Rattle.sync_theory.specs.Changesets.{Changeset}
 use Rattle.sync_theory.specs.Lists.{and_then, run}
+use Rattle.sync_data.specs.Payload.{Changes}
 use Rattle.sync_data.specs.declared.instr.Instr.{Instr}
 use Rattle.sync_base.specs.declared.answers.Break.{Break}
 use Rattle.sync_base.specs.After.{after}
@@ -35,16 +36,15 @@ acts_alike = λ j i s. applies i s j
 runs : (s : State) → IsState s → run_parts the_profile 0 (the_profile.build s) no_state ≡ Ok s
 runs s ok = cut_runs the_profile (built_list s) no_state s (ap (λ f. run f (built_list s) no_state) acts_alike ∙ built_runs s ok)
 
+same_bytes : (xs : List ℕ) → bytes_eq xs xs ≡ true
+same_bytes xs = on (bytes_eq xs xs) (bytes_eq-Decides xs xs).1
+  where
+    on : (b : Bool) → (xs ≡ xs → b ≡ true) → b ≡ true
+    on b f = f refl
+
 none_differs : (k : ℕ) (xs : List (List Instr)) → part_differs the_profile k xs xs ≡ None
 none_differs k [] = refl
-none_differs k (x ∷ xs) = ap (λ b. if b then part_differs the_profile (suc k) xs xs else Some k) (same (the_profile.spell x)) ∙ none_differs (suc k) xs
-  where
-    on : (b : Bool) → bytes_eq (the_profile.spell x) (the_profile.spell x) ≡ b → bytes_eq (the_profile.spell x) (the_profile.spell x) ≡ true
-    on true e = e
-    on false e = absurd ((bytes_eq-Decides (the_profile.spell x) (the_profile.spell x)).1 e refl)
-
-    same : (b : List ℕ) → bytes_eq (the_profile.spell x) (the_profile.spell x) ≡ true
-    same b = on (bytes_eq (the_profile.spell x) (the_profile.spell x)) refl
+none_differs k (x ∷ xs) = ap (λ b. if b then part_differs the_profile (suc k) xs xs else Some k) (same_bytes (the_profile.spell x)) ∙ none_differs (suc k) xs
 
 pub grows_again : (s : State) → IsState s → grown the_profile (lists_of (map untimed (build fits_changeset s))) ≡ Ok s
 grows_again s ok =
@@ -107,3 +107,10 @@ all_taken below n xs s e = sym (ap (λ m. state_after below m xs s) e ∙ on xs)
     on : (xs : Entries) → state_after below 0 xs s ≡ s
     on [] = refl
     on (x ∷ xs) = refl
+
+-- what is grown from the parts of a state is that state
+pub grown_is : (s t : State) (ps : List Changes) → IsState s → ps ≡ map untimed (build fits_changeset s) → grown the_profile (lists_of ps) ≡ Ok t → t ≡ s
+grown_is s t ps ok e f = the_same (sym f ∙ ap (λ l. grown the_profile (lists_of l)) e ∙ grows_again s ok)
+  where
+    the_same : Ok t ≡ Ok s → t ≡ s
+    the_same e = cc

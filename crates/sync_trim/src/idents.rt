@@ -1,6 +1,7 @@
 ghost use Rattle.std.specs.Prelude.{◌≡◌, ◌++◌, map, OnOk};
 ghost use Rattle.node_model.specs.Servers as model;
 ghost use Rattle.node_model.specs.Trimmed.{count_records};
+ghost use Rattle.node_instance.specs.Profile.{the_profile};
 ghost use Rattle.node_instance.specs.Seen.{server_seen};
 ghost use Rattle.node_server.specs.Kept.{parts};
 ghost use Rattle.node_server.specs.Serving.{kept_of};
@@ -49,7 +50,7 @@ pub(crate) fn put_counts<D: Disk>(
     records: &mut Vec<ServerRecord>,
     server: &Server<D>,
 ) -> Result<(), NoMemory>
-    ensures { OnOk result (map server_seen records.new.items ≡ map server_seen records.old.items ++ count_records 1 (parts (kept_of server.now)).idents) }
+    ensures { OnOk result (map server_seen records.new.items ≡ map server_seen records.old.items ++ count_records the_profile 1 (parts (kept_of server.now)).idents) }
 {
     for place in 0..server.idents() {
         let ident = place + 1;

@@ -1,4 +1,4 @@
-ghost use Rattle.std.specs.Prelude.{◌≡◌, ◌≤◌, ◌-◌, ◌++◌, map, drop, OnOk};
+ghost use Rattle.std.specs.Prelude.{◌≡◌, ◌≤◌, ◌-◌, ◌++◌, ℕ, map, drop, OnOk};
 ghost use Rattle.node_model.specs.Trimmed.{crossed_record, crossed_of, crossed_records};
 ghost use Rattle.node_model.specs.Trims.{pairs_from};
 ghost use Rattle.node_instance.specs.Profile.{the_profile};

@@ -1,4 +1,4 @@
-ghost use Rattle.std.specs.Prelude.{◌≡◌, ◌++◌, map, false, IfOk, OnOk};
+ghost use Rattle.std.specs.Prelude.{◌≡◌, ◌++◌, ◌∷◌, [], map, if◌then◌else◌, false, IfOk, OnOk};
 ghost use Rattle.node_model.specs.Clients as model;
 ghost use Rattle.node_model.specs.Starts.{started};
 ghost use Rattle.node_instance.specs.Profile.{the_profile};
@@ -28,13 +28,21 @@ pub fn started<D: Disk>(
     let bodies = part_bodies(alloc, server.objects())?;
     let mut records = Vec::new(alloc);
     put(&mut records, ClientRecord::Born { id })?;
-    if server.form() == 2 {
-        put(&mut records, ClientRecord::Form)?;
-    }
+    put_form(&mut records, server)?;
     put_parts(&mut records, bodies)?;
     let version = server.len();
     put(&mut records, ClientRecord::Floor { version })?;
     Ok(records)
+}
+
+/// Puts a Form where the server's file has one.
+fn put_form<D: Disk>(records: &mut Vec<ClientRecord>, server: &Server<D>) -> Result<(), NoMemory>
+    ensures { OnOk result (map client_seen records.new.items ≡ map client_seen records.old.items ++ (if (parts (kept_of server.now)).second then model.Form ∷ [] else [])) }
+{
+    if server.form() == 1 {
+        return Ok(());
+    }
+    put(records, ClientRecord::Form)
 }
 
 /// Puts a Part with each of these bytes.

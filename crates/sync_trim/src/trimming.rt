@@ -1,4 +1,4 @@
-ghost use Rattle.std.specs.Prelude.{◌≡◌, ◌++◌, map, false, IfOk, OnOk};
+ghost use Rattle.std.specs.Prelude.{◌≡◌, ◌++◌, ◌∷◌, [], map, if◌then◌else◌, false, IfOk, OnOk};
 ghost use Rattle.node_model.specs.Servers as model;
 ghost use Rattle.node_model.specs.Trimmed.{trim_records};
 ghost use Rattle.node_instance.specs.Profile.{the_profile};
@@ -31,9 +31,7 @@ pub fn trimmed<D: Disk>(alloc: Global, server: &Server<D>) -> Result<Vec<ServerR
         part_bodies(alloc, &below)?
     };
     let mut records = Vec::new(alloc);
-    if server.form() == 2 {
-        put(&mut records, ServerRecord::Form)?;
-    }
+    put_form(&mut records, server)?;
     put_parts(&mut records, bodies)?;
     put(&mut records, ServerRecord::Floor { version: floor })?;
     put_clients(&mut records, server)?;
@@ -42,6 +40,16 @@ pub fn trimmed<D: Disk>(alloc: Global, server: &Server<D>) -> Result<Vec<ServerR
     put_entries(alloc, &mut records, server, floor)?;
     put_past(alloc, &mut records, server, floor)?;
     Ok(records)
+}
+
+/// Puts a Form where the server's file has one.
+fn put_form<D: Disk>(records: &mut Vec<ServerRecord>, server: &Server<D>) -> Result<(), NoMemory>
+    ensures { OnOk result (map server_seen records.new.items ≡ map server_seen records.old.items ++ (if (parts (kept_of server.now)).second then model.Form ∷ [] else [])) }
+{
+    if server.form() == 1 {
+        return Ok(());
+    }
+    put(records, ServerRecord::Form)
 }
 
 /// Puts a Part with each of these bytes.

@@ -3,7 +3,7 @@ use Rattle.std.proofs.Common.{◌≡◌, ℕ, suc, ◌+◌, List, [], ◌∷◌,
 use Rattle.std.specs.Option.{option_map}
 use Rattle.sync_data.specs.declared.instr.Instr.{Instr}
 use Rattle.node_model.specs.Parts.{Given, at_ident}
-use Rattle.sync_trim.proofs.Lists.{at_some, at_none, read_some, read_none}
+use Rattle.sync_trim.proofs.Pieces.{at_some, at_none, read_some, read_none}
 
 abbrev pub Idents : Type 0
 Idents = List (Given Instr)

@@ -6,7 +6,7 @@ use Rattle.node_model.specs.Worlds.{at}
 
 -- one item more
 pub one_more : {A B : Type 0} (f : A → B) (xs ys : List A) (x : A) (rest : List B) → ys ≡ xs ++ x ∷ [] → map f ys ++ rest ≡ map f xs ++ f x ∷ rest
-one_more f xs ys x rest e = ap (λ l. map f l ++ rest) e ∙ on xs
+one_more {A = A} f xs ys x rest e = ap (λ l. map f l ++ rest) e ∙ on xs
   where
     on : (xs : List A) → map f (xs ++ x ∷ []) ++ rest ≡ map f xs ++ f x ∷ rest
     on [] = refl
@@ -18,7 +18,7 @@ and_more a b c x y e f = f ∙ ap (λ l. l ++ y) e ∙ append_assoc a x y
 
 -- nothing is left
 pub no_more : {A : Type 0} (xs rest all : List A) → rest ≡ [] → xs ++ rest ≡ all → xs ≡ all
-no_more xs rest all e f = sym (on xs) ∙ ap (λ l. xs ++ l) (sym e) ∙ f
+no_more {A = A} xs rest all e f = sym (on xs) ∙ ap (λ l. xs ++ l) (sym e) ∙ f
   where
     on : (xs : List A) → xs ++ [] ≡ xs
     on [] = refl
@@ -26,7 +26,7 @@ no_more xs rest all e f = sym (on xs) ∙ ap (λ l. xs ++ l) (sym e) ∙ f
 
 -- what is left from a place on
 pub at_some : {A : Type 0} (xs : List A) (k : ℕ) (x : A) → at xs k ≡ Some x → drop k xs ≡ x ∷ drop (k + 1) xs
-at_some xs k x e = on xs k e ∙ ap (λ n. x ∷ drop n xs) (sym (add-one k))
+at_some {A = A} xs k x e = on xs k e ∙ ap (λ n. x ∷ drop n xs) (sym (add-one k))
   where
     on : (xs : List A) (k : ℕ) → at xs k ≡ Some x → drop k xs ≡ x ∷ drop (suc k) xs
     on [] k e = cc
