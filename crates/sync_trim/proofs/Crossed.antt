@@ -2,7 +2,11 @@
 use Rattle.std.proofs.Common.{◌≡◌, ℕ, zero, suc, ◌+◌, ◌-◌, ◌<◌, ◌≤◌, Bool, true, false, List, [], ◌∷◌, ◌++◌, map, drop, Option, Some, None, refl, sym, ap, ◌∙◌, arith}
 use Rattle.std.specs.Prelude.{nat_lt, if◌then◌else◌, max}
 use Rattle.std.proofs.lemmas.Bool.{le-ltb, lt-ltb}
+use denote.Bor.{Bor}
+use Rattle.std.specs.Option.{option_map}
 use Rattle.sync_theory.specs.Changesets.{Changeset}
+use Rattle.sync_data.specs.declared.entry.Entry.{Entry}
+use Rattle.sync_recip.specs.Lists.{entry_of}
 use Rattle.sync_data.specs.declared.instr.Instr.{Instr}
 use Rattle.node_model.specs.Parts.{Given}
 use Rattle.node_model.specs.Servers as model
@@ -24,13 +28,13 @@ pair_before b q qs h = ap (λ t. if t then pairs_from b qs else q ∷ pairs_from
 pub pair_from : (b : ℕ) (q : Pair) (qs : List Pair) → b ≤ q.0 → pairs_from b (q ∷ qs) ≡ q ∷ pairs_from b qs
 pair_from b q qs h = ap (λ t. if t then pairs_from b qs else q ∷ pairs_from b qs) (le-ltb q.0 b h)
 
+twice_on : (b : ℕ) (q : Pair) (qs : List Pair) (t : Bool) → nat_lt q.0 b ≡ t → pairs_from b (pairs_from b qs) ≡ pairs_from b qs → pairs_from b (if t then pairs_from b qs else q ∷ pairs_from b qs) ≡ (if t then pairs_from b qs else q ∷ pairs_from b qs)
+twice_on b q qs true e h = h
+twice_on b q qs false e h = ap (λ u. if u then pairs_from b (pairs_from b qs) else q ∷ pairs_from b (pairs_from b qs)) e ∙ ap (λ l. q ∷ l) h
+
 twice : (b : ℕ) (qs : List Pair) → pairs_from b (pairs_from b qs) ≡ pairs_from b qs
 twice b [] = refl
-twice b (q ∷ qs) = on (nat_lt q.0 b) refl
-  where
-    on : (t : Bool) → nat_lt q.0 b ≡ t → pairs_from b (if t then pairs_from b qs else q ∷ pairs_from b qs) ≡ (if t then pairs_from b qs else q ∷ pairs_from b qs)
-    on true e = twice b qs
-    on false e = ap (λ u. if u then pairs_from b (pairs_from b qs) else q ∷ pairs_from b (pairs_from b qs)) e ∙ ap (λ l. q ∷ l) (twice b qs)
+twice b (q ∷ qs) = twice_on b q qs (nat_lt q.0 b) refl (twice b qs)
 
 -- ---- the entry of a version in what is left of the history
 at_drop : {A : Type 0} (xs : List A) (a b : ℕ) → at (drop a xs) b ≡ at xs (a + b)
@@ -74,3 +78,10 @@ crossed_idents_left f c xs [] = refl
 crossed_idents_left f c xs (g ∷ gs) =
     ap (λ qs. (if is_live g then crossed_of the_profile c f xs qs else []) ++ crossed_records the_profile (suc c) f xs (map (trimmed_given f) gs)) (twice (max f g.last) g.reciprocal)
     ∙ ap (λ l. (if is_live g then crossed_of the_profile c f xs (pairs_from (max f g.last) g.reciprocal) else []) ++ l) (crossed_idents_left f (suc c) xs gs)
+
+-- ---- a pair that is read
+pub got_some : (r : Option (ℕ × Bor Entry)) (o : Option Pair) (v : ℕ) (e : Bor Entry) → option_map {U = Pair} (λ p. (p.0, entry_of p.1.now)) r ≡ o → r ≡ Some (v, e) → ◌≡◌ {A = Option Pair} (Some (v, entry_of e.now)) o
+got_some r o v e says is = sym (ap (option_map {U = Pair} (λ p. (p.0, entry_of p.1.now))) is) ∙ says
+
+pub got_none : (r : Option (ℕ × Bor Entry)) (o : Option Pair) → option_map {U = Pair} (λ p. (p.0, entry_of p.1.now)) r ≡ o → r ≡ None → o ≡ None
+got_none r o says is = sym says ∙ ap (option_map {U = Pair} (λ p. (p.0, entry_of p.1.now))) is

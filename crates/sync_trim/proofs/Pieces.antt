@@ -58,3 +58,20 @@ read_some f (Some x) y e = let same : f x ≡ y = cc in (x, refl, same)
 pub read_none : {A B : Type 0} (f : A → B) (o : Option A) → None ≡ option_map f o → o ≡ None
 read_none f None e = refl
 read_none f (Some x) e = cc
+
+-- an item that is put
+pub put_one : {A B : Type 0} (f : A → B) (xs ys : List A) (x : A) → ys ≡ xs ++ x ∷ [] → map f ys ≡ map f xs ++ f x ∷ []
+put_one {A = A} f xs ys x e = ap (map f) e ∙ on xs
+  where
+    on : (xs : List A) → map f (xs ++ x ∷ []) ≡ map f xs ++ f x ∷ []
+    on [] = refl
+    on (y ∷ ys) = ap (λ l. f y ∷ l) (on ys)
+
+pub none_next : {A : Type 0} (xs : List A) (k : ℕ) → at xs k ≡ None → drop k xs ≡ drop (k + 1) xs
+none_next {A = A} xs k e = on xs k e ∙ ap (λ n. drop n xs) (sym (add-one k))
+  where
+    on : (xs : List A) (k : ℕ) → at xs k ≡ None → drop k xs ≡ drop (suc k) xs
+    on [] zero e = refl
+    on [] (suc k) e = refl
+    on (y ∷ ys) zero e = cc
+    on (y ∷ ys) (suc k) e = on ys k e

@@ -14,6 +14,7 @@ use Rattle.sync_base.specs.Effects.{effect_of, is_effect}
 use Rattle.sync_base.specs.States.{State, IsState, no_state}
 use Rattle.sync_law.specs.Law.{act_all-run}
 use Rattle.sync_law.specs.CodedLaw.{applies}
+use Rattle.sync_codec.specs.Spelling.{spelling}
 use Rattle.snapshot_law.specs.Build.{build, built_list}
 use Rattle.snapshot_law.specs.Lemmas.Runs.{built_runs}
 use Rattle.node_model.specs.Clients.{state_or}
@@ -109,8 +110,14 @@ all_taken below n xs s e = sym (ap (λ m. state_after below m xs s) e ∙ on xs)
     on (x ∷ xs) = refl
 
 -- what is grown from the parts of a state is that state
+ok_is : (s t : State) (r : Result State ℕ) → r ≡ Ok t → r ≡ Ok s → t ≡ s
+ok_is s t (Ok u) e f = let a : u ≡ t = cc in let b : u ≡ s = cc in sym a ∙ b
+ok_is s t (Err k) e f = cc
+
 pub grown_is : (s t : State) (ps : List Changes) → IsState s → ps ≡ map untimed (build fits_changeset s) → grown the_profile (lists_of ps) ≡ Ok t → t ≡ s
-grown_is s t ps ok e f = the_same (sym f ∙ ap (λ l. grown the_profile (lists_of l)) e ∙ grows_again s ok)
-  where
-    the_same : Ok t ≡ Ok s → t ≡ s
-    the_same e = cc
+grown_is s t ps ok e f = ok_is s t (grown the_profile (lists_of ps)) f (ap (λ l. grown the_profile (lists_of l)) e ∙ grows_again s ok)
+
+-- the bytes of the parts of a state
+pub spelled_parts : (xs : List (List Instr)) → map (λ part. spelling part.instrs) (map untimed xs) ≡ map spelling xs
+spelled_parts [] = refl
+spelled_parts (x ∷ xs) = ap (λ l. spelling x ∷ l) (spelled_parts xs)

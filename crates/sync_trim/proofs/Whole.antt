@@ -35,12 +35,9 @@ pub trims : (kept : Parts Instr State) (f : ℕ) (bodies : List (List ℕ)) (l0 
     → l8 ≡ trim_records the_profile kept
 trims kept f bodies l0 l1 l2 l3 l4 l5 l6 l7 l8 at_floor parts_are e0 e1 e2 e3 e4 e5 e6 e7 e8 =
     all ∙ ap (λ l. l ++ (form ++ (parts ++ (servers.Floor f ∷ (uuids ++ (retired ++ (counts ++ (entries ++ past)))))))) e0
-    ∙ (λ i. form ++ (parts_so i ++ (servers.Floor f ∷ (sym (clients_left f kept.idents) i ++ (retired ++ (sym (counts_left f 1 kept.idents) i ++ (entries ++ sym (crossed_idents_left f 1 xs kept.idents) i)))))))
+    ∙ (λ i. form ++ (parts_so i ++ (servers.Floor f ∷ (sym (clients_left f kept.idents) i ++ (retired ++ (sym (counts_left f 1 kept.idents) i ++ (entries ++ sym (crossed_idents_left f 1 (drop (f - kept.floor) kept.entries) kept.idents) i)))))))
     ∙ ap (λ n. front_records the_profile (trimmed_at the_profile n kept)) at_floor
   where
-    xs : _
-    xs = drop (f - kept.floor) kept.entries
-
     form : List servers.ServerRecord
     form = if kept.second then servers.Form ∷ [] else []
 

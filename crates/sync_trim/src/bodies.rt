@@ -26,7 +26,8 @@ pub(crate) fn part_bodies(alloc: Global, objects: &Store) -> Result<Vec<Blob>, N
     ensures { IfOk result (λ bodies. bodies.items ≡ map spelling (build fits_changeset objects.now)) }
 {
     let parts = build(alloc, objects)?;
-    bodies_of(alloc, &parts)
+    let bodies = bodies_of(alloc, parts.as_slice())?;
+    Ok(bodies)
 }
 
 fn bodies_of(alloc: Global, parts: &[Changeset]) -> Result<Vec<Blob>, NoMemory>

@@ -47,7 +47,8 @@ pub(crate) fn state_at<D: Disk>(
 ) -> Result<Store, NoMemory>
     ensures { IfOk result (λ s. s ≡ state_from the_profile (parts (kept_of server.now)) version) }
 {
-    let mut objects = copy_of(alloc, server.floor_objects())?;
+    let below = server.floor_objects();
+    let mut objects = copy_of(alloc, below)?;
     for next in server.floor()..version {
         let Some(entry) = server.entry(next) else {
             return Ok(objects);
@@ -55,7 +56,8 @@ pub(crate) fn state_at<D: Disk>(
         match objects.apply_all(&entry.changes) {
             Ok(()) => {}
             Err(AllRefusal::Break { place: _, cause: _ }) => {
-                return copy_of(alloc, server.floor_objects());
+                let unchanged = copy_of(alloc, below)?;
+                return Ok(unchanged);
             }
             Err(AllRefusal::NoMemory) => return Err(NoMemory),
         }
@@ -69,7 +71,7 @@ fn copy_of(alloc: Global, objects: &Store) -> Result<Store, NoMemory>
 {
     objects.keeps_its_limits();
     let parts = build(alloc, objects)?;
-    match grown(alloc, &parts) {
+    match grown(alloc, parts.as_slice()) {
         Ok(copy) => Ok(copy),
         Err(_) => Err(NoMemory),
     }

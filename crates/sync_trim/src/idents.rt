@@ -36,9 +36,10 @@ pub(crate) fn put_retired<D: Disk>(
     ensures { OnOk result (map server_seen records.new.items ≡ map server_seen records.old.items ++ map (λ q. model.Retired q.0 q.1) (parts (kept_of server.now)).retired) }
 {
     for place in 0..u32::MAX {
-        let Some((ident, by)) = server.retired(place) else {
+        let Some(pair) = server.retired(place) else {
             return Ok(());
         };
+        let (ident, by) = (pair.0, pair.1);
         put(records, ServerRecord::Retired { ident, by })?;
     }
     // No list of so many is kept.
