@@ -1,6 +1,8 @@
-ghost use Rattle.std.specs.Prelude.{◌≡◌, ◌≤◌, ◌-◌, ◌++◌, ℕ, map, drop, OnOk};
+ghost use Rattle.std.specs.Prelude.{◌≡◌, ◌≤◌, ◌-◌, ◌++◌, [], ℕ, map, drop, if◌then◌else◌, max, Some, OnOk};
 ghost use Rattle.node_model.specs.Trimmed.{crossed_record, crossed_of, crossed_records};
-ghost use Rattle.node_model.specs.Trims.{pairs_from};
+ghost use Rattle.sync_data.specs.declared.instr.Instr.{Instr};
+ghost use Rattle.node_model.specs.Parts.{Given, at_ident};
+ghost use Rattle.node_model.specs.Trims.{is_live, pairs_from};
 ghost use Rattle.node_instance.specs.Profile.{the_profile};
 ghost use Rattle.node_instance.specs.Seen.{server_seen};
 ghost use Rattle.node_server.specs.Kept.{parts};
@@ -29,16 +31,34 @@ pub(crate) fn put_past<D: Disk>(
     ensures { OnOk result (map server_seen records.new.items ≡ map server_seen records.old.items ++ crossed_records the_profile 1 floor (drop (floor - (parts (kept_of server.now)).floor) (parts (kept_of server.now)).entries) (parts (kept_of server.now)).idents) }
 {
     for place in 0..server.idents() {
-        let ident = place + 1;
-        if let (Some(list), Some(counts)) = (server.reciprocal(ident), server.counts(ident)) {
-            let from = floor.max(counts.base);
-            put_past_of(alloc, records, server, ident, from, list)?;
-        }
+        put_past_by(alloc, records, server, place + 1, floor)?;
     }
     Ok(())
 }
 
-/// The same of one ident, from a version on.
+/// The same of one ident, whose next changes have no base before its last one.
+fn put_past_by<D: Disk>(
+    alloc: Global,
+    records: &mut Vec<ServerRecord>,
+    server: &Server<D>,
+    ident: Ident,
+    floor: u32,
+) -> Result<(), NoMemory>
+    requires above { (parts (kept_of server.now)).floor ≤ floor }
+    ensures { OnOk result ((g : Given Instr) → at_ident ident (parts (kept_of server.now)).idents ≡ Some g → map server_seen records.new.items ≡ map server_seen records.old.items ++ (if is_live g then crossed_of the_profile ident floor (drop (floor - (parts (kept_of server.now)).floor) (parts (kept_of server.now)).entries) (pairs_from (max floor g.last) g.reciprocal) else [])) }
+{
+    let Some(list) = server.reciprocal(ident) else {
+        return Ok(());
+    };
+    let Some(counts) = server.counts(ident) else {
+        return Ok(());
+    };
+    let from = floor.max(counts.base);
+    put_past_of(alloc, records, server, ident, from, list)?;
+    Ok(())
+}
+
+/// The pairs of a reciprocal list from a version on.
 fn put_past_of<D: Disk>(
     alloc: Global,
     records: &mut Vec<ServerRecord>,

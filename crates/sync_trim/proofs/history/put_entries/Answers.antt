@@ -19,8 +19,8 @@ returns-in_default g c =
     let entries = drop (version - kept.floor) kept.entries in
     let bases = drop (version - kept.floor) kept.bases in
     no_more (map server_seen c.loop-version.records.items) (entry_records the_profile entries bases) _
-        (no_bases entries bases (item_none kept.floor version kept.bases above (sym c.in_default.is-1 ∙ c.base_of.ensures)))
-        c.loop-version.invariant
+    (no_bases entries bases (item_none kept.floor version kept.bases above (sym c.in_default.is-1 ∙ c.base_of.ensures)))
+    c.loop-version.invariant
 
 pub returns-in_default-2 : goal.returns-in_default-2
 returns-in_default-2 g c =
@@ -30,8 +30,8 @@ returns-in_default-2 g c =
     let entries = drop (version - kept.floor) kept.entries in
     let bases = drop (version - kept.floor) kept.bases in
     no_more (map server_seen c.loop-version.records.items) (entry_records the_profile entries bases) _
-        (no_entries entries bases (item_none kept.floor version kept.entries above (sym (ap (option_map (λ e. entry_of e.now)) c.in_default.is-0) ∙ c.entry.ensures)))
-        c.loop-version.invariant
+    (no_entries entries bases (item_none kept.floor version kept.entries above (sym (ap (option_map (λ e. entry_of e.now)) c.in_default.is-0) ∙ c.entry.ensures)))
+    c.loop-version.invariant
 
 pub loop-version-preserved : goal.loop-version-preserved
 loop-version-preserved g c =
@@ -45,6 +45,6 @@ loop-version-preserved g c =
     let b = item_some kept.floor version kept.bases base above (sym c.in-Some-Some.is-1 ∙ c.base_of.ensures) in
     one_more server_seen c.loop-version.records.items c.put.new.list.items _ left c.in_ok-put.ensures
     ∙ ap (λ l. map server_seen c.loop-version.records.items ++ l)
-        ((λ i. model.Carried entry.origin entry.number base (c.ms.ensures i) (c.in_ok-body.ensures i) ∷ left)
-        ∙ sym (λ i. entry_records the_profile (e i) (b i)))
+    ((λ i. model.Carried entry.origin entry.number base (c.ms.ensures i) (c.in_ok-body.ensures i) ∷ left)
+    ∙ sym (λ i. entry_records the_profile (e i) (b i)))
     ∙ c.loop-version.invariant
