@@ -1,5 +1,5 @@
 -- The front of a file, as the code reads it.
-use Rattle.std.proofs.Common.{◌≡◌, ℕ, zero, suc, ◌≤◌, Bool, true, false, ◌&&◌, ◌||◌, List, [], ◌∷◌, Option, Some, None, Result, Ok, Err, if◌then◌else◌, refl, sym, ap, ◌∙◌, subst, arith, length, map, take}
+use Rattle.std.proofs.Common.{◌≡◌, ℕ, zero, suc, Bool, true, false, ◌&&◌, ◌||◌, List, [], ◌∷◌, Option, Some, None, Result, Ok, Err, if◌then◌else◌, refl, sym, ap, ◌∙◌, subst, arith, length, map, take}
 use Rattle.sync_data.specs.declared.instr.Instr.{Instr}
 use Rattle.sync_base.specs.States.{State}
 use Rattle.node_model.specs.Fronts.{Front, begins_trimmed, front_of, front_parts, is_form, of_kind, part_of, taking_all}
@@ -9,8 +9,8 @@ use Rattle.node_instance.specs.Profile.{the_profile}
 use Rattle.node_instance.specs.Seen.{read_server, server_bytes}
 use Rattle.node_records.specs.declared.server.ServerRecord.{ServerRecord as CodeRecord}
 use Rattle.node_server.specs.Kept.{parts}
-use Rattle.node_server.specs.Fronting.{AreSpelled, Fronts, IsSpelled, seen, seen_from}
-use Rattle.node_server.specs.Opening.{AreRecords, FrontRead, ReadsFront, is_trimmed}
+use Rattle.node_server.specs.Fronting.{AreSpelled, Fronts, IsSpelled, seen}
+use Rattle.node_server.specs.Opening.{ReadsFront, is_trimmed}
 use Rattle.node_server.specs.declared.kept.Kept.{Kept}
 use Rattle.node_server.specs.declared.opening.ReadRefusal.{ReadRefusal}
 use Rattle.node_server.specs.declared.opening.ReadRefusal.TheVariants as refusals

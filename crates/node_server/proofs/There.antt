@@ -1,12 +1,12 @@
 -- What is read at the front of a trimmed file are records.
-use Rattle.std.proofs.Common.{◌≡◌, ℕ, zero, suc, ◌+◌, ◌-◌, ◌≤◌, Bool, true, false, not, ◌&&◌, ◌||◌, List, [], ◌∷◌, Option, Some, None, Result, Ok, Err, if◌then◌else◌, refl, sym, ap, ◌∙◌, subst, arith, length, map, drop, take, nat_lt, nat_le, inl, inr, ◌⊎◌}
-use Rattle.node_model.specs.Bytes.{Bytes, Uuid}
+use Rattle.std.proofs.Common.{◌≡◌, ℕ, zero, suc, ◌+◌, ◌-◌, ◌≤◌, Bool, true, false, not, ◌&&◌, List, [], ◌∷◌, Option, Some, None, Ok, Err, if◌then◌else◌, refl, sym, ap, subst, arith, length, map, drop, take, nat_lt, nat_le, inl, inr, ◌⊎◌}
+use Rattle.node_model.specs.Bytes.{Uuid}
 use Rattle.node_model.specs.Profile.{Profile}
 use Rattle.node_model.specs.Snapshots.{grown}
 use Rattle.node_model.specs.Servers.{ServerRecord}
 use Rattle.node_model.specs.Parts.{Given, no_parts}
 use Rattle.node_model.specs.Files.{is_empty}
-use Rattle.node_model.specs.Fronts.{lead_on, leading, taking, taking_all, Counted, Kept, Crossed, Front, Grows, of_kind, part_of, floor_is, uuid_is, retired_is, count_is, entry_is, crossed_is, walk, then_at, part_step, uuid_step, retired_step, counted_sum, count_step, all_within, with_counts, all_end, entry_step, crossed_step, front_crossed, front_entries, front_counts, front_alone, front_retired, front_uuids, front_floor, front_behind, front_parts, begins_trimmed, is_form, front_of}
+use Rattle.node_model.specs.Fronts.{lead_on, leading, taking, taking_all, Front, Grows, of_kind, part_of, floor_is, uuid_is, retired_is, count_is, entry_is, crossed_is, walk, then_at, part_step, uuid_step, retired_step, counted_sum, count_step, all_within, with_counts, all_end, entry_step, crossed_step, front_crossed, front_entries, front_counts, front_alone, front_retired, front_uuids, front_floor, front_behind, front_parts, begins_trimmed, is_form, front_of}
 use Rattle.node_server.proofs.Continuing.{got, if_ok, take_short, then_ok}
 
 -- each is a record

@@ -1,5 +1,5 @@
 use Rattle.std.proofs.Common.{◌≡◌, ◌≤◌, ◌+◌, [], Ok, true, length, map, take, sym, ap, ◌∙◌, subst, arith}
-use Rattle.node_model.specs.Fronts.{Counted, all_within, count_is, count_step, leading, of_kind, walk, with_counts}
+use Rattle.node_model.specs.Fronts.{all_within, count_is, count_step, leading, of_kind, walk, with_counts}
 use Rattle.node_server.specs.Fronting.{counted_seen, seen_from, uuids_of}
 use Rattle.node_server.proofs.Tallies.{counted_on, counts_fit}
 use Rattle.node_server.proofs.kept.Kept.front_counts.Goals as goal

@@ -1,4 +1,4 @@
-use Rattle.std.proofs.Common.{◌≡◌, true, map, sym, ap, ◌∙◌, subst}
+use Rattle.std.proofs.Common.{ap, ◌∙◌, subst}
 use Rattle.sync_journal.specs.Records.{lists}
 use Rattle.node_instance.specs.Profile.{the_profile}
 use Rattle.node_model.specs.Fronts.{front_of}
