@@ -25,6 +25,9 @@ const CHANGE: [u8; 36] = [
 const KEPT: [u8; 17] = [1, 2, 1, 116, 1, 108, 1, 8, 0, 0, 2, 1, 0, 0, 3, 1, 120];
 
 fn changes(alloc: Global, bytes: &[u8]) -> Result<Changeset, Fail> {
+    if bytes.len() > 100 {
+        return Err("too long".into());
+    }
     match decode(alloc, 7, bytes) {
         Ok(changes) => Ok(changes),
         Err(_) => Err("no changeset".into()),

@@ -20,6 +20,9 @@ const BUILT: [u8; 61] = [
 ];
 
 fn changes(alloc: Global, bytes: &[u8]) -> Result<Changeset, Fail> {
+    if bytes.len() > 100 {
+        return Err("too long".into());
+    }
     match decode(alloc, 7, bytes) {
         Ok(changes) => Ok(changes),
         Err(_) => Err("no changeset".into()),
