@@ -47,20 +47,22 @@ fn objects(alloc: Global) -> Result<Store, Fail> {
     }
 }
 
+/// Whether that is dropped there.
+fn dropped_at(saved: &Saved, index: usize, place: u32, code: u8) -> bool {
+    match saved.dropped.as_slice().get(index) {
+        Some(found) => found.place == place && found.code == code,
+        None => false,
+    }
+}
+
 #[test]
 fn what_breaks_is_dropped_and_the_rest_is_made_to_fit(rt: HostRuntime) -> Result<(), Fail> {
     let alloc = rt.alloc();
     let objects = objects(alloc)?;
     let saved = saved(alloc, &objects, &changes(alloc, &CHANGE)?)?;
-    assert!(rt;
-        matches!(
-            saved.dropped.as_slice(),
-            [
-                Dropped { place: 0, code: 12 },
-                Dropped { place: 2, code: 30 }
-            ]
-        )
-    );
+    assert_eq!(rt; saved.dropped.as_slice().len(), 2);
+    assert!(rt; dropped_at(&saved, 0, 0, 12));
+    assert!(rt; dropped_at(&saved, 1, 2, 30));
     let kept = Changeset::checked(0, saved.kept.into_vec())?;
     assert!(rt; encode(alloc, &kept)?.as_slice() == &KEPT[..]);
     Ok(())
