@@ -1,5 +1,5 @@
 ghost use Rattle.std.specs.Prelude.{◌≡◌, Some, IfOk, OnOk};
-ghost use Rattle.sync_base.specs.Effects.{ObjectName, effect_of};
+ghost use Rattle.sync_base.specs.Effects.{effect_of};
 ghost use Rattle.sync_base.specs.Objects.{object_of};
 ghost use Rattle.sync_base.specs.Checks.{act, act_all};
 ghost use Rattle.sync_reset.specs.Parts.{IsPartOf, IsAlike, IsAlikeFor, AreAlikeFor, StaysAlike};

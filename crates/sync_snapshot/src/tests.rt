@@ -20,6 +20,9 @@ const BUILT: [u8; 61] = [
 ];
 
 fn changes(alloc: Global, bytes: &[u8]) -> Result<Changeset, Fail> {
+    if bytes.len() > 100 {
+        return Err("too long".into());
+    }
     match decode(alloc, 7, bytes) {
         Ok(changes) => Ok(changes),
         Err(_) => Err("no changeset".into()),
@@ -37,9 +40,12 @@ fn store(alloc: Global, bytes: &[u8]) -> Result<Store, Fail> {
 
 /// Whether these are one changeset with time 0 and these bytes.
 fn is_one(alloc: Global, parts: &[Changeset], bytes: &[u8]) -> Result<bool, Fail> {
-    match parts {
-        [part] => Ok(part.ms() == 0 && encode(alloc, part)?.as_slice() == bytes),
-        _ => Ok(false),
+    match parts.get(0) {
+        Some(part) => {
+            let spelled = encode(alloc, part)?;
+            Ok(parts.len() == 1 && part.ms() == 0 && spelled.as_slice() == bytes)
+        }
+        None => Ok(false),
     }
 }
 
