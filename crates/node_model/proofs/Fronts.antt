@@ -864,8 +864,8 @@ module _ {I S : Type 0} (p : Profile I S) {Fits Bounded Old : S → Type 0} (law
     abbrev D : List ServerRecord
     D = C t w fit bounded old later opens ++ (R t w fit bounded old later opens ++ (N t w fit bounded old later opens ++ (E t w fit bounded old later opens ++ X t w fit bounded old later opens)))
 
-    regroup : (second : Bool) (P D2 : List ServerRecord) (floor : ℕ) → (forms second ++ (P ++ Floor floor ∷ D2)) ++ later ≡ forms second ++ (P ++ Floor floor ∷ (D2 ++ later))
-    regroup second P D2 floor = append_assoc (forms second) (P ++ Floor floor ∷ D2) later ∙ ap (λ l. forms second ++ l) (append_assoc P (Floor floor ∷ D2) later)
+    regroup : (second : Bool) (P behind : List ServerRecord) (floor : ℕ) → (forms second ++ (P ++ Floor floor ∷ behind)) ++ later ≡ forms second ++ (P ++ Floor floor ∷ (behind ++ later))
+    regroup second P behind floor = append_assoc (forms second) (P ++ Floor floor ∷ behind) later ∙ ap (λ l. forms second ++ l) (append_assoc P (Floor floor ∷ behind) later)
 
     with_idents : is_empty t.idents ≡ false → file_gives p (read_all (front_records p t ++ later)) ≡ Ok (after_parts p t later)
     with_idents some = finish (front_records p t) later t (suc (first_place t.second + length (map (λ is. p.spell is) (p.build t.below))) + length (us t w fit bounded old later opens) + length t.retired + length (cs t w fit bounded old later opens) + length (es t w fit bounded old later opens) + length (ch t w fit bounded old later opens)) found size opens
