@@ -36,6 +36,9 @@ pub mod Later
 pub mod Whole
 pub mod Fronts
 pub mod Sound
+pub mod Integrated
+pub mod Kept
+pub mod GivenUp
 pub mod Limits
 pub mod Replies
 pub mod Spellings

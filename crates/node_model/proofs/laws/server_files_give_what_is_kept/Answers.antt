@@ -4,7 +4,7 @@ use Rattle.node_model.specs.Trimmed.{keeps_nothing, trim_records}
 use Rattle.node_model.specs.Fronts.{file_gives}
 use Rattle.node_model.proofs.Fronts.{whole_file}
 use Rattle.node_model.proofs.Reading.{all_read}
-use Rattle.node_model.proofs.Sound.{all_kept, by_records, by_message, trims_back, trims_alike}
+use Rattle.node_model.proofs.GivenUp.{all_kept, by_records, by_message, trims_back, trims_alike}
 use Rattle.node_model.proofs.laws.server_files_give_what_is_kept.Goals as goal
 
 pub returns : goal.returns
