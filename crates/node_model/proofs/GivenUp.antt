@@ -19,7 +19,8 @@ use Rattle.node_model.proofs.Whole.{Writable, Tracks, bare, kept_of, AllTrack, n
 use Rattle.node_model.proofs.Lists.{at_map, heir_new, heir_other}
 use Rattle.node_model.proofs.Alike.{not_below, pairs_twice, pairs_append, pairs_settle, drop_drop, drop_snoc}
 use Rattle.node_model.proofs.Trims.{drop_length_is}
-use Rattle.node_model.proofs.Sound.{two, join2, each_weak, tracks_cut, Cut, AllCut, live_cut, dead_cut, none_cut, one_cut}
+use Rattle.node_model.proofs.Limits.{both}
+use Rattle.node_model.proofs.Sound.{join, each_weak, tracks_cut, Cut, AllCut, live_cut, dead_cut, none_cut, one_cut}
 use Rattle.node_model.proofs.Integrated.{old_each, allowed_old}
 use Rattle.node_model.proofs.Kept.{Kept_, record_kept, first_kept}
 
@@ -86,8 +87,8 @@ module _ {I S : Type 0} (p : Profile I S) where
     ends_drop : (d k : ℕ) (xs : List (Changeset I)) (gs : List (Given I)) → all_end k xs gs ≡ true → all_end k (drop d xs) gs ≡ true
     ends_drop d k xs [] e = refl
     ends_drop d k xs (g ∷ gs) e =
-        let b = two (is_last (last_of k xs None) g.count) (all_end (suc k) xs gs) e in
-        join2 (is_last (last_of k (drop d xs) None) g.count) (all_end (suc k) (drop d xs) gs) (last_none k (drop d xs) (last_of k (take d xs) None) g.count (ap (λ o. is_last o g.count) (sym (last_append k (take d xs) (drop d xs) None) ∙ ap (λ l. last_of k l None) (split d xs)) ∙ b.0)) (ends_drop d (suc k) xs gs b.1)
+        let b = both (is_last (last_of k xs None) g.count) (all_end (suc k) xs gs) e in
+        join (is_last (last_of k (drop d xs) None) g.count) (all_end (suc k) (drop d xs) gs) (last_none k (drop d xs) (last_of k (take d xs) None) g.count (ap (λ o. is_last o g.count) (sym (last_append k (take d xs) (drop d xs) None) ∙ ap (λ l. last_of k l None) (split d xs)) ∙ b.0)) (ends_drop d (suc k) xs gs b.1)
       where
         split : (d : ℕ) (xs : List (Changeset I)) → take d xs ++ drop d xs ≡ xs
         split zero xs = refl
@@ -97,8 +98,8 @@ module _ {I S : Type 0} (p : Profile I S) where
     numbers_less : (pre acc : List (Changeset I)) (e : Kept) (o : Option (Given I)) → numbers_on (pre ++ acc) e o ≡ true → numbers_on acc e o ≡ true
     numbers_less pre acc e None h = h
     numbers_less pre acc e (Some g) h =
-        let b = two (nat_le 1 e.number && nat_le e.number g.count) (follows (last_of e.origin (pre ++ acc) None) e.number) h in
-        join2 (nat_le 1 e.number && nat_le e.number g.count) (follows (last_of e.origin acc None) e.number) b.0 (follows_none e.origin acc (last_of e.origin pre None) e.number (ap (λ o. follows o e.number) (sym (last_append e.origin pre acc None)) ∙ b.1))
+        let b = both (nat_le 1 e.number && nat_le e.number g.count) (follows (last_of e.origin (pre ++ acc) None) e.number) h in
+        join (nat_le 1 e.number && nat_le e.number g.count) (follows (last_of e.origin acc None) e.number) b.0 (follows_none e.origin acc (last_of e.origin pre None) e.number (ap (λ o. follows o e.number) (sym (last_append e.origin pre acc None)) ∙ b.1))
 
     goes_less : {gs : List (Given I)} (pre acc : List (Changeset I)) {all xs : List (Changeset I)} {bs : List ℕ} {a z : S} → Goes gs all a xs bs z → all ≡ pre ++ acc → Goes gs acc a xs bs z
     goes_less pre acc goes_none e = goes_none
@@ -131,7 +132,7 @@ module _ {I S : Type 0} (p : Profile I S) where
     each_dropped (suc n) (and_each h f) = each_dropped n f
 
     light : (sec : Bool) {is : List I} → Writable p sec is → Each (λ (i : I). p.weight i ≤ p.most_weight) is
-    light sec {is} w = Rattle.node_model.proofs.Starting.light_each p law built is (leb-true (sum_by p.weight is) p.most_weight (two (nat_le (length is) p.most_instrs) (nat_le (sum_by p.weight is) p.most_weight) w.small).1)
+    light sec {is} w = Rattle.node_model.proofs.Starting.light_each p law built is (leb-true (sum_by p.weight is) p.most_weight (both (nat_le (length is) p.most_instrs) (nat_le (sum_by p.weight is) p.most_weight) w.small).1)
 
     olds : (sec : Bool) → sec ≡ false → {is : List I} → Writable p sec is → Each (λ (i : I). p.needs_second i ≡ false) is
     olds sec e {is} w = old_each p law built is (allowed_old p law built is (ap (λ b. readable p b (Ok is)) (sym e) ∙ w.allowed))
@@ -266,12 +267,8 @@ module _ {I S : Type 0} (p : Profile I S) where
   pub by_records : (rs : List ServerRecord) (kept : Parts I S) → KeptBy p kept → Rattle.node_model.specs.Parts.parts_open p kept rs ≡ true → KeptBy p (Rattle.node_model.specs.Parts.after_parts p kept rs)
   by_records [] kept k e = k
   by_records (r ∷ rs) kept k e =
-      let b = two_of (Rattle.node_model.specs.Parts.admits_part p kept r) _ e in
+      let b = both (Rattle.node_model.specs.Parts.admits_part p kept r) _ e in
       by_records rs (Rattle.node_model.specs.Parts.after_part p kept r) (keeps_record r k b.0) b.1
-    where
-      two_of : (a b : Bool) → (a && b) ≡ true → (a ≡ true) × (b ≡ true)
-      two_of true b f = (refl, f)
-      two_of false b f = cc
 
   pub by_message : (kept : Parts I S) → KeptBy p kept → (m : Rattle.node_model.specs.Messages.Message) → KeptBy p (Rattle.node_model.specs.Parts.serve_by p kept m).parts
   by_message kept k m =
@@ -283,7 +280,7 @@ module _ {I S : Type 0} (p : Profile I S) where
   trims_back law built kept k more e =
       let a = all_kept law built k in
       let t = trimmed_kept law built kept a in
-      Rattle.node_model.proofs.Fronts.front_back p law built (trimmed p kept) (whole_trimmed law built kept a) t.based.fits t.based.bounded t.based.old more e
+      Rattle.node_model.proofs.Trimmed.front_back p law built (trimmed p kept) (whole_trimmed law built kept a) t.based.fits t.based.bounded t.based.old more e
 
   -- its replies, lengths and objects
   pub trims_alike : {Fits Bounded Old : S → Type 0} → Lawful p Fits → Buildable p Fits Bounded Old → (kept : Parts I S) → KeptBy p kept → (ms : List Rattle.node_model.specs.Messages.Message) → Rattle.node_model.specs.Trims.any_trimmed (Rattle.node_model.specs.Trims.replies_by p (trimmed p kept) ms) ≡ false → TrimsAlike p kept ms

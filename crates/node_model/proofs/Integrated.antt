@@ -19,11 +19,11 @@ use Rattle.node_model.specs.Worlds.{at}
 use Rattle.node_model.specs.Trims.{pairs_from, is_live, Spans}
 use Rattle.node_model.specs.Fronts.{walk, uuid_step, retired_step, last_of, follows, is_last, all_end, grows_on, numbers_on, entry_read, entry_step}
 use Rattle.node_model.proofs.Whole.{Writable, Tracks, no_pairs, own_entry, other_entry, bare, kept_of, AllHeirs, no_heirs, one_heir}
-use Rattle.node_model.proofs.Limits.{each_append}
 use Rattle.node_model.proofs.Lists.{at_map, heir_new, heir_other}
 use Rattle.node_model.proofs.Alike.{not_below, pairs_twice, pairs_append, pairs_settle, drop_drop, drop_snoc}
 use Rattle.node_model.proofs.Trims.{drop_length_is}
-use Rattle.node_model.proofs.Sound.{two, join2, each_weak, walk_then, Counts, at_place, writable_more, walk_more, tracks_more, tracks_own, tracks_other, tracks_cut, Cut, OneCut, the_cut, AllCut, Sound, all_more, live_cut, dead_cut, none_cut, one_cut}
+use Rattle.node_model.proofs.Limits.{each_append, both}
+use Rattle.node_model.proofs.Sound.{join, each_weak, walk_then, Counts, at_place, writable_more, walk_more, tracks_more, tracks_own, tracks_other, tracks_cut, Cut, OneCut, the_cut, AllCut, Sound, all_more, live_cut, dead_cut, none_cut, one_cut}
 
 module _ {I S : Type 0} (p : Profile I S) where
   module _ {Fits Bounded Old : S → Type 0} (law : Lawful p Fits) (built : Buildable p Fits Bounded Old) where
@@ -175,9 +175,9 @@ module _ {I S : Type 0} (p : Profile I S) where
     pub after_ends : (c base : ℕ) (es : List (Changeset I)) (v : ℕ) (x : Changeset I) (xs : List (Changeset I)) → x.origin ≡ c → (k : ℕ) (gs : List (Given I)) → ((j : ℕ) (g : Given I) → at gs j ≡ Some g → k + j ≡ c → x.number ≡ suc g.count) → all_end k xs (map bare gs) ≡ true → all_end k (xs ++ x ∷ []) (map bare (idents_after c base es v x k gs)) ≡ true
     after_ends c base es v x xs own k [] number e = refl
     after_ends c base es v x xs own k (g ∷ gs) number e =
-        let b = two (is_last (last_of k xs None) g.count) (all_end (suc k) xs (map bare gs)) e in
+        let b = both (is_last (last_of k xs None) g.count) (all_end (suc k) xs (map bare gs)) e in
         let rest = after_ends c base es v x xs own (suc k) gs (λ j h i f. number (suc j) h i (omega arith)) b.1 in
-        join2 (is_last (last_of k (xs ++ x ∷ []) None) (if k == c then settled base es g else extended v x g).count) (all_end (suc k) (xs ++ x ∷ []) (map bare (idents_after c base es v x (suc k) gs)))
+        join (is_last (last_of k (xs ++ x ∷ []) None) (if k == c then settled base es g else extended v x g).count) (all_end (suc k) (xs ++ x ∷ []) (map bare (idents_after c base es v x (suc k) gs)))
         (ap (λ o. is_last o (if k == c then settled base es g else extended v x g).count) (last_snoc k xs x None) ∙ ⊎_elim
         (λ is. ap₂ (λ o n. is_last o n) (put_if (x.origin == k) (Some x.number) (last_of k xs None) (test_true x.origin k (own ∙ sym is))) (ap (λ (q : Given I). q.count) (put_if (k == c) (settled base es g) (extended v x g) (test_true k c is))) ∙ test_true x.number (suc g.count) (number 0 g refl (omega arith)))
         (λ ne. ap₂ (λ o n. is_last o n) (put_unless (x.origin == k) (Some x.number) (last_of k xs None) (test_false x.origin k (λ f. ne (sym f ∙ own)))) (ap (λ (q : Given I). q.count) (put_unless (k == c) (settled base es g) (extended v x g) (test_false k c ne))) ∙ b.0)
@@ -186,8 +186,8 @@ module _ {I S : Type 0} (p : Profile I S) where
 
     pub end_at : (k : ℕ) (xs : List (Changeset I)) (gs : List (Given I)) (j : ℕ) (g : Given I) → all_end k xs (map bare gs) ≡ true → at gs j ≡ Some g → is_last (last_of (k + j) xs None) g.count ≡ true
     end_at k xs [] j g e h = cc
-    end_at k xs (a ∷ gs) zero g e h = let same : a ≡ g = cc in let z : k ≡ k + 0 = omega arith in subst (λ (q : Given I). is_last (last_of (k + 0) xs None) q.count ≡ true) same (ap (λ d. is_last (last_of d xs None) a.count) (sym z) ∙ (two (is_last (last_of k xs None) a.count) _ e).0)
-    end_at k xs (a ∷ gs) (suc j) g e h = let z : suc k + j ≡ k + suc j = omega arith in ap (λ d. is_last (last_of d xs None) g.count) (sym z) ∙ end_at (suc k) xs gs j g (two (is_last (last_of k xs None) a.count) _ e).1 h
+    end_at k xs (a ∷ gs) zero g e h = let same : a ≡ g = cc in let z : k ≡ k + 0 = omega arith in subst (λ (q : Given I). is_last (last_of (k + 0) xs None) q.count ≡ true) same (ap (λ d. is_last (last_of d xs None) a.count) (sym z) ∙ (both (is_last (last_of k xs None) a.count) _ e).0)
+    end_at k xs (a ∷ gs) (suc j) g e h = let z : suc k + j ≡ k + suc j = omega arith in ap (λ d. is_last (last_of d xs None) g.count) (sym z) ∙ end_at (suc k) xs gs j g (both (is_last (last_of k xs None) a.count) _ e).1 h
 
     -- an ident of another
     pub other_cut : {second : Bool} (floor len d : ℕ) (xs : List (Changeset I)) (x : Changeset I) (g : Given I) → floor + length xs ≡ len → g.last ≤ len → x.origin ≢ d → Writable p second x.instrs → Cut p second floor xs d g → Cut p second floor (xs ++ x ∷ []) d (record g { reciprocal = g.reciprocal ++ (len, x) ∷ [] })
@@ -342,8 +342,8 @@ module _ {I S : Type 0} (p : Profile I S) where
           let k = is_number in
           put_if (numbers_on kept.entries (record { origin = x.origin; number = x.number; base = h.base; ms = x.ms; body = p.spell x.instrs }) (at_ident x.origin (map bare (idents_after c h.base es kept.len x 1 kept.idents)))) _ _
           (ap (numbers_on kept.entries (record { origin = x.origin; number = x.number; base = h.base; ms = x.ms; body = p.spell x.instrs })) (ap (λ d. at_ident d (map bare (idents_after c h.base es kept.len x 1 kept.idents))) stamps.origin ∙ at_new c here refl)
-          ∙ join2 (nat_le 1 x.number && nat_le x.number (suc g.count)) (follows (last_of x.origin kept.entries None) x.number)
-          (join2 (nat_le 1 x.number) (nat_le x.number (suc g.count)) (le-leb 1 x.number (omega arith)) (le-leb x.number (suc g.count) (omega arith)))
+          ∙ join (nat_le 1 x.number && nat_le x.number (suc g.count)) (follows (last_of x.origin kept.entries None) x.number)
+          (join (nat_le 1 x.number) (nat_le x.number (suc g.count)) (le-leb 1 x.number (omega arith)) (le-leb x.number (suc g.count) (omega arith)))
           (ap (λ d. follows (last_of d kept.entries None) x.number) stamps.origin ∙ follows_last (last_of c kept.entries None) last_end))
           ∙ ap (entry_read p (record { objects = kept.objects; entries = kept.entries; bases = kept.bases }) (record { origin = x.origin; number = x.number; base = h.base; ms = x.ms; body = p.spell x.instrs })) (ap (readable p second) (law.spelled x.instrs carried.0.small) ∙ carried.0.allowed)
           ∙ ap (grows_on (record { objects = kept.objects; entries = kept.entries; bases = kept.bases }) x h.base) acts

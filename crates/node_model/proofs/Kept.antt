@@ -16,7 +16,8 @@ use Rattle.node_model.specs.Fronts.{walk, uuid_step, is_among, retired_step, las
 use Rattle.node_model.proofs.Whole.{bare, kept_of, AllHeirs, no_heirs, one_heir}
 use Rattle.node_model.proofs.Lists.{heir_new, heir_other}
 use Rattle.node_model.proofs.Trims.{drop_length_is}
-use Rattle.node_model.proofs.Sound.{two, join2, walk_then, Counts, at_place, walk_more, OneCut, AllCut, Sound, sound_first, sound_marked, sound_form, heirs_at, sound_bound, dead_cut, none_cut, one_cut}
+use Rattle.node_model.proofs.Limits.{both}
+use Rattle.node_model.proofs.Sound.{join, walk_then, Counts, at_place, walk_more, OneCut, AllCut, Sound, sound_first, sound_marked, sound_form, heirs_at, sound_bound, dead_cut, none_cut, one_cut}
 use Rattle.node_model.proofs.Integrated.{taking, sound_integrated}
 
 module _ {I S : Type 0} (p : Profile I S) where
@@ -34,8 +35,8 @@ module _ {I S : Type 0} (p : Profile I S) where
     pub entry_kept : (kept : Parts I S) → Kept_ kept → (c : ℕ) (h : Change) (o : Option (Given I)) → at_ident c kept.idents ≡ o → Rattle.node_model.specs.Parts.admits_entry p kept c h o ≡ true → Kept_ (Rattle.node_model.specs.Parts.after_entry p kept c h o)
     entry_kept kept k c h None here e = k
     entry_kept kept k c h (Some g) here e =
-        let a = two (h.number == suc g.count) _ e in
-        let b = two (not (Rattle.node_model.specs.Parts.is_newer p (p.unspell h.body) && not kept.second)) _ a.1 in
+        let a = both (h.number == suc g.count) _ e in
+        let b = both (not (Rattle.node_model.specs.Parts.is_newer p (p.unspell h.body) && not kept.second)) _ a.1 in
         on (Rattle.node_model.specs.Parts.merge_by p kept c g h) refl (eqb-true h.number (suc g.count) a.0) b.1
       where
         on : (r : Result (Merged I S) ServerRefusal) → Rattle.node_model.specs.Parts.merge_by p kept c g h ≡ r → h.number ≡ suc g.count → Rattle.node_model.specs.Parts.is_integrated r ≡ true → Kept_ (Rattle.node_model.specs.Parts.after_change kept r)
@@ -53,7 +54,7 @@ module _ {I S : Type 0} (p : Profile I S) where
 
     pub mark_kept : (kept : Parts I S) → Kept_ kept → (c n : ℕ) (o : Option (Given I)) → Rattle.node_model.specs.Parts.admits_mark p kept n o ≡ true → Kept_ (record kept { idents = marked c n 1 kept.idents })
     mark_kept kept k c n None e = cc
-    mark_kept kept k c n (Some g) e = let a = two (nat_lt g.mark n) (nat_le n kept.len) e in record { sound = sound_marked p kept k.sound c n (leb-true n kept.len a.1); based = record { fits = k.based.fits; bounded = k.based.bounded; old = k.based.old } }
+    mark_kept kept k c n (Some g) e = let a = both (nat_lt g.mark n) (nat_le n kept.len) e in record { sound = sound_marked p kept k.sound c n (leb-true n kept.len a.1); based = record { fits = k.based.fits; bounded = k.based.bounded; old = k.based.old } }
 
     -- ---- an ident is retired
 
@@ -123,7 +124,7 @@ module _ {I S : Type 0} (p : Profile I S) where
         let heir_is = at_it c here in
         let one : retired_step (length kept.idents) kept.retired (c, by) ≡ Some (kept.retired ++ (c, by) ∷ []) =
         put_if ((is_among (length kept.idents) c && is_among (length kept.idents) by) && (not (c == by) && not (is_retired (heir_of c kept.retired)))) _ _
-        (join2 (is_among (length kept.idents) c && is_among (length kept.idents) by) _ (join2 (is_among (length kept.idents) c) (is_among (length kept.idents) by) (among c given_.0 given_.1) (among by heir_given.0 heir_given.1)) (join2 (not (c == by)) _ other (ap (λ o. not (is_retired o)) (sym heir_is) ∙ live))) in
+        (join (is_among (length kept.idents) c && is_among (length kept.idents) by) _ (join (is_among (length kept.idents) c) (is_among (length kept.idents) by) (among c given_.0 given_.1) (among by heir_given.0 heir_given.1)) (join (not (c == by)) _ other (ap (λ o. not (is_retired o)) (sym heir_is) ∙ live))) in
         record {
           spans = Rattle.node_model.proofs.Trims.retired_spans p kept s.spans c by;
           uuids = subst (λ us. walk uuid_step [] us ≡ Ok us) (sym (retired_uuids c by 1 kept.idents)) s.uuids;
@@ -144,7 +145,7 @@ module _ {I S : Type 0} (p : Profile I S) where
         at_it (suc j) e = let z : 1 + j ≡ suc j = omega arith in heirs_at p kept.retired 1 s.heirs j g e ∙ ap (λ d. heir_of d kept.retired) z
 
         among : (d : ℕ) → d ≢ 0 → d ≤ length kept.idents → is_among (length kept.idents) d ≡ true
-        among d ne le = join2 (nat_le 1 d) (nat_le d (length kept.idents)) (le-leb 1 d (positive d ne)) (le-leb d (length kept.idents) le)
+        among d ne le = join (nat_le 1 d) (nat_le d (length kept.idents)) (le-leb 1 d (positive d ne)) (le-leb d (length kept.idents) le)
           where
             positive : (m : ℕ) → m ≢ 0 → 1 ≤ m
             positive zero q = absurd (q refl)
@@ -157,11 +158,11 @@ module _ {I S : Type 0} (p : Profile I S) where
     pub retired_kept : (kept : Parts I S) → Kept_ kept → (c by : ℕ) (o q : Option (Given I)) → at_ident c kept.idents ≡ o → at_ident by kept.idents ≡ q → Rattle.node_model.specs.Parts.admits_retired p c by o q ≡ true → Kept_ (retired_for kept c by)
     retired_kept kept k c by None q here there e = cc
     retired_kept kept k c by (Some g) None here there e = cc
-    retired_kept kept k c by (Some g) (Some h) here there e = let a = two (not (c == by)) (not (is_retired g.heir)) e in record { sound = sound_retired kept k.sound c by g h here there a.0 a.1; based = record { fits = k.based.fits; bounded = k.based.bounded; old = k.based.old } }
+    retired_kept kept k c by (Some g) (Some h) here there e = let a = both (not (c == by)) (not (is_retired g.heir)) e in record { sound = sound_retired kept k.sound c by g h here there a.0 a.1; based = record { fits = k.based.fits; bounded = k.based.bounded; old = k.based.old } }
 
     pub record_kept : (kept : Parts I S) → Kept_ kept → (r : ServerRecord) → Rattle.node_model.specs.Parts.admits_part p kept r ≡ true → Kept_ (Rattle.node_model.specs.Parts.after_part p kept r)
     record_kept kept k (Client u) e = record {
-      sound = sound_bound p kept k.sound u (eqb-true (place_of u (map (λ g. g.uuid) kept.idents)) 0 (two (place_of u (map (λ g. g.uuid) kept.idents) == 0) _ e).0);
+      sound = sound_bound p kept k.sound u (eqb-true (place_of u (map (λ g. g.uuid) kept.idents)) 0 (both (place_of u (map (λ g. g.uuid) kept.idents) == 0) _ e).0);
       based = record { fits = k.based.fits; bounded = k.based.bounded; old = k.based.old };
     }
     record_kept kept k Form e = record { sound = sound_form p kept k.sound; based = record { fits = k.based.fits; bounded = k.based.bounded; old = λ z. absurd (never z) } }

@@ -35,6 +35,7 @@ pub mod Written
 pub mod Later
 pub mod Whole
 pub mod Fronts
+pub mod Trimmed
 pub mod Sound
 pub mod Integrated
 pub mod Kept

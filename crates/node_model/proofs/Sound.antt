@@ -15,20 +15,16 @@ use Rattle.node_model.specs.Worlds.{at}
 use Rattle.node_model.specs.Trims.{pairs_from, is_live, Spans}
 use Rattle.node_model.specs.Fronts.{Kept, further_on, walk, walk_on, uuid_step, is_among, retired_step, last_of, follows, is_last, all_end, Grows, numbers_on, entry_read, entry_step}
 use Rattle.node_model.proofs.Whole.{Writable, Tracks, no_pairs, own_entry, other_entry, bare, kept_of, AllHeirs, no_heirs, one_heir}
-use Rattle.node_model.proofs.Limits.{each_append}
+use Rattle.node_model.proofs.Limits.{each_append, both}
 use Rattle.node_model.proofs.Lists.{at_map, heir_new, heir_other}
 use Rattle.node_model.proofs.Alike.{not_below}
 use Rattle.node_model.proofs.Trims.{drop_length_is}
 
 -- ---- lists
 
-pub two : (a b : Bool) → (a && b) ≡ true → (a ≡ true) × (b ≡ true)
-two true b f = (refl, f)
-two false b f = cc
-
-pub join2 : (a b : Bool) → a ≡ true → b ≡ true → (a && b) ≡ true
-join2 true b e f = f
-join2 false b e f = e
+pub join : (a b : Bool) → a ≡ true → b ≡ true → (a && b) ≡ true
+join true b e f = f
+join false b e f = e
 
 pub each_weak : {X : Type 0} {P Q : X → Type 0} → ((x : X) → P x → Q x) → {xs : List X} → Each P xs → Each Q xs
 each_weak go no_more = no_more
@@ -68,14 +64,6 @@ module _ {I S : Type 0} (p : Profile I S) where
   unfolding Counts
   numbers_more as_ bs more xs e h = on (at_ident e.origin as_) refl h
     where
-      both : (a b : Bool) → (a && b) ≡ true → (a ≡ true) × (b ≡ true)
-      both true b f = (refl, f)
-      both false b f = cc
-
-      join : (a b : Bool) → a ≡ true → b ≡ true → (a && b) ≡ true
-      join true b f g = g
-      join false b f g = f
-
       on : (o : Option (Given I)) → at_ident e.origin as_ ≡ o → numbers_on xs e o ≡ true → numbers_on xs e (at_ident e.origin bs) ≡ true
       on None is f = cc
       on (Some g) is f =
@@ -327,22 +315,10 @@ module _ {I S : Type 0} (p : Profile I S) where
 
   pub ends_snoc : (c : ℕ) (xs : List (Changeset I)) (gs : List (Given I)) (g : Given I) → all_end c xs gs ≡ true → is_last (last_of (c + length gs) xs None) g.count ≡ true → all_end c xs (gs ++ g ∷ []) ≡ true
   ends_snoc c xs [] g e f = let z : c + 0 ≡ c = omega arith in join (is_last (last_of c xs None) g.count) true (ap (λ k. is_last (last_of k xs None) g.count) (sym z) ∙ f) refl
-    where
-      join : (a b : Bool) → a ≡ true → b ≡ true → (a && b) ≡ true
-      join true b e f = f
-      join false b e f = e
   ends_snoc c xs (h ∷ gs) g e f =
       let b = both (is_last (last_of c xs None) h.count) (all_end (suc c) xs gs) e in
       let z : c + suc (length gs) ≡ suc c + length gs = omega arith in
       join (is_last (last_of c xs None) h.count) (all_end (suc c) xs (gs ++ g ∷ [])) b.0 (ends_snoc (suc c) xs gs g b.1 (ap (λ k. is_last (last_of k xs None) g.count) (sym z) ∙ f))
-    where
-      both : (a b : Bool) → (a && b) ≡ true → (a ≡ true) × (b ≡ true)
-      both true b f = (refl, f)
-      both false b f = cc
-
-      join : (a b : Bool) → a ≡ true → b ≡ true → (a && b) ≡ true
-      join true b e f = f
-      join false b e f = e
 
   pub cut_snoc : {second : Bool} {floor : ℕ} {xs : List (Changeset I)} {c : ℕ} {gs : List (Given I)} (g : Given I) (d : ℕ) → AllCut second floor xs c gs → c + length gs ≡ d → OneCut second floor xs d g → AllCut second floor xs c (gs ++ g ∷ [])
   cut_snoc {second} {floor} {xs} {c} g d none_cut e t = let z : d ≡ c = omega arith in one_cut (subst (λ j. OneCut second floor xs j g) z t) none_cut
@@ -351,17 +327,9 @@ module _ {I S : Type 0} (p : Profile I S) where
   -- retired idents among more idents
   pub among_more : (n m c : ℕ) → n ≤ m → is_among n c ≡ true → is_among m c ≡ true
   among_more n m c le e =
-      let b = first_second (nat_le 1 c) (nat_le c n) e in
+      let b = both (nat_le 1 c) (nat_le c n) e in
       let l = leb-true c n b.1 in
       join (nat_le 1 c) (nat_le c m) b.0 (le-leb c m (omega arith))
-    where
-      first_second : (a b : Bool) → (a && b) ≡ true → (a ≡ true) × (b ≡ true)
-      first_second true b f = (refl, f)
-      first_second false b f = cc
-
-      join : (a b : Bool) → a ≡ true → b ≡ true → (a && b) ≡ true
-      join true b e f = f
-      join false b e f = e
 
   pub retired_more : (n m : ℕ) → n ≤ m → (acc qs z : List (ℕ × ℕ)) → walk (retired_step n) acc qs ≡ Ok z → walk (retired_step m) acc qs ≡ Ok z
   retired_more n m le acc [] z e = e
