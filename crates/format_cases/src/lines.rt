@@ -1,6 +1,7 @@
 //! Event lines and lines of one node.
 use crate::bytes::{bytes_of, columns_of};
 use crate::failure::Failure;
+use crate::tables::tables_text;
 use std::alloc::Global;
 use sync_codec::encode;
 use sync_data::{Changeset, Instr, Listed};
@@ -102,6 +103,10 @@ fn event_fields(alloc: Global, event: Event) -> Result<String, Failure> {
             format!(in alloc; "Inject {message}")
         }
         Event::Upgrade { client } => format!(in alloc; "Upgrade {}", client.text()),
+        Event::Subscribe { client, tables } => {
+            let tables = tables_text(alloc, &tables)?;
+            format!(in alloc; "Subscribe {}{tables}", client.text())
+        }
     };
     Ok(text?)
 }
@@ -115,6 +120,10 @@ fn node_fields(alloc: Global, line: NodeLine) -> Result<String, Failure> {
             format!(in alloc; "Commit {ms} {edits}")
         }
         NodeLine::Upgrade => format!(in alloc; "Upgrade"),
+        NodeLine::Subscribe { tables } => format!(in alloc;
+            "Subscribe{}",
+            tables_text(alloc, &tables)?
+        ),
     };
     Ok(text?)
 }

@@ -12,6 +12,7 @@ mod messages;
 mod numbers;
 mod records;
 mod strings;
+mod tables;
 mod values;
 
 use failure::Failure;

@@ -1,6 +1,7 @@
 //! Messages: their bytes, and what they are.
 use crate::bytes::{bytes_of, columns_of};
 use crate::failure::Failure;
+use crate::tables::tables_text;
 use std::alloc::Global;
 use sync_messages::{Change, Message, Sent, message_bytes, message_of};
 
@@ -95,6 +96,24 @@ fn fields_of(alloc: Global, message: &Message) -> Result<String, Failure> {
             ask.cursor(),
             ask.settled()
         ),
+        Message::Retire(retire) => format!(in alloc; "Retire {} {}", retire.ident(), retire.by()),
+        Message::Retired(retired) => format!(in alloc;
+            "Retired {} {} {}",
+            retired.ident(),
+            retired.by(),
+            retired.number()
+        ),
+        Message::AskTables(asked) => {
+            let ask = asked.ask();
+            let tables = tables_text(alloc, asked.tables())?;
+            format!(in alloc;
+                "AskTables {} {} {} {}{tables}",
+                ask.ident(),
+                ask.cursor(),
+                ask.settled(),
+                asked.form()
+            )
+        }
     };
     Ok(text?)
 }

@@ -1,6 +1,7 @@
 //! Records of journals: their bytes, and what they are.
 use crate::bytes::{bytes_of, columns_of};
 use crate::failure::Failure;
+use crate::tables::tables_text;
 use std::alloc::Global;
 use sync_records::{ClientRecord, ServerRecord};
 
@@ -62,6 +63,15 @@ fn client_fields(alloc: Global, record: &ClientRecord) -> Result<String, Failure
             format!(in alloc; "Took {origin} {number} {ms} {body}")
         }
         ClientRecord::Form => format!(in alloc; "Form 2"),
+        ClientRecord::Subset { tables } => format!(in alloc;
+            "Subset{}",
+            tables_text(alloc, tables)?
+        ),
+        ClientRecord::Part { body } => format!(in alloc;
+            "Part {}",
+            hex::encode(alloc, body.bytes())?
+        ),
+        ClientRecord::Floor { version } => format!(in alloc; "Floor {version}"),
     };
     Ok(text?)
 }
@@ -84,6 +94,47 @@ fn server_fields(alloc: Global, record: &ServerRecord) -> Result<String, Failure
             format!(in alloc; "Entry {origin} {number} {base} {ms} {body}")
         }
         ServerRecord::Form => format!(in alloc; "Form 2"),
+        ServerRecord::Retired { ident, by } => format!(in alloc; "Retired {ident} {by}"),
+        ServerRecord::Settled { ident, settled } => format!(in alloc; "Settled {ident} {settled}"),
+        _ => return front_fields(alloc, record),
+    };
+    Ok(text?)
+}
+
+/// The same of the records with which a trimmed file begins.
+fn front_fields(alloc: Global, record: &ServerRecord) -> Result<String, Failure> {
+    let text = match record {
+        ServerRecord::Part { body } => format!(in alloc;
+            "Part {}",
+            hex::encode(alloc, body.bytes())?
+        ),
+        ServerRecord::Floor { version } => format!(in alloc; "Floor {version}"),
+        ServerRecord::Count {
+            ident,
+            number,
+            base,
+            settled,
+        } => format!(in alloc; "Count {ident} {number} {base} {settled}"),
+        ServerRecord::Carried {
+            origin,
+            number,
+            base,
+            ms,
+            body,
+        } => {
+            let body = hex::encode(alloc, body.bytes())?;
+            format!(in alloc; "Carried {origin} {number} {base} {ms} {body}")
+        }
+        ServerRecord::Past {
+            ident,
+            version,
+            ms,
+            body,
+        } => {
+            let body = hex::encode(alloc, body.bytes())?;
+            format!(in alloc; "Past {ident} {version} {ms} {body}")
+        }
+        _ => return Err(Failure::Line),
     };
     Ok(text?)
 }

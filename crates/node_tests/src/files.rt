@@ -39,7 +39,7 @@ fn no_server(alloc: Global, bytes: &[u8], place: u64) -> bool {
 // Not how a journal begins.
 const OTHER_HEAD: &[u8] = b"RSYNCJ02\x01\0";
 
-// No record has the tag 9.
+// A record that ends behind its tag.
 const NO_RECORD: &[u8] = b"RSYNCJ01\x01\0\0\0\x01\x09\0";
 
 const CLIENTS: [(&[u8], u64); 4] = [

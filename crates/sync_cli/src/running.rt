@@ -76,7 +76,11 @@ fn run_over_memory<I: Read + Drop, O: Write + Drop>(
 fn writes(command: FileCommand) -> bool {
     match command {
         FileCommand::Edit | FileCommand::Take | FileCommand::Serve => true,
-        FileCommand::Send | FileCommand::Ask | FileCommand::Show => false,
+        FileCommand::Send
+        | FileCommand::Ask
+        | FileCommand::Show
+        | FileCommand::Retire { ident: _ }
+        | FileCommand::Rescue { after: _ } => false,
     }
 }
 
@@ -141,7 +145,7 @@ pub fn run_words<I: Read + Drop, O: Write + Drop>(
     ensures unknown { ((job : Job) → AsksFor job (map string_bytes words.now) → ⊥) → (result ≡ End.Ran Status.BadWords) ⊎ (result ≡ End.Ran Status.NoMemory) }
 {
     match (job_of(words), words) {
-        (Some(Job::File { command }), [_, path]) => {
+        (Some(Job::File { command }), [_, path, ..]) => {
             let path = path.as_str();
             if writes(command) || is_short(rt, path) {
                 return run_holding(rt, words, path, input, output);

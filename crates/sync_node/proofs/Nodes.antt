@@ -11,7 +11,10 @@ use Rattle.sync_journal.specs.Records.{StandsForPrefix, records_of}
 use Rattle.sync_journal.specs.Records.Reading.{Good}
 use Rattle.sync_journal.specs.Stands.{disk_of}
 use Rattle.sync_model.specs.Clients.{ClientRecord, ClientRefusal, ClientStep}
-use Rattle.sync_model.specs.Servers.{ServerRecord, ServerStep}
+use Rattle.sync_base.specs.States.{State}
+use Rattle.sync_data.specs.declared.instr.Instr.{Instr}
+use Rattle.sync_model.specs.Parts.{Served}
+use Rattle.sync_model.specs.Servers.{ServerRecord}
 use Rattle.sync_exchange.specs.Seen.{client_bytes, message_seen, server_bytes}
 use Rattle.sync_client.specs.Clients as clients
 use Rattle.sync_client.specs.Refusals.{IfSeen, refusal_seen}
@@ -92,6 +95,7 @@ plain_seen codes.NotNamed a b c e = cc
 plain_seen codes.TooLarge a b c e = cc
 plain_seen codes.NumbersFull a b c e = cc
 plain_seen (codes.OldForm place) a b c e = cc
+plain_seen (codes.NotSubscribed place) a b c e = cc
 plain_seen (codes.Break place code) a b c e = cc
 plain_seen codes.NotMine a b c e = cc
 plain_seen (codes.IdentDiffers kept got) a b c e = cc
@@ -102,10 +106,12 @@ plain_seen (codes.Mismatch version number kind) a b c e = cc
 plain_seen (codes.Forked number) a b c e = cc
 plain_seen (codes.NotApplicable version place code) a b c e = cc
 plain_seen (codes.WasRefused number code) a b c e = cc
+plain_seen codes.Subscribed a b c e = cc
+plain_seen codes.TooLate a b c e = cc
 
 -- ---- a server's call is answered
 module _ {D : Type 0} {G : Ghosts D} where
-  pub replied_ok : (did : ServerStep) (records : List ServerRecord) (new : Server D G) (reply : CodeMessage) (text : List ℕ) → servers.Did did reply records new → servers.IsStored G.content G.images (records ++ did.records) new → text ≡ frame (message_seen reply)
+  pub replied_ok : (did : Served Instr State) (records : List ServerRecord) (new : Server D G) (reply : CodeMessage) (text : List ℕ) → servers.Did did reply records new → servers.IsStored G.content G.images (records ++ did.records) new → text ≡ frame (message_seen reply)
       → AnswersSo (Some (replied did)) records text (λ rs. ServerStands rs new)
   replied_ok did records new reply text step stored framed = record {
     answer = replied did;

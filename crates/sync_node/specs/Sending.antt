@@ -1,9 +1,9 @@
 -- What a client over a file sends.
-use Rattle.std.specs.Prelude.{◌==◌, ℕ, if◌then◌else◌, List, [], Result, Ok, Err}
+use Rattle.std.specs.Prelude.{◌==◌, ◌≤◌, ℕ, if◌then◌else◌, List, [], Result, Ok, Err}
 use Rattle.sync_data.specs.declared.instr.Instr.{Instr}
 use Rattle.sync_base.specs.States.{State}
-use Rattle.sync_model.specs.Clients.{Client, ClientRecord, ClientRefusal, ClientStep, ask, bind, client_of, upload}
-use Rattle.sync_model.specs.Messages.{Message}
+use Rattle.sync_model.specs.Clients.{Client, ClientRecord, ClientRefusal, ClientStep, NotNamed, answers, ask, bind, client_of, refuse, upload, upload_from}
+use Rattle.sync_model.specs.Messages.{Message, Retire}
 use Rattle.sync_exchange.specs.Profile.{the_profile}
 use Rattle.sync_node.specs.Frames.{frame}
 use Rattle.sync_node.specs.declared.sending.Errand.{Errand}
@@ -13,9 +13,20 @@ use Rattle.sync_node.specs.declared.sending.Errand.TheVariants as errands
 abbrev pub send : Client Instr State → ClientStep Message
 send c = if c.ident == 0 then bind c else upload the_profile c
 
+-- a client with an ident gives another one up, whose changes it takes over
+abbrev pub retire : ℕ → Client Instr State → ClientStep Message
+retire ident c = if c.ident == 0 then refuse NotNamed else answers (Retire ident c.ident)
+
 abbrev pub step_of : Errand → Client Instr State → ClientStep Message
 step_of errands.Send c = send c
 step_of errands.Ask c = ask c
+step_of (errands.Retire ident) c = retire ident c
+step_of (errands.Rescue after) c = upload_from the_profile c after
+
+-- idents are counted from 1
+abbrev pub IsErrand : Errand → Type 0
+IsErrand (errands.Retire ident) = 1 ≤ ident
+IsErrand errand = Unit {0}
 
 -- the frame of a message; of one that the client refuses to make, nothing
 abbrev pub frames_of : Result Message ClientRefusal → List ℕ
@@ -25,9 +36,3 @@ frames_of (Err why) = []
 -- what a client of these records writes
 abbrev pub text_of : Errand → List ClientRecord → List ℕ
 text_of errand records = frames_of (step_of errand (client_of the_profile records)).answer
-
-abbrev pub sent : List ClientRecord → List ℕ
-sent records = frames_of (send (client_of the_profile records)).answer
-
-abbrev pub asked : List ClientRecord → List ℕ
-asked records = frames_of (ask (client_of the_profile records)).answer

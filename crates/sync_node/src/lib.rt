@@ -31,7 +31,7 @@ pub use lines::Lines;
 pub use opening::{Ended, open_client, open_server};
 pub use reader::ItemReader;
 pub use run::run_items;
-pub use sending::{ask, send};
+pub use sending::{Errand, tell};
 pub use serving::serve;
 pub use showing::show;
 pub use taking::take;

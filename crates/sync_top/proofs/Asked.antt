@@ -6,7 +6,7 @@ use Rattle.sync_top.specs.declared.job.Job.{Job}
 use Rattle.sync_top.specs.declared.job.Job.TheVariants as jobs
 use Rattle.sync_top.specs.declared.job.FileCommand.{FileCommand}
 use Rattle.sync_top.specs.declared.job.FileCommand.TheVariants as commands
-use Rattle.sync_top.specs.Jobs.{AsksFor, most_turns}
+use Rattle.sync_top.specs.Jobs.{AsksFor, IsFileCommand, most_turns}
 use Rattle.sync_top.specs.Statuses.{IsJobStatus}
 use Rattle.sync_top.specs.Commands.{IsFileStatus}
 use Rattle.sync_top.specs.Playing.{Writes}
@@ -22,6 +22,10 @@ module _ (o : Option Job) (words : List (List ℕ)) (exact : (job : Job) → (o 
   pub is_asked : (job : Job) → o ≡ Some job → AsksFor job words
   is_asked job is = (exact job).0 is
 
+  -- the number of a command over a file is one that it takes
+  pub has_number : (job : Job) → o ≡ Some job → (command : FileCommand) → job ≡ jobs.File command → IsFileCommand command
+  has_number job is command same = (subst (λ j. AsksFor j words) same (is_asked job is)).2
+
   -- a generated exchange has few turns
   pub few_turns : (job : Job) → o ≡ Some job → (seed count : ℕ) → job ≡ jobs.Generate seed count → count ≤ most_turns
   few_turns job is seed count same = (subst (λ j. AsksFor j words) same (is_asked job is)).2
@@ -33,6 +37,8 @@ no_file_bad_words commands.Ask is = is
 no_file_bad_words commands.Take is = is
 no_file_bad_words commands.Serve is = is
 no_file_bad_words commands.Show is = is
+no_file_bad_words (commands.Retire ident) is = is
+no_file_bad_words (commands.Rescue after) is = is
 
 no_bad_words : (job : Job) → IsJobStatus job statuses.BadWords → ⊥
 no_bad_words jobs.Replay is = is

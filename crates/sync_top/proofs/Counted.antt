@@ -8,7 +8,8 @@ use Rattle.sync_value_text.specs.Forms.{◌>>=◌, provided}
 use Rattle.sync_value_text.specs.Fields.{exactly_form, text_form, name_form, id_form, hex_form, number_form, place_form}
 use Rattle.sync_edits.specs.declared.event.Event.{Event}
 use Rattle.sync_edits.specs.Edits.{edits_form}
-use Rattle.sync_edits.specs.Events.{client_form, transaction_form, only_client, bind_form, upload_form, ask_form, upgrade_form, deliver_form, restart_form, at_form, leaves_of_word, stop_form, inject_form, event_by_word, event_form}
+use Rattle.sync_edits.specs.Events.{client_form, transaction_form, only_client, bind_form, upload_form, ask_form, upgrade_form, subscribe_form, deliver_form, restart_form, at_form, leaves_of_word, stop_form, inject_form, event_by_word, event_form}
+use Rattle.sync_edits.specs.Tables.{tables_form}
 use Rattle.sync_edits.specs.Lines.{event_form_of_line, line_data}
 use Rattle.sync_world.specs.Events.{IsCounted}
 
@@ -46,6 +47,10 @@ asks d = step (only_client d) _ (λ client _. tt)
 upgrades : (d : Data) → AreCounted (upgrade_form d)
 unfolding upgrade_form
 upgrades d = step (only_client d) _ (λ client _. tt)
+
+subscribes : (d : Data) → AreCounted (subscribe_form d)
+unfolding subscribe_form
+subscribes d = step (exactly_form 3 d) _ (λ all _. step (name_form d (codes "client")) _ (λ client _. step (tables_form d) _ (λ tables _. tt)))
 
 deliveries : (d : Data) → AreCounted (deliver_form d)
 unfolding deliver_form
@@ -88,7 +93,8 @@ by_word word d =
     (either (bytes_eq word (codes "restart")) _ _ (restarts d)
     (either (bytes_eq word (codes "stop")) _ _ (stops d)
     (either (bytes_eq word (codes "inject")) _ _ (injects d)
-    (either (bytes_eq word (codes "upgrade")) _ None (upgrades d) tt)))))))))
+    (either (bytes_eq word (codes "upgrade")) _ _ (upgrades d)
+    (either (bytes_eq word (codes "subscribe")) _ None (subscribes d) tt))))))))))
 
 of_data : (d : Data) → AreCounted (event_form d)
 unfolding event_form

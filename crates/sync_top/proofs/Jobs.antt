@@ -1,5 +1,5 @@
 -- Numbers in decimal as words, and the words of each command.
-use Rattle.std.proofs.Common.{◌≡◌, ◌≢◌, ◌<◌, ◌≤◌, ◌^◌, ℕ, Bool, true, false, List, [], ◌∷◌, length, get_or, map, codes, Option, Some, Result, Ok, Err, refl, sym, ap, subst, ◌∙◌, arith}
+use Rattle.std.proofs.Common.{◌≡◌, ◌≢◌, ◌<◌, ◌≤◌, ◌^◌, ℕ, Bool, true, false, List, [], ◌∷◌, length, get_or, map, codes, Option, None, Some, Result, Ok, Err, refl, sym, ap, subst, ◌∙◌, arith}
 use Rattle.std.specs.Fmt.{decimal}
 use Rattle.std.specs.Result.{result_ok}
 use Rattle.std.specs.Str.Parse.{AllDigits, IsNumeral, ParsesUnsigned, digits_value}
@@ -11,7 +11,9 @@ use Rattle.std.specs.Int.{IsInRange}
 use Rattle.std.specs.Str.{bytes_eq}
 use Rattle.sync_top.specs.declared.job.Job.{Job}
 use Rattle.sync_top.specs.declared.job.Job.TheVariants as jobs
-use Rattle.sync_top.specs.Jobs.{AsksFor, IsExchange, IsFileJob, IsNumber, is_padded}
+use Rattle.sync_top.specs.declared.job.FileCommand.{FileCommand}
+use Rattle.sync_top.specs.declared.job.FileCommand.TheVariants as commands
+use Rattle.sync_top.specs.Jobs.{AsksFor, IsExchange, IsFileCommand, IsFileJob, IsNumber, IsNumberedJob, IsPlain, IsShortNumber, command_word, is_padded, more_words}
 
 own : IsNumeralModel (AllDigits 10) (digits_value 10)
 own = numerals_by_value (AllDigits 10) tells_digits
@@ -75,6 +77,58 @@ three_items f (x ∷ y ∷ z ∷ w ∷ xs) a1 a2 a3 b1 b2 b3 low high e1 e2 e3 i
 pub is_text : (r : Bool) (xs ys : List ℕ) → r ≡ bytes_eq xs ys → r ≡ true → xs ≡ ys
 is_text r xs ys e t = (bytes_eq-Decides xs ys).0 (sym e ∙ t)
 
+-- ---- commands over a file
+-- one that takes no number, and has no word after the file
+plain_more : (command : FileCommand) → IsPlain command → more_words command ≡ []
+plain_more commands.Edit is = refl
+plain_more commands.Send is = refl
+plain_more commands.Ask is = refl
+plain_more commands.Take is = refl
+plain_more commands.Serve is = refl
+plain_more commands.Show is = refl
+plain_more (commands.Retire ident) is = absurd is
+plain_more (commands.Rescue after) is = absurd is
+
+plain_command : (command : FileCommand) → IsPlain command → IsFileCommand command
+plain_command commands.Edit is = tt
+plain_command commands.Send is = tt
+plain_command commands.Ask is = tt
+plain_command commands.Take is = tt
+plain_command commands.Serve is = tt
+plain_command commands.Show is = tt
+plain_command (commands.Retire ident) is = absurd is
+plain_command (commands.Rescue after) is = absurd is
+
+none_plain : (command : FileCommand) → more_words command ≡ [] → IsPlain command
+none_plain commands.Edit is = tt
+none_plain commands.Send is = tt
+none_plain commands.Ask is = tt
+none_plain commands.Take is = tt
+none_plain commands.Serve is = tt
+none_plain commands.Show is = tt
+none_plain (commands.Retire ident) is = cc
+none_plain (commands.Rescue after) is = cc
+
+-- no command over a file has the word of an exchange
+not_gen : (command : FileCommand) → codes "gen" ≡ command_word command → ⊥
+not_gen commands.Edit is = cc
+not_gen commands.Send is = cc
+not_gen commands.Ask is = absurd (omega (arith, ap (λ w. get_or w 0 0) is))
+not_gen commands.Take is = cc
+not_gen commands.Serve is = cc
+not_gen commands.Show is = cc
+not_gen (commands.Retire ident) is = cc
+not_gen (commands.Rescue after) is = cc
+
+-- what three words ask for, and nothing else
+abbrev pub AreJob : Option Job → List ℕ → List ℕ → List ℕ → Type 0
+AreJob o word second third = (job : Job) → (o ≡ Some job → IsNumberedJob job word second third) × (IsNumberedJob job word second third → o ≡ Some job)
+
+pub gen_job : (word second third : List ℕ) (o : Option Job) → word ≡ codes "gen" → ((job : Job) → (o ≡ Some job → IsExchange job second third) × (IsExchange job second third → o ≡ Some job)) → AreJob o word second third
+gen_job word second third o is exact jobs.Replay = (λ some. (exact jobs.Replay).0 some, λ none. absurd none)
+gen_job word second third o is exact (jobs.Generate seed count) = (λ some. (is, (exact (jobs.Generate seed count)).0 some), λ asks. (exact (jobs.Generate seed count)).1 asks.1)
+gen_job word second third o is exact (jobs.File command) = (λ some. absurd ((exact (jobs.File command)).0 some), λ asks. absurd (not_gen command (sym is ∙ asks.0)))
+
 -- ---- all words
 -- one word
 pub one_word : (words : List (List ℕ)) (word : List ℕ) → words ≡ word ∷ [] → word ≡ codes "replay" → (job : Job) → (Some jobs.Replay ≡ Some job → AsksFor job words) × (AsksFor job words → Some jobs.Replay ≡ Some job)
@@ -88,18 +142,20 @@ pub two_words : (words : List (List ℕ)) (word file : List ℕ) (o : Option Job
 two_words words word file o are exact jobs.Replay = (λ some. absurd ((exact jobs.Replay).0 some), λ e. absurd (omega (arith, ap length (sym are ∙ e))))
 two_words words word file o are exact (jobs.Generate seed count) = (λ some. absurd ((exact (jobs.Generate seed count)).0 some), λ e. absurd (omega (arith, ap length (sym are ∙ e.0))))
 two_words words word file o are exact (jobs.File command) = (
-  λ some. (file, are ∙ ap (λ w. w ∷ file ∷ []) ((exact (jobs.File command)).0 some)),
-  λ asked. (exact (jobs.File command)).1 (let same = sym are ∙ asked.1 in cc),
+  λ some. let got = (exact (jobs.File command)).0 some in (file, let none = plain_more command got.0 in let word_is = got.1 in cc, plain_command command got.0),
+  λ asked. let same = sym are ∙ asked.1 in (exact (jobs.File command)).1 (none_plain command cc, cc),
 )
 
 -- three words
-pub three_words : (words : List (List ℕ)) (word seed count : List ℕ) (o : Option Job) → words ≡ word ∷ seed ∷ count ∷ [] → word ≡ codes "gen" → ((job : Job) → (o ≡ Some job → IsExchange job seed count) × (IsExchange job seed count → o ≡ Some job))
+pub three_words : (words : List (List ℕ)) (word second third : List ℕ) (o : Option Job) → words ≡ word ∷ second ∷ third ∷ [] → AreJob o word second third
     → (job : Job) → (o ≡ Some job → AsksFor job words) × (AsksFor job words → o ≡ Some job)
-three_words words word seed count o are is exact jobs.Replay =
+three_words words word second third o are exact jobs.Replay =
     (λ some. absurd ((exact jobs.Replay).0 some), λ e. absurd (omega (arith, ap length (sym are ∙ e))))
-three_words words word seed count o are is exact (jobs.File command) =
-    (λ some. absurd ((exact (jobs.File command)).0 some), λ e. absurd (omega (arith, ap length (sym are ∙ e.1))))
-three_words words word seed count o are is exact (jobs.Generate s n) = (
-  λ some. let got = (exact (jobs.Generate s n)).0 some in (let first = got.0.0 in let second = got.1.0 in cc, got.0.1, got.2),
-  λ asked. (exact (jobs.Generate s n)).1 (let same = sym are ∙ asked.0 in ((cc, asked.1), (cc, omega (arith, asked.2)), asked.2)),
+three_words words word second third o are exact (jobs.File command) = (
+  λ some. let got = (exact (jobs.File command)).0 some in (second, let word_is = got.0 in let more = got.1 in cc, got.2),
+  λ asked. let same = sym are ∙ asked.1 in (exact (jobs.File command)).1 (cc, cc, asked.2),
+)
+three_words words word second third o are exact (jobs.Generate s n) = (
+  λ some. let got = (exact (jobs.Generate s n)).0 some in (let is = got.0 in let first = got.1.0.0 in let last = got.1.1.0 in cc, got.1.0.1, got.1.2),
+  λ asked. (exact (jobs.Generate s n)).1 (let same = sym are ∙ asked.0 in (cc, ((cc, asked.1), (cc, omega (arith, asked.2)), asked.2))),
 )

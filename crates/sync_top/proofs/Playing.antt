@@ -66,6 +66,7 @@ fits n Words.Armed e small = tt
 fits n Words.Stopped e small = tt
 fits n Words.Upgraded e small = tt
 fits n Words.Current e small = tt
+fits n Words.SubscribedTo e small = tt
 fits n (Words.Declined why) e small = tt
 fits n Words.NameTaken e small = tt
 fits n Words.UuidTaken e small = tt

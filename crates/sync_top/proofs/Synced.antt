@@ -10,7 +10,8 @@ use Rattle.sync_model.specs.Worlds.{Edits, Event, IsReached, Made, World, empty_
 use Rattle.sync_exchange.specs.Profile.{the_profile}
 use Rattle.sync_top.specs.Runs.{Passes, run_from}
 use Rattle.sync_top.specs.Exchange.{answers, report, events_of}
-use Rattle.sync_top.specs.Synced.{IsSynced, first}
+use Rattle.sync_top.specs.Generated.{after, world_by}
+use Rattle.sync_top.specs.Synced.{AgreeWhereQuiet, AllCatchUp, IsSynced, first}
 use Rattle.sync_top.proofs.Born.{events_born}
 use Rattle.sync_top.proofs.Events.{events_left, first_left}
 use Rattle.sync_top.proofs.Named.{event_named}
@@ -22,11 +23,19 @@ pub record Laws : Type 0 where
   pub acknowledged : (w : World) (name : Name) (ms number : ℕ) (edits : List Instr) (es : List (Event Instr))
       → (happens the_profile w (Edits name ms edits)).words ≡ Made number
       → Stands the_profile (world_after the_profile (happens the_profile w (Edits name ms edits)).world es) name number ms edits
+  pub quiet : (w : World) → IsReached the_profile w → AgreeWhereQuiet w
+  pub progress : (w : World) → IsReached the_profile w → AllCatchUp w
 
 -- one list of events after another
 after_both : (before after : List (Event Instr)) (w : World) → world_after the_profile w (before ++ after) ≡ world_after the_profile (world_after the_profile w before) after
 after_both [] after w = refl
 after_both (e ∷ es) after w = after_both es after (happens the_profile w e).world
+
+-- the world after the events of a generated exchange
+generated_left : (w : World) (es : List (Event Instr)) → world_by w es ≡ world_after the_profile w es
+unfolding after
+generated_left w [] = refl
+generated_left w (e ∷ es) = generated_left (happens the_profile w e).world es
 
 module _ (laws : Laws) where
   pub synced : (events : List (Event Instr)) (w : World) → w ≡ world_after the_profile empty_world events → IsSynced events w
@@ -38,6 +47,8 @@ module _ (laws : Laws) where
         subst (λ v. Stands the_profile v name number ms edits) (sym (made_by ∙ ap (world_after the_profile empty_world) split ∙ after_both before (Edits name ms edits ∷ after) empty_world))
         (laws.acknowledged (world_after the_profile empty_world before) name ms number edits after made);
     named = λ before after e split. event_named (world_after the_profile empty_world before) (events_born the_profile before) (laws.facts (world_after the_profile empty_world before) (before, refl)) e;
+    quiet = laws.quiet w (events, sym made_by);
+    progress = laws.progress w (events, sym made_by);
   }
 
   -- what a replay leaves, and the world behind its first lines
@@ -46,3 +57,7 @@ module _ (laws : Laws) where
 
   pub first_synced : (reading : Reading) (lines : ℕ) (text : List ℕ) (w : World) (rest : Reading) → Passes answers lines reading empty_world text w rest → IsSynced (events_of (first lines reading)) w
   first_synced reading lines text w rest p = synced (events_of (first lines reading)) w (first_left lines reading rest empty_world w text p)
+
+  -- and what a generated exchange leaves
+  pub generated_synced : (events : List (Event Instr)) → IsSynced events (world_by empty_world events)
+  generated_synced events = synced events _ (generated_left empty_world events)

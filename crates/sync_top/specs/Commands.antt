@@ -9,7 +9,8 @@ use Rattle.sync_exchange.specs.Seen.{client_bytes, server_bytes}
 use Rattle.sync_node.specs.Items.{Items, frames_of, lines_of}
 use Rattle.sync_node.specs.Opening.{HoldsThose, client_file, server_file}
 use Rattle.sync_node.specs.Runs.{Answer, DiskHolds, FollowsTold, IsNodeStatus, Left, added, is_fault, runs}
-use Rattle.sync_node.specs.Sending.{asked, sent}
+use Rattle.sync_node.specs.Sending.{text_of}
+use Rattle.sync_node.specs.declared.sending.Errand.TheVariants as errands
 use Rattle.sync_node.specs.Showing.{node_file, shown}
 use Rattle.sync_node.specs.Steps.{IsValid, edit_step, is_message, is_node_line, serve_step, take_step}
 use Rattle.sync_node.specs.Texts.{IsMade, IsTellStatus, TellsBad, Writes}
@@ -51,9 +52,11 @@ module _ {D : Type 0} (content : D → Option (List ℕ)) (images : D → List �
   Does moment images_since commands.Edit left status first last old new = AnswersItems client_file client_bytes edit_step (lines_of left) status first last old new
   Does moment images_since commands.Take left status first last old new = AnswersItems client_file client_bytes take_step (frames_of left) status first last old new
   Does moment images_since commands.Serve left status first last old new = AnswersItems server_file server_bytes serve_step (frames_of left) status first last old new
-  Does moment images_since commands.Send left status first last old new = TellsText moment images_since client_file sent status first last old new
-  Does moment images_since commands.Ask left status first last old new = TellsText moment images_since client_file asked status first last old new
+  Does moment images_since commands.Send left status first last old new = TellsText moment images_since client_file (text_of errands.Send) status first last old new
+  Does moment images_since commands.Ask left status first last old new = TellsText moment images_since client_file (text_of errands.Ask) status first last old new
   Does moment images_since commands.Show left status first last old new = TellsText moment images_since node_file shown status first last old new
+  Does moment images_since (commands.Retire ident) left status first last old new = TellsText moment images_since client_file (text_of (errands.Retire ident)) status first last old new
+  Does moment images_since (commands.Rescue after) left status first last old new = TellsText moment images_since client_file (text_of (errands.Rescue after)) status first last old new
 
 -- ---- valid inputs and files
 abbrev pub IsNodeFile : {R : Type 0} → (List ℕ → Result R ℕ) → List ℕ → Type 0
@@ -67,6 +70,8 @@ IsFileFor commands.Serve bytes = IsNodeFile server_file bytes
 IsFileFor commands.Send bytes = IsNodeFile client_file bytes
 IsFileFor commands.Ask bytes = IsNodeFile client_file bytes
 IsFileFor commands.Show bytes = IsNodeFile node_file bytes
+IsFileFor (commands.Retire ident) bytes = IsNodeFile client_file bytes
+IsFileFor (commands.Rescue after) bytes = IsNodeFile client_file bytes
 
 -- each line or frame is one of the command's
 abbrev pub IsInputFor : FileCommand → Option (List ℕ) → Type 0
@@ -76,6 +81,8 @@ IsInputFor commands.Serve left = IsValid is_message (frames_of left)
 IsInputFor commands.Send left = Unit {0}
 IsInputFor commands.Ask left = Unit {0}
 IsInputFor commands.Show left = Unit {0}
+IsInputFor (commands.Retire ident) left = Unit {0}
+IsInputFor (commands.Rescue after) left = Unit {0}
 
 -- the ends of a command over a file; those that read nothing have none of reading
 abbrev pub IsFileStatus : FileCommand → Status → Type 0
@@ -85,6 +92,8 @@ IsFileStatus commands.Serve status = IsNodeStatus status
 IsFileStatus commands.Send status = IsTellStatus status
 IsFileStatus commands.Ask status = IsTellStatus status
 IsFileStatus commands.Show status = IsTellStatus status
+IsFileStatus (commands.Retire ident) status = IsTellStatus status
+IsFileStatus (commands.Rescue after) status = IsTellStatus status
 
 -- the commands that read no input
 abbrev pub ReadsNothing : FileCommand → Type 0
@@ -94,3 +103,5 @@ ReadsNothing commands.Serve = ⊥
 ReadsNothing commands.Send = Unit {0}
 ReadsNothing commands.Ask = Unit {0}
 ReadsNothing commands.Show = Unit {0}
+ReadsNothing (commands.Retire ident) = Unit {0}
+ReadsNothing (commands.Rescue after) = Unit {0}

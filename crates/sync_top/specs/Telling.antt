@@ -25,6 +25,7 @@ is_refused Words.Armed = false
 is_refused Words.Stopped = false
 is_refused Words.Upgraded = false
 is_refused Words.Current = false
+is_refused Words.SubscribedTo = false
 is_refused (Words.Declined why) = true
 is_refused Words.NameTaken = true
 is_refused Words.UuidTaken = true

@@ -2,13 +2,14 @@ ghost use Rattle.std.specs.Prelude.{◌≡◌, ◌≤◌, ℕ};
 ghost use Rattle.sync_disk.specs.Disk.{Rose, Told};
 ghost use Rattle.sync_io.specs.Faults.{HasRisen};
 ghost use Rattle.sync_top.specs.Commands.{Does, IsFileFor, IsFileStatus, IsInputFor, ReadsNothing};
+ghost use Rattle.sync_top.specs.Jobs.{IsFileCommand};
 ghost use Rattle.sync_top.specs.Runs.{IsDoneOrNoMemory};
 
 use super::job::FileCommand;
 use std::alloc::Global;
 use sync_disk::Disk;
 use sync_io::{Sink, Source, Status};
-use sync_node::{ask, edit, send, serve, show, take};
+use sync_node::{Errand, edit, serve, show, take, tell};
 
 /// Runs a command over the file of a node (docs/FORMATS.md, "Commands").
 pub(crate) fn run_file<S: Source, K: Sink, D: Disk>(
@@ -18,6 +19,7 @@ pub(crate) fn run_file<S: Source, K: Sink, D: Disk>(
     sink: &mut K,
     disk: &mut D,
 ) -> Status
+    requires { IsFileCommand command }
     ensures does { Does D.content D.images D.moment D.images_since command (S.left source.old) result disk.old disk.new (K.taken sink.old) (K.taken sink.new) }
     ensures unread { ReadsNothing command → source.new ≡ source.old }
     ensures bad_untouched { (place : ℕ) → result ≡ Status.BadFile place → (source.new ≡ source.old) × (sink.new ≡ sink.old) }
@@ -35,10 +37,12 @@ pub(crate) fn run_file<S: Source, K: Sink, D: Disk>(
 {
     match command {
         FileCommand::Edit => edit(alloc, source, sink, disk),
-        FileCommand::Send => send(alloc, sink, disk),
-        FileCommand::Ask => ask(alloc, sink, disk),
+        FileCommand::Send => tell(alloc, sink, disk, Errand::Send),
+        FileCommand::Ask => tell(alloc, sink, disk, Errand::Ask),
         FileCommand::Take => take(alloc, source, sink, disk),
         FileCommand::Serve => serve(alloc, source, sink, disk),
         FileCommand::Show => show(alloc, sink, disk),
+        FileCommand::Retire { ident } => tell(alloc, sink, disk, Errand::Retire { ident }),
+        FileCommand::Rescue { after } => tell(alloc, sink, disk, Errand::Rescue { after }),
     }
 }

@@ -1,5 +1,5 @@
 ghost use Rattle.std.specs.Prelude.{◌≡◌, ◌↔◌, ℕ, IfSome, IfNone, Some, map, string_bytes};
-ghost use Rattle.sync_top.specs.Jobs.{AsksFor, IsExchange, IsFileJob, IsNumber, command_word, is_padded};
+ghost use Rattle.sync_top.specs.Jobs.{AsksFor, IsExchange, IsFileJob, IsNumber, IsNumberedJob, IsPlain, IsShortNumber, command_word, is_padded};
 
 /// The most turns of a generated exchange.
 pub const MOST_TURNS: u32 = 100_000;
@@ -19,6 +19,10 @@ pub enum FileCommand {
     Serve,
     /// A node is shown.
     Show,
+    /// A client writes that it takes over from the client of this ident, which is at least 1.
+    Retire { ident: u32 },
+    /// A client writes what is unsent, from the number after this one on.
+    Rescue { after: u32 },
 }
 
 /// What a command line asks for (docs/FORMATS.md, "Commands").
@@ -28,7 +32,7 @@ pub enum Job {
     Replay,
     /// An exchange of so many turns is generated.
     Generate { seed: u64, count: u32 },
-    /// A command over the file that the second word names.
+    /// A command over the file that the second word names; the third, where there is one, is its number.
     File { command: FileCommand },
 }
 
@@ -67,10 +71,10 @@ fn generate_of(seed: &str, count: &str) -> Option<Job>
     })
 }
 
-/// The command over a file that a word names.
+/// The command over a file that a word names, of those that take no number.
 fn file_command_of(word: &str) -> Option<FileCommand>
-    ensures some { IfSome result (λ command. word.now ≡ command_word command) }
-    ensures none { IfNone result ((command : FileCommand) → word.now ≡ command_word command → ⊥) }
+    ensures some { IfSome result (λ command. IsPlain command × (word.now ≡ command_word command)) }
+    ensures none { IfNone result ((command : FileCommand) → IsPlain command → word.now ≡ command_word command → ⊥) }
 {
     match word {
         "edit" => Some(FileCommand::Edit),
@@ -93,6 +97,40 @@ fn file_job_of(word: &str) -> Option<Job>
     }
 }
 
+/// The 32-bit number that a word is in decimal, without a sign and without needless zeros.
+fn short_number_of(word: &str) -> Option<u32>
+    ensures { (n : ℕ) → (result ≡ Some n) ↔ IsShortNumber n word.now }
+{
+    let number = number_of(word)?;
+    if number > u32::MAX as u64 {
+        return None;
+    }
+    Some(number as u32)
+}
+
+/// The command over a file that a word and a number are, or the exchange that is generated of a seed and a number of turns.
+fn numbered_job_of(word: &str, second: &str, third: &str) -> Option<Job>
+    ensures { (job : Job) → (result ≡ Some job) ↔ IsNumberedJob job word.now second.now third.now }
+{
+    match word {
+        "gen" => generate_of(second, third),
+        "retire" => {
+            let ident = short_number_of(third)?;
+            if ident == 0 {
+                return None;
+            }
+            let command = FileCommand::Retire { ident };
+            Some(Job::File { command })
+        }
+        "rescue" => {
+            let after = short_number_of(third)?;
+            let command = FileCommand::Rescue { after };
+            Some(Job::File { command })
+        }
+        _ => None,
+    }
+}
+
 /// What the words of a command line ask for; none where they are no command's.
 pub fn job_of(words: &[String]) -> Option<Job>
     ensures { (job : Job) → (result ≡ Some job) ↔ AsksFor job (map string_bytes words.now) }
@@ -100,9 +138,7 @@ pub fn job_of(words: &[String]) -> Option<Job>
     match words {
         [word] if word.as_str() == "replay" => Some(Job::Replay),
         [word, _] => file_job_of(word.as_str()),
-        [word, seed, count] if word.as_str() == "gen" => {
-            generate_of(seed.as_str(), count.as_str())
-        }
+        [word, second, third] => { numbered_job_of(word.as_str(), second.as_str(), third.as_str()) }
         _ => None,
     }
 }

@@ -1,15 +1,21 @@
 // The laws of worlds, as a replay uses them.
-ghost use Rattle.std.specs.Prelude.{◌≡◌, ℕ, List};
+ghost use Rattle.std.specs.Prelude.{◌≡◌, ℕ, List, Ok, Some, map};
 ghost use Rattle.sync_data.specs.declared.instr.Instr.{Instr};
-ghost use Rattle.sync_base.specs.States.{IsState};
+ghost use Rattle.sync_base.specs.States.{IsState, State};
 ghost use Rattle.sync_exchange.specs.Profile.{the_profile};
 ghost use Rattle.sync_model.specs.Bytes.{Name};
+ghost use Rattle.sync_model.specs.Fronts.{file_gives};
 ghost use Rattle.sync_model.specs.Log.{Stands, WorldFacts};
+ghost use Rattle.sync_model.specs.Parts.{Parts, parts_of};
 ghost use Rattle.sync_model.specs.Reports.{report_by_log, report_of};
+ghost use Rattle.sync_model.specs.Servers.{server_of};
 ghost use Rattle.sync_model.specs.Worlds.{Edits, Event, IsReached, Made, World, happens, world_after};
+ghost use Rattle.sync_top.specs.Synced.{AgreeWhereQuiet, AllCatchUp};
 
-use sync_exchange::Instrs;
-use sync_model::worlds_hold;
+use sync_exchange::{Instrs, messages_bear_each_changeset};
+use sync_model::{
+    server_files_give_what_is_kept, servers_answer_by_parts, worlds_hold, worlds_make_progress,
+};
 
 /// What holds of every world that events make of the empty one, at the project's own instructions.
 pub(crate) fn exchanges_hold()
@@ -18,6 +24,19 @@ pub(crate) fn exchanges_hold()
     ensures acknowledged { (w : World) (name : Name) (ms number : ℕ) (edits : List Instr) (es : List (Event Instr))
         → (happens the_profile w (Edits name ms edits)).words ≡ Made number
         → Stands the_profile (world_after the_profile (happens the_profile w (Edits name ms edits)).world es) name number ms edits }
+    ensures quiet { (w : World) → IsReached the_profile w → AgreeWhereQuiet w }
+    ensures progress { (w : World) → IsReached the_profile w → AllCatchUp w }
+{
+    messages_bear_each_changeset();
+    worlds_hold::<Instrs>();
+    worlds_make_progress::<Instrs>();
+}
+
+/// What a server of such a world keeps is what its records give.
+pub(crate) fn servers_keep()
+    ensures { (w : World) (kept : Parts Instr State) → IsReached the_profile w → file_gives the_profile (map (λ r. Some r) w.server) ≡ Ok kept → kept ≡ parts_of the_profile (server_of the_profile w.server) }
 {
     worlds_hold::<Instrs>();
+    servers_answer_by_parts::<Instrs>();
+    server_files_give_what_is_kept::<Instrs>();
 }

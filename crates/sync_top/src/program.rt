@@ -8,7 +8,7 @@ ghost use Rattle.sync_world.specs.Holding.{Holds};
 ghost use Rattle.sync_top.specs.Commands.{Does, IsFileFor, IsInputFor, ReadsNothing};
 ghost use Rattle.sync_top.specs.Exchange.{IsValidInput, answers, events_of, report};
 ghost use Rattle.sync_top.specs.Generated.{events_of as drawn_events, world_by};
-ghost use Rattle.sync_top.specs.Jobs.{AsksFor, most_turns};
+ghost use Rattle.sync_top.specs.Jobs.{AsksFor, IsFileCommand, most_turns};
 ghost use Rattle.sync_top.specs.Playing.{Writes};
 ghost use Rattle.sync_top.specs.Runs.{FollowsTold, IsDoneOrNoMemory, Leaves, Passes, run_from, runs};
 ghost use Rattle.sync_top.specs.Statuses.{IsJobStatus};
@@ -36,6 +36,7 @@ fn run_job<S: Source, K: Sink, D: Disk>(
 ) -> Status
     requires fresh { Holds model.empty_world world.old }
     requires turns { (seed count : ℕ) → job ≡ Job.Generate seed count → count ≤ most_turns }
+    requires number { (command : FileCommand) → job ≡ Job.File command → IsFileCommand command }
     ensures replay { job ≡ Job.Replay
         → FollowsTold result (runs answers report 0 (readings 0 [] (S.left source.old)) model.empty_world) (K.taken sink.old) (K.taken sink.new) }
     ensures world { job ≡ Job.Replay
@@ -48,6 +49,8 @@ fn run_job<S: Source, K: Sink, D: Disk>(
         → Writes (summary_of seed count) result (K.taken sink.old) (K.taken sink.new) }
     ensures generates { (seed count : ℕ) → job ≡ Job.Generate seed count → result ≢ Status.NoMemory
         → Holds (world_by model.empty_world (drawn_events seed count)) world.new }
+    ensures generated_headline { (seed count : ℕ) → job ≡ Job.Generate seed count
+        → IsSynced (drawn_events seed count) (world_by model.empty_world (drawn_events seed count)) }
     ensures file { (command : FileCommand) → job ≡ Job.File command
         → Does D.content D.images D.moment D.images_since command (S.left source.old) result disk.old disk.new (K.taken sink.old) (K.taken sink.new) }
     ensures disk_aside { job ≡ Job.Replay → disk.new ≡ disk.old }
@@ -78,7 +81,10 @@ fn run_job<S: Source, K: Sink, D: Disk>(
             exchanges_hold();
             run_lines(alloc, source, sink, world)
         }
-        Job::Generate { seed, count } => generate(alloc, seed, count, sink, world),
+        Job::Generate { seed, count } => {
+            exchanges_hold();
+            generate(alloc, seed, count, sink, world)
+        }
         Job::File { command } => run_file(alloc, command, source, sink, disk),
     }
 }
@@ -121,6 +127,10 @@ pub fn run<S: Source, K: Sink, D: Disk>(
         → Writes (summary_of seed count) result (K.taken sink.old) (K.taken sink.new) }
     ensures generates { (seed count : ℕ) → AsksFor (Job.Generate seed count) (map string_bytes words.now) → result ≢ Status.NoMemory
         → Holds (world_by model.empty_world (drawn_events seed count)) world.new }
+
+    // The headline holds of it too.
+    ensures generated_headline { (seed count : ℕ) → AsksFor (Job.Generate seed count) (map string_bytes words.now)
+        → IsSynced (drawn_events seed count) (world_by model.empty_world (drawn_events seed count)) }
 
     // A command over a file does what is written of it.
     ensures file { (command : FileCommand) → AsksFor (Job.File command) (map string_bytes words.now)

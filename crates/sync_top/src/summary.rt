@@ -6,6 +6,7 @@ ghost use Rattle.sync_top.specs.Plans.{AreClients, clients};
 ghost use Rattle.sync_top.specs.Summaries.{equals, history_in, line, server_dump, summary_text};
 
 use super::counts::Counts;
+use super::laws::servers_keep;
 use super::plan::EVERY_CLIENT;
 use std::alloc::Global;
 use sync_data::{Name, NoMemory};
@@ -35,6 +36,7 @@ fn is_equal(alloc: Global, world: &World, name: &Name, dump: &[u8]) -> Result<bo
         Some(client) => client,
         None => return Ok(false),
     };
+    servers_keep();
     let whole = client.cursor() == world.server().len();
     let sent = client.unsent() == 0;
     let own = dump_lines(alloc, client.objects())?;
@@ -62,6 +64,7 @@ fn equal_among(alloc: Global, world: &World, clients: &[u32], dump: &[u8]) -> Re
 fn equal_clients(alloc: Global, world: &World) -> Result<u32, NoMemory>
     ensures { (w : model.World) → Holds w world.now → IfOk result (λ n. n ≡ count_by (λ c. equals w (name_of c)) clients) }
 {
+    servers_keep();
     let dump = dump_lines(alloc, world.server().objects())?;
     equal_among(alloc, world, &EVERY_CLIENT, &dump)
 }
@@ -70,6 +73,7 @@ fn equal_clients(alloc: Global, world: &World) -> Result<u32, NoMemory>
 fn history(world: &World) -> u64
     ensures { (w : model.World) → Holds w world.now → result ≡ history_in w }
 {
+    servers_keep();
     world.server().len() as u64
 }
 

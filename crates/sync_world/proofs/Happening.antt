@@ -7,7 +7,7 @@ use Rattle.sync_base.specs.States.{State}
 use Rattle.sync_journal.specs.Records.{lists}
 use Rattle.sync_model.specs.Bytes.{Name}
 use Rattle.sync_model.specs.Clients.{Client, ClientRecord, ClientRefusal, ClientStep, client_of}
-use Rattle.sync_model.specs.Limits.{Each}
+use Rattle.sync_model.specs.Each.{Each}
 use Rattle.sync_model.specs.Worlds.{IsReached, Node, Outcome, Stop, Words, World, arm, at, client_called, client_calls, client_ends, client_moved, has_name, is_node, is_there, put, says, seek, server_name, stopped}
 use Rattle.sync_model.proofs.Limits.{each_append, each_take}
 use Rattle.sync_model.proofs.Lists.{at_put, map_put, seek_found}

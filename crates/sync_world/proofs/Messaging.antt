@@ -8,7 +8,7 @@ use Rattle.sync_journal.specs.Records.{lists}
 use Rattle.sync_messages.specs.declared.message.Message.{Message as CodeMessage}
 use Rattle.sync_model.specs.Bytes.{Uuid}
 use Rattle.sync_model.specs.Clients.{Client, ClientRecord, ClientRefusal, ClientStep, NotNamed, answers, ask, bind, if_born, if_named, refuse, upload}
-use Rattle.sync_model.specs.Limits.{Each, no_more}
+use Rattle.sync_model.specs.Each.{Each, no_more}
 use Rattle.sync_model.specs.Messages.{Message, Bind}
 use Rattle.sync_model.specs.Worlds.{IsReached, Node, Outcome, Stop, Words, World, at, client_ends, client_moved, message_words, messaged, says, stopped}
 use Rattle.sync_exchange.specs.Profile.{the_profile}

@@ -24,6 +24,7 @@ event_seen (events.Restart node) = Event.Restarts node
 event_seen (events.Stop node at leaves) = Event.Stops node at (leaves_seen leaves)
 event_seen (events.Inject bytes) = Event.Injects (message_read bytes)
 event_seen (events.Upgrade client) = Event.Upgrades client
+event_seen (events.Subscribe client tables) = Event.Subscribes client tables
 
 -- a stop is counted from 1
 abbrev pub IsCounted : CodeEvent → Type 0

@@ -22,6 +22,7 @@ use sync_data::{Id, Instr, Name, NoMemory};
 use sync_disk::{Disk, MemoryDisk};
 use sync_journal::stops_tell;
 use sync_messages::Message;
+use sync_subset::Subset;
 
 /// What a call of a client came to.
 #[derive(Drop)]
@@ -218,6 +219,22 @@ impl Node {
     {
         stops_tell::<MemoryDisk>();
         let answer = self.client.upgrade();
+        self.end(alloc, answer)
+    }
+
+    /// The client names its tables.
+    pub(crate) fn subscribe(
+        &mut self,
+        alloc: Global,
+        tables: Subset,
+    ) -> Result<Called<()>, NoMemory>
+        ensures ends { (records : List model.ClientRecord) (s : Option ModelStop) → HoldsClient records s self.old.stop self.old.client
+            → StandReads records (stopped s (model.subscribe (model.client_of the_profile records) tables).records)
+            → Ends (model.subscribe (model.client_of the_profile records) tables) records (stopped s (model.subscribe (model.client_of the_profile records) tables).records) result self.new }
+        ensures name { self.new.name ≡ self.old.name }
+    {
+        stops_tell::<MemoryDisk>();
+        let answer = self.client.subscribe(tables);
         self.end(alloc, answer)
     }
 

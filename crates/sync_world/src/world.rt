@@ -84,6 +84,7 @@ impl World {
             Event::Stop { node, at, leaves } => self.arm(&node, at, leaves),
             Event::Inject { message } => self.inject(&message),
             Event::Upgrade { client } => self.upgrade(&client),
+            Event::Subscribe { client, tables } => self.subscribe(&client, tables),
         }
     }
 
@@ -91,6 +92,7 @@ impl World {
     pub fn report(&self) -> Result<Vec<u8>, NoMemory>
         ensures { (w : model.World) → Holds w self.now → IfOk result (λ text. text.items ≡ report_text (report_of the_profile w)) }
     {
+        worlds_read_back();
         let mut out = Vec::new(self.alloc);
         put_server(self.alloc, &mut out, &self.hub.server)?;
         put_clients(self.alloc, &mut out, self.clients.as_slice())?;

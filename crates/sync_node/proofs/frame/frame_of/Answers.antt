@@ -19,4 +19,4 @@ returns c =
     let long : c.len.result ≡ length (message_spelling m) = omega (arith, ap length spelled, c.len.ensures, c.in_ok-bytes.bytes.ok.0) in
     let whole = c.in_ok-put-2.ensures ∙ ap (λ l. l ++ c.deref.result.now) (c.in_ok-put.ensures ∙ ap (λ l. l ++ c.write_u32.new.buf) c.new-out.ensures.items ∙ c.write_u32.ensures)
     ∙ ap (λ l. big_bytes 4 c.len.result ++ l) bytes ∙ ap (λ n. big_bytes 4 n ++ message_spelling m) long in
-    subst (λ k. c.put-2.new.out.items ≡ framed (message_spelling k)) (sym (message_back m)) whole
+    subst (λ k. c.put-2.new.out.items ≡ framed (message_spelling k)) (sym (message_back m c.in_ok-bytes.ensures.is)) whole

@@ -13,13 +13,13 @@ use Rattle.sync_node.proofs.sending.run.Goals as goal
 pub returns-in-Ok-clause-writes : goal.returns-in-Ok-clause-writes
 returns-in-Ok-clause-writes g c = λ b told records file.
     let o = c.in-Ok.ensures.opened b told in
-    c.tell.ensures.writes records (subst (λ rs. IsClientOf rs c.in-Ok.client) (same_ok (client_file b) o.records records o.file file) o.client)
+    c.say.ensures.writes records (subst (λ rs. IsClientOf rs c.in-Ok.client) (same_ok (client_file b) o.records records o.file file) o.client)
 
 pub returns-in-Err-clause-writes : goal.returns-in-Err-clause-writes
 returns-in-Err-clause-writes g c = λ b told records file. writes_none c.in-Err.ended.status (text_of c.args.errand records) (g.K.Sink.taken c.args.sink.now) c.in-Err.ensures.only
 
 pub returns-in-Ok-clause-bad_file : goal.returns-in-Ok-clause-bad_file
-returns-in-Ok-clause-bad_file g c = λ b told place is. absurd (text_no_bad c.tell.result.status place c.tell.ensures.only is)
+returns-in-Ok-clause-bad_file g c = λ b told place is. absurd (text_no_bad c.say.result.status place c.say.ensures.only is)
 
 pub returns-in-Ok-clause-bad_place : goal.returns-in-Ok-clause-bad_place
 returns-in-Ok-clause-bad_place g c = λ b told place bad. let o = c.in-Ok.ensures.opened b told in absurd (no_both (client_file b) o.records place o.file bad)
@@ -31,33 +31,33 @@ pub returns-in-Ok-clause-bad_unwritten : goal.returns-in-Ok-clause-bad_unwritten
 returns-in-Ok-clause-bad_unwritten g c = λ b told place bad. let o = c.in-Ok.ensures.opened b told in absurd (no_both (client_file b) o.records place o.file bad)
 
 pub returns-in-Ok-clause-bad_kept : goal.returns-in-Ok-clause-bad_kept
-returns-in-Ok-clause-bad_kept g c = λ b told place is. absurd (text_no_bad c.tell.result.status place c.tell.ensures.only is)
+returns-in-Ok-clause-bad_kept g c = λ b told place is. absurd (text_no_bad c.say.result.status place c.say.ensures.only is)
 
 pub returns-in-Ok-clause-kept : goal.returns-in-Ok-clause-kept
 returns-in-Ok-clause-kept g c = λ b told made.
-    subst (λ d. HoldsThose g.D.Disk.content g.D.Disk.images b d) (sym c.tell.ensures.disk) (client_holds b c.in-Ok.client (c.in-Ok.ensures.opened b told))
+    subst (λ d. HoldsThose g.D.Disk.content g.D.Disk.images b d) (sym c.say.ensures.disk) (client_holds b c.in-Ok.client (c.in-Ok.ensures.opened b told))
 
 pub returns-in-Err-clause-kept : goal.returns-in-Err-clause-kept
 returns-in-Err-clause-kept g c = λ b told made. absurd (open_unmade c.in-Err.ended.status c.in-Err.ensures.only made)
 
 pub returns-in-Ok-clause-any_moment : goal.returns-in-Ok-clause-any_moment
 returns-in-Ok-clause-any_moment g c = λ records b told crash.
-    subst (λ disk. LeavesOnly g.D.Disk.moment g.D.Disk.images_since c.args.disk disk (λ f. records_of f ≡ Good records)) (sym c.tell.ensures.disk) (c.in-Ok.ensures.any_moment records b told crash)
+    subst (λ disk. LeavesOnly g.D.Disk.moment g.D.Disk.images_since c.args.disk disk (λ f. records_of f ≡ Good records)) (sym c.say.ensures.disk) (c.in-Ok.ensures.any_moment records b told crash)
 
 pub returns-in-Err-clause-any_moment : goal.returns-in-Err-clause-any_moment
 returns-in-Err-clause-any_moment g c = c.in-Err.ensures.any_moment_err
 
 pub returns-in-Ok-clause-disk_cause : goal.returns-in-Ok-clause-disk_cause
-returns-in-Ok-clause-disk_cause g c = λ is. absurd (text_no_fault c.tell.result.status c.tell.ensures.only is)
+returns-in-Ok-clause-disk_cause g c = λ is. absurd (text_no_fault c.say.result.status c.say.ensures.only is)
 
 pub returns-in-Err-clause-write_cause : goal.returns-in-Err-clause-write_cause
 returns-in-Err-clause-write_cause g c = λ is. absurd (open_no_write c.in-Err.ended.status c.in-Err.ensures.only is)
 
 pub returns-in-Ok-clause-only : goal.returns-in-Ok-clause-only
-returns-in-Ok-clause-only g c = text_tells c.tell.result.status c.tell.ensures.only
+returns-in-Ok-clause-only g c = text_tells c.say.result.status c.say.ensures.only
 
 pub returns-in-Err-clause-only : goal.returns-in-Err-clause-only
 returns-in-Err-clause-only g c = open_tells c.in-Err.ended.status c.in-Err.ensures.only
 
 pub returns-in-Ok-clause-bad_untouched : goal.returns-in-Ok-clause-bad_untouched
-returns-in-Ok-clause-bad_untouched g c = λ place is. absurd (text_no_bad c.tell.result.status place c.tell.ensures.only is)
+returns-in-Ok-clause-bad_untouched g c = λ place is. absurd (text_no_bad c.say.result.status place c.say.ensures.only is)

@@ -14,9 +14,9 @@ returns-in-len2 c =
 
 pub returns-in-len3 : goal.returns-in-len3
 returns-in-len3 c =
-    let word = c.as_str-then-words-lt4 in
-    let seed = c.as_str-in-len3 in
-    let count = c.as_str-in-len3-2 in
-    let words = three_items string_bytes c.args.words.now c.word-item-then-words-lt4.result c.seed-item.result c.count-item.result word.result.now seed.result.now count.result.now c.in-len3.len_at_least c.in-len3.len_below
-    c.word-item-then-words-lt4.is c.seed-item.is c.count-item.is word.ensures.value seed.ensures.value count.ensures.value in
-    three_words (map string_bytes c.args.words.now) word.result.now seed.result.now count.result.now c.generate_of.result words (is_text c.eq-then-words-lt4.result word.result.now (codes "gen") c.eq-then-words-lt4.ensures c.if-eq-2.true) c.generate_of.ensures
+    let word = c.as_str-in-len3 in
+    let second = c.as_str-in-len3-2 in
+    let third = c.as_str-in-len3-3 in
+    let words = three_items string_bytes c.args.words.now c.word-item-then-words-lt4.result c.second-item.result c.third-item.result word.result.now second.result.now third.result.now c.in-len3.len_at_least c.in-len3.len_below
+    c.word-item-then-words-lt4.is c.second-item.is c.third-item.is word.ensures.value second.ensures.value third.ensures.value in
+    three_words (map string_bytes c.args.words.now) word.result.now second.result.now third.result.now c.numbered_job_of.result words c.numbered_job_of.ensures

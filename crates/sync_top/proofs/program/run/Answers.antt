@@ -1,10 +1,13 @@
 use Rattle.std.proofs.Common.{map, None, Some, refl, string_bytes}
 use Rattle.sync_top.specs.declared.job.Job.TheVariants as jobs
-use Rattle.sync_top.proofs.Asked.{asked_is, few_turns, is_asked, none_asked, not_bad_words}
+use Rattle.sync_top.proofs.Asked.{asked_is, few_turns, has_number, is_asked, none_asked, not_bad_words}
 use Rattle.sync_top.proofs.program.run.Goals as goal
 
 pub run_job-requires-clause-turns : goal.run_job-requires-clause-turns
 run_job-requires-clause-turns g c = few_turns (Some c.in-Some.job) (map string_bytes c.args.words.now) c.in-Some.ensures c.in-Some.job refl
+
+pub run_job-requires-clause-number : goal.run_job-requires-clause-number
+run_job-requires-clause-number g c = has_number (Some c.in-Some.job) (map string_bytes c.args.words.now) c.in-Some.ensures c.in-Some.job refl
 
 pub returns-in-Some-clause-words : goal.returns-in-Some-clause-words
 returns-in-Some-clause-words g c =
@@ -28,6 +31,9 @@ returns-in-Some-clause-generated g c = λ seed count asks. c.run_job.ensures.gen
 
 pub returns-in-Some-clause-generates : goal.returns-in-Some-clause-generates
 returns-in-Some-clause-generates g c = λ seed count asks. c.run_job.ensures.generates seed count (asked_is (Some c.in-Some.job) (map string_bytes c.args.words.now) c.in-Some.ensures c.in-Some.job (jobs.Generate seed count) refl asks)
+
+pub returns-in-Some-clause-generated_headline : goal.returns-in-Some-clause-generated_headline
+returns-in-Some-clause-generated_headline g c = λ seed count asks. c.run_job.ensures.generated_headline seed count (asked_is (Some c.in-Some.job) (map string_bytes c.args.words.now) c.in-Some.ensures c.in-Some.job (jobs.Generate seed count) refl asks)
 
 pub returns-in-Some-clause-file : goal.returns-in-Some-clause-file
 returns-in-Some-clause-file g c = λ command asks. c.run_job.ensures.file command (asked_is (Some c.in-Some.job) (map string_bytes c.args.words.now) c.in-Some.ensures c.in-Some.job (jobs.File command) refl asks)
@@ -67,6 +73,9 @@ returns-in-None-clause-generated g c = λ seed count asks. absurd (none_asked No
 
 pub returns-in-None-clause-generates : goal.returns-in-None-clause-generates
 returns-in-None-clause-generates g c = λ seed count asks. absurd (none_asked None (map string_bytes c.args.words.now) c.in-None.ensures (jobs.Generate seed count) refl asks)
+
+pub returns-in-None-clause-generated_headline : goal.returns-in-None-clause-generated_headline
+returns-in-None-clause-generated_headline g c = λ seed count asks. absurd (none_asked None (map string_bytes c.args.words.now) c.in-None.ensures (jobs.Generate seed count) refl asks)
 
 pub returns-in-None-clause-file : goal.returns-in-None-clause-file
 returns-in-None-clause-file g c = λ command asks. absurd (none_asked None (map string_bytes c.args.words.now) c.in-None.ensures (jobs.File command) refl asks)

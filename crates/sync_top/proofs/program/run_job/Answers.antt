@@ -4,7 +4,8 @@ use Rattle.sync_io.specs.Reading.{Reading}
 use Rattle.sync_io.specs.Readers.{readings}
 use Rattle.sync_model.specs.Worlds.{empty_world}
 use Rattle.sync_top.proofs.Asked.{replay_no_bad, written_no_bad}
-use Rattle.sync_top.proofs.Synced.{Laws, first_synced, left_synced}
+use Rattle.sync_top.proofs.Synced.{Laws, first_synced, generated_synced, left_synced}
+use Rattle.sync_top.specs.Generated.{events_of}
 use Rattle.sync_top.proofs.Validity.{complete}
 use Rattle.sync_top.proofs.program.run_job.Goals as goal
 
@@ -19,13 +20,18 @@ returns-in-Replay-clause-complete g c =
 
 pub returns-in-Replay-clause-headline : goal.returns-in-Replay-clause-headline
 returns-in-Replay-clause-headline g c =
-    let laws : Laws = record { facts = c.exchanges_hold.ensures.facts; reports = c.exchanges_hold.ensures.reports; acknowledged = c.exchanges_hold.ensures.acknowledged } in
+    let laws : Laws = record { facts = c.exchanges_hold.ensures.facts; reports = c.exchanges_hold.ensures.reports; acknowledged = c.exchanges_hold.ensures.acknowledged; quiet = c.exchanges_hold.ensures.quiet; progress = c.exchanges_hold.ensures.progress } in
     λ job. each_reading _ (left_synced laws) (readings 0 [] (g.S.Source.left c.args.source.now))
 
 pub returns-in-Replay-clause-headline_after_faults : goal.returns-in-Replay-clause-headline_after_faults
 returns-in-Replay-clause-headline_after_faults g c =
-    let laws : Laws = record { facts = c.exchanges_hold.ensures.facts; reports = c.exchanges_hold.ensures.reports; acknowledged = c.exchanges_hold.ensures.acknowledged } in
+    let laws : Laws = record { facts = c.exchanges_hold.ensures.facts; reports = c.exchanges_hold.ensures.reports; acknowledged = c.exchanges_hold.ensures.acknowledged; quiet = c.exchanges_hold.ensures.quiet; progress = c.exchanges_hold.ensures.progress } in
     λ job. each_reading _ (first_synced laws) (readings 0 [] (g.S.Source.left c.args.source.now))
+
+pub returns-in-Generate-clause-generated_headline : goal.returns-in-Generate-clause-generated_headline
+returns-in-Generate-clause-generated_headline g c =
+    let laws : Laws = record { facts = c.exchanges_hold-in-Generate.ensures.facts; reports = c.exchanges_hold-in-Generate.ensures.reports; acknowledged = c.exchanges_hold-in-Generate.ensures.acknowledged; quiet = c.exchanges_hold-in-Generate.ensures.quiet; progress = c.exchanges_hold-in-Generate.ensures.progress } in
+    λ seed count job. generated_synced laws (events_of seed count)
 
 pub returns-in-Replay-clause-world : goal.returns-in-Replay-clause-world
 returns-in-Replay-clause-world g c = λ job. (c.run_lines.ensures.run empty_world c.requires.fresh).leaves

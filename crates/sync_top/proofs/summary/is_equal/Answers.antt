@@ -1,6 +1,11 @@
 use Rattle.std.proofs.Common.{◌≡◌, ◌==◌, ◌&&◌, Bool, ℕ, List, ap, ◌∙◌}
 use Rattle.std.specs.Str.{bytes_eq}
+use Rattle.sync_base.specs.States.{State}
+use Rattle.sync_data.specs.declared.instr.Instr.{Instr}
 use Rattle.sync_dump.specs.Dump.{dump}
+use Rattle.sync_model.specs.Parts.{Parts}
+use Rattle.sync_server.specs.Kept.{parts}
+use Rattle.sync_server.specs.Serving.{kept_of}
 use Rattle.sync_top.specs.Summaries.{history_in}
 use Rattle.sync_top.proofs.Summing.{compared, not_there}
 use Rattle.sync_top.proofs.summary.is_equal.Goals as goal
@@ -14,7 +19,7 @@ returns c = λ w h same.
     let cursor = c.cursor.result in
     let unsent = c.unsent-sent.result in
     let own = c.as_slice.result.now in
-    let long : c.len.result ≡ history_in w = c.len.ensures.count w.server (c.server.ensures.server w h) in
+    let long : c.len.result ≡ history_in w = c.len.ensures ∙ ap (λ (kept : Parts Instr State). kept.len) (c.servers_keep.ensures w (parts (kept_of c.server.result.now)) h.reached (c.server.ensures.server w h).gives) in
     c.all_hold.ensures
     ∙ ap (λ (k : ℕ). ((cursor == k) && (unsent == 0)) && c.eq-same.result) long
     ∙ ap (λ (b : Bool). ((cursor == history_in w) && (unsent == 0)) && b) (c.eq-same.ensures ∙ ap (λ (t : List ℕ). bytes_eq own t) same)

@@ -1,6 +1,6 @@
 use Rattle.std.proofs.Common.{[], refl, sym, subst}
 use Rattle.sync_journal.specs.Records.{lists}
-use Rattle.sync_model.specs.Limits.{no_more}
+use Rattle.sync_model.specs.Each.{no_more}
 use Rattle.sync_model.specs.Worlds.{empty_world}
 use Rattle.sync_world.specs.Holding.{HoldsEach}
 use Rattle.sync_world.specs.Messages.{AreSpelled}
