@@ -21,7 +21,7 @@ import urllib.request
 
 PROGRAM = os.path.join(os.path.dirname(os.path.dirname(os.path.abspath(__file__))), "realm_sync")
 DEVICES = {"phone-token": 1, "laptop-token": 2, "thief-token": 3}
-BIND, IDENT, UPLOAD, ASK, ASK2 = 1, 2, 3, 4, 8
+BIND, IDENT, UPLOAD, ASK, ASK2, ASK_TABLES = 1, 2, 3, 4, 8, 11
 
 
 def uuid_of(device):
@@ -73,7 +73,7 @@ class Front(http.server.BaseHTTPRequestHandler):
         """Whether a message says of itself that it is this device's."""
         if message[:1] == bytes([BIND]):
             return message[1:] == uuid
-        return message[:1] in (bytes([it]) for it in (UPLOAD, ASK, ASK2)) and number(message[1:]) == self.ident(uuid)
+        return message[:1] in (bytes([it]) for it in (UPLOAD, ASK, ASK2, ASK_TABLES)) and number(message[1:]) == self.ident(uuid)
 
     def do_POST(self):
         device = DEVICES.get(self.headers.get("Authorization", "").removeprefix("Bearer "))
