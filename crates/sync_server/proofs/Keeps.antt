@@ -13,7 +13,7 @@ use Rattle.sync_server.specs.History.{HistoryParts, IsHistory, IsEntry, IsOther,
 use Rattle.sync_server.specs.Extending.{first_extended}
 
 -- ---- what holds of all holds of each
-all_to : {X : Type 0} (P Q : X → Type 0) (xs : List X) → ((x : X) → P x → Q x) → All P xs → All Q xs
+pub all_to : {X : Type 0} (P Q : X → Type 0) (xs : List X) → ((x : X) → P x → Q x) → All P xs → All Q xs
 all_to P Q xs f a = λ k d h. f (get_or xs k d) (a k d h)
 
 -- ---- reciprocal lists

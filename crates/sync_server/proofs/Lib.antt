@@ -24,3 +24,10 @@ pub mod Strokes
 pub mod Admitting
 pub mod Reading
 pub mod BadFiles
+pub mod Sorted
+pub mod Numbered
+pub mod CrossedPairs
+pub mod NextRecords
+pub mod Entering
+pub mod Passing
+pub mod Entries

@@ -7,6 +7,7 @@ use Rattle.std.specs.List.{sum_by}
 use Rattle.sync_data.specs.declared.instr.Instr.{Instr}
 use Rattle.sync_base.specs.States.{State}
 use Rattle.sync_model.specs.Fronts.{Counted as ModelCounted, all_within, count_is, count_step, counted_sum, entry_is, front_counts, front_entries, leading, of_kind, taking, then_at, walk, with_counts}
+use Rattle.sync_model.specs.Bytes.{Uuid}
 use Rattle.sync_model.specs.Parts.{Given}
 use Rattle.sync_exchange.specs.Profile.{the_profile}
 use Rattle.sync_records.specs.declared.server.ServerRecord.{ServerRecord as CodeRecord}
@@ -36,6 +37,11 @@ sum_more cs now c after =
     ∙ ap counted_sum (map-append counted_seen cs (c ∷ []))
     ∙ sum_by-append (λ (d : ModelCounted). d.number) (map counted_seen cs) (counted_seen c ∷ [])
     ∙ ap (λ n. counted_sum (map counted_seen cs) + n) one)
+
+pub few_counted : (ds : List (ℕ × ℕ)) (us : List Uuid) (es : List ModelCounted) → length (with_counts {I = Instr} ds us es) ≤ length us
+few_counted ds [] es = omega arith
+few_counted ds (u ∷ us) [] = omega arith
+few_counted ds (u ∷ us) (e ∷ es) = let r = few_counted ds us es in omega (arith, r)
 
 -- ---- what comes behind the counts
 module _ (records : List (Option CodeRecord)) (k : ℕ) (second : Bool) (below : State) (floor : ℕ) (gs : List (Given Instr)) (ds : List (ℕ × ℕ)) (cs : List Counted) where

@@ -36,7 +36,7 @@ take_none : {A : Type 0} (m : ℕ) (xs : List A) → m ≡ 0 → take m xs ≡ [
 take_none m xs e = ap (λ k. take k xs) e
 
 -- ---- the records of the code from a place on
-map_drops : {A B : Type 0} (f : A → B) (n : ℕ) (xs : List A) → map f (drop n xs) ≡ drop n (map f xs)
+pub map_drops : {A B : Type 0} (f : A → B) (n : ℕ) (xs : List A) → map f (drop n xs) ≡ drop n (map f xs)
 map_drops f zero xs = refl
 map_drops f (suc n) [] = refl
 map_drops f (suc n) (x ∷ xs) = map_drops f n xs

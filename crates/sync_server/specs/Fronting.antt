@@ -1,18 +1,25 @@
 -- How the records at the front of a trimmed file are read.
-use Rattle.std.specs.Prelude.{◌≡◌, ◌+◌, ◌&&◌, ◌==◌, not, ℕ, Bool, List, [], ◌∷◌, map, drop, Option, Some, None, Result, Ok, Err}
+use Rattle.std.specs.Prelude.{◌≡◌, ◌+◌, ◌&&◌, ◌==◌, not, ℕ, Bool, true, false, List, [], ◌∷◌, All, length, map, drop, Option, Some, None, Result, Ok, Err}
 use Rattle.std.specs.Option.{option_map}
 use Rattle.sync_data.specs.Payload.{Changes}
+use Rattle.sync_data.specs.declared.memory.NoMemory.{NoMemory}
 use Rattle.sync_data.specs.declared.instr.Instr.{Instr}
 use Rattle.sync_base.specs.States.{State}
-use Rattle.sync_model.specs.Fronts.{Counted as ModelCounted, Front, is_among}
+use Rattle.sync_recip.specs.Lists.{entry_of}
+use Rattle.sync_theory.specs.Changesets.{Changeset}
+use Rattle.sync_model.specs.Fronts.{Counted as ModelCounted, Front, Grows as ModelGrows, Kept as ModelKept, grows_on, is_among}
 use Rattle.sync_model.specs.Bytes.{Uuid}
 use Rattle.sync_model.specs.Parts.{Given}
+use Rattle.sync_model.specs.Profile.{act_changeset}
 use Rattle.sync_model.specs.Servers.{ServerRecord, heir_of, is_retired}
 use Rattle.sync_model.specs.Snapshots.{grown}
 use Rattle.sync_exchange.specs.Profile.{the_profile}
 use Rattle.sync_exchange.specs.Seen.{server_bytes, server_seen}
 use Rattle.sync_records.specs.declared.server.ServerRecord.{ServerRecord as CodeRecord}
+use Rattle.sync_server.specs.History.{IsEntry}
 use Rattle.sync_server.specs.Kept.{parts}
+use Rattle.sync_server.specs.declared.carried.Grown.{Grown}
+use Rattle.sync_server.specs.declared.merging.ChangeHead.{ChangeHead}
 use Rattle.sync_server.specs.declared.kept.Kept.{Kept}
 use Rattle.sync_server.specs.declared.kinds.Counted.{Counted}
 use Rattle.sync_server.specs.declared.opening.ReadRefusal.{ReadRefusal}
@@ -75,3 +82,32 @@ abbrev pub AreSpelled : List (Option ServerRecord) → List (List ℕ) → Type 
 AreSpelled [] file = Unit {0}
 AreSpelled (o ∷ os) [] = Unit {0}
 AreSpelled (o ∷ os) (bytes ∷ file) = IsSpelled o bytes × AreSpelled os file
+
+-- an entry as it was carried
+abbrev pub carried_seen : ℕ → ChangeHead → List ℕ → ModelKept
+carried_seen origin head body = record { origin = origin; number = head.number; base = head.base; ms = head.ms; body = body }
+
+-- the entries so far, and the objects after them
+abbrev pub grown_seen : Grown → ModelGrows Instr State
+grown_seen g = record { objects = g.objects; entries = map entry_of g.entries.items; bases = g.bases.items }
+
+-- none yet
+abbrev pub begun_on : State → ModelGrows Instr State
+begun_on s = record { objects = s; entries = []; bases = [] }
+
+-- an entry acts, or doesn't
+abbrev pub ActsOn : ModelGrows Instr State → Changeset Instr → ℕ → ModelGrows Instr State → Result Bool NoMemory → Type 0
+ActsOn old x base new (Ok true) = grows_on old x base (act_changeset the_profile x old.objects) ≡ Some new
+ActsOn old x base new (Ok false) = act_changeset the_profile x old.objects ≡ None
+ActsOn old x base new (Err e) = Unit {0}
+
+-- as many bases as entries, each of which is one of so many idents
+pub record IsGrown (given : ℕ) (g : ModelGrows Instr State) : Type 0 where
+  pub each : All (IsEntry given) g.entries
+  pub based : length g.bases ≡ length g.entries
+
+-- an entry is taken, or refused
+abbrev pub Enters : ℕ → ModelGrows Instr State → ModelGrows Instr State → Option (ModelGrows Instr State) → Result Bool NoMemory → Type 0
+Enters given old new step (Ok true) = (step ≡ Some new) × (IsGrown given old → IsGrown given new)
+Enters given old new step (Ok false) = step ≡ None
+Enters given old new step (Err e) = Unit {0}

@@ -53,6 +53,10 @@ pub record IsHistory (h : HistoryParts) : Type 0 where
 abbrev pub no_history : HistoryParts
 no_history = record { floor = 0; entries = []; bases = []; second = false; idents = []; retired = [] }
 
+-- these
+abbrev pub kept_as : ℕ → List (Changeset Instr) → List ℕ → Bool → List (Given Instr) → List (ℕ × ℕ) → HistoryParts
+kept_as floor entries bases second idents retired = record { floor = floor; entries = entries; bases = bases; second = second; idents = idents; retired = retired }
+
 -- a uuid that was just given an ident, where these are the entries from a floor on
 abbrev pub newly_given : Uuid → ℕ → List (Changeset Instr) → Given Instr
 newly_given u floor xs = record { uuid = u; count = 0; last = 0; heir = None; mark = 0; reciprocal = with_versions floor xs }

@@ -10,4 +10,5 @@ pub mod Retiring
 pub mod Serving
 pub mod Opening
 pub mod Fronting
+pub mod Crossing
 pub mod Files

@@ -1,12 +1,13 @@
 //! The records at the front of a trimmed file: the parts of a state, its version, the idents, their counts, the entries
 //! of the history, and those that changes of an ident crossed.
-ghost use Rattle.std.specs.Prelude.{◌≡◌, ◌≤◌, ◌<◌, ◌-◌, [], length, IfOk, IfSome, true};
+ghost use Rattle.std.specs.Prelude.{◌≡◌, ◌≤◌, ◌<◌, ◌+◌, ◌-◌, [], length, IfOk, IfSome, true};
 ghost use Rattle.std.specs.Option.{option_map};
 ghost use Rattle.sync_exchange.specs.Profile.{fits_changeset, the_profile, unspell};
 ghost use Rattle.sync_model.specs.Files.{readable};
-ghost use Rattle.sync_model.specs.Fronts.{count_is, entry_is, front_alone, front_behind, front_counts, front_entries, front_parts, front_uuids, of_kind, leading, part_of, part_step, taking, taking_all, uuid_is, walk};
-ghost use Rattle.sync_server.specs.Fronting.{Fronts, Grows, Walks, instrs_of, seen_from, uuids_of};
+ghost use Rattle.sync_model.specs.Fronts.{count_is, crossed_is, entry_is, front_alone, front_behind, front_counts, front_crossed, front_entries, front_parts, front_uuids, of_kind, leading, part_of, part_step, taking, taking_all, uuid_is, walk};
+ghost use Rattle.sync_server.specs.Fronting.{Fronts, Grows, IsGrown, Walks, grown_seen, instrs_of, seen_from, uuids_of};
 
+use crate::carried::{Grown, all_end, read_entries};
 use crate::counting::{all_within, read_counts, with_counts};
 use crate::given::Given;
 use crate::history::{History, LAST};
@@ -15,15 +16,17 @@ use crate::kinds::{Found, as_floor, as_part};
 use crate::lists::keep;
 use crate::merging::{ChangeHead, read};
 use crate::opening::{LONGEST, ReadRefusal};
+use crate::passed::{read_passed, with_pairs};
 use crate::refusal::ChangeRefusal;
 use crate::uuids::{counts_at, read_idents, read_retired, skip_clients, skip_retired};
 use crate::version::needs_second;
 use std::alloc::Global;
 use sync_base::{Changeset, Ident, NoMemory};
+use sync_snapshot::{GrowRefusal, grown};
 use sync_store::Store;
 
 /// The changeset that the bytes spell, if they spell one that the form allows.
-fn allowed(
+pub(crate) fn allowed(
     alloc: Global,
     second: bool,
     ms: u64,
@@ -81,11 +84,17 @@ fn read_parts(
 }
 
 /// The state of which these are the parts, which stand from a place on.
-fn grown_of(_alloc: Global, _first: usize, _parts: &[Changeset]) -> Result<Store, ReadRefusal>
-    ensures { Grows _first (instrs_of _parts.now) result }
+fn grown_of(alloc: Global, first: usize, parts: &[Changeset]) -> Result<Store, ReadRefusal>
+    ensures { Grows first (instrs_of parts.now) result }
 {
-    // No state is grown of its parts yet.
-    Err(ReadRefusal::NoMemory)
+    match grown(alloc, parts) {
+        Ok(objects) => Ok(objects),
+        Err(GrowRefusal::BadPart { place }) => match first.checked_add(place as usize) {
+            Some(place) => Err(ReadRefusal::BadRecord { place }),
+            None => Err(ReadRefusal::NoMemory),
+        },
+        Err(GrowRefusal::NoMemory) => Err(ReadRefusal::NoMemory),
+    }
 }
 
 impl Kept {
@@ -250,24 +259,97 @@ impl Kept {
 
     /// The same behind the counts.
     fn front_entries(
-        _alloc: Global,
-        _records: &[Found],
-        _place: usize,
-        _second: bool,
-        _below: Store,
-        _objects: Store,
-        _floor: u32,
-        _len: u32,
-        _idents: Vec<Given>,
-        _retired: Vec<(Ident, Ident)>,
+        alloc: Global,
+        records: &[Found],
+        place: usize,
+        second: bool,
+        below: Store,
+        objects: Store,
+        floor: u32,
+        len: u32,
+        idents: Vec<Given>,
+        retired: Vec<(Ident, Ident)>,
     ) -> Result<(Kept, usize), ReadRefusal>
-        requires positive { 1 ≤ _place }
-        requires within { _place ≤ length _records.now }
-        requires same { _objects ≡ _below }
-        requires reach { _floor ≤ _len }
-        ensures { Fronts result (taking (of_kind entry_is) (_len - _floor) (seen_from _place _records.now) (front_entries the_profile _second _below _floor _len _retired.items _idents.items _place)) }
+        requires positive { 1 ≤ place }
+        requires within { place ≤ length records.now }
+        requires same { objects ≡ below }
+        requires reach { floor ≤ len }
+        requires few { length idents.items ≤ 4294967295 }
+        ensures { Fronts result (taking (of_kind entry_is) (len - floor) (seen_from place records.now) (front_entries the_profile second below floor len retired.items idents.items place)) }
     {
-        // Entries aren't read yet.
-        Err(ReadRefusal::NoMemory)
+        let most = (len - floor) as usize;
+        let grown = match read_entries(
+            alloc,
+            records,
+            place,
+            most,
+            second,
+            idents.as_slice(),
+            objects,
+        ) {
+            Ok(grown) => grown,
+            Err(refusal) => return Err(refusal),
+        };
+        let count = grown.entries.len();
+        let end = place + count;
+        if count < most || !all_end(grown.entries.as_slice(), idents.as_slice()) {
+            return Err(ReadRefusal::BadRecord { place: end - 1 });
+        }
+        Kept::front_passed(
+            alloc, records, end, second, below, floor, idents, retired, grown,
+        )
+    }
+
+    /// The same behind the entries.
+    fn front_passed(
+        alloc: Global,
+        records: &[Found],
+        place: usize,
+        second: bool,
+        below: Store,
+        floor: u32,
+        idents: Vec<Given>,
+        retired: Vec<(Ident, Ident)>,
+        grown: Grown,
+    ) -> Result<(Kept, usize), ReadRefusal>
+        requires within { place ≤ length records.now }
+        requires few { length idents.items ≤ 4294967295 }
+        requires short { floor + length grown.entries.items ≤ 4294967295 }
+        requires grown { IsGrown (length idents.items) (grown_seen grown) }
+        ensures { Fronts result (taking_all (of_kind crossed_is) (seen_from place records.now) (front_crossed the_profile second below floor (floor + length grown.entries.items) retired.items idents.items (grown_seen grown) place)) }
+    {
+        let Grown {
+            objects,
+            entries,
+            bases,
+        } = grown;
+        let passed = match read_passed(
+            alloc,
+            records,
+            place,
+            second,
+            floor,
+            idents.as_slice(),
+            entries.as_slice(),
+        ) {
+            Ok(passed) => passed,
+            Err(refusal) => return Err(refusal),
+        };
+        let idents = match with_pairs(
+            alloc,
+            floor,
+            idents.as_slice(),
+            entries.as_slice(),
+            passed.as_slice(),
+        ) {
+            Ok(idents) => idents,
+            Err(NoMemory) => return Err(ReadRefusal::NoMemory),
+        };
+        let kept = Kept {
+            history: History::kept(floor, entries, bases, second, idents, retired),
+            objects,
+            below,
+        };
+        Ok((kept, place + passed.len()))
     }
 }

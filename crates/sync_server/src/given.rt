@@ -62,6 +62,20 @@ impl Given {
         }
     }
 
+    /// The same client, with these entries of others as its changes crossed them.
+    pub(crate) fn crossing(&self, reciprocal: Recip) -> Given
+        ensures { result ≡ record self.now { reciprocal = reciprocal } }
+    {
+        Given {
+            id: self.id,
+            count: self.count,
+            last: self.last,
+            heir: self.heir,
+            mark: self.mark,
+            reciprocal,
+        }
+    }
+
     /// The client's uuid.
     pub(crate) fn id(&self) -> &Id
         ensures { result.now ≡ self.now.uuid }

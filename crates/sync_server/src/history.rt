@@ -6,7 +6,7 @@ ghost use Rattle.sync_transform.specs.Sets.{made_by};
 ghost use Rattle.sync_model.specs.Servers.{place_of};
 ghost use Rattle.sync_model.specs.Parts.{Given as GivenParts, at_ident, idents_retired, marked};
 ghost use Rattle.sync_data.specs.declared.instr.Instr.{Instr};
-ghost use Rattle.sync_server.specs.History.{no_history, newly_given, with_entry, len_of, IsEntry, IsReciprocal};
+ghost use Rattle.sync_server.specs.History.{no_history, kept_as, newly_given, with_entry, len_of, IsEntry, IsHistory, IsReciprocal};
 ghost use Rattle.sync_server.specs.Integrating.{found, IsNext};
 ghost use Rattle.sync_server.specs.Readers.{item_from};
 
@@ -58,6 +58,28 @@ impl History {
             second: false,
             idents: Vec::new(alloc),
             retired: Vec::new(alloc),
+        }
+    }
+
+    /// These entries, the first of which has the version of the floor. It takes no memory.
+    pub(crate) fn kept(
+        floor: u32,
+        entries: Vec<SharedEntry>,
+        bases: Vec<u32>,
+        second: bool,
+        idents: Vec<Given>,
+        retired: Vec<(Ident, Ident)>,
+    ) -> History
+        requires { IsHistory (kept_as floor (map entry_of entries.items) bases.items second idents.items retired.items) }
+        ensures { result ≡ kept_as floor (map entry_of entries.items) bases.items second idents.items retired.items }
+    {
+        History {
+            floor,
+            entries,
+            bases,
+            second,
+            idents,
+            retired,
         }
     }
 
@@ -231,7 +253,7 @@ impl History {
 }
 
 /// Puts an entry at the end, for others to share, and its base beside it.
-fn keep_entry(
+pub(crate) fn keep_entry(
     entries: &mut Vec<SharedEntry>,
     bases: &mut Vec<u32>,
     alloc: Global,

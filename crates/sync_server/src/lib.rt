@@ -2,6 +2,7 @@
 #![tactic(auto)]
 
 mod asking;
+mod carried;
 mod counting;
 mod counts;
 mod crossed;
@@ -15,6 +16,7 @@ mod kinds;
 mod lists;
 mod merging;
 mod opening;
+mod passed;
 mod refusal;
 mod retiring;
 mod server;

@@ -3,6 +3,7 @@ use std::alloc::Global;
 use std::test::Fail;
 use sync_base::Id;
 use sync_disk::MemoryDisk;
+use sync_journal::Journal;
 use sync_messages::{message_bytes, message_of};
 
 const A: Id = [10; 16];
@@ -135,6 +136,46 @@ fn an_exchange_is_answered_and_kept(rt: HostRuntime) -> Result<(), Fail> {
     let again = opened(alloc, server.into_disk())?;
     if !knows_idents(&again) || !has_history(&again) {
         return Err("its file says otherwise".into());
+    }
+    Ok(())
+}
+
+/// The records of a file of which the first entry was left out: the tables q and t and object 1 of t as they were after it, its
+/// version, a client, and what is known of that.
+const TRIMMED: [&[u8]; 4] = [
+    b"\x0b\x01\x02\x01q\x01t\x03\x01\0\0\x01\x01\0\x03\x01\0\x02",
+    b"\x0c\x01",
+    b"\x05\x0a\x0a\x0a\x0a\x0a\x0a\x0a\x0a\x0a\x0a\x0a\x0a\x0a\x0a\x0a\x0a",
+    b"\x0d\x01\x01\0\x01",
+];
+
+/// A disk with these records.
+fn disk_of(alloc: Global, records: &[&[u8]]) -> Option<MemoryDisk> {
+    let Ok(disk) = MemoryDisk::new(alloc) else {
+        return None;
+    };
+    let Ok((mut journal, _)) = Journal::open(alloc, disk) else {
+        return None;
+    };
+    for bytes in records {
+        if journal.append(bytes).is_err() {
+            return None;
+        }
+    }
+    Some(journal.into_disk())
+}
+
+#[test]
+fn a_trimmed_file_answers_from_its_floor_on(rt: HostRuntime) -> Result<(), Fail> {
+    let alloc = rt.alloc();
+    let Some(disk) = disk_of(alloc, &TRIMMED) else {
+        return Err("no disk".into());
+    };
+    let mut server = opened(alloc, disk)?;
+    let below = answers(alloc, &mut server, b"\x04\x01\0\0", b"\x06\x01\0\x47\x01");
+    let at_it = answers(alloc, &mut server, b"\x04\x01\x01\x01", b"\x05\x01\x01\0");
+    if !below || !at_it {
+        return Err("another answer".into());
     }
     Ok(())
 }
