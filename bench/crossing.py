@@ -2,7 +2,7 @@
 """How long lists, unsent changesets and reciprocal lists take to cross, for growing N.
 
 For each kind and N it prints the seconds, the nanoseconds a meeting (a pair), the growth exponent from one N to the next, and
-the peak memory of the process; the best of up to twenty. `lists`, `disjoint`, `counter` and `update` have N * N meetings, all
+the peak memory of the process; the best of up to twenty. `lists`, `disjoint`, `counter`, `update` and `ends` have N * N meetings, all
 others have N. It builds the program
 where it is missing.
 
@@ -18,8 +18,8 @@ import time
 CRATE = os.path.join(os.path.dirname(os.path.dirname(os.path.abspath(__file__))), "crates", "crossing_bench")
 PROGRAM = os.path.join(CRATE, "out", "crossing_bench")
 LINE = re.compile(r": (\d+) runs in (\d+) nanoseconds")
-KINDS = ["lists", "unsent-apart", "unsent-touched", "entries-apart", "entries-touched", "disjoint", "counter", "update"]
-SQUARE = ["lists", "disjoint", "counter", "update"]
+KINDS = ["lists", "unsent-apart", "unsent-touched", "entries-apart", "entries-touched", "entries-list", "disjoint", "counter", "update", "ends"]
+SQUARE = ["lists", "disjoint", "counter", "update", "ends"]
 COUNTS = [250, 500, 1000, 2000, 4000, 8000]
 MOST_SECONDS = 10
 ENOUGH_SECONDS = 10

@@ -2,21 +2,32 @@ ghost use Rattle.std.specs.Prelude.{◌≡◌, ◌≢◌, ◌<◌, ◌+◌, All,
 
 use crate::LEAST;
 use crate::failure::Failure;
-use crate::made::addition;
+use crate::made::{addition, insertion, insertion_at_start, of_one};
 use std::alloc::Global;
 use std::time::Instant;
 use sync_base::{Changeset, Entry};
 use sync_recip::Recip;
 
+/// The runs and the nanoseconds of carrying an insertion at the start of a list over so many insertions at its end.
+pub(crate) fn measured_list(rt: &HostRuntime, count: u32) -> Result<(u64, u128), Failure> {
+    let kept = entries(rt.alloc(), count, true)?;
+    timed(rt, &kept, of_one(rt.alloc(), insertion_at_start(0)?, 9)?)
+}
+
 /// The runs and the nanoseconds of carrying a change about the object with that key over so many entries about the object 1.
 pub(crate) fn measured(rt: &HostRuntime, count: u32, key: u32) -> Result<(u64, u128), Failure> {
-    let kept = entries(rt.alloc(), count)?;
-    let changes = addition(rt.alloc(), key, 9)?;
+    let kept = entries(rt.alloc(), count, false)?;
+    timed(rt, &kept, addition(rt.alloc(), key, 9)?)
+}
+
+fn timed(rt: &HostRuntime, kept: &Recip, changes: Changeset) -> Result<(u64, u128), Failure>
+    requires { All (λ pair. pair.1.origin ≢ 1) kept.now }
+{
     let mut runs = 1u64;
     for _ in 0..40 {
         let start = Instant::now(rt)?;
         for _ in 0..runs {
-            carry(rt.alloc(), &kept, changes.copy()?)?;
+            carry(rt.alloc(), kept, changes.copy()?)?;
         }
         let nanos = start.elapsed(rt)?.as_nanos();
         if nanos >= LEAST {
@@ -36,25 +47,30 @@ fn carry(alloc: Global, kept: &Recip, changes: Changeset) -> Result<(), Failure>
     }
 }
 
-// So many entries of client 2, with the versions from 0 on.
-fn entries(alloc: Global, count: u32) -> Result<Recip, Failure>
+// So many entries of client 2, with the versions from 0 on: additions to one number, or insertions at the end of a list.
+fn entries(alloc: Global, count: u32, in_list: bool) -> Result<Recip, Failure>
     ensures { IfOk result (λ kept. All (λ pair. pair.1.origin ≢ 1) kept) }
 {
     let mut kept = Recip::new(alloc);
     for version in 0..count {
-        let entry = entry(alloc)?;
+        let entry = entry(alloc, version, in_list)?;
         add(&mut kept, version, entry)?;
     }
     Ok(kept)
 }
 
-fn entry(alloc: Global) -> Result<Entry, Failure>
+fn entry(alloc: Global, version: u32, in_list: bool) -> Result<Entry, Failure>
     ensures { IfOk result (λ entry. entry.origin ≡ 2) }
 {
+    let changes = if in_list {
+        of_one(alloc, insertion(version)?, 5)?
+    } else {
+        addition(alloc, 1, 5)?
+    };
     Ok(Entry {
         origin: 2,
         number: 1,
-        changes: addition(alloc, 1, 5)?,
+        changes,
     })
 }
 

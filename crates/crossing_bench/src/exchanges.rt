@@ -1,5 +1,5 @@
 use crate::failure::Failure;
-use crate::made::{addition, update};
+use crate::made::{addition, insertion, insertion_at_start, of_one, update};
 use std::alloc::Global;
 use std::time::Instant;
 use sync_base::{Changeset, Entry};
@@ -14,13 +14,15 @@ pub(crate) enum About {
     Counter,
     /// Updates of one number, whose times rise in turn.
     Update,
+    /// Insertions into one list: the unsent ones at its end, the entries at its start.
+    Ends,
 }
 
 /// The one run and the nanoseconds of taking so many entries by as many unsent changesets, the one after the other.
 pub(crate) fn measured(rt: &HostRuntime, count: u32, about: About) -> Result<(u64, u128), Failure> {
     let mut list = PendingList::new(rt.alloc());
     for number in 0..count {
-        let changes = one(rt.alloc(), about, number.saturating_mul(2))?;
+        let changes = unsent(rt.alloc(), about, number)?;
         list.push(Unsent::made(1, 0, changes)?)?;
     }
     let start = Instant::now(rt)?;
@@ -28,11 +30,7 @@ pub(crate) fn measured(rt: &HostRuntime, count: u32, about: About) -> Result<(u6
         let entry = Entry {
             origin: 2,
             number: 1,
-            changes: one(
-                rt.alloc(),
-                about,
-                number.saturating_mul(2).saturating_add(1),
-            )?,
+            changes: entry(rt.alloc(), about, number)?,
         };
         if list.take_entry(rt.alloc(), 1, &entry).is_err() {
             return Err(Failure::Crossing);
@@ -41,10 +39,20 @@ pub(crate) fn measured(rt: &HostRuntime, count: u32, about: About) -> Result<(u6
     Ok((1, start.elapsed(rt)?.as_nanos()))
 }
 
-fn one(alloc: Global, about: About, number: u32) -> Result<Changeset, Failure> {
+fn unsent(alloc: Global, about: About, number: u32) -> Result<Changeset, Failure> {
     match about {
         About::Apart => addition(alloc, number, 5),
         About::Counter => addition(alloc, 1, 5),
-        About::Update => update(alloc, 1, number as u64),
+        About::Update => update(alloc, 1, number.saturating_mul(2) as u64),
+        About::Ends => of_one(alloc, insertion(number)?, 5),
+    }
+}
+
+fn entry(alloc: Global, about: About, number: u32) -> Result<Changeset, Failure> {
+    match about {
+        About::Apart => addition(alloc, number, 5),
+        About::Counter => addition(alloc, 1, 5),
+        About::Update => update(alloc, 1, number.saturating_mul(2).saturating_add(1) as u64),
+        About::Ends => of_one(alloc, insertion_at_start(number)?, 5),
     }
 }

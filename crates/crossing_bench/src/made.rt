@@ -31,6 +31,23 @@ pub(crate) fn insertion(length: u32) -> Result<Instr, Failure> {
     }))
 }
 
+/// An insertion at the start of a list of that length.
+pub(crate) fn insertion_at_start(length: u32) -> Result<Instr, Failure> {
+    let Ok(spot) = Between::new(0, length) else {
+        return Err(Failure::Crossing);
+    };
+    Ok(Instr::ListInsert(ListInsert {
+        cell: cell(1, "steps")?,
+        spot,
+        value: Value::Int(length as i64),
+    }))
+}
+
+/// A changeset of that instruction, likewise.
+pub(crate) fn of_one(alloc: Global, instr: Instr, ms: u64) -> Result<Changeset, Failure> {
+    changeset(alloc, instr, ms)
+}
+
 /// An addition to a number of the object with that key, in a list without spare room, as decoding makes it.
 pub(crate) fn addition(alloc: Global, key: u32, ms: u64) -> Result<Changeset, Failure> {
     let add = AddInteger {

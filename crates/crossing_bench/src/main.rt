@@ -8,8 +8,10 @@
 //!   which it touches none, or each;
 //! - `entries-apart`, `entries-touched`: a change of one instruction is carried over COUNT entries of one instruction, of which
 //!   it touches none, or each;
-//! - `disjoint`, `counter`, `update`: COUNT entries of one instruction are taken by as many unsent changesets of one
-//!   instruction, each about an object of its own, or all about one number. It is run once.
+//! - `entries-list`: a change of one insertion at the start of a list is carried over COUNT entries, insertions at its end;
+//! - `disjoint`, `counter`, `update`, `ends`: COUNT entries of one instruction are taken by as many unsent changesets of one
+//!   instruction, each about an object of its own, or all about one number, or insertions at the end of a list and at its
+//!   start. It is run once.
 #![tactic(auto)]
 
 mod entries;
@@ -51,9 +53,11 @@ fn run(rt: &HostRuntime) -> Result<(), Failure> {
         "unsent-touched" => unsent::measured(rt, count, 1)?,
         "entries-apart" => entries::measured(rt, count, 2)?,
         "entries-touched" => entries::measured(rt, count, 1)?,
+        "entries-list" => entries::measured_list(rt, count)?,
         "disjoint" => exchanges::measured(rt, count, About::Apart)?,
         "counter" => exchanges::measured(rt, count, About::Counter)?,
         "update" => exchanges::measured(rt, count, About::Update)?,
+        "ends" => exchanges::measured(rt, count, About::Ends)?,
         _ => return Err(Failure::Words),
     };
     println!(rt; "{kind} {count}: {runs} runs in {nanos} nanoseconds")?;

@@ -5,6 +5,12 @@
 #[cfg(test)]
 mod copies;
 #[cfg(test)]
+mod crossings;
+#[cfg(test)]
 mod data;
 #[cfg(test)]
+mod draws;
+#[cfg(test)]
 mod gap_lists;
+#[cfg(test)]
+mod reciprocals;

@@ -11,7 +11,7 @@ use Rattle.node_model.specs.Fronts.{lead_on, leading, taking, taking_all, Counte
 use Rattle.node_model.proofs.Fronts.{read_all, read_more, rest_opens}
 
 -- ---- records that stand behind a front
-abbrev IsLater : ServerRecord → Type 0
+abbrev pub IsLater : ServerRecord → Type 0
 IsLater (Part body) = ⊥
 IsLater (Floor version) = ⊥
 IsLater (Count c number base n) = ⊥
@@ -23,7 +23,7 @@ IsLater Form = Unit {0}
 IsLater (Retired c by) = Unit {0}
 IsLater (Settled c n) = Unit {0}
 
-abbrev AreLater : List ServerRecord → Type 0
+abbrev pub AreLater : List ServerRecord → Type 0
 AreLater [] = Unit {0}
 AreLater (r ∷ rs) = IsLater r × AreLater rs
 
@@ -112,7 +112,7 @@ drop_long zero xs h = omega arith
 drop_long (suc n) [] h = absurd (omega arith)
 drop_long (suc n) (x ∷ xs) h = let e = drop_long n xs (omega arith) in omega (arith, e)
 
-take_short : {A : Type 0} (n : ℕ) (xs : List A) → length (take n xs) ≤ length xs
+pub take_short : {A : Type 0} (n : ℕ) (xs : List A) → length (take n xs) ≤ length xs
 take_short zero xs = omega arith
 take_short (suc n) [] = omega arith
 take_short (suc n) (x ∷ xs) = let e = take_short n xs in omega (arith, e)
@@ -172,22 +172,22 @@ module _ {A : Type 0} (kind : ServerRecord → Option A) where
       })
 
 -- ---- answers
-then_ok : {A B : Type 0} (k : ℕ) (w : Result A ℕ) (go : A → Result B ℕ) (b : B) → then_at k w go ≡ Ok b → (a : A) × (w ≡ Ok a) × (go a ≡ Ok b)
+pub then_ok : {A B : Type 0} (k : ℕ) (w : Result A ℕ) (go : A → Result B ℕ) (b : B) → then_at k w go ≡ Ok b → (a : A) × (w ≡ Ok a) × (go a ≡ Ok b)
 then_ok k (Ok a) go b e = (a, refl, e)
 then_ok k (Err n) go b e = cc
 
-if_ok : {B : Type 0} (t : Bool) (n : ℕ) (r : Result B ℕ) (b : B) → (if t then Err n else r) ≡ Ok b → (t ≡ false) × (r ≡ Ok b)
+pub if_ok : {B : Type 0} (t : Bool) (n : ℕ) (r : Result B ℕ) (b : B) → (if t then Err n else r) ≡ Ok b → (t ≡ false) × (r ≡ Ok b)
 if_ok true n r b e = cc
 if_ok false n r b e = (refl, e)
 
-got : {A : Type 0} {x y : A} → ◌≡◌ {A = Result A ℕ} (Ok x) (Ok y) → x ≡ y
+pub got : {A : Type 0} {x y : A} → ◌≡◌ {A = Result A ℕ} (Ok x) (Ok y) → x ≡ y
 got e = cc
 
 module _ {I S : Type 0} (p : Profile I S) (ms : List ServerRecord) (later : AreLater ms) where
   -- a front that is read is read where more follows, and takes no more records than there are
-  record GoesOn (whole : Result (Front I S) ℕ) (f : Front I S) (most : ℕ) : Type 0 where
-    same : whole ≡ Ok f
-    within : f.size ≤ most
+  pub record GoesOn (whole : Result (Front I S) ℕ) (f : Front I S) (most : ℕ) : Type 0 where
+    pub same : whole ≡ Ok f
+    pub within : f.size ≤ most
 
   entries_on : (second : Bool) (below : S) (floor len : ℕ) (ds : List (ℕ × ℕ)) (gs : List (Given I)) (k : ℕ) (es : List Kept) (rest : List (Option ServerRecord)) (f : Front I S) → front_entries p second below floor len ds gs k es rest ≡ Ok f
       → GoesOn (front_entries p second below floor len ds gs k es (rest ++ read_all ms)) f (k + length es + length rest)
@@ -398,7 +398,7 @@ module _ {I S : Type 0} (p : Profile I S) (ms : List ServerRecord) (later : AreL
   abbrev choose : Option ServerRecord → Bool → Bool → List (Option ServerRecord) → Result (Front I S) ℕ
   choose o a b l = if a then taking_all (of_kind part_of) (o ∷ l) (front_parts p false 0) else if b then taking_all (of_kind part_of) l (front_parts p true 1) else Ok (record { parts = no_parts p; size = 0 })
 
-  front_on : (file : List (Option ServerRecord)) (f : Front I S) → front_of p file ≡ Ok f → GoesOn (front_of p (file ++ read_all ms)) f (length file)
+  pub front_on : (file : List (Option ServerRecord)) (f : Front I S) → front_of p file ≡ Ok f → GoesOn (front_of p (file ++ read_all ms)) f (length file)
   front_on [] f e = record { same = alone_front ms later ∙ e; within = let size = ap (λ (g : Front I S). g.size) (got e) in omega (arith, size) }
   front_on (o ∷ os) f e = on (begins_trimmed p (o ∷ os)) (is_form p o && begins_trimmed p os) refl e
     where

@@ -1,5 +1,5 @@
 -- The front of a trimmed file, phase by phase.
-use Rattle.std.proofs.Common.{◌≡◌, ℕ, zero, suc, ◌==◌, ◌+◌, ◌-◌, ◌<◌, ◌≤◌, Bool, true, false, not, ◌&&◌, List, [], ◌∷◌, ◌++◌, Option, Some, None, Result, Ok, Err, if◌then◌else◌, refl, sym, ap, ◌∙◌, subst, arith, length, map, drop, take, get_or, length-append}
+use Rattle.std.proofs.Common.{◌≡◌, ℕ, zero, suc, ◌==◌, ◌+◌, ◌<◌, ◌≤◌, Bool, true, false, not, ◌&&◌, List, [], ◌∷◌, ◌++◌, Option, Some, None, Result, Ok, Err, if◌then◌else◌, refl, sym, ap, ◌∙◌, subst, arith, length, drop, take, get_or, length-append}
 use Rattle.std.proofs.lemmas.List.{map-append}
 use Rattle.std.specs.Option.{is_some, option_map}
 use Rattle.std.proofs.lemmas.Bool.{ne_eqb}
@@ -13,7 +13,7 @@ use Rattle.node_model.specs.Fronts.{Front, front_behind, front_parts, leading, o
 use Rattle.node_model.specs.Bytes.{Uuid}
 use Rattle.node_model.specs.Parts.{Given}
 use Rattle.node_model.specs.Profile.{needs}
-use Rattle.node_model.specs.Servers.{ServerRecord, place_of}
+use Rattle.node_model.specs.Servers.{place_of}
 use Rattle.node_model.specs.Snapshots.{grown}
 use Rattle.node_model.specs.Worlds.{is_there}
 use Rattle.node_instance.specs.Profile.{the_profile, unspell}

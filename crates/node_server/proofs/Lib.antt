@@ -15,6 +15,9 @@ pub mod Continuing
 pub mod Spelled
 pub mod Walking
 pub mod Fronted
+pub mod Tallies
+pub mod There
+pub mod Begun
 pub mod Records
 pub mod Leaving
 pub mod Strokes

@@ -1,10 +1,10 @@
 -- Records of a file with the bytes of each.
-use Rattle.std.proofs.Common.{◌≡◌, ℕ, zero, suc, ◌+◌, ◌<◌, ◌≤◌, List, [], ◌∷◌, ◌++◌, Option, Some, None, Vec, Global, refl, sym, ap, ◌∙◌, subst, arith, length, take, map, get_or}
+use Rattle.std.proofs.Common.{◌≡◌, ℕ, suc, ◌+◌, ◌<◌, List, [], ◌∷◌, ◌++◌, Option, Vec, Global, refl, sym, ap, ◌∙◌, subst, arith, length, take, map, get_or}
 use Rattle.std.specs.Option.{option_map}
 use Rattle.std.proofs.lemmas.List.{map-append, take_more}
 use Rattle.sync_journal.specs.Records.{lists}
 use Rattle.node_model.specs.Servers.{ServerRecord}
-use Rattle.node_instance.specs.Seen.{read_server, server_bytes, server_seen}
+use Rattle.node_instance.specs.Seen.{read_server, server_seen}
 use Rattle.node_records.specs.declared.server.ServerRecord.{ServerRecord as CodeRecord}
 use Rattle.node_server.specs.Fronting.{AreSpelled, IsSpelled, seen}
 

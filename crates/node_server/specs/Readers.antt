@@ -26,6 +26,12 @@ crossed_by floor version (Some g) = if is_live g && nat_le (max floor g.last) ve
 abbrev pub past : Parts Instr State → ℕ → ℕ → Option (Changeset Instr)
 past kept ident version = crossed_by kept.floor version (at_ident ident kept.idents)
 
+-- the entries of others as the changes of an ident cross them, from which nothing is left out; none of an ident of which
+-- no changes can come any more
+abbrev pub live_list : Option (Given Instr) → Option (List (ℕ × Changeset Instr))
+live_list None = None
+live_list (Some g) = if is_live g then Some g.reciprocal else None
+
 -- its list, with its time
 abbrev pub changes_of : Changeset Instr → Changes
 changes_of x = record { ms = x.ms; instrs = x.instrs }

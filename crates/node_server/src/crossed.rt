@@ -1,10 +1,13 @@
 ghost use Rattle.std.specs.Prelude.{◌≡◌, length};
-ghost use Rattle.std.specs.Option.{option_map};
+ghost use Rattle.std.specs.Option.{option_copied, option_map};
 ghost use Rattle.sync_recip.specs.Lists.{entry_of};
-ghost use Rattle.node_server.specs.Readers.{changes_of, entry_at, past};
+ghost use Rattle.node_model.specs.Parts.{at_ident};
+ghost use Rattle.node_server.specs.Readers.{changes_of, entry_at, live_list, past};
 
 use crate::kept::Kept;
+use crate::server::Server;
 use sync_base::{Changeset, Entry, Ident};
+use sync_disk::Disk;
 use sync_recip::Recip;
 
 /// The entry with a version, if there is one.
@@ -41,5 +44,24 @@ impl Kept {
             Some(entry) => Some(&entry.changes),
             None => None,
         }
+    }
+}
+
+impl<D: Disk> Server<D> {
+    ghost use Rattle.node_server.specs.Kept.{parts};
+    ghost use Rattle.node_server.specs.Serving.{kept_of};
+
+    /// The entries of others as the next changes of an ident cross them, with their versions; none where the ident isn't
+    /// given or is retired.
+    pub fn reciprocal(&self, ident: Ident) -> Option<&Recip>
+        ensures { option_copied result ≡ live_list (at_ident ident (parts (kept_of self.now)).idents) }
+    {
+        let Some(given) = self.kept.history.at(ident) else {
+            return None;
+        };
+        if given.heir().is_some() {
+            return None;
+        }
+        Some(given.reciprocal())
     }
 }

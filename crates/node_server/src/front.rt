@@ -1,14 +1,15 @@
 //! The records at the front of a trimmed file: the parts of a state, its version, the idents, their counts, the entries
 //! of the history, and those that changes of an ident crossed.
-ghost use Rattle.std.specs.Prelude.{◌≡◌, ◌≤◌, ◌<◌, [], length, IfOk, IfSome, true};
+ghost use Rattle.std.specs.Prelude.{◌≡◌, ◌≤◌, ◌<◌, ◌-◌, [], length, IfOk, IfSome, true};
 ghost use Rattle.std.specs.Option.{option_map};
 ghost use Rattle.node_instance.specs.Profile.{fits_changeset, the_profile, unspell};
 ghost use Rattle.node_model.specs.Files.{readable};
-ghost use Rattle.node_model.specs.Fronts.{count_is, front_alone, front_behind, front_counts, front_parts, front_uuids, of_kind, leading, part_of, part_step, taking, taking_all, uuid_is, walk};
+ghost use Rattle.node_model.specs.Fronts.{count_is, entry_is, front_alone, front_behind, front_counts, front_entries, front_parts, front_uuids, of_kind, leading, part_of, part_step, taking, taking_all, uuid_is, walk};
 ghost use Rattle.node_server.specs.Fronting.{Fronts, Grows, Walks, instrs_of, seen_from, uuids_of};
 
+use crate::counting::{all_within, read_counts, with_counts};
 use crate::given::Given;
-use crate::history::History;
+use crate::history::{History, LAST};
 use crate::kept::Kept;
 use crate::kinds::{Found, as_floor, as_part};
 use crate::lists::keep;
@@ -206,6 +207,49 @@ impl Kept {
 
     /// The same behind the retired idents.
     fn front_counts(
+        alloc: Global,
+        records: &[Found],
+        place: usize,
+        second: bool,
+        below: Store,
+        objects: Store,
+        floor: u32,
+        idents: Vec<Given>,
+        retired: Vec<(Ident, Ident)>,
+    ) -> Result<(Kept, usize), ReadRefusal>
+        requires positive { 1 ≤ place }
+        requires within { place ≤ length records.now }
+        requires same { objects ≡ below }
+        ensures { Fronts result (taking (of_kind count_is) (length idents.items) (seen_from place records.now) (front_counts the_profile second below floor (uuids_of idents.items) retired.items place)) }
+    {
+        let most = idents.len();
+        if most > LAST as usize {
+            return Err(ReadRefusal::NoMemory);
+        }
+        let (counts, len) = match read_counts(alloc, records, place, most) {
+            Ok(counts) => counts,
+            Err(refusal) => return Err(refusal),
+        };
+        let end = place + counts.len();
+        if counts.len() < most || floor > len || !all_within(len, counts.as_slice()) {
+            return Err(ReadRefusal::BadRecord { place: end - 1 });
+        }
+        let idents = match with_counts(
+            alloc,
+            idents.as_slice(),
+            counts.as_slice(),
+            retired.as_slice(),
+        ) {
+            Ok(idents) => idents,
+            Err(NoMemory) => return Err(ReadRefusal::NoMemory),
+        };
+        Kept::front_entries(
+            alloc, records, end, second, below, objects, floor, len, idents, retired,
+        )
+    }
+
+    /// The same behind the counts.
+    fn front_entries(
         _alloc: Global,
         _records: &[Found],
         _place: usize,
@@ -213,14 +257,17 @@ impl Kept {
         _below: Store,
         _objects: Store,
         _floor: u32,
+        _len: u32,
         _idents: Vec<Given>,
         _retired: Vec<(Ident, Ident)>,
     ) -> Result<(Kept, usize), ReadRefusal>
+        requires positive { 1 ≤ _place }
         requires within { _place ≤ length _records.now }
         requires same { _objects ≡ _below }
-        ensures { Fronts result (taking (of_kind count_is) (length _idents.items) (seen_from _place _records.now) (front_counts the_profile _second _below _floor (uuids_of _idents.items) _retired.items _place)) }
+        requires reach { _floor ≤ _len }
+        ensures { Fronts result (taking (of_kind entry_is) (_len - _floor) (seen_from _place _records.now) (front_entries the_profile _second _below _floor _len _retired.items _idents.items _place)) }
     {
-        // Counts aren't read yet.
+        // Entries aren't read yet.
         Err(ReadRefusal::NoMemory)
     }
 }

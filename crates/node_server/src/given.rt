@@ -5,6 +5,7 @@ ghost use Rattle.node_model.specs.Parts.{settled, extended, given_up};
 ghost use Rattle.node_model.specs.Servers.{place_of};
 ghost use Rattle.node_server.specs.Integrating.{found};
 
+use crate::kinds::Counted;
 use std::alloc::Global;
 use std::marker::Model;
 use sync_base::{Changeset, Id, Ident, NoMemory};
@@ -43,6 +44,20 @@ impl Given {
             last: 0,
             heir: None,
             mark: 0,
+            reciprocal,
+        }
+    }
+
+    /// A client with that count, which was retired for the heir if there is one.
+    pub(crate) fn counted(id: Id, count: Counted, heir: Option<Ident>, reciprocal: Recip) -> Given
+        ensures { result ≡ record { uuid = id; count = count.number; last = count.base; heir = heir; mark = count.settled; reciprocal = reciprocal } }
+    {
+        Given {
+            id,
+            count: count.number,
+            last: count.base,
+            heir,
+            mark: count.settled,
             reciprocal,
         }
     }

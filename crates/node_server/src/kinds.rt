@@ -2,8 +2,9 @@
 ghost use Rattle.std.specs.Prelude.{◌≡◌, map, IfOk};
 ghost use Rattle.std.specs.Option.{option_map};
 ghost use Rattle.sync_journal.specs.Records.{lists};
+ghost use Rattle.node_instance.specs.Profile.{the_profile};
 ghost use Rattle.node_instance.specs.Seen.{read_server, server_seen};
-ghost use Rattle.node_model.specs.Fronts.{floor_is, of_kind, part_of, retired_is, uuid_is, count_is};
+ghost use Rattle.node_model.specs.Fronts.{is_form, floor_is, of_kind, part_of, retired_is, uuid_is, count_is};
 ghost use Rattle.node_server.specs.Fronting.{AreSpelled, IsSpelled, counted_seen, seen};
 
 use crate::lists::keep;
@@ -42,6 +43,15 @@ pub(crate) fn records_in(alloc: Global, files: &[Vec<u8>]) -> Result<Vec<Found>,
         }
     }
     Ok(found)
+}
+
+pub(crate) fn as_form(record: &Found) -> bool
+    ensures { result ≡ is_form the_profile (option_map server_seen record.now) }
+{
+    match record {
+        Some(ServerRecord::Form) => true,
+        _ => false,
+    }
 }
 
 pub(crate) fn as_part(record: &Found) -> Option<&Blob>

@@ -2,6 +2,7 @@
 #![tactic(auto)]
 
 mod asking;
+mod counting;
 mod counts;
 mod crossed;
 mod extending;

@@ -1,13 +1,15 @@
-ghost use Rattle.std.specs.Prelude.{◌≡◌, ◌≤◌, ◌∷◌, [], Ok, length, drop, map, IfOk};
+ghost use Rattle.std.specs.Prelude.{◌≡◌, ◌≤◌, ◌∷◌, [], Ok, length, drop, map, true, IfOk};
 ghost use Rattle.sync_journal.specs.Records.{lists};
 ghost use Rattle.node_instance.specs.Profile.{the_profile};
 ghost use Rattle.node_instance.specs.Seen.{read_server, server_seen};
 ghost use Rattle.node_model.specs.Servers as model;
-ghost use Rattle.node_model.specs.Fronts.{begins_trimmed, is_form};
+ghost use Rattle.node_model.specs.Fronts.{begins_trimmed, front_of, is_form};
+ghost use Rattle.node_server.specs.Fronting.{Fronts, seen};
 ghost use Rattle.node_server.specs.Opening.{Admits, ReadsFile, ReadsFront, ReadsOne, ReadsRest, is_trimmed};
 
 use crate::history::LAST;
 use crate::kept::Kept;
+use crate::kinds::{Found, as_form, records_in};
 use crate::merging::ChangeHead;
 use crate::refusal::ChangeRefusal;
 use node_records::{RecordRefusal, ServerRecord};
@@ -48,13 +50,41 @@ impl Kept {
         ensures { ReadsFront (lists files.now) result }
     {
         match is_trimmed(alloc, files) {
-            // Trimmed files aren't read yet.
-            Ok(true) => Err(ReadRefusal::NoMemory),
+            Ok(true) => Kept::trimmed_front(alloc, files),
             Ok(false) => match Kept::new(alloc) {
                 Ok(kept) => Ok((kept, 0)),
                 Err(NoMemory) => Err(ReadRefusal::NoMemory),
             },
             Err(NoMemory) => Err(ReadRefusal::NoMemory),
+        }
+    }
+
+    /// Reads the records with which a trimmed file begins.
+    fn trimmed_front(alloc: Global, files: &[Vec<u8>]) -> Result<(Kept, usize), ReadRefusal>
+        requires { is_trimmed (map read_server (lists files.now)) ≡ true }
+        ensures { ReadsFront (lists files.now) result }
+    {
+        let records = match records_in(alloc, files) {
+            Ok(records) => records,
+            Err(NoMemory) => return Err(ReadRefusal::NoMemory),
+        };
+        Kept::front_in(alloc, records.as_slice())
+    }
+
+    /// The same of records that were read.
+    fn front_in(alloc: Global, records: &[Found]) -> Result<(Kept, usize), ReadRefusal>
+        requires { is_trimmed (seen records.now) ≡ true }
+        ensures { Fronts result (front_of the_profile (seen records.now)) }
+    {
+        match records {
+            [] => Err(ReadRefusal::NoMemory),
+            [first, ..] => {
+                if as_form(first) {
+                    Kept::front_parts(alloc, records, 1, true)
+                } else {
+                    Kept::front_parts(alloc, records, 0, false)
+                }
+            }
         }
     }
 

@@ -1,2 +1,3 @@
 pub mod Front
 pub mod Utf8
+pub mod Subsets

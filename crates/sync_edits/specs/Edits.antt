@@ -1,11 +1,12 @@
 -- An edit is an object whose field `op` names the instruction. Edits stand in a list.
-use Rattle.std.specs.Prelude.{ℕ, List, [], ◌∷◌, codes, Option, Some, None, if◌then◌else◌}
+use Rattle.std.specs.Prelude.{ℕ, List, codes, Option, Some, None, if◌then◌else◌}
 use Rattle.std.specs.Str.{bytes_eq}
-use Rattle.serde_json.specs.Data.{Data, Items, no_items, item}
+use Rattle.serde_json.specs.Data.{Data}
 use Rattle.serde_json.specs.Find.{get, as_array}
 use Rattle.sync_data.specs.declared.instr.Instr.{Instr}
 use Rattle.sync_value_text.specs.Forms.{◌>>=◌}
 use Rattle.sync_value_text.specs.Fields.{text_form}
+use Rattle.sync_edits.specs.Items.{all_items}
 use Rattle.sync_edits.specs.Objects.{add_table_form, add_column_form, create_object_form, erase_object_form, update_form, add_integer_form, list_update_form, list_insert_form, list_erase_form, set_insert_form, set_erase_form, dict_update_form, dict_erase_form, clear_form}
 
 unfoldable pub list_or_dict_form : List ℕ → Data → Option Instr
@@ -35,16 +36,8 @@ edit_form d = do
   word ← text_form d (codes "op")
   edit_by_word word d
 
--- each item an edit, in order
-unfoldable pub all_edits : Items → Option (List Instr)
-all_edits no_items = Some []
-all_edits (item d more) = do
-  first ← edit_form d
-  others ← all_edits more
-  Some (first ∷ others)
-
 unfoldable pub edits_form : Data → Option (List Instr)
 edits_form d = do
   found ← get (codes "edits") d
   items ← as_array found
-  all_edits items
+  all_items edit_form items

@@ -11,6 +11,7 @@ use Rattle.sync_edits.specs.declared.event.Event.TheVariants as events
 use Rattle.sync_edits.specs.declared.event.NodeLine.{NodeLine}
 use Rattle.sync_edits.specs.declared.event.NodeLine.TheVariants as node_lines
 use Rattle.sync_edits.specs.Edits.{edits_form}
+use Rattle.sync_edits.specs.Tables.{tables_form}
 
 -- ---- one event each
 
@@ -54,6 +55,13 @@ unfoldable pub upgrade_form : Data → Option Event
 upgrade_form d = do
   client ← only_client d
   Some (events.Upgrade client)
+
+unfoldable pub subscribe_form : Data → Option Event
+subscribe_form d = do
+  all ← exactly_form 3 d
+  client ← name_form d (codes "client")
+  tables ← tables_form d
+  Some (events.Subscribe client tables)
 
 unfoldable pub deliver_form : Data → Option Event
 deliver_form d = do
@@ -110,6 +118,7 @@ event_by_word word d =
     else if bytes_eq word (codes "stop") then stop_form d
     else if bytes_eq word (codes "inject") then inject_form d
     else if bytes_eq word (codes "upgrade") then upgrade_form d
+    else if bytes_eq word (codes "subscribe") then subscribe_form d
     else None
 
 unfoldable pub event_form : Data → Option Event
@@ -138,8 +147,15 @@ node_upgrade_form d = do
   form ← number_form d (codes "upgrade")
   provided (form == 2) node_lines.Upgrade
 
+unfoldable pub node_subscribe_form : Data → Option NodeLine
+node_subscribe_form d = do
+  all ← exactly_form 1 d
+  tables ← tables_form d
+  Some (node_lines.Subscribe tables)
+
 unfoldable pub node_line_form : Data → Option NodeLine
 node_line_form d =
     if has d (codes "uuid") then born_form d
     else if has d (codes "upgrade") then node_upgrade_form d
+    else if has d (codes "tables") then node_subscribe_form d
     else commit_form d

@@ -1,5 +1,6 @@
 ghost use Rattle.sync_value_text.specs.Forms.{Reads, ReadsBy};
-ghost use Rattle.sync_edits.specs.Edits.{edit_form, edit_by_word as by_word, list_or_dict_form as collection_form, all_edits as all_of, edits_form};
+ghost use Rattle.sync_edits.specs.Edits.{edit_form, edit_by_word as by_word, list_or_dict_form as collection_form, edits_form};
+ghost use Rattle.sync_edits.specs.Items.{all_items};
 ghost use Rattle.serde_json.specs.View.{view, items_view};
 
 use super::objects::{
@@ -22,7 +23,7 @@ pub(crate) fn edits_field(alloc: Global, json: &Json) -> Result<Listed<Instr>, T
 }
 
 fn all_edits(alloc: Global, items: &[Json]) -> Result<Vec<Instr>, TextRefusal>
-    ensures { ReadsBy (λ edits. edits.items) result (all_of (items_view items.now)) }
+    ensures { ReadsBy (λ edits. edits.items) result (all_items edit_form (items_view items.now)) }
 {
     let mut edits = Vec::new(alloc);
     for item in items {

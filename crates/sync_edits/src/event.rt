@@ -1,5 +1,6 @@
 use sync_data::{Blob, Id, Instr, Listed, Name};
 use sync_disk::Leaves;
+use sync_subset::Subset;
 
 /// One event of an exchange of any number of clients with one server.
 #[derive(Drop)]
@@ -50,6 +51,11 @@ pub enum Event {
     Upgrade {
         client: Name,
     },
+    /// From here on the client makes and gets changes of these tables alone.
+    Subscribe {
+        client: Name,
+        tables: Subset,
+    },
 }
 
 /// One line for the client of a file.
@@ -61,4 +67,6 @@ pub enum NodeLine {
     Commit { ms: u64, edits: Listed<Instr> },
     /// The client's file is brought to form 2.
     Upgrade,
+    /// From here on the client makes and gets changes of these tables alone.
+    Subscribe { tables: Subset },
 }

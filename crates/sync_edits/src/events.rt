@@ -1,10 +1,11 @@
 ghost use Rattle.std.specs.Prelude.{◌≡◌};
 ghost use Rattle.sync_value_text.specs.Forms.{Decides, Reads};
-ghost use Rattle.sync_edits.specs.Events.{client_form, transaction_form, only_client, bind_form, upload_form, ask_form, upgrade_form, deliver_form, restart_form, at_form, leaves_of_word, stop_form, inject_form, event_by_word as by_word, event_form, born_form, commit_form, node_upgrade_form, node_line_form};
+ghost use Rattle.sync_edits.specs.Events.{client_form, transaction_form, only_client, bind_form, upload_form, ask_form, upgrade_form, subscribe_form, deliver_form, restart_form, at_form, leaves_of_word, stop_form, inject_form, event_by_word as by_word, event_form, born_form, commit_form, node_upgrade_form, node_subscribe_form, node_line_form};
 ghost use Rattle.serde_json.specs.View.{view};
 
 use super::edits::edits_field;
 use super::event::{Event, NodeLine};
+use super::tables::tables_field;
 use serde_json::Value as Json;
 use std::alloc::Global;
 use sync_data::Name;
@@ -41,6 +42,7 @@ fn event_by_word(alloc: Global, word: &str, json: &Json) -> Result<Event, TextRe
         "stop" => stop_event(json),
         "inject" => inject_event(alloc, json),
         "upgrade" => upgrade_event(json),
+        "subscribe" => subscribe_event(alloc, json),
         _ => Err(TextRefusal::BadValue),
     }
 }
@@ -104,6 +106,16 @@ fn upgrade_event(json: &Json) -> Result<Event, TextRefusal>
 {
     let client = only_client_of(json)?;
     Ok(Event::Upgrade { client })
+}
+
+#[tactic(auto, unfolding(crate::specs::Events::subscribe_form))]
+fn subscribe_event(alloc: Global, json: &Json) -> Result<Event, TextRefusal>
+    ensures { Reads result (subscribe_form (view json.now)) }
+{
+    exactly(json, 3)?;
+    let client = name_field(json, "client")?;
+    let tables = tables_field(alloc, json)?;
+    Ok(Event::Subscribe { client, tables })
 }
 
 #[tactic(auto, unfolding(crate::specs::Events::deliver_form))]
@@ -178,6 +190,8 @@ pub(crate) fn node_line_from(alloc: Global, json: &Json) -> Result<NodeLine, Tex
         born_line(json)
     } else if has_field(json, "upgrade") {
         upgrade_line(json)
+    } else if has_field(json, "tables") {
+        subscribe_line(alloc, json)
     } else {
         commit_line(alloc, json)
     }
@@ -211,4 +225,13 @@ fn upgrade_line(json: &Json) -> Result<NodeLine, TextRefusal>
         return Err(TextRefusal::BadValue);
     }
     Ok(NodeLine::Upgrade)
+}
+
+#[tactic(auto, unfolding(crate::specs::Events::node_subscribe_form))]
+fn subscribe_line(alloc: Global, json: &Json) -> Result<NodeLine, TextRefusal>
+    ensures { Reads result (node_subscribe_form (view json.now)) }
+{
+    exactly(json, 1)?;
+    let tables = tables_field(alloc, json)?;
+    Ok(NodeLine::Subscribe { tables })
 }

@@ -7,6 +7,7 @@ mod events;
 mod lines;
 mod objects;
 mod refusal;
+mod tables;
 
 pub use event::{Event, NodeLine};
 pub use lines::{event_of, node_line_of};

@@ -1,5 +1,5 @@
 -- How long a message is, and the messages of the code as those of the model and back.
-use Rattle.std.proofs.Common.{◌≡◌, ℕ, zero, suc, ◌+◌, ◌*◌, ◌/◌, ◌^◌, ◌<◌, ◌≤◌, List, [], ◌∷◌, ◌++◌, length, map, refl, ap, arith, inl, inr, length-append}
+use Rattle.std.proofs.Common.{◌≡◌, ℕ, zero, suc, ◌+◌, ◌*◌, ◌/◌, ◌^◌, ◌<◌, ◌≤◌, ◌==◌, if◌then◌else◌, List, [], ◌∷◌, ◌++◌, length, map, refl, ap, arith, inl, inr, length-append}
 use Rattle.std.specs.List.{AllByRecursion, sum_by, flat_map}
 use Rattle.std.proofs.Math.Nat.{pow-succ'}
 use Rattle.std.proofs.lemmas.Bool.{cases_lt}
@@ -10,12 +10,13 @@ use Rattle.sync_io.specs.Framing.{max_frame}
 use Rattle.sync_io.specs.Formats.{body}
 use Rattle.sync_io.specs.Varints.{varint}
 use Rattle.sync_io.specs.VarintLaws.{varint_small, varint_large}
-use Rattle.sync_messages.specs.Parts.{AskParts, ChangeParts, SentParts}
-use Rattle.sync_messages.specs.Spelling.{ask_spelling, change_spelling, download_spelling, entry_spelling, given_spelling, message_spelling, stored_spelling, upload_spelling}
-use Rattle.sync_messages.specs.Whole.{IsMessage, IsWholeAsk, IsWholeChange, IsWholeEntry}
-use Rattle.sync_messages.specs.declared.message.Message.{Message as CodeMessage}
-use Rattle.sync_messages.specs.declared.message.Message.TheVariants as messages
-use Rattle.sync_exchange.specs.Seen.{change_seen, message_seen, sent_seen}
+use Rattle.subset_bytes.specs.Spelling.{IsTableName, tables_spelling}
+use Rattle.node_messages.specs.Parts.{AskParts, ChangeParts, SentParts}
+use Rattle.node_messages.specs.Spelling.{ask_spelling, change_spelling, ask_tables_spelling, download_spelling, entry_spelling, given_spelling, message_spelling, retire_spelling, retired_spelling, stored_spelling, upload_spelling}
+use Rattle.node_messages.specs.Whole.{IsMessage, IsWholeAsk, IsWholeChange, IsWholeEntry}
+use Rattle.node_messages.specs.declared.message.Message.{Message as CodeMessage}
+use Rattle.node_messages.specs.declared.message.Message.TheVariants as messages
+use Rattle.node_instance.specs.Seen.{change_seen, message_seen, sent_seen}
 use Rattle.sync_node.specs.Frames.{change_kept, message_kept, sent_kept}
 
 -- ---- lengths
@@ -80,6 +81,12 @@ ask_short a is =
     let q = length-append (varint a.ident) (varint a.cursor) in
     omega (arith, p, q, number_short a.ident is.1, number_short a.cursor is.2, number_short a.settled (omega (arith, settled, is.2)))
 
+names_short : (names : List (List ℕ)) → AllByRecursion IsTableName names → length (flat_map body names) ≤ 68 * length names
+names_short [] all = omega arith
+names_short (name ∷ names) all =
+    let few = all.0.few in
+    omega (arith, few, length-flat_map body (name ∷ names), length-flat_map body names, sum_by-cons (λ n. length (body n)) name names, body_short name (omega (arith, few)), names_short names all.1)
+
 -- a message fits a frame
 pub message_short : (m : CodeMessage) → IsMessage m → length (message_spelling m) ≤ max_frame
 message_short (messages.Bind uuid) is = omega (arith, is)
@@ -108,6 +115,18 @@ message_short (messages.Refused ident number code place) is =
     omega (arith, p, o, q, number_short ident is.0, number_short number is.1, number_short code is.2, number_short place is.3)
 message_short (messages.Stored stored) is = let p : length (stored_spelling stored) ≡ length (varint stored.ident) + length (varint stored.number) = length-append (varint stored.ident) (varint stored.number) in omega (arith, p, number_short stored.ident is.1, number_short stored.number is.2)
 message_short (messages.Ask2 ask) is = let p = ask_short ask is in omega (arith, p)
+message_short (messages.Retire retire) is = let p : length (retire_spelling retire) ≡ length (varint retire.ident) + length (varint retire.by) = length-append (varint retire.ident) (varint retire.by) in omega (arith, p, number_short retire.ident is.1, number_short retire.by is.2)
+message_short (messages.Retired retired) is =
+    let p : length (retired_spelling retired) ≡ length (varint retired.ident ++ varint retired.by) + length (varint retired.number) = length-append (varint retired.ident ++ varint retired.by) (varint retired.number) in
+    let q = length-append (varint retired.ident) (varint retired.by) in
+    omega (arith, p, q, number_short retired.ident is.1, number_short retired.by is.2, number_short retired.number is.3)
+message_short (messages.AskTables asked) is =
+    let few = is.2.0.1 in
+    let second = is.0.second in
+    let p : length (ask_tables_spelling asked) ≡ length (ask_spelling asked.ask ++ varint asked.form) + length (tables_spelling asked.tables) = length-append (ask_spelling asked.ask ++ varint asked.form) (tables_spelling asked.tables) in
+    let o = length-append (ask_spelling asked.ask) (varint asked.form) in
+    let q : length (tables_spelling asked.tables) ≡ length (varint (length asked.tables)) + length (flat_map body asked.tables) = length-append (varint (length asked.tables)) (flat_map body asked.tables) in
+    omega (arith, p, o, q, few, ask_short asked.ask is.1, number_short asked.form (omega (arith, second)), number_short (length asked.tables) (omega (arith, few)), names_short asked.tables (recursion_from_All IsTableName asked.tables is.2.1))
 
 -- ---- the messages of the code as those of the model, and back
 changes_back : (hs : List ChangeParts) → map change_kept (map change_seen hs) ≡ hs
@@ -118,12 +137,21 @@ entries_back : (es : List SentParts) → map sent_kept (map sent_seen es) ≡ es
 entries_back [] = refl
 entries_back (e ∷ es) = ap (λ l. e ∷ l) (entries_back es)
 
-pub message_back : (m : CodeMessage) → message_kept (message_seen m) ≡ m
-message_back (messages.Bind uuid) = refl
-message_back (messages.Ident given) = refl
-message_back (messages.Upload upload) = ap (λ l. messages.Upload (record { ident = upload.ident; changes = l })) (changes_back upload.changes)
-message_back (messages.Ask ask) = refl
-message_back (messages.Download download) = ap (λ l. messages.Download (record { ident = download.ident; from = download.from; entries = l })) (entries_back download.entries)
-message_back (messages.Refused ident number code place) = refl
-message_back (messages.Stored stored) = refl
-message_back (messages.Ask2 ask) = refl
+form_back : (n : ℕ) → 1 ≤ n → n ≤ 2 → (if n == 2 then 2 else 1) ≡ n
+form_back zero low high = absurd (omega (arith, low))
+form_back (suc zero) low high = refl
+form_back (suc (suc zero)) low high = refl
+form_back (suc (suc (suc n))) low high = absurd (omega (arith, high))
+
+pub message_back : (m : CodeMessage) → IsMessage m → message_kept (message_seen m) ≡ m
+message_back (messages.Bind uuid) is = refl
+message_back (messages.Ident given) is = refl
+message_back (messages.Upload upload) is = ap (λ l. messages.Upload (record { ident = upload.ident; changes = l })) (changes_back upload.changes)
+message_back (messages.Ask ask) is = refl
+message_back (messages.Download download) is = ap (λ l. messages.Download (record { ident = download.ident; from = download.from; entries = l })) (entries_back download.entries)
+message_back (messages.Refused ident number code place) is = refl
+message_back (messages.Stored stored) is = refl
+message_back (messages.Ask2 ask) is = refl
+message_back (messages.Retire retire) is = refl
+message_back (messages.Retired retired) is = refl
+message_back (messages.AskTables asked) is = ap (λ n. messages.AskTables (record asked { form = n })) (form_back asked.form is.0.first is.0.second)

@@ -10,19 +10,22 @@ use Rattle.sync_io.specs.declared.status.Status.TheVariants as statuses
 use Rattle.sync_journal.specs.Records.{StandsForPrefix, records_of}
 use Rattle.sync_journal.specs.Records.Reading.{Good}
 use Rattle.sync_journal.specs.Stands.{disk_of}
-use Rattle.sync_model.specs.Clients.{ClientRecord, ClientRefusal, ClientStep}
-use Rattle.sync_model.specs.Servers.{ServerRecord, ServerStep}
-use Rattle.sync_exchange.specs.Seen.{client_bytes, message_seen, server_bytes}
-use Rattle.sync_client.specs.Clients as clients
-use Rattle.sync_client.specs.Refusals.{IfSeen, refusal_seen}
-use Rattle.sync_client.specs.declared.refusal.ClientRefusal.{ClientRefusal as CodeRefusal}
-use Rattle.sync_client.specs.declared.refusal.ClientRefusal.TheVariants as codes
+use Rattle.node_model.specs.Clients.{ClientRecord, ClientRefusal, ClientStep}
+use Rattle.sync_base.specs.States.{State}
+use Rattle.sync_data.specs.declared.instr.Instr.{Instr}
+use Rattle.node_model.specs.Parts.{Served}
+use Rattle.node_model.specs.Servers.{ServerRecord}
+use Rattle.node_instance.specs.Seen.{client_bytes, message_seen, server_bytes}
+use Rattle.node_client.specs.Clients as clients
+use Rattle.node_client.specs.Refusals.{IfSeen, refusal_seen}
+use Rattle.node_client.specs.declared.refusal.ClientRefusal.{ClientRefusal as CodeRefusal}
+use Rattle.node_client.specs.declared.refusal.ClientRefusal.TheVariants as codes
 use Rattle.sync_data.specs.declared.memory.NoMemory.{NoMemory}
 use Rattle.sync_world.specs.Words.{outcome_line, refusal_text}
-use Rattle.sync_client.specs.declared.client.Client.{Client}
-use Rattle.sync_server.specs.Serving as servers
-use Rattle.sync_server.specs.declared.server.Server.{Server}
-use Rattle.sync_messages.specs.declared.message.Message.{Message as CodeMessage}
+use Rattle.node_client.specs.declared.client.Client.{Client}
+use Rattle.node_server.specs.Serving as servers
+use Rattle.node_server.specs.declared.server.Server.{Server}
+use Rattle.node_messages.specs.declared.message.Message.{Message as CodeMessage}
 use Rattle.sync_node.specs.Frames.{frame}
 use Rattle.sync_node.specs.Holding.{ClientStands, ServerStands}
 use Rattle.sync_node.specs.Items.{Items, Over, Bad, Limit, Next}
@@ -92,6 +95,7 @@ plain_seen codes.NotNamed a b c e = cc
 plain_seen codes.TooLarge a b c e = cc
 plain_seen codes.NumbersFull a b c e = cc
 plain_seen (codes.OldForm place) a b c e = cc
+plain_seen (codes.NotSubscribed place) a b c e = cc
 plain_seen (codes.Break place code) a b c e = cc
 plain_seen codes.NotMine a b c e = cc
 plain_seen (codes.IdentDiffers kept got) a b c e = cc
@@ -102,10 +106,12 @@ plain_seen (codes.Mismatch version number kind) a b c e = cc
 plain_seen (codes.Forked number) a b c e = cc
 plain_seen (codes.NotApplicable version place code) a b c e = cc
 plain_seen (codes.WasRefused number code) a b c e = cc
+plain_seen codes.Subscribed a b c e = cc
+plain_seen codes.TooLate a b c e = cc
 
 -- ---- a server's call is answered
 module _ {D : Type 0} {G : Ghosts D} where
-  pub replied_ok : (did : ServerStep) (records : List ServerRecord) (new : Server D G) (reply : CodeMessage) (text : List ℕ) → servers.Did did reply records new → servers.IsStored G.content G.images (records ++ did.records) new → text ≡ frame (message_seen reply)
+  pub replied_ok : (did : Served Instr State) (records : List ServerRecord) (new : Server D G) (reply : CodeMessage) (text : List ℕ) → servers.Did did reply records new → servers.IsStored G.content G.images (records ++ did.records) new → text ≡ frame (message_seen reply)
       → AnswersSo (Some (replied did)) records text (λ rs. ServerStands rs new)
   replied_ok did records new reply text step stored framed = record {
     answer = replied did;

@@ -1,5 +1,5 @@
 -- A node that is opened, and a file that is no journal of it.
-use Rattle.std.proofs.Common.{◌≡◌, ℕ, List, Result, Ok, Err, inl, inr, refl, sym, ap, ◌∙◌}
+use Rattle.std.proofs.Common.{◌≡◌, ℕ, List, [], ◌∷◌, map, Some, Result, Ok, Err, inl, inr, refl, sym, ap, ◌∙◌}
 use Rattle.sync_disk.specs.declared.disk.Disk.{Ghosts}
 use Rattle.sync_io.specs.declared.status.Status.{Status}
 use Rattle.sync_io.specs.declared.status.Status.TheVariants as statuses
@@ -7,14 +7,22 @@ use Rattle.sync_journal.specs.Records.Reading.{Good}
 use Rattle.sync_journal.specs.Stands.{disk_of}
 use Rattle.sync_journal.specs.declared.opening.OpenCause.{OpenCause}
 use Rattle.sync_journal.specs.declared.opening.OpenCause.TheVariants as causes
-use Rattle.sync_client.specs.Clients as clients
-use Rattle.sync_client.specs.Files as client_files
-use Rattle.sync_client.specs.declared.client.Client.{Client}
-use Rattle.sync_server.specs.Serving as servers
-use Rattle.sync_server.specs.Files as server_files
-use Rattle.sync_server.specs.declared.server.Server.{Server}
-use Rattle.sync_node.specs.Opening.{HoldsThose, IsOpenStatus, OpenedClient, OpenedServer, at_gate, client_file, client_in, open_status, server_file, server_in}
+use Rattle.node_model.specs.Fronts.{file_gives}
+use Rattle.node_model.specs.Servers.{ServerRecord}
+use Rattle.node_instance.specs.Profile.{the_profile}
+use Rattle.node_client.specs.Clients as clients
+use Rattle.node_client.specs.Files as client_files
+use Rattle.node_client.specs.declared.client.Client.{Client}
+use Rattle.node_server.specs.Serving as servers
+use Rattle.node_server.specs.Files as server_files
+use Rattle.node_server.specs.declared.server.Server.{Server}
+use Rattle.sync_node.specs.Opening.{HoldsThose, IsOpenStatus, OpenedClient, OpenedServer, all_read, at_gate, client_file, client_in, if_given, open_status, server_file, server_in}
 use Rattle.sync_node.specs.Texts.{TellsBad}
+
+-- records are read as themselves
+all_again : (rs : List ServerRecord) → all_read (map (λ r. Some r) rs) ≡ rs
+all_again [] = refl
+all_again (r ∷ rs) = ap (λ xs. r ∷ xs) (all_again rs)
 
 -- ---- the node of its records
 module _ {D : Type 0} {G : Ghosts D} (b : List ℕ) where
@@ -30,8 +38,8 @@ module _ {D : Type 0} {G : Ghosts D} (b : List ℕ) where
   pub opened_server : (s : Server D G) → server_files.Opened G.content G.images b s → OpenedServer G.content G.images b s
   opened_server s o = record {
     records = o.records;
-    file = ap server_in o.holds ∙ ap (at_gate o.file) o.reads;
-    holds = o.holds ∙ ap Good (sym o.spelled);
+    file = ap server_in o.holds ∙ ap (at_gate o.file) (ap (if_given o.file) (ap (file_gives the_profile) o.are.reads ∙ o.server.gives) ∙ ap (λ rs. Ok rs) (ap all_read o.are.reads ∙ all_again o.records));
+    holds = o.holds ∙ ap Good (sym o.are.spelled);
     server = o.server;
     stored = o.stored;
   }
@@ -50,7 +58,7 @@ bad_client b place (inr r) = ap client_in r.holds ∙ ap (at_gate r.file) r.bad.
 
 pub bad_server : (b : List ℕ) (place : ℕ) → server_files.BadPlace b place → server_file b ≡ Err place
 bad_server b place (inl bad) = ap server_in bad
-bad_server b place (inr r) = ap server_in r.holds ∙ ap (at_gate r.file) r.bad.reads ∙ ap (λ n. Err n) (sym r.bad.gate)
+bad_server b place (inr r) = ap server_in r.holds ∙ ap (at_gate r.file) (ap (if_given r.file) r.bad.reads) ∙ ap (λ n. Err n) (sym r.bad.gate)
 
 -- ---- causes and statuses
 pub bad_cause : (cause : OpenCause) (place : ℕ) → open_status cause ≡ statuses.BadFile place → cause ≡ causes.BadFile place

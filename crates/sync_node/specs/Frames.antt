@@ -1,11 +1,11 @@
 -- The frames of messages.
-use Rattle.std.specs.Prelude.{ℕ, List, ◌++◌, length, map}
+use Rattle.std.specs.Prelude.{ℕ, List, ◌++◌, if◌then◌else◌, length, map}
 use Rattle.byteorder.specs.Endian.{big_bytes}
-use Rattle.sync_messages.specs.Parts.{ChangeParts, SentParts}
-use Rattle.sync_messages.specs.Spelling.{message_spelling}
-use Rattle.sync_messages.specs.declared.message.Message.{Message as CodeMessage}
-use Rattle.sync_messages.specs.declared.message.Message.TheVariants as messages
-use Rattle.sync_model.specs.Messages.{Change, Sent, Message}
+use Rattle.node_messages.specs.Parts.{ChangeParts, SentParts}
+use Rattle.node_messages.specs.Spelling.{message_spelling}
+use Rattle.node_messages.specs.declared.message.Message.{Message as CodeMessage}
+use Rattle.node_messages.specs.declared.message.Message.TheVariants as messages
+use Rattle.node_model.specs.Messages.{Change, Sent, Message}
 
 -- ---- the messages of the model as those of the code, one line a kind
 abbrev pub change_kept : Change → ChangeParts
@@ -23,6 +23,9 @@ message_kept (Message.Download ident from entries) = messages.Download (record {
 message_kept (Message.Refused ident number code place) = messages.Refused ident number code place
 message_kept (Message.Stored ident number) = messages.Stored (record { ident = ident; number = number })
 message_kept (Message.Ask2 ident cursor settled) = messages.Ask2 (record { ident = ident; cursor = cursor; settled = settled })
+message_kept (Message.Retire ident by) = messages.Retire (record { ident = ident; by = by })
+message_kept (Message.Retired ident by number) = messages.Retired (record { ident = ident; by = by; number = number })
+message_kept (Message.AskTables ident cursor settled second tables) = messages.AskTables (record { ask = record { ident = ident; cursor = cursor; settled = settled }; form = if second then 2 else 1; tables = tables })
 
 -- ---- frames
 -- the length of bytes, the highest of four bytes first, and then the bytes

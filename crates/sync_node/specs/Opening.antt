@@ -1,5 +1,5 @@
 -- What the bytes of a node's file are, and how it is opened.
-use Rattle.std.specs.Prelude.{◌≡◌, ℕ, List, map, Option, Some, Result, Ok, Err}
+use Rattle.std.specs.Prelude.{◌≡◌, ℕ, List, [], ◌∷◌, map, Option, None, Some, Result, Ok, Err}
 use Rattle.sync_disk.specs.Disk.{Only}
 use Rattle.sync_disk.specs.declared.disk.Disk.{Ghosts}
 use Rattle.sync_io.specs.declared.status.Status.{Status}
@@ -9,15 +9,19 @@ use Rattle.sync_journal.specs.Records.{Reading, records_of}
 use Rattle.sync_journal.specs.Records.Reading.{Good, BadAt}
 use Rattle.sync_journal.specs.declared.opening.OpenCause.{OpenCause}
 use Rattle.sync_journal.specs.declared.opening.OpenCause.TheVariants as causes
-use Rattle.sync_model.specs.Clients.{ClientRecord, no_client}
-use Rattle.sync_model.specs.Files.{client_reads, server_reads}
-use Rattle.sync_model.specs.Servers.{ServerRecord, no_server}
-use Rattle.sync_exchange.specs.Profile.{the_profile}
-use Rattle.sync_exchange.specs.Seen.{client_bytes, read_client, read_server, server_bytes}
-use Rattle.sync_client.specs.Clients as clients
-use Rattle.sync_client.specs.declared.client.Client.{Client}
-use Rattle.sync_server.specs.Serving as servers
-use Rattle.sync_server.specs.declared.server.Server.{Server}
+use Rattle.node_model.specs.Clients.{ClientRecord, no_client}
+use Rattle.sync_base.specs.States.{State}
+use Rattle.sync_data.specs.declared.instr.Instr.{Instr}
+use Rattle.node_model.specs.Files.{client_reads}
+use Rattle.node_model.specs.Fronts.{file_gives}
+use Rattle.node_model.specs.Parts.{Parts}
+use Rattle.node_model.specs.Servers.{ServerRecord}
+use Rattle.node_instance.specs.Profile.{the_profile}
+use Rattle.node_instance.specs.Seen.{client_bytes, read_client, read_server, server_bytes}
+use Rattle.node_client.specs.Clients as clients
+use Rattle.node_client.specs.declared.client.Client.{Client}
+use Rattle.node_server.specs.Serving as servers
+use Rattle.node_server.specs.declared.server.Server.{Server}
 
 -- records, or the place of the gate of the first that isn't one
 abbrev pub at_gate : {R : Type 0} → List (List ℕ) → Result (List R) ℕ → Result (List R) ℕ
@@ -28,8 +32,19 @@ abbrev pub client_in : Reading → Result (List ClientRecord) ℕ
 client_in (Good file) = at_gate file (client_reads the_profile read_client (no_client the_profile) file)
 client_in (BadAt place) = Err place
 
+-- those of them that are records
+abbrev pub all_read : List (Option ServerRecord) → List ServerRecord
+all_read [] = []
+all_read (None ∷ os) = all_read os
+all_read (Some r ∷ os) = r ∷ all_read os
+
+-- the records, where a server would have written them all, its history from the first entry or from a floor on
+abbrev pub if_given : List (List ℕ) → Result (Parts Instr State) ℕ → Result (List ServerRecord) ℕ
+if_given file (Ok kept) = Ok (all_read (map read_server file))
+if_given file (Err number) = Err number
+
 abbrev pub server_in : Reading → Result (List ServerRecord) ℕ
-server_in (Good file) = at_gate file (server_reads the_profile read_server no_server file)
+server_in (Good file) = at_gate file (if_given file (file_gives the_profile (map read_server file)))
 server_in (BadAt place) = Err place
 
 -- the records of a client's file, or the place at which the bytes are no journal of a client

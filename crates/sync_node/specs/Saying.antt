@@ -3,9 +3,9 @@ use Rattle.std.specs.Prelude.{◌≡◌, ℕ, ◌<◌, List, ◌∷◌, ◌++◌
 use Rattle.std.proofs.Common.{ap, arith, length-append}
 use Rattle.std.specs.Option.{option_map}
 use Rattle.byteorder.specs.Endian.{big_bytes}
-use Rattle.sync_model.specs.Clients.{ClientRecord}
-use Rattle.sync_model.specs.Messages.{Message}
-use Rattle.sync_model.specs.Servers.{ServerRecord}
+use Rattle.node_model.specs.Clients.{ClientRecord}
+use Rattle.node_model.specs.Messages.{Message}
+use Rattle.node_model.specs.Servers.{ServerRecord}
 use Rattle.sync_edits.specs.Lines.{node_form_of_line}
 use Rattle.sync_edits.specs.declared.event.NodeLine.{NodeLine}
 use Rattle.sync_edits.specs.declared.event.NodeLine.TheVariants as node_lines
@@ -31,6 +31,7 @@ node_line_says : (records : List ClientRecord) (number : ℕ) (line : NodeLine) 
 node_line_says records number (node_lines.Born id) = line_says number _
 node_line_says records number (node_lines.Commit ms edits) = line_says number _
 node_line_says records number node_lines.Upgrade = line_says number _
+node_line_says records number (node_lines.Subscribe tables) = line_says number _
 
 pub edit_says : (records : List ClientRecord) (number : ℕ) (item : List ℕ) (answer : Answer ClientRecord) → edit_step records number item ≡ Some answer → 0 < length answer.text
 edit_says records number item answer is = mapped_says (line_answer records number) (node_form_of_line item) answer (node_line_says records number) is
@@ -50,6 +51,9 @@ frame_says (Message.Download ident from entries) = framed_says 5 _
 frame_says (Message.Refused ident number code place) = framed_says 6 _
 frame_says (Message.Stored ident number) = framed_says 7 _
 frame_says (Message.Ask2 ident cursor settled) = framed_says 8 _
+frame_says (Message.Retire ident by) = framed_says 9 _
+frame_says (Message.Retired ident by number) = framed_says 10 _
+frame_says (Message.AskTables ident cursor settled second tables) = framed_says 11 _
 
 pub serve_says : (records : List ServerRecord) (number : ℕ) (item : List ℕ) (answer : Answer ServerRecord) → serve_step records number item ≡ Some answer → 0 < length answer.text
 serve_says records number item answer is = mapped_says _ (message_read item) answer (λ m. frame_says _) is

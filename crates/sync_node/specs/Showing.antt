@@ -2,12 +2,13 @@
 use Rattle.std.specs.Prelude.{ℕ, Bool, true, false, if◌then◌else◌, List, [], ◌∷◌, ◌++◌, codes, length, Option, Some, Result, Ok, Err}
 use Rattle.sync_journal.specs.Records.{Reading, records_of}
 use Rattle.sync_journal.specs.Records.Reading.{Good, BadAt}
-use Rattle.sync_model.specs.Clients.{ClientRecord, client_of}
-use Rattle.sync_model.specs.Servers.{ServerRecord, entries_from, server_objects, server_of}
-use Rattle.sync_exchange.specs.Profile.{the_profile}
-use Rattle.sync_exchange.specs.Seen.{read_client}
+use Rattle.node_model.specs.Clients.{ClientRecord, client_of}
+use Rattle.node_model.specs.Servers.{ServerRecord}
+use Rattle.node_instance.specs.Profile.{the_profile}
+use Rattle.node_instance.specs.Seen.{read_client}
 use Rattle.sync_node.specs.Opening.{client_in, server_in}
-use Rattle.sync_world.specs.Reports.{server_text, standing_text}
+use Rattle.sync_node.specs.Steps.{kept_by}
+use Rattle.sync_world.specs.Reports.{kept_text, standing_text}
 
 -- ---- whose file it is
 abbrev pub is_birth : Option ClientRecord → Bool
@@ -52,7 +53,7 @@ abbrev pub client_shown : List ClientRecord → List ℕ
 client_shown records = codes "client" ++ standing_text (client_of the_profile records).ident (client_of the_profile records).cursor (length (client_of the_profile records).unsent) (client_of the_profile records).objects
 
 abbrev pub server_shown : List ServerRecord → List ℕ
-server_shown records = server_text (entries_from the_profile (server_of the_profile records).log (length (server_of the_profile records).log) 0) (server_objects the_profile (server_of the_profile records))
+server_shown records = kept_text (kept_by records)
 
 abbrev pub shown : NodeRecords → List ℕ
 shown (OfClient records) = client_shown records

@@ -1,12 +1,16 @@
 -- What answers a line or a frame, by the records of the node: the text that is written, and the records that are added before.
-use Rattle.std.specs.Prelude.{◌≡◌, ℕ, Bool, true, false, List, codes, Option, None, Some, Result, Ok, Err, ⊤}
+use Rattle.std.specs.Prelude.{◌≡◌, ℕ, Bool, true, false, List, codes, map, Option, None, Some, Result, Ok, Err, ⊤}
 use Rattle.std.specs.Option.{is_some, option_map}
-use Rattle.sync_model.specs.Clients as clients
-use Rattle.sync_model.specs.Clients.{ClientRecord, ClientRefusal, ClientStep, client_of}
-use Rattle.sync_model.specs.Messages.{Message}
-use Rattle.sync_model.specs.Servers.{ServerRecord, ServerStep, serve, server_of}
-use Rattle.sync_model.specs.Worlds.{Words}
-use Rattle.sync_exchange.specs.Profile.{the_profile}
+use Rattle.node_model.specs.Clients as clients
+use Rattle.node_model.specs.Clients.{ClientRecord, ClientRefusal, ClientStep, client_of}
+use Rattle.node_model.specs.Messages.{Message}
+use Rattle.sync_base.specs.States.{State}
+use Rattle.sync_data.specs.declared.instr.Instr.{Instr}
+use Rattle.node_model.specs.Fronts.{file_gives}
+use Rattle.node_model.specs.Parts.{Parts, Served, no_parts, serve_by}
+use Rattle.node_model.specs.Servers.{ServerRecord}
+use Rattle.node_model.specs.Worlds.{Words}
+use Rattle.node_instance.specs.Profile.{the_profile}
 use Rattle.sync_edits.specs.Lines.{node_form_of_line}
 use Rattle.sync_edits.specs.declared.event.NodeLine.{NodeLine}
 use Rattle.sync_edits.specs.declared.event.NodeLine.TheVariants as node_lines
@@ -38,12 +42,16 @@ abbrev pub upgrade_words : Bool → List ℕ
 upgrade_words true = words_text Words.Upgraded
 upgrade_words false = words_text Words.Current
 
+abbrev pub subscribe_words : ⊤ → List ℕ
+subscribe_words u = words_text Words.SubscribedTo
+
 -- ---- a client, by its records
 -- a node line
 abbrev pub line_answer : List ClientRecord → ℕ → NodeLine → Answer ClientRecord
 line_answer records number (node_lines.Born id) = said number born_words (clients.born (client_of the_profile records) id)
 line_answer records number (node_lines.Commit ms edits) = said number made_words (clients.commit the_profile (client_of the_profile records) ms edits)
 line_answer records number node_lines.Upgrade = said number upgrade_words (clients.upgrade (client_of the_profile records))
+line_answer records number (node_lines.Subscribe tables) = said number subscribe_words (clients.subscribe (client_of the_profile records) tables)
 
 -- a line; none where it is no node line
 abbrev pub edit_step : List ClientRecord → ℕ → List ℕ → Option (Answer ClientRecord)
@@ -58,13 +66,21 @@ abbrev pub take_step : List ClientRecord → ℕ → List ℕ → Option (Answer
 take_step records number bytes = option_map (take_answer records number) (message_read bytes)
 
 -- ---- a server, by its records
+-- what it keeps of them
+abbrev pub kept_or : Result (Parts Instr State) ℕ → Parts Instr State
+kept_or (Ok kept) = kept
+kept_or (Err number) = no_parts the_profile
+
+abbrev pub kept_by : List ServerRecord → Parts Instr State
+kept_by records = kept_or (file_gives the_profile (map (λ r. Some r) records))
+
 -- what a message is replied
-abbrev pub replied : ServerStep → Answer ServerRecord
+abbrev pub replied : Served Instr State → Answer ServerRecord
 replied did = record { text = frame did.answer; records = did.records }
 
 -- a frame; none where it is no message
 abbrev pub serve_step : List ServerRecord → ℕ → List ℕ → Option (Answer ServerRecord)
-serve_step records number bytes = option_map (λ message. replied (serve the_profile (server_of the_profile records) message)) (message_read bytes)
+serve_step records number bytes = option_map (λ message. replied (serve_by the_profile (kept_by records) message)) (message_read bytes)
 
 -- ---- valid inputs
 abbrev pub is_node_line : List ℕ → Bool

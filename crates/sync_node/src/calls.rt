@@ -1,21 +1,22 @@
 // The calls of a client over a file, each answered by its outcome line.
 ghost use Rattle.std.specs.Prelude.{◌≡◌, ◌≤◌, ℕ, List, Some, Ok, Err, IfOk};
 ghost use Rattle.sync_disk.specs.Disk.{Rose};
-ghost use Rattle.sync_model.specs.Clients as model;
-ghost use Rattle.sync_exchange.specs.Profile.{the_profile};
-ghost use Rattle.sync_exchange.specs.Seen.{client_bytes, message_seen};
+ghost use Rattle.node_model.specs.Clients as model;
+ghost use Rattle.node_instance.specs.Profile.{the_profile};
+ghost use Rattle.node_instance.specs.Seen.{client_bytes, message_seen};
 ghost use Rattle.sync_node.specs.Holding.{ClientStands, client_faults, client_images, client_origin};
 ghost use Rattle.sync_node.specs.Runs.{AnswersSo, LeavesSome};
-ghost use Rattle.sync_node.specs.Steps.{born_words, line_answer, made_words, said, take_answer, took_words, upgrade_words};
+ghost use Rattle.sync_node.specs.Steps.{born_words, line_answer, made_words, said, subscribe_words, take_answer, took_words, upgrade_words};
 
 use super::command::ItemEnd;
 use super::outcome::{decline, say};
 use std::alloc::Global;
-use sync_client::Client;
+use node_client::Client;
 use sync_data::{Id, Instr, NoMemory};
 use sync_disk::Disk;
 use sync_edits::NodeLine;
-use sync_messages::Message;
+use sync_subset::Subset;
+use node_messages::Message;
 use sync_world::{Fixed, fixed_words, made_words, put, took_words};
 
 /// The word of a client that has its uuid now.
@@ -100,6 +101,28 @@ fn upgrade<D: Disk>(alloc: Global, client: &mut Client<D>, number: u32) -> Resul
     }
 }
 
+/// The client names its tables.
+fn subscribe<D: Disk>(
+    alloc: Global,
+    client: &mut Client<D>,
+    number: u32,
+    tables: Subset,
+) -> Result<Vec<u8>, ItemEnd>
+    ensures done { (records : List model.ClientRecord) → ClientStands records client.old
+        → IfOk result (λ text. AnswersSo (Some (said number subscribe_words (model.subscribe (model.client_of the_profile records) tables))) records text.items (λ rs. ClientStands rs client.new)) }
+    ensures bad { result ≡ Err ItemEnd.BadItem → ⊥ }
+    ensures leaves { (records : List model.ClientRecord) → ClientStands records client.old → (image : List ℕ) → client_images client.new image
+        → LeavesSome client_bytes records (model.subscribe (model.client_of the_profile records) tables).records image }
+    ensures same { client_origin client.new ≡ client_origin client.old }
+    ensures later { client_faults client.old ≤ client_faults client.new }
+    ensures cause { result ≡ Err ItemEnd.DiskFault → Rose (client_faults client.old) (client_faults client.new) }
+{
+    match client.subscribe(tables) {
+        Ok(()) => say(alloc, number, fixed_words(alloc, Fixed::Subscribed)),
+        Err(refusal) => decline(alloc, number, refusal),
+    }
+}
+
 /// The client takes a message.
 pub(crate) fn take<D: Disk>(
     alloc: Global,
@@ -142,5 +165,6 @@ pub(crate) fn take_line<D: Disk>(
         NodeLine::Born { id } => born(alloc, client, number, id),
         NodeLine::Commit { ms, edits } => commit(alloc, client, number, ms, edits.into_vec()),
         NodeLine::Upgrade => upgrade(alloc, client, number),
+        NodeLine::Subscribe { tables } => subscribe(alloc, client, number, tables),
     }
 }

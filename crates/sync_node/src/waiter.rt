@@ -3,9 +3,12 @@ ghost use Rattle.std.specs.Prelude.{◌≡◌, ◌<◌, ◌≤◌, ℕ, List, �
 ghost use Rattle.sync_disk.specs.Disk.{Rose};
 ghost use Rattle.sync_journal.specs.Records.{records_of};
 ghost use Rattle.sync_journal.specs.Records.Reading.{Good};
-ghost use Rattle.sync_model.specs.Servers as model;
-ghost use Rattle.sync_exchange.specs.Profile.{the_profile};
-ghost use Rattle.sync_exchange.specs.Seen.{message_seen, server_bytes};
+ghost use Rattle.node_model.specs.Parts.{serve_by};
+ghost use Rattle.node_model.specs.Servers as model;
+ghost use Rattle.node_server.specs.Kept.{parts};
+ghost use Rattle.node_server.specs.Serving.{kept_of};
+ghost use Rattle.node_instance.specs.Profile.{the_profile};
+ghost use Rattle.node_instance.specs.Seen.{message_seen, server_bytes};
 ghost use Rattle.sync_node.specs.Holding.{ServerStands, server_faults, server_images, server_origin};
 ghost use Rattle.sync_node.specs.Runs.{AnswersSo, LeavesSome};
 ghost use Rattle.sync_node.specs.Steps.{replied};
@@ -15,8 +18,8 @@ use super::frame::frame_of;
 use std::alloc::Global;
 use sync_data::NoMemory;
 use sync_disk::Disk;
-use sync_messages::{Message, MessageRefusal, message_of};
-use sync_server::{Server, ServerRefusal};
+use node_messages::{Message, MessageRefusal, message_of};
+use node_server::{Server, ServerRefusal};
 
 /// A server over a file that takes messages.
 #[derive(Drop)]
@@ -32,10 +35,10 @@ fn reply<D: Disk>(
     message: Message,
 ) -> Result<Vec<u8>, ItemEnd>
     ensures done { (records : List model.ServerRecord) → ServerStands records server.old
-        → IfOk result (λ text. AnswersSo (Some (replied (model.serve the_profile (model.server_of the_profile records) (message_seen message)))) records text.items (λ rs. ServerStands rs server.new)) }
+        → IfOk result (λ text. AnswersSo (Some (replied (serve_by the_profile (parts (kept_of server.old)) (message_seen message)))) records text.items (λ rs. ServerStands rs server.new)) }
     ensures bad { result ≡ Err ItemEnd.BadItem → ⊥ }
     ensures leaves { (records : List model.ServerRecord) → ServerStands records server.old → (image : List ℕ) → server_images server.new image
-        → LeavesSome server_bytes records (model.serve the_profile (model.server_of the_profile records) (message_seen message)).records image }
+        → LeavesSome server_bytes records (serve_by the_profile (parts (kept_of server.old)) (message_seen message)).records image }
     ensures same { server_origin server.new ≡ server_origin server.old }
     ensures later { server_faults server.old ≤ server_faults server.new }
     ensures cause { result ≡ Err ItemEnd.DiskFault → Rose (server_faults server.old) (server_faults server.new) }
@@ -52,8 +55,8 @@ fn reply<D: Disk>(
 }
 
 impl<D: Disk> Command for Waiter<D> {
-    ghost use Rattle.sync_model.specs.Servers.{ServerRecord};
-    ghost use Rattle.sync_exchange.specs.Seen.{server_bytes};
+    ghost use Rattle.node_model.specs.Servers.{ServerRecord};
+    ghost use Rattle.node_instance.specs.Seen.{server_bytes};
     ghost use Rattle.sync_node.specs.Holding.{ServerStands, server_faults, server_images, server_keeps, server_origin};
     ghost use Rattle.sync_node.specs.Saying.{serve_says};
     ghost use Rattle.sync_node.specs.Steps.{serve_step};

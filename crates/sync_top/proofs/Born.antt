@@ -1,18 +1,18 @@
 -- Each client of an exchange has its uuid.
 use Rattle.std.proofs.Common.{◌≡◌, ℕ, Bool, true, false, if◌then◌else◌, ◌||◌, List, [], ◌∷◌, ◌++◌, map, Option, None, Some, Result, Ok, Err, refl, ap, subst, sym, suc, ◌∙◌}
-use Rattle.std.specs.Prelude.{bytes_eq, ◌==◌}
+use Rattle.std.specs.Prelude.{⊤, bytes_eq, ◌==◌}
 use Rattle.sync_theory.specs.Grid.{rebase, tail}
 use Rattle.sync_theory.specs.Changesets.{Changeset}
-use Rattle.sync_model.specs.Bytes.{Name, Uuid}
-use Rattle.sync_model.specs.Profile.{Profile, Stuck, cross_changesets}
-use Rattle.sync_model.specs.Limits.{Each, no_more, and_each}
-use Rattle.sync_model.specs.Messages.{Message, Bind, Ident, Upload, Ask, Download, Refused, Stored, Ask2}
-use Rattle.sync_model.specs.Clients.{Client, ClientRecord, Born, Named, Made, Took, Form, ClientRefusal, ClientStep, after_record, after_records, ask, bind, changeset_of, client_of, commit, crossed, no_client, ok_list, take as take_message, takes_entry, upgrade, upload}
-use Rattle.sync_model.specs.Servers.{ServerRecord, serve, server_of}
-use Rattle.sync_model.specs.Worlds as worlds
-use Rattle.sync_model.specs.Worlds.{World, Node, Event, Joins, Edits, Binds, Uploads, Asks, Upgrades, Delivers, Restarts, Stops, Injects, Outcome, at, arm, client_called, client_calls, client_ends, client_moved, delivers, empty_world, happens, has_id, has_name, is_node, is_there, made_words, message_at, message_words, named_by, names_own, put, says, seek, server_called, server_ends, server_name, stopped, took_words, upgrade_words, world_after}
-use Rattle.sync_model.proofs.Lists.{seek_found}
-use Rattle.sync_model.proofs.Limits.{each_append, each_at}
+use Rattle.node_model.specs.Bytes.{Name, Uuid}
+use Rattle.node_model.specs.Profile.{Profile, Stuck, cross_changesets}
+use Rattle.node_model.specs.Each.{Each, no_more, and_each}
+use Rattle.node_model.specs.Messages.{Message, Bind, Ident, Upload, Ask, Download, Refused, Stored, Ask2, Retire, Retired, AskTables}
+use Rattle.node_model.specs.Clients.{Client, ClientRecord, Born, Named, Made, Took, Form, Subset, Part, Floor, ClientRefusal, ClientStep, after_record, after_records, ask, bind, changeset_of, client_of, commit, crossed, no_client, ok_list, take as take_message, takes_entry, upgrade, subscribe, upload}
+use Rattle.node_model.specs.Servers.{ServerRecord, serve, server_of}
+use Rattle.node_model.specs.Worlds as worlds
+use Rattle.node_model.specs.Worlds.{World, Node, Event, Joins, Starts, Edits, Binds, Uploads, Asks, Upgrades, Subscribes, Delivers, Restarts, Stops, Injects, Outcome, at, arm, client_called, client_calls, client_ends, client_moved, delivers, empty_world, happens, has_id, has_name, is_node, is_there, made_words, message_at, message_words, named_by, names_own, put, says, seek, server_called, server_ends, server_name, stopped, subscribe_words, took_words, upgrade_words, world_after}
+use Rattle.node_model.proofs.Lists.{seek_found}
+use Rattle.node_model.proofs.Limits.{each_append, each_at}
 use Rattle.sync_world.proofs.Moves.{each_put}
 
 -- the first record is a birth
@@ -50,6 +50,9 @@ module _ {I S : Type 0} (p : Profile I S) where
   id_stays (Made number ms body ∷ rs) c u is = id_stays rs (after_record p c (Made number ms body)) u is
   id_stays (Took origin number ms body ∷ rs) c u is = id_stays rs (after_record p c (Took origin number ms body)) u (entry_id c (record { origin = origin; number = number; ms = ms; instrs = ok_list (p.unspell body) }) ∙ is)
   id_stays (Form ∷ rs) c u is = id_stays rs (after_record p c Form) u is
+  id_stays (Subset tables ∷ rs) c u is = id_stays rs (after_record p c (Subset tables)) u is
+  id_stays (Part body ∷ rs) c u is = id_stays rs (after_record p c (Part body)) u is
+  id_stays (Floor version ∷ rs) c u is = id_stays rs (after_record p c (Floor version)) u is
 
   pub born_id : (nd : Node) → IsBorn nd → (v : Uuid) × ((client_of p nd.records).id ≡ Some v)
   born_id nd b =
@@ -86,6 +89,10 @@ module _ {I S : Type 0} (p : Profile I S) where
   upgrade_same v (Ok m) = refl
   upgrade_same v (Err r) = refl
 
+  subscribe_same : (v : World) (a : Result ⊤ ClientRefusal) → (subscribe_words v a).world.clients ≡ v.clients
+  subscribe_same v (Ok done) = refl
+  subscribe_same v (Err r) = refl
+
   server_born : (w : World) (m : Message) → AllBorn w → AllBorn (server_called p w m).world
   server_born w m all = on (stopped (w.stops server_name) (serve p (server_of p w.server) m).records)
     where
@@ -99,22 +106,28 @@ module _ {I S : Type 0} (p : Profile I S) where
   named_born w (Upload c hs) all = all
   named_born w (Ask c cursor settled) all = all
   named_born w (Ask2 c cursor settled) all = all
+  named_born w (Retire c by) all = all
+  named_born w (Retired c by number) all = all
+  named_born w (AskTables c cursor settled second tables) all = all
   named_born w (Download c from es) all = all
   named_born w (Refused c number code place) all = all
   named_born w (Stored c number) all = all
 
+  joins_born : (w : World) (name : Name) (id : Uuid) (more : List ClientRecord) → AllBorn w → (a b : Bool)
+      → AllBorn (if a then says w worlds.NameTaken else (if b then says w worlds.UuidTaken else says (record w { clients = w.clients ++ record { name = name; records = Born id ∷ more } ∷ [] }) (worlds.Joined name))).world
+  joins_born w name id more all true b = all
+  joins_born w name id more all false true = all
+  joins_born w name id more all false false = each_append all (and_each (record { id = id; more = more; records = refl }) no_more)
+
   event_born : (w : World) (e : Event I) → AllBorn w → AllBorn (happens p w e).world
-  event_born w (Joins name id) all = go (is_node w name) (is_there (seek (has_id p id) w.clients) || is_there (seek (λ u. bytes_eq id u) w.injected))
-    where
-      go : (a b : Bool) → AllBorn (if a then says w worlds.NameTaken else (if b then says w worlds.UuidTaken else says (record w { clients = w.clients ++ record { name = name; records = Born id ∷ [] } ∷ [] }) (worlds.Joined name))).world
-      go true b = all
-      go false true = all
-      go false false = each_append all (and_each (record { id = id; more = []; records = refl }) no_more)
+  event_born w (Joins name id) all = joins_born w name id [] all (is_node w name) (is_there (seek (has_id p id) w.clients) || is_there (seek (λ u. bytes_eq id u) w.injected))
+  event_born w (Starts name id) all = joins_born w name id _ all (is_node w name) (is_there (seek (has_id p id) w.clients) || is_there (seek (λ u. bytes_eq id u) w.injected))
   event_born w (Edits name ms edits) all = calls_born w name (λ c. commit p c ms edits) made_words made_same all
   event_born w (Binds name) all = calls_born w name bind message_words messages_same all
   event_born w (Uploads name) all = calls_born w name (upload p) message_words messages_same all
   event_born w (Asks name) all = calls_born w name ask message_words messages_same all
   event_born w (Upgrades name) all = calls_born w name upgrade upgrade_words upgrade_same all
+  event_born w (Subscribes name tables) all = calls_born w name (λ c. subscribe c tables) subscribe_words subscribe_same all
   event_born w (Delivers message to) all = go (is_node w to) (message_at w message)
     where
       comes : (b : Bool) (m : Message) → AllBorn (if b then server_called p w m else client_calls p w to (λ c. take_message p c m) took_words).world

@@ -1,11 +1,11 @@
 -- What is told of events, as the model has them: how many messages there are afterwards, and the number of a reply.
 use Rattle.std.proofs.Common.{◌≡◌, ◌+◌, ℕ, suc, Bool, true, false, List, [], ◌∷◌, ◌++◌, length, length-append, Option, None, Some, Result, Ok, Err, refl, sym, ap, ◌∙◌, add-zero, if◌then◌else◌, bytes_eq}
-use Rattle.sync_model.specs.Bytes.{Name, Uuid}
-use Rattle.sync_model.specs.Messages.{Message}
-use Rattle.sync_model.specs.Clients.{Client, ClientRecord, ClientRefusal, ClientStep, client_of, commit, upgrade, bind, upload, ask, take as take_message}
-use Rattle.sync_model.specs.Profile.{Profile}
-use Rattle.sync_model.specs.Servers.{ServerRecord, ServerStep, server_of, serve}
-use Rattle.sync_model.specs.Worlds.{Event, Node, Outcome, Words, World, client_called, client_calls, client_ends, client_moved, delivers, happens, has_name, injects, is_node, made_words, message_at, message_words, messaged, named_by, names_own, reply_words, says, seek, server_called, server_ends, server_moved, server_name, stopped, took_words, upgrade_words}
+use Rattle.node_model.specs.Bytes.{Name, Uuid}
+use Rattle.node_model.specs.Messages.{Message}
+use Rattle.node_model.specs.Clients.{Client, ClientRecord, ClientRefusal, ClientStep, client_of, commit, upgrade, subscribe, bind, upload, ask, take as take_message}
+use Rattle.node_model.specs.Profile.{Profile}
+use Rattle.node_model.specs.Servers.{ServerRecord, ServerStep, server_of, serve}
+use Rattle.node_model.specs.Worlds.{Event, Node, Outcome, Words, World, client_called, client_calls, client_ends, client_moved, delivers, happens, has_name, injects, is_node, made_words, message_at, message_words, messaged, named_by, names_own, reply_words, says, seek, server_called, server_ends, server_moved, server_name, stopped, subscribe_words, took_words, upgrade_words}
 use Rattle.sync_top.specs.Telling.{IsPlace, Tells, is_message, one_if}
 
 -- ---- one outcome or another
@@ -47,6 +47,10 @@ upgrade_tells w v (Ok true) same = record { messages = none v w same; place = tt
 upgrade_tells w v (Ok false) same = record { messages = none v w same; place = tt }
 upgrade_tells w v (Err r) same = record { messages = none v w same; place = tt }
 
+subscribe_tells : (w : World) → AnswerTells w subscribe_words
+subscribe_tells w v (Ok done) same = record { messages = none v w same; place = tt }
+subscribe_tells w v (Err r) same = record { messages = none v w same; place = tt }
+
 -- a call that is answered, or stops
 ends_tells : {A : Type 0} (w : World) (place : ℕ) (n : Node) (did : ClientStep A) (words : World → Result A ClientRefusal → Outcome) → AnswerTells w words → (stand : Option (List ClientRecord)) → Tells w (client_ends w place n did words stand)
 ends_tells w place n did words tells None = tells (client_moved w place n did.records) did.answer refl
@@ -68,6 +72,9 @@ named_same w (Message.Download c from entries) = refl
 named_same w (Message.Refused c number code place) = refl
 named_same w (Message.Stored c number) = refl
 named_same w (Message.Ask2 c cursor settled) = refl
+named_same w (Message.Retire c by) = refl
+named_same w (Message.Retired c by number) = refl
+named_same w (Message.AskTables c cursor settled second tables) = refl
 
 restarts_tells : (w : World) (there : Bool) → Tells w (says w (if there then Words.Opened else Words.NoNode))
 restarts_tells w true = nothing_tells w Words.Opened refl tt
@@ -92,18 +99,20 @@ module _ {I S : Type 0} (p : Profile I S) where
   injects_tells w None = nothing_tells w Words.BadMessage refl tt
   injects_tells w (Some m) = either (names_own p w m) (says w Words.OwnIdent) (server_called p (named_by w m) m) (nothing_tells w Words.OwnIdent refl tt) (server_tells w (named_by w m) (named_same w m) m)
 
-  joins_tells : (w : World) (name : Name) (id : Uuid) (taken known : Bool) → Tells w (if taken then says w Words.NameTaken else if known then says w Words.UuidTaken else says (record w { clients = w.clients ++ record { name = name; records = ClientRecord.Born id ∷ [] } ∷ [] }) (Words.Joined name))
-  joins_tells w name id true known = nothing_tells w Words.NameTaken refl tt
-  joins_tells w name id false true = nothing_tells w Words.UuidTaken refl tt
-  joins_tells w name id false false = record { messages = sym (add-zero (length w.messages)); place = tt }
+  joins_tells : (w : World) (name : Name) (records : List ClientRecord) (taken known : Bool) → Tells w (if taken then says w Words.NameTaken else if known then says w Words.UuidTaken else says (record w { clients = w.clients ++ record { name = name; records = records } ∷ [] }) (Words.Joined name))
+  joins_tells w name records true known = nothing_tells w Words.NameTaken refl tt
+  joins_tells w name records false true = nothing_tells w Words.UuidTaken refl tt
+  joins_tells w name records false false = record { messages = sym (add-zero (length w.messages)); place = tt }
 
   pub happens_tells : (w : World) (e : Event I) → Tells w (happens p w e)
-  happens_tells w (Event.Joins name id) = joins_tells w name id _ _
+  happens_tells w (Event.Joins name id) = joins_tells w name _ _ _
+  happens_tells w (Event.Starts name id) = joins_tells w name _ _ _
   happens_tells w (Event.Edits name ms edits) = calls_tells w name (λ c. commit p c ms edits) made_words (made_tells w)
   happens_tells w (Event.Binds name) = calls_tells w name bind message_words (message_tells w)
   happens_tells w (Event.Uploads name) = calls_tells w name (upload p) message_words (message_tells w)
   happens_tells w (Event.Asks name) = calls_tells w name ask message_words (message_tells w)
   happens_tells w (Event.Upgrades name) = calls_tells w name upgrade upgrade_words (upgrade_tells w)
+  happens_tells w (Event.Subscribes name tables) = calls_tells w name (λ c. subscribe c tables) subscribe_words (subscribe_tells w)
   happens_tells w (Event.Delivers message to) = either (is_node w to) (delivers p w to (message_at w message)) (says w Words.NoNode) (delivers_tells w to (message_at w message)) (nothing_tells w Words.NoNode refl tt)
   happens_tells w (Event.Restarts node) = restarts_tells w (is_node w node)
   happens_tells w (Event.Stops node k leaves) = either (is_node w node) _ (says w Words.NoNode) (record { messages = sym (add-zero (length w.messages)); place = tt }) (nothing_tells w Words.NoNode refl tt)

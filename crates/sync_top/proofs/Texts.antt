@@ -6,9 +6,9 @@ use Rattle.std.specs.Str.Parse.{AllDigits}
 use Rattle.std.proofs.lemmas.Bool.Decides.{nat_tests}
 use Rattle.std.proofs.lemmas.Fmt.{decimal_is_IsNumeral}
 use Rattle.std.proofs.lemmas.Str.Parse.{digit_from_value}
-use Rattle.sync_model.specs.Clients.{ClientRefusal}
-use Rattle.sync_model.specs.Messages.{Message}
-use Rattle.sync_model.specs.Worlds.{Words}
+use Rattle.node_model.specs.Clients.{ClientRefusal}
+use Rattle.node_model.specs.Messages.{Message}
+use Rattle.node_model.specs.Worlds.{Words}
 use Rattle.sync_world.specs.Words.{refusal_text, reply_text, said, words_text}
 use Rattle.sync_top.specs.Counting.{begins, from_space, tells_made, tells_message, tells_refused}
 use Rattle.sync_top.specs.Telling.{PlaceFits, is_made, is_message, is_refusal, is_refused}
@@ -30,6 +30,9 @@ reply_front (Message.Download ident from entries) = refl
 reply_front (Message.Refused ident number code place) = refl
 reply_front (Message.Stored ident number) = refl
 reply_front (Message.Ask2 ident cursor settled) = refl
+reply_front (Message.Retire ident by) = refl
+reply_front (Message.Retired ident by number) = refl
+reply_front (Message.AskTables ident cursor settled second tables) = refl
 
 refuses : (place : ℕ) (reply : Message) → place < 2 ^ 64 → begins (codes " refused ") (from_space ((decimal place ++ []) ++ reply_text reply)) ≡ is_refusal reply
 refuses place reply small =
@@ -45,6 +48,7 @@ refusal_front ClientRefusal.NotNamed = (said (codes "NotNamed") [], refl)
 refusal_front ClientRefusal.TooLarge = (said (codes "TooLarge") [], refl)
 refusal_front ClientRefusal.NumbersFull = (said (codes "NumbersFull") [], refl)
 refusal_front (ClientRefusal.OldForm place) = (said (codes "OldForm") (place ∷ []), refl)
+refusal_front (ClientRefusal.NotSubscribed place) = (said (codes "NotSubscribed") (place ∷ []), refl)
 refusal_front (ClientRefusal.Break place code) = (said (codes "Break") (place ∷ code ∷ []), refl)
 refusal_front ClientRefusal.NotMine = (said (codes "NotMine") [], refl)
 refusal_front (ClientRefusal.IdentDiffers kept got) = (said (codes "IdentDiffers") (kept ∷ got ∷ []), refl)
@@ -55,6 +59,8 @@ refusal_front (ClientRefusal.Mismatch version number kind) = (said (codes "Misma
 refusal_front (ClientRefusal.Forked number) = (said (codes "Forked") (number ∷ []), refl)
 refusal_front (ClientRefusal.NotApplicable version place code) = (said (codes "NotApplicable") (version ∷ place ∷ code ∷ []), refl)
 refusal_front (ClientRefusal.WasRefused number code) = (said (codes "WasRefused") (number ∷ code ∷ []), refl)
+refusal_front ClientRefusal.Subscribed = (said (codes "Subscribed") [], refl)
+refusal_front ClientRefusal.TooLate = (said (codes "TooLate") [], refl)
 
 declined : (test : List ℕ → Bool) (why : ClientRefusal) (b : Bool) → ((rest : List ℕ) → test (codes "refused " ++ rest) ≡ b) → test (refusal_text why) ≡ b
 declined test why b so = ap test (refusal_front why).1 ∙ so (refusal_front why).0
@@ -71,6 +77,7 @@ message_told Words.Armed = refl
 message_told Words.Stopped = refl
 message_told Words.Upgraded = refl
 message_told Words.Current = refl
+message_told Words.SubscribedTo = refl
 message_told (Words.Declined why) = declined tells_message why false (λ rest. refl)
 message_told Words.NameTaken = refl
 message_told Words.UuidTaken = refl
@@ -90,6 +97,7 @@ made_told Words.Armed = refl
 made_told Words.Stopped = refl
 made_told Words.Upgraded = refl
 made_told Words.Current = refl
+made_told Words.SubscribedTo = refl
 made_told (Words.Declined why) = declined tells_made why false (λ rest. refl)
 made_told Words.NameTaken = refl
 made_told Words.UuidTaken = refl
@@ -109,6 +117,7 @@ refused_told Words.Armed fits = refl
 refused_told Words.Stopped fits = refl
 refused_told Words.Upgraded fits = refl
 refused_told Words.Current fits = refl
+refused_told Words.SubscribedTo fits = refl
 refused_told (Words.Declined why) fits = declined tells_refused why true (λ rest. refl)
 refused_told Words.NameTaken fits = refl
 refused_told Words.UuidTaken fits = refl

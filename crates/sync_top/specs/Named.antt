@@ -1,16 +1,18 @@
 -- By which rules an event of an exchange may be refused.
 use Rattle.std.specs.Prelude.{◌≡◌, ℕ, Option, None, Some}
 use Rattle.sync_data.specs.declared.instr.Instr.{Instr}
-use Rattle.sync_model.specs.Clients.{ClientRefusal, NotBorn, AlreadyBorn, NotNamed, TooLarge, NumbersFull, OldForm, Break, NotMine, IdentDiffers, Gap, BadBody, OldEntry, Mismatch, Forked, NotApplicable, WasRefused}
-use Rattle.sync_model.specs.Log.{IsFair, MayDecline}
-use Rattle.sync_model.specs.Messages.{Message, Bind, Ident, Upload, Ask, Download, Refused, Stored, Ask2}
-use Rattle.sync_model.specs.Worlds.{World, Event, Joins, Edits, Binds, Uploads, Asks, Upgrades, Delivers, Restarts, Stops, Injects, Words, Declined, Replied, message_at}
+use Rattle.node_model.specs.Clients.{ClientRefusal, NotBorn, AlreadyBorn, NotNamed, TooLarge, NumbersFull, OldForm, NotSubscribed, Break, NotMine, IdentDiffers, Gap, BadBody, OldEntry, Mismatch, Forked, NotApplicable, WasRefused, Subscribed, TooLate}
+use Rattle.node_model.specs.Log.{IsFair, MayDecline}
+use Rattle.node_model.specs.Messages.{Message, Bind, Ident, Upload, Ask, Download, Refused, Stored, Ask2, Retire, AskTables}
+use Rattle.node_model.specs.Worlds.{World, Event, Joins, Edits, Binds, Uploads, Asks, Upgrades, Subscribes, Delivers, Restarts, Stops, Injects, Words, Declined, Replied, message_at}
 
--- a transaction: its size, the numbers, the form of the file, and the first instruction that doesn't act
+-- a transaction: its size, the numbers, the form of the file, the first instruction of another table than the client's, and
+-- the first that doesn't act
 abbrev pub MayNotCommit : ClientRefusal → Type 0
 MayNotCommit TooLarge = Unit {0}
 MayNotCommit NumbersFull = Unit {0}
 MayNotCommit (OldForm place) = Unit {0}
+MayNotCommit (NotSubscribed place) = Unit {0}
 MayNotCommit (Break place code) = Unit {0}
 MayNotCommit why = ⊥
 
@@ -19,18 +21,27 @@ abbrev pub MayNotSend : ClientRefusal → Type 0
 MayNotSend NotNamed = Unit {0}
 MayNotSend why = ⊥
 
+-- a list of tables: the client has one, or it is too late for one
+abbrev pub MayNotSubscribe : ClientRefusal → Type 0
+MayNotSubscribe Subscribed = Unit {0}
+MayNotSubscribe TooLate = Unit {0}
+MayNotSubscribe why = ⊥
+
 -- a reply that is a refusal has such a code
 abbrev pub RefusesBy : (ℕ → Type 0) → Message → Type 0
 RefusesBy Code (Refused ident number code place) = Code code
 RefusesBy Code reply = Unit {0}
 
 -- What a server replies to a message that a client of the exchange made: a Bind is refused where the idents are full, an Ask of
--- the first form where the next entry needs the second, one of the second form never, and what isn't for a server because of that.
+-- the first form where the next entry needs the second, one of the second form never, and what isn't for a server because of
+-- that. A client of the exchange asks for no retirement.
 abbrev pub IsNamedReply : Message → Message → Type 0
 IsNamedReply (Bind u) reply = RefusesBy (λ code. code ≡ 65) reply
 IsNamedReply (Upload ident changes) reply = IsFair reply
 IsNamedReply (Ask ident cursor settled) reply = RefusesBy (λ code. code ≡ 67) reply
 IsNamedReply (Ask2 ident cursor settled) reply = RefusesBy (λ code. ⊥) reply
+IsNamedReply (AskTables ident cursor settled second tables) reply = RefusesBy (λ code. code ≡ 67) reply
+IsNamedReply (Retire ident by) reply = RefusesBy (λ code. ⊥) reply
 IsNamedReply m reply = RefusesBy (λ code. code ≡ 66) reply
 
 abbrev pub IsReplyTo : Option Message → Message → Type 0
@@ -48,6 +59,7 @@ abbrev pub IsNamedOutcome : World → Event Instr → Words → Type 0
 IsNamedOutcome w (Edits name ms edits) words = SaysOnly MayNotCommit (λ reply. ⊥) words
 IsNamedOutcome w (Uploads name) words = SaysOnly MayNotSend (λ reply. ⊥) words
 IsNamedOutcome w (Asks name) words = SaysOnly MayNotSend (λ reply. ⊥) words
+IsNamedOutcome w (Subscribes name tables) words = SaysOnly MayNotSubscribe (λ reply. ⊥) words
 IsNamedOutcome w (Delivers message to) words = SaysOnly MayDecline (IsReplyTo (message_at w message)) words
 IsNamedOutcome w (Injects message) words = SaysOnly (λ why. ⊥) (λ reply. Unit {0}) words
 IsNamedOutcome w e words = SaysOnly (λ why. ⊥) (λ reply. ⊥) words

@@ -1,7 +1,7 @@
 -- What is told of events.
 use Rattle.std.specs.Prelude.{◌≡◌, ◌<◌, ◌+◌, ◌^◌, ℕ, suc, Bool, true, false, length}
-use Rattle.sync_model.specs.Messages.{Message}
-use Rattle.sync_model.specs.Worlds.{Outcome, Words, World}
+use Rattle.node_model.specs.Messages.{Message}
+use Rattle.node_model.specs.Worlds.{Outcome, Words, World}
 
 -- a transaction got its number
 abbrev pub is_made : Words → Bool
@@ -25,6 +25,7 @@ is_refused Words.Armed = false
 is_refused Words.Stopped = false
 is_refused Words.Upgraded = false
 is_refused Words.Current = false
+is_refused Words.SubscribedTo = false
 is_refused (Words.Declined why) = true
 is_refused Words.NameTaken = true
 is_refused Words.UuidTaken = true

@@ -1,19 +1,19 @@
 -- A node whose disk is armed, or is not.
-use Rattle.std.proofs.Common.{◌≡◌, ℕ, ◌+◌, ◌-◌, ◌≤◌, Bool, false, nat_lt, if◌then◌else◌, List, length, Option, None, Some, refl, sym, ◌∙◌, ap, subst, arith}
+use Rattle.std.proofs.Common.{◌≡◌, ℕ, ◌+◌, ◌-◌, ◌≤◌, Bool, false, nat_lt, if◌then◌else◌, List, length, Option, None, Some, Ok, refl, sym, ◌∙◌, ap, subst, arith}
 use Rattle.std.proofs.lemmas.Bool.Decides.{nat_tests}
 use Rattle.sync_disk.specs.Faults.{armed, has_stopped}
 use Rattle.sync_disk.specs.Origin.{Origin}
 use Rattle.sync_disk.specs.declared.disk.Disk.{Ghosts}
 use Rattle.sync_journal.specs.Stands.{disk_of}
-use Rattle.sync_model.specs.Clients.{ClientRecord}
-use Rattle.sync_model.specs.Servers.{ServerRecord}
-use Rattle.sync_model.specs.Worlds.{Stop}
-use Rattle.sync_client.specs.Clients as clients
-use Rattle.sync_client.specs.Keeping.{Keeps}
-use Rattle.sync_client.specs.declared.client.Client.{Client}
-use Rattle.sync_server.specs.Kept.{parts}
-use Rattle.sync_server.specs.Serving as servers
-use Rattle.sync_server.specs.declared.server.Server.{Server}
+use Rattle.node_model.specs.Clients.{ClientRecord}
+use Rattle.node_model.specs.Servers.{ServerRecord}
+use Rattle.node_model.specs.Worlds.{Stop}
+use Rattle.node_client.specs.Clients as clients
+use Rattle.node_client.specs.Keeping.{Keeps}
+use Rattle.node_client.specs.declared.client.Client.{Client}
+use Rattle.node_server.specs.Kept.{parts}
+use Rattle.node_server.specs.Serving as servers
+use Rattle.node_server.specs.declared.server.Server.{Server}
 use Rattle.sync_world.specs.Events.{leaves_seen}
 use Rattle.sync_world.specs.Nodes.{HoldsClient, HoldsServer, IsArmed, stop_seen}
 use Rattle.sync_world.specs.declared.stop.Stop.{Stop as CodeStop}
@@ -63,7 +63,7 @@ module _ {D : Type 0} {G : Ghosts D} where
 
   -- ---- the same of a server
   pub server_kept : (records : List ServerRecord) (old new : Server D G) → servers.IsServerOf records old → servers.is_closed new ≡ servers.is_closed old → servers.kept_of new ≡ servers.kept_of old → servers.IsServerOf records new
-  server_kept records old new is closed kept = record { opens = is.opens; keeps = is.keeps ∙ ap parts (sym kept); open_ = closed ∙ is.open_ }
+  server_kept records old new is closed kept = record { gives = is.gives ∙ ap (λ k. Ok (parts k)) (sym kept); open_ = closed ∙ is.open_ }
 
   pub armed_server : (records : List ServerRecord) (s : Option Stop) (kept : Option CodeStop) (stop : CodeStop) (old new : Server D G) → HoldsServer records s kept old → servers.IsServerOf records new → servers.IsStored G.content G.images records new
       → G.origin (disk_of (servers.journal_of new)) ≡ armed stop.at stop.leaves (G.origin (disk_of (servers.journal_of old))) (length (G.strokes (disk_of (servers.journal_of old))))

@@ -5,14 +5,14 @@ use Rattle.sync_disk.specs.Origin.{Origin}
 use Rattle.sync_disk.specs.declared.disk.Disk.{Ghosts}
 use Rattle.sync_journal.specs.Several.{Asks, AsksSome}
 use Rattle.sync_journal.specs.Stands.{disk_of}
-use Rattle.sync_model.specs.Clients.{ClientRecord, ClientRefusal, ClientStep}
-use Rattle.sync_model.specs.Worlds.{Stop, stopped}
-use Rattle.sync_exchange.specs.Seen.{client_bytes}
-use Rattle.sync_client.specs.Clients.{Asked, Says, Stores, journal_of}
-use Rattle.sync_client.specs.Refusals.{refusal_seen}
-use Rattle.sync_client.specs.declared.client.Client.{Client}
-use Rattle.sync_client.specs.declared.refusal.ClientRefusal.{ClientRefusal as CodeRefusal}
-use Rattle.sync_client.specs.declared.refusal.ClientRefusal.TheVariants as codes
+use Rattle.node_model.specs.Clients.{ClientRecord, ClientRefusal, ClientStep}
+use Rattle.node_model.specs.Worlds.{Stop, stopped}
+use Rattle.node_instance.specs.Seen.{client_bytes}
+use Rattle.node_client.specs.Clients.{Asked, Says, Stores, journal_of}
+use Rattle.node_client.specs.Refusals.{refusal_seen}
+use Rattle.node_client.specs.declared.client.Client.{Client}
+use Rattle.node_client.specs.declared.refusal.ClientRefusal.{ClientRefusal as CodeRefusal}
+use Rattle.node_client.specs.declared.refusal.ClientRefusal.TheVariants as codes
 use Rattle.sync_world.specs.Calls.{AfterCall, IsAnswer, is_cut, is_lost}
 use Rattle.sync_world.specs.Nodes.{HoldsClient}
 use Rattle.sync_world.specs.declared.stop.Stop.{Stop as CodeStop}
@@ -30,6 +30,7 @@ module _ {D : Type 0} {G : Ghosts D} {A : Type 0} (did : ClientStep A) (old new 
   refused_whole codes.TooLarge w e asked = asked
   refused_whole codes.NumbersFull w e asked = asked
   refused_whole (codes.OldForm place) w e asked = asked
+  refused_whole (codes.NotSubscribed place) w e asked = asked
   refused_whole (codes.Break place code) w e asked = asked
   refused_whole codes.NotMine w e asked = asked
   refused_whole (codes.IdentDiffers kept got) w e asked = asked
@@ -40,6 +41,8 @@ module _ {D : Type 0} {G : Ghosts D} {A : Type 0} (did : ClientStep A) (old new 
   refused_whole (codes.Forked number) w e asked = asked
   refused_whole (codes.NotApplicable version place code) w e asked = asked
   refused_whole (codes.WasRefused number code) w e asked = asked
+  refused_whole codes.Subscribed w e asked = asked
+  refused_whole codes.TooLate w e asked = asked
   refused_whole codes.DiskFault w e asked = absurd (cc e)
   refused_whole codes.NoMemory w e asked = absurd (cc e)
 
@@ -75,6 +78,7 @@ seen_else codes.NotNamed a b = (ClientRefusal.NotNamed, refl)
 seen_else codes.TooLarge a b = (ClientRefusal.TooLarge, refl)
 seen_else codes.NumbersFull a b = (ClientRefusal.NumbersFull, refl)
 seen_else (codes.OldForm place) a b = (ClientRefusal.OldForm place, refl)
+seen_else (codes.NotSubscribed place) a b = (ClientRefusal.NotSubscribed place, refl)
 seen_else (codes.Break place code) a b = (ClientRefusal.Break place code, refl)
 seen_else codes.NotMine a b = (ClientRefusal.NotMine, refl)
 seen_else (codes.IdentDiffers kept got) a b = (ClientRefusal.IdentDiffers kept got, refl)
@@ -85,6 +89,8 @@ seen_else (codes.Mismatch version number kind) a b = (ClientRefusal.Mismatch ver
 seen_else (codes.Forked number) a b = (ClientRefusal.Forked number, refl)
 seen_else (codes.NotApplicable version place code) a b = (ClientRefusal.NotApplicable version place code, refl)
 seen_else (codes.WasRefused number code) a b = (ClientRefusal.WasRefused number code, refl)
+seen_else codes.Subscribed a b = (ClientRefusal.Subscribed, refl)
+seen_else codes.TooLate a b = (ClientRefusal.TooLate, refl)
 seen_else codes.DiskFault a b = absurd (cc)
 seen_else codes.NoMemory a b = absurd (cc)
 
@@ -96,6 +102,9 @@ cut_is codes.NotNamed e = absurd (cc)
 cut_is codes.TooLarge e = absurd (cc)
 cut_is codes.NumbersFull e = absurd (cc)
 cut_is (codes.OldForm place) e = absurd (cc)
+cut_is (codes.NotSubscribed place) e = absurd (cc)
+cut_is codes.Subscribed e = absurd (cc)
+cut_is codes.TooLate e = absurd (cc)
 cut_is (codes.Break place code) e = absurd (cc)
 cut_is codes.NotMine e = absurd (cc)
 cut_is (codes.IdentDiffers kept got) e = absurd (cc)

@@ -4,21 +4,21 @@ use Rattle.std.specs.List.{AllByRecursion}
 use Rattle.std.proofs.lemmas.List.Elements.{recursion_from_All}
 use Rattle.sync_data.specs.declared.instr.Instr.{Instr}
 use Rattle.sync_base.specs.States.{State}
-use Rattle.sync_messages.specs.Parts.{ChangeParts, SentParts}
-use Rattle.sync_messages.specs.Whole.{IsWholeChange, IsWholeEntry, IsMessage}
-use Rattle.sync_messages.specs.declared.message.Message.{Message as CodeMessage}
-use Rattle.sync_messages.specs.declared.message.Message.TheVariants as messages
+use Rattle.node_messages.specs.Parts.{ChangeParts, SentParts}
+use Rattle.node_messages.specs.Whole.{IsWholeChange, IsWholeEntry, IsMessage}
+use Rattle.node_messages.specs.declared.message.Message.{Message as CodeMessage}
+use Rattle.node_messages.specs.declared.message.Message.TheVariants as messages
 use Rattle.sync_theory.specs.Changesets.{Changeset}
-use Rattle.sync_model.specs.Bytes.{Uuid}
-use Rattle.sync_model.specs.Profile.{apply_all, first_need, needs, Stuck}
-use Rattle.sync_model.specs.Messages.{Change, Sent, Message, Bind, Ident, Upload, Ask, Download, Refused, Stored, Ask2}
-use Rattle.sync_model.specs.Limits.{Each, no_more, and_each}
-use Rattle.sync_model.specs.Clients.{Client, ClientRecord, ClientRefusal, ClientStep, Named, Made, Form, TooLarge, NumbersFull, OldForm, NotMine, IdentDiffers, Gap, WasRefused, after_record, answers, appends, commit, commit_applied, commit_born, entry_refusal, if_born, refuse, take as take_message, take_born, take_entries, take_ident, take_one, took, upgrade}
-use Rattle.sync_model.specs.Servers.{Server, ServerRecord, ServerRefusal, ServerStep, NumberGap, BaseBack, AheadOfHistory, HistoryFull, NoSuchIdent, IdentsFull, after_all, carried_change, count, download, download_first, first_form, is_given, last_base, merge, merge_applied, merge_carried, merge_read, merged, new_records, place_of, refuses, replies, serve, serve_changes, server_objects, NeedsForm2, if_there, entries_from}
+use Rattle.node_model.specs.Bytes.{Uuid, Tables}
+use Rattle.node_model.specs.Profile.{apply_all, first_need, first_outside, needs, restricted, Stuck}
+use Rattle.node_model.specs.Messages.{Change, Sent, Message, Bind, Ident, Upload, Ask, Download, Refused, Stored, Ask2, Retire, Retired, AskTables}
+use Rattle.node_model.specs.Each.{Each, no_more, and_each}
+use Rattle.node_model.specs.Clients.{Client, ClientRecord, ClientRefusal, ClientStep, Named, Made, Form, Subset, TooLarge, NumbersFull, OldForm, NotSubscribed, Subscribed, TooLate, NotMine, IdentDiffers, Gap, WasRefused, after_record, answers, appends, commit, commit_applied, commit_born, entry_refusal, if_born, refuse, take as take_message, take_born, take_entries, take_ident, take_one, took, upgrade, subscribe, subscribed_once, is_late}
+use Rattle.node_model.specs.Servers.{Server, ServerRecord, ServerRefusal, ServerStep, IdentRetired, SelfRetire, RetiredBy, NumberGap, BaseBack, AheadOfHistory, HistoryFull, NoSuchIdent, IdentsFull, after_all, carried_change, count, download, download_first, download_tables, first_form, heir_of, is_given, is_retired, last_base, marking, marks_new, merge, retire_for, serve_retire, merge_applied, merge_carried, merge_read, merged, new_records, place_of, refuses, replies, serve, serve_changes, server_objects, NeedsForm2, if_there, entries_from}
 use Rattle.sync_theory.specs.Logs.{of_origin}
-use Rattle.sync_model.proofs.Limits.{each_append, each_drop}
-use Rattle.sync_exchange.specs.Profile.{the_profile}
-use Rattle.sync_exchange.specs.Seen.{change_seen, message_seen, sent_seen}
+use Rattle.node_model.proofs.Limits.{each_append, each_drop}
+use Rattle.node_instance.specs.Profile.{the_profile}
+use Rattle.node_instance.specs.Seen.{change_seen, message_seen, sent_seen}
 use Rattle.sync_world.specs.Nodes.{FitsClient, FitsServer}
 
 -- ---- messages
@@ -31,6 +31,9 @@ FitsMessage (Download ident from entries) = Each (λ e. e.ms < 2 ^ 64) entries
 FitsMessage (Refused ident number code place) = Unit {0}
 FitsMessage (Stored ident number) = Unit {0}
 FitsMessage (Ask2 ident cursor settled) = Unit {0}
+FitsMessage (Retire ident by) = Unit {0}
+FitsMessage (Retired ident by number) = Unit {0}
+FitsMessage (AskTables ident cursor settled second tables) = Unit {0}
 
 changes_fit : (hs : List ChangeParts) → AllByRecursion IsWholeChange hs → Each (λ h. h.ms < 2 ^ 64) (map change_seen hs)
 changes_fit [] all = no_more
@@ -49,6 +52,9 @@ message_fits (messages.Download download) is = entries_fit download.entries (rec
 message_fits (messages.Refused ident number code place) is = tt
 message_fits (messages.Stored stored) is = tt
 message_fits (messages.Ask2 ask) is = tt
+message_fits (messages.Retire retire) is = tt
+message_fits (messages.Retired retired) is = tt
+message_fits (messages.AskTables ask) is = tt
 
 -- ---- a client
 abbrev pub Fit : List ClientRecord → Type 0
@@ -61,15 +67,17 @@ commit_fits c ms edits small = on c.id
     applied n body (Ok t) = and_each small no_more
     applied n body (Err b) = no_more
 
-    tests : (a b d : Bool) (x y z : ClientStep ℕ) (n : ℕ) (body : List ℕ) (r : Result State (ℕ × ℕ)) → Fit x.records → Fit y.records → Fit z.records → Fit (if a then x else (if b then y else (if d then z else commit_applied n (Made n ms body) r))).records
-    tests true b d x y z n body r f g h = f
-    tests false true d x y z n body r f g h = g
-    tests false false true x y z n body r f g h = h
-    tests false false false x y z n body r f g h = applied n body r
+    tests : (a b d e : Bool) (x y z t : ClientStep ℕ) (n : ℕ) (body : List ℕ) (r : Result State (ℕ × ℕ)) → Fit x.records → Fit y.records → Fit z.records → Fit t.records
+        → Fit (if a then x else (if b then y else (if d then z else (if e then t else commit_applied n (Made n ms body) r)))).records
+    tests true b d e x y z t n body r f g h k = f
+    tests false true d e x y z t n body r f g h k = g
+    tests false false true e x y z t n body r f g h k = h
+    tests false false false true x y z t n body r f g h k = k
+    tests false false false false x y z t n body r f g h k = applied n body r
 
     on : (o : Option Uuid) → Fit (if_born o (λ id. commit_born the_profile c ms edits)).records
     on None = no_more
-    on (Some id) = tests _ _ _ (refuse TooLarge) (refuse NumbersFull) (refuse (OldForm (first_need the_profile edits))) _ _ _ no_more no_more no_more
+    on (Some id) = tests _ _ _ _ (refuse TooLarge) (refuse NumbersFull) (refuse (OldForm (first_need the_profile edits))) (refuse (NotSubscribed (first_outside the_profile c.subset edits))) _ _ _ no_more no_more no_more no_more
 
 pub upgrade_fits : (c : Client Instr State) → Fit (upgrade c).records
 upgrade_fits c = on c.id c.second
@@ -78,6 +86,15 @@ upgrade_fits c = on c.id c.second
     on None b = no_more
     on (Some id) true = no_more
     on (Some id) false = and_each tt no_more
+
+pub subscribe_fits : (c : Client Instr State) (tables : Tables) → FitsClient (Subset tables) → Fit (subscribe c tables).records
+subscribe_fits c tables fits = on c.id c.subset (is_late c)
+  where
+    on : (o : Option Uuid) (t : Option Tables) (b : Bool) → Fit (if_born {A = Unit {0}} o (λ id. subscribed_once t (if b then refuse TooLate else appends (Subset tables) (tt {0})))).records
+    on None t b = no_more
+    on (Some id) (Some t) b = no_more
+    on (Some id) None true = no_more
+    on (Some id) None false = and_each fits no_more
 
 took_fit : (es : List Sent) (c : Client Instr State) → Each (λ e. e.ms < 2 ^ 64) es → Fit (take_entries the_profile c es).records
 took_fit [] c all = no_more
@@ -114,6 +131,9 @@ take_fits c m fits = at_id c.id
     on (Upload a hs) k id = no_more
     on (Ask a b d) k id = no_more
     on (Ask2 a b d) k id = no_more
+    on (Retire a b) k id = no_more
+    on (Retired a b d) k id = no_more
+    on (AskTables a b d e t) k id = no_more
     on (Ident u a) k id = refused (bytes_eq u id) (take_ident c a) NotMine (identified a)
     on (Stored a b) k id = refused (a == c.ident) (answers c.cursor) NotMine no_more
     on (Refused a b d e) k id = refused (a == c.ident) (refuse (WasRefused b d)) NotMine no_more
@@ -140,8 +160,8 @@ module _ (s : Server Instr) (c : ℕ) (h : Change) (small : h.ms < 2 ^ 64) where
       go false = and_each small no_more
 
   merge_fits : FitResult (merge the_profile s c h)
-  merge_fits = tests (nat_lt (suc (count s c)) h.number) (nat_lt h.base (last_base (of_origin c s.log))) (nat_lt (length s.log) h.base) (length s.log == the_profile.full)
-      (NumberGap (suc (count s c)), BaseBack (last_base (of_origin c s.log)), AheadOfHistory (length s.log), HistoryFull (length s.log)) (the_profile.unspell h.body)
+  merge_fits = tests (is_retired (heir_of c s.retired)) (nat_lt (suc (count s c)) h.number) (nat_lt h.base (last_base (of_origin c s.log))) (nat_lt (length s.log) h.base) (length s.log == the_profile.full)
+      (IdentRetired (count s c), NumberGap (suc (count s c)), BaseBack (last_base (of_origin c s.log)), AheadOfHistory (length s.log), HistoryFull (length s.log)) (the_profile.unspell h.body)
     where
       applied : (new : List ServerRecord) → Fits new → (r : Result State (ℕ × ℕ)) → FitResult (merge_applied new r)
       applied new f (Ok t) = f
@@ -155,12 +175,14 @@ module _ (s : Server Instr) (c : ℕ) (h : Change) (small : h.ms < 2 ^ 64) where
       read (Ok is) = carried (new_records the_profile s c h is) (new_fit is) (carried_change the_profile s c h is)
       read (Err f) = tt
 
-      tests : (a b d e : Bool) (whys : ServerRefusal × ServerRefusal × ServerRefusal × ServerRefusal) (r : Result (List Instr) (ℕ × ℕ)) → FitResult (if a then Err whys.0 else (if b then Err whys.1 else (if d then Err whys.2 else (if e then Err whys.3 else merge_read the_profile s c h r))))
-      tests true b d e whys r = tt
-      tests false true d e whys r = tt
-      tests false false true e whys r = tt
-      tests false false false true whys r = tt
-      tests false false false false whys r = read r
+      tests : (k a b d e : Bool) (whys : ServerRefusal × ServerRefusal × ServerRefusal × ServerRefusal × ServerRefusal) (r : Result (List Instr) (ℕ × ℕ))
+          → FitResult (if k then Err whys.0 else (if a then Err whys.1 else (if b then Err whys.2 else (if d then Err whys.3 else (if e then Err whys.4 else merge_read the_profile s c h r)))))
+      tests true a b d e whys r = tt
+      tests false true b d e whys r = tt
+      tests false false true d e whys r = tt
+      tests false false false true e whys r = tt
+      tests false false false false true whys r = tt
+      tests false false false false false whys r = read r
 
 changes_served : (hs : List Change) (s : Server Instr) (c : ℕ) → Each (λ h. h.ms < 2 ^ 64) hs → Fits (serve_changes the_profile s c hs).records
 changes_served [] s c all = no_more
@@ -174,13 +196,37 @@ changes_served (h ∷ hs) s c (and_each small all) = on (nat_le h.number (count 
     on true r f rest = rest s
     on false r f rest = one r f rest
 
-asked : (s : Server Instr) (c cursor : ℕ) (go : List (Changeset Instr) → ServerStep) → ((xs : List (Changeset Instr)) → Fits (go xs).records) → Fits (if_there the_profile s c cursor go).records
-asked s c cursor go fits = on (not (is_given s c)) (nat_lt (length s.log) cursor) (entries_from the_profile s.log (length s.log - cursor) cursor)
+-- a settled number that is new is marked
+marked : (c mark cursor settled : ℕ) (m : Message) → Fits (marking c mark cursor settled m).records
+marked c mark cursor settled m = on (marks_new mark cursor settled m)
   where
-    on : (a b : Bool) (xs : List (Changeset Instr)) → Fits (if a then refuses c 0 (NoSuchIdent (length s.ids)) else (if b then refuses c 0 (AheadOfHistory (length s.log)) else go xs)).records
+    on : (b : Bool) → Fits (if b then ServerRecord.Settled c settled ∷ [] else [])
+    on true = and_each tt no_more
+    on false = no_more
+
+asked : (s : Server Instr) (c cursor settled : ℕ) (go : List (Changeset Instr) → ServerStep) → Fits (if_there the_profile s c cursor settled go).records
+asked s c cursor settled go = on (not (is_given s c)) (nat_lt (length s.log) cursor) (entries_from the_profile s.log (length s.log - cursor) cursor)
+  where
+    on : (a b : Bool) (xs : List (Changeset Instr)) → Fits (if a then refuses c 0 (NoSuchIdent (length s.ids)) else (if b then refuses c 0 (AheadOfHistory (length s.log)) else marking c (s.marks c) cursor settled (go xs).answer)).records
     on true b xs = no_more
     on false true xs = no_more
-    on false false xs = fits xs
+    on false false xs = marked c (s.marks c) cursor settled (go xs).answer
+
+retires : (s : Server Instr) (c by : ℕ) → Fits (serve_retire s c by).records
+retires s c by = on (not (is_given s c && is_given s by)) (c == by) (heir_of c s.retired)
+  where
+    again : (b : Bool) (other : ℕ) → Fits (if b then replies (Retired c by (count s c)) else refuses by 0 (RetiredBy other)).records
+    again true other = no_more
+    again false other = no_more
+
+    once : (o : Option ℕ) → Fits (retire_for s c by o).records
+    once None = and_each tt no_more
+    once (Some other) = again (other == by) other
+
+    on : (a b : Bool) (o : Option ℕ) → Fits (if a then refuses by 0 (NoSuchIdent (length s.ids)) else (if b then refuses by 0 (SelfRetire c) else retire_for s c by o)).records
+    on true b o = no_more
+    on false true o = no_more
+    on false false o = once o
 
 pub serve_fits : (s : Server Instr) (m : Message) → FitsMessage m → Fits (serve the_profile s m).records
 serve_fits s (Bind u) fits = on (not (place_of u s.ids == 0)) (length s.ids == the_profile.full)
@@ -194,17 +240,12 @@ serve_fits s (Upload c hs) fits = on (is_given s c)
     on : (b : Bool) → Fits (if b then serve_changes the_profile s c hs else refuses c 0 (NoSuchIdent (length s.ids))).records
     on true = changes_served hs s c fits
     on false = no_more
-serve_fits s (Ask c cursor settled) fits = asked s c cursor (download_first the_profile c cursor) (λ xs. first xs)
-  where
-    first : (xs : List (Changeset Instr)) → Fits (download_first the_profile c cursor xs).records
-    first [] = no_more
-    first (x ∷ xs) = go (needs the_profile x.instrs)
-      where
-        go : (b : Bool) → Fits (if b then refuses c 0 (NeedsForm2 cursor) else download the_profile c cursor (first_form the_profile (x ∷ xs))).records
-        go true = no_more
-        go false = no_more
-serve_fits s (Ask2 c cursor settled) fits = asked s c cursor (download the_profile c cursor) (λ xs. no_more)
+serve_fits s (Ask c cursor settled) fits = asked s c cursor settled (download_first the_profile c cursor)
+serve_fits s (Ask2 c cursor settled) fits = asked s c cursor settled (download the_profile c cursor)
+serve_fits s (AskTables c cursor settled second tables) fits = asked s c cursor settled (download_tables the_profile second tables c cursor)
+serve_fits s (Retire c by) fits = retires s c by
 serve_fits s (Ident u c) fits = no_more
 serve_fits s (Download c from es) fits = no_more
 serve_fits s (Stored c number) fits = no_more
 serve_fits s (Refused c number code place) fits = no_more
+serve_fits s (Retired c by number) fits = no_more

@@ -1,13 +1,15 @@
 -- Uuids of clients, and those that were injected.
-use Rattle.std.proofs.Common.{◌≡◌, ℕ, zero, suc, Bool, true, false, ◌||◌, ◌&&◌, not, ◌==◌, if◌then◌else◌, List, [], ◌∷◌, Option, None, Some, refl, sym, ◌∙◌, ap, arith}
+use Rattle.std.proofs.Common.{◌≡◌, ℕ, zero, suc, Bool, true, false, ◌||◌, ◌&&◌, not, ◌==◌, if◌then◌else◌, List, [], ◌∷◌, map, Option, None, Some, refl, sym, ◌∙◌, ap, arith}
 use Rattle.std.specs.List.{list_any}
-use Rattle.sync_model.specs.Bytes.{Name, Uuid}
-use Rattle.sync_model.specs.Clients.{client_of}
-use Rattle.sync_model.specs.Servers.{place_of}
-use Rattle.sync_model.specs.Worlds.{Node, Stop, further, has_id, id_is, ident_is, is_there, seek}
-use Rattle.sync_server.specs.Integrating.{found}
+use Rattle.node_model.specs.Bytes.{Name, Uuid}
+use Rattle.node_model.specs.Clients.{client_of}
+use Rattle.sync_data.specs.declared.instr.Instr.{Instr}
+use Rattle.node_model.specs.Parts.{idents_of}
+use Rattle.node_model.specs.Servers.{Server, place_of}
+use Rattle.node_model.specs.Worlds.{Node, Stop, further, has_id, id_is, ident_is, is_there, seek}
+use Rattle.node_server.specs.Integrating.{found}
 use Rattle.std.proofs.lemmas.Bool.Decides.{nat_tests}
-use Rattle.sync_exchange.specs.Profile.{the_profile}
+use Rattle.node_instance.specs.Profile.{the_profile}
 use Rattle.sync_world.specs.Holding.{HoldsEach, HoldsNode, id_of}
 use Rattle.sync_world.specs.declared.node.Node.{Node as CodeNode}
 
@@ -38,6 +40,11 @@ pub id_among : (id : Uuid) (stops : Name → Option Stop) (ns : List Node) (cs :
 id_among id stops ns cs h = any_of_each (id_is id) stops ns cs h ∙ any_is_there (has_id the_profile id) ns
 
 -- ---- idents
+-- the uuids of what is kept of idents
+pub uuids_back : (s : Server Instr) (c : ℕ) (us : List Uuid) → map (λ g. g.uuid) (idents_of the_profile s c us) ≡ us
+uuids_back s c [] = refl
+uuids_back s c (u ∷ us) = ap (λ xs. u ∷ xs) (uuids_back s (suc c) us)
+
 pub given_is : (ids : List Uuid) (c : ℕ) (u : Uuid) (k : ℕ) → found (place_of u ids) ≡ Some k → (k == c) ≡ ident_is ids c (Some u)
 given_is ids c u k e = on (place_of u ids) e
   where

@@ -2,15 +2,15 @@
 use Rattle.std.proofs.Common.{◌≡◌, ℕ, suc, List, [], ◌∷◌, ◌++◌, length, Option, None, Some, Result, Vec, Global, refl, sym, ◌∙◌, ap, subst}
 use Rattle.sync_data.specs.declared.memory.NoMemory.{NoMemory}
 use Rattle.sync_journal.specs.Records.{lists}
-use Rattle.sync_messages.specs.declared.message.Message.{Message as CodeMessage}
-use Rattle.sync_model.specs.Limits.{Each}
-use Rattle.sync_model.specs.Messages.{Message}
-use Rattle.sync_model.specs.Servers.{ServerRecord, ServerStep}
-use Rattle.sync_model.specs.Worlds.{IsReached, Stop, Words, World, arm, says, server_ends, server_moved, server_name, stopped}
-use Rattle.sync_model.proofs.Limits.{each_append, each_take}
-use Rattle.sync_model.proofs.Holding.{cut_by}
-use Rattle.sync_exchange.specs.Profile.{the_profile}
-use Rattle.sync_exchange.specs.Seen.{message_seen}
+use Rattle.node_messages.specs.declared.message.Message.{Message as CodeMessage}
+use Rattle.node_model.specs.Each.{Each}
+use Rattle.node_model.specs.Messages.{Message}
+use Rattle.node_model.specs.Servers.{ServerRecord, ServerStep}
+use Rattle.node_model.specs.Worlds.{IsReached, Stop, Words, World, arm, named_by, says, server_ends, server_moved, server_name, stopped}
+use Rattle.node_model.proofs.Limits.{each_append, each_take}
+use Rattle.node_model.proofs.Holding.{cut_by}
+use Rattle.node_instance.specs.Profile.{the_profile}
+use Rattle.node_instance.specs.Seen.{message_seen}
 use Rattle.sync_world.specs.Holding.{Happens, Holds, IsText, Stands}
 use Rattle.sync_world.specs.Messages.{AreSpelled}
 use Rattle.sync_world.specs.Nodes.{FitsServer, HoldsServer, ServerReadsBack, ServerStandReads}
@@ -61,6 +61,20 @@ module _ (w : World) (old : CodeWorld) (h : Stands w old) (did : ServerStep) (fi
       let cut = cut_by (w.stops server_name) did.records rs is in
       said_all (server_moved w rs) Words.Stopped result new text
       (record { reached = reached; stands = served rs w.messages new clients injected done.server (subst (Each FitsServer) cut.1 (each_take cut.0 fit)) (subst (λ ms. AreSpelled w.messages (lists ms.items)) (sym messages) h.messages) })
+
+-- ---- a message from outside changes no record of the server
+pub named_server : (w : World) (m : Message) → (named_by w m).server ≡ w.server
+named_server w (Message.Bind u) = refl
+named_server w (Message.Ident u c) = refl
+named_server w (Message.Upload c hs) = refl
+named_server w (Message.Ask c cursor settled) = refl
+named_server w (Message.Ask2 c cursor settled) = refl
+named_server w (Message.AskTables c cursor settled second tables) = refl
+named_server w (Message.Download c from es) = refl
+named_server w (Message.Refused c number code place) = refl
+named_server w (Message.Stored c number) = refl
+named_server w (Message.Retire c by) = refl
+named_server w (Message.Retired c by number) = refl
 
 -- ---- the server's disk is armed
 pub hub_armed : (w : World) (old : CodeWorld) (h : Stands w old) (s : Option Stop) (new : CodeWorld) → new.clients ≡ old.clients → new.injected ≡ old.injected → new.messages ≡ old.messages → HoldsServer w.server s new.hub.stop new.hub.server

@@ -5,7 +5,7 @@ use Rattle.sync_disk.specs.declared.leaves.Leaves.{Leaves as CodeLeaves}
 use Rattle.sync_disk.specs.declared.leaves.Leaves.TheVariants as leaves
 use Rattle.sync_edits.specs.declared.event.Event.{Event as CodeEvent}
 use Rattle.sync_edits.specs.declared.event.Event.TheVariants as events
-use Rattle.sync_model.specs.Worlds.{Event, Leaves}
+use Rattle.node_model.specs.Worlds.{Event, Leaves}
 use Rattle.sync_world.specs.Messages.{message_read}
 
 abbrev pub leaves_seen : CodeLeaves → Leaves
@@ -24,6 +24,7 @@ event_seen (events.Restart node) = Event.Restarts node
 event_seen (events.Stop node at leaves) = Event.Stops node at (leaves_seen leaves)
 event_seen (events.Inject bytes) = Event.Injects (message_read bytes)
 event_seen (events.Upgrade client) = Event.Upgrades client
+event_seen (events.Subscribe client tables) = Event.Subscribes client tables
 
 -- a stop is counted from 1
 abbrev pub IsCounted : CodeEvent → Type 0

@@ -1,19 +1,21 @@
 -- The nodes of an exchange by the records for which they stand.
-use Rattle.std.specs.Prelude.{◌≡◌, ◌<◌, ◌≤◌, ◌+◌, ◌-◌, ◌^◌, ℕ, List, ◌++◌, length, map, Option, None, Some, IfSome, Ok}
+use Rattle.std.specs.Prelude.{◌≡◌, ◌<◌, ◌≤◌, ◌+◌, ◌-◌, ◌^◌, ℕ, true, List, ◌++◌, length, map, Option, None, Some, IfSome, Ok}
 use Rattle.std.specs.Option.{option_map}
 use Rattle.sync_disk.specs.Origin.{Origin}
 use Rattle.sync_disk.specs.declared.disk.Disk.{Ghosts}
 use Rattle.sync_journal.specs.Stands.{disk_of}
-use Rattle.sync_model.specs.Clients.{ClientRecord, no_client}
-use Rattle.sync_model.specs.Files.{client_reads, server_reads}
-use Rattle.sync_model.specs.Servers.{ServerRecord, no_server}
-use Rattle.sync_model.specs.Worlds.{Stop}
-use Rattle.sync_exchange.specs.Profile.{the_profile}
-use Rattle.sync_exchange.specs.Seen.{client_bytes, read_client, read_server, server_bytes}
-use Rattle.sync_client.specs.Clients as clients
-use Rattle.sync_client.specs.declared.client.Client.{Client}
-use Rattle.sync_server.specs.Serving as servers
-use Rattle.sync_server.specs.declared.server.Server.{Server}
+use Rattle.node_model.specs.Clients.{ClientRecord, no_client}
+use Rattle.node_model.specs.Each.{Each}
+use Rattle.node_model.specs.Files.{client_reads, server_opens}
+use Rattle.node_model.specs.Servers.{ServerRecord, no_server}
+use Rattle.node_model.specs.Worlds.{Stop}
+use Rattle.node_instance.specs.Profile.{the_profile}
+use Rattle.node_instance.specs.Seen.{client_bytes, read_client, read_server, server_bytes}
+use Rattle.subset_bytes.specs.Spelling.{AreTables}
+use Rattle.node_client.specs.Clients as clients
+use Rattle.node_client.specs.declared.client.Client.{Client}
+use Rattle.node_server.specs.Serving as servers
+use Rattle.node_server.specs.declared.server.Server.{Server}
 use Rattle.sync_world.specs.Events.{leaves_seen}
 use Rattle.sync_world.specs.declared.stop.Stop.{Stop as CodeStop}
 
@@ -56,18 +58,30 @@ FitsClient (ClientRecord.Named ident) = Unit {0}
 FitsClient (ClientRecord.Made number ms body) = ms < 2 ^ 64
 FitsClient (ClientRecord.Took origin number ms body) = ms < 2 ^ 64
 FitsClient ClientRecord.Form = Unit {0}
+FitsClient (ClientRecord.Subset tables) = AreTables tables
+FitsClient (ClientRecord.Part body) = Unit {0}
+FitsClient (ClientRecord.Floor version) = Unit {0}
 
 abbrev pub FitsServer : ServerRecord → Type 0
 FitsServer (ServerRecord.Client id) = length id ≡ 16
 FitsServer (ServerRecord.Entry origin number base ms body) = ms < 2 ^ 64
 FitsServer ServerRecord.Form = Unit {0}
+FitsServer (ServerRecord.Retired ident by) = Unit {0}
+FitsServer (ServerRecord.Settled ident n) = Unit {0}
+FitsServer (ServerRecord.Part body) = Unit {0}
+FitsServer (ServerRecord.Floor version) = Unit {0}
+FitsServer (ServerRecord.Count ident number base n) = Unit {0}
+FitsServer (ServerRecord.Carried origin number base ms body) = ms < 2 ^ 64
+FitsServer (ServerRecord.Past ident version ms body) = ms < 2 ^ 64
 
 -- they are read back from their bytes
 abbrev pub ReadsBack : List ClientRecord → Type 0
 ReadsBack rs = client_reads the_profile read_client (no_client the_profile) (map client_bytes rs) ≡ Ok rs
 
-abbrev pub ServerReadsBack : List ServerRecord → Type 0
-ServerReadsBack rs = server_reads the_profile read_server no_server (map server_bytes rs) ≡ Ok rs
+-- and those of a server are a whole history
+pub record ServerReadsBack (rs : List ServerRecord) : Type 0 where
+  pub each : Each (λ r. read_server (server_bytes r) ≡ Some r) rs
+  pub opens : server_opens the_profile no_server rs ≡ true
 
 -- where the call stops, what it leaves is read back
 abbrev pub StandReads : List ClientRecord → Option (List ClientRecord) → Type 0

@@ -1,12 +1,13 @@
 -- The report of an exchange as text.
-use Rattle.std.specs.Prelude.{ℕ, suc, List, [], ◌∷◌, ◌++◌, codes, length}
+use Rattle.std.specs.Prelude.{ℕ, zero, suc, List, [], ◌∷◌, ◌++◌, codes, length}
 use Rattle.hex.specs.Hex.{encode_lower}
 use Rattle.sync_data.specs.declared.instr.Instr.{Instr}
 use Rattle.sync_base.specs.States.{State}
 use Rattle.sync_theory.specs.Changesets.{Changeset}
 use Rattle.sync_codec.specs.Spelling.{spelling}
 use Rattle.sync_dump.specs.Dump.{dump}
-use Rattle.sync_model.specs.Reports.{ClientLine, Report}
+use Rattle.node_model.specs.Parts.{Parts}
+use Rattle.node_model.specs.Reports.{ClientLine, Report}
 use Rattle.sync_world.specs.Words.{name_text, numbers_text, said}
 
 -- ---- the server: the length of its history, a line for each entry, and its dump
@@ -18,6 +19,15 @@ entry_text version e = said (codes "entry") (version ∷ e.origin ∷ e.number �
 abbrev pub entries_text : ℕ → List (Changeset Instr) → List ℕ
 entries_text version [] = []
 entries_text version (e ∷ es) = entry_text version e ++ entries_text (suc version) es
+
+-- the floor of a history, where it isn't 0
+abbrev pub floor_text : ℕ → List ℕ
+floor_text zero = []
+floor_text (suc n) = said (codes "floor") (suc n ∷ []) ++ codes "\n"
+
+-- the same of a server by what it keeps, whose history begins at a floor
+abbrev pub kept_text : Parts Instr State → List ℕ
+kept_text k = said (codes "server") (k.len ∷ []) ++ codes "\n" ++ floor_text k.floor ++ entries_text k.floor k.entries ++ dump k.objects
 
 abbrev pub server_text : List (Changeset Instr) → State → List ℕ
 server_text entries objects = said (codes "server") (length entries ∷ []) ++ codes "\n" ++ entries_text 0 entries ++ dump objects

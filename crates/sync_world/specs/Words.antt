@@ -3,9 +3,9 @@ use Rattle.std.specs.Prelude.{ℕ, List, [], ◌∷◌, ◌++◌, codes, decimal
 use Rattle.std.specs.List.{flat_map}
 use Rattle.serde_json.specs.Data.{string}
 use Rattle.serde_json.specs.Written.{compact_text}
-use Rattle.sync_model.specs.Messages.{Message}
-use Rattle.sync_model.specs.Clients.{ClientRefusal}
-use Rattle.sync_model.specs.Worlds.{Words}
+use Rattle.node_model.specs.Messages.{Message}
+use Rattle.node_model.specs.Clients.{ClientRefusal}
+use Rattle.node_model.specs.Worlds.{Words}
 use Rattle.sync_world.specs.declared.words.Fixed.{Fixed}
 use Rattle.sync_world.specs.declared.words.Fixed.TheVariants as fixed
 
@@ -35,6 +35,7 @@ refusal_text ClientRefusal.NotNamed = refused (codes "NotNamed") []
 refusal_text ClientRefusal.TooLarge = refused (codes "TooLarge") []
 refusal_text ClientRefusal.NumbersFull = refused (codes "NumbersFull") []
 refusal_text (ClientRefusal.OldForm place) = refused (codes "OldForm") (place ∷ [])
+refusal_text (ClientRefusal.NotSubscribed place) = refused (codes "NotSubscribed") (place ∷ [])
 refusal_text (ClientRefusal.Break place code) = refused (codes "Break") (place ∷ code ∷ [])
 refusal_text ClientRefusal.NotMine = refused (codes "NotMine") []
 refusal_text (ClientRefusal.IdentDiffers kept got) = refused (codes "IdentDiffers") (kept ∷ got ∷ [])
@@ -45,6 +46,8 @@ refusal_text (ClientRefusal.Mismatch version number kind) = refused (codes "Mism
 refusal_text (ClientRefusal.Forked number) = refused (codes "Forked") (number ∷ [])
 refusal_text (ClientRefusal.NotApplicable version place code) = refused (codes "NotApplicable") (version ∷ place ∷ code ∷ [])
 refusal_text (ClientRefusal.WasRefused number code) = refused (codes "WasRefused") (number ∷ code ∷ [])
+refusal_text ClientRefusal.Subscribed = refused (codes "Subscribed") []
+refusal_text ClientRefusal.TooLate = refused (codes "TooLate") []
 
 -- ---- what the server replies: a Download by the number of its entries (the others are no replies)
 abbrev pub reply_text : Message → List ℕ
@@ -52,10 +55,13 @@ reply_text (Message.Ident id ident) = codes " " ++ said (codes "ident") (ident �
 reply_text (Message.Stored ident number) = codes " " ++ said (codes "stored") (ident ∷ number ∷ [])
 reply_text (Message.Download ident from entries) = codes " " ++ said (codes "download") (ident ∷ from ∷ length entries ∷ [])
 reply_text (Message.Refused ident number code place) = codes " " ++ said (codes "refused") (ident ∷ number ∷ code ∷ place ∷ [])
+reply_text (Message.Retired ident by number) = codes " " ++ said (codes "retired") (ident ∷ by ∷ number ∷ [])
 reply_text (Message.Bind id) = []
 reply_text (Message.Upload ident changes) = []
 reply_text (Message.Ask ident cursor settled) = []
 reply_text (Message.Ask2 ident cursor settled) = []
+reply_text (Message.Retire ident by) = []
+reply_text (Message.AskTables ident cursor settled second tables) = []
 
 -- ---- all words
 abbrev pub words_text : Words → List ℕ
@@ -69,6 +75,7 @@ words_text Words.Armed = codes "armed"
 words_text Words.Stopped = codes "stopped"
 words_text Words.Upgraded = codes "upgraded"
 words_text Words.Current = codes "current"
+words_text Words.SubscribedTo = codes "subscribed"
 words_text (Words.Declined why) = refusal_text why
 words_text Words.NameTaken = refused (codes "NameTaken") []
 words_text Words.UuidTaken = refused (codes "UuidTaken") []
@@ -84,6 +91,7 @@ fixed_seen fixed.Armed = Words.Armed
 fixed_seen fixed.Stopped = Words.Stopped
 fixed_seen fixed.Upgraded = Words.Upgraded
 fixed_seen fixed.Current = Words.Current
+fixed_seen fixed.Subscribed = Words.SubscribedTo
 fixed_seen fixed.NameTaken = Words.NameTaken
 fixed_seen fixed.UuidTaken = Words.UuidTaken
 fixed_seen fixed.NoNode = Words.NoNode

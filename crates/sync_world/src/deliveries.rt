@@ -1,9 +1,11 @@
-ghost use Rattle.std.specs.Prelude.{◌≡◌, bytes_eq, false, OnOk};
+ghost use Rattle.std.specs.Prelude.{◌≡◌, bytes_eq, false, true, OnOk};
 ghost use Rattle.std.specs.List.{list_any};
-ghost use Rattle.sync_model.specs.Worlds as model;
-ghost use Rattle.sync_exchange.specs.Profile.{the_profile};
-ghost use Rattle.sync_exchange.specs.Seen.{message_seen};
-ghost use Rattle.sync_messages.specs.Whole.{IsMessage};
+ghost use Rattle.node_model.specs.Files.{server_opens};
+ghost use Rattle.node_model.specs.Servers.{no_server};
+ghost use Rattle.node_model.specs.Worlds as model;
+ghost use Rattle.node_instance.specs.Profile.{the_profile};
+ghost use Rattle.node_instance.specs.Seen.{message_seen};
+ghost use Rattle.node_messages.specs.Whole.{IsMessage};
 ghost use Rattle.sync_world.specs.Holding.{given_ids, id_of};
 ghost use Rattle.sync_world.specs.Messages.{message_read};
 
@@ -15,8 +17,8 @@ use crate::words::{Fixed, fixed_words, reply_words};
 use crate::world::World;
 use sync_data::{Blob, Ident, Name, NoMemory};
 use sync_disk::MemoryDisk;
-use sync_messages::Message;
-use sync_server::Server;
+use node_messages::Message;
+use node_server::Server;
 
 /// Whether the server gave the ident to that client.
 fn is_of(node: &Node, server: &Server<MemoryDisk>, ident: Ident) -> bool
@@ -42,7 +44,7 @@ impl World {
 
     /// The server takes a message.
     fn serve(&mut self, message: Message) -> Result<Vec<u8>, NoMemory>
-        ensures { (w : model.World) → Stands w self.old → IsMessage message → model.IsReached the_profile (model.server_called the_profile w (message_seen message)).world
+        ensures { (w : model.World) → Stands w self.old → server_opens the_profile no_server w.server ≡ true → IsMessage message → model.IsReached the_profile (model.server_called the_profile w (message_seen message)).world
             → Happens (model.server_called the_profile w (message_seen message)) result self.new }
     {
         worlds_read_back();
@@ -98,18 +100,21 @@ impl World {
 
     /// Whether the server gave the ident to a client of the exchange.
     fn is_own(&self, ident: Ident) -> bool
-        ensures { (w : model.World) → Stands w self.now → result ≡ model.is_own the_profile w ident }
+        ensures { (w : model.World) → Stands w self.now → server_opens the_profile no_server w.server ≡ true → result ≡ model.is_own the_profile w ident }
     {
+        worlds_read_back();
         any_is_of(self.clients.as_slice(), &self.hub.server, ident)
     }
 
     /// Whether a message is one that only the client of its ident may make.
     fn names_own(&self, message: &Message) -> bool
-        ensures { (w : model.World) → Stands w self.now → result ≡ model.names_own the_profile w (message_seen message.now) }
+        ensures { (w : model.World) → Stands w self.now → server_opens the_profile no_server w.server ≡ true → result ≡ model.names_own the_profile w (message_seen message.now) }
     {
         match message {
             Message::Upload(upload) => self.is_own(upload.ident()),
             Message::Ask(ask) | Message::Ask2(ask) => self.is_own(ask.ident()),
+            Message::AskTables(asked) => self.is_own(asked.ask().ident()),
+            Message::Retire(retire) => self.is_own(retire.ident()) || self.is_own(retire.by()),
             _ => false,
         }
     }

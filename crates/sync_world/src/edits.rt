@@ -1,15 +1,18 @@
 ghost use Rattle.std.specs.Prelude.{◌≡◌, bytes_eq};
 ghost use Rattle.std.specs.List.{list_any};
-ghost use Rattle.sync_model.specs.Worlds as model;
-ghost use Rattle.sync_exchange.specs.Profile.{the_profile};
-ghost use Rattle.sync_world.specs.Holding.{SaysCalled, id_of, upgrade_said};
+ghost use Rattle.node_model.specs.Worlds as model;
+ghost use Rattle.node_instance.specs.Profile.{the_profile};
+ghost use Rattle.sync_world.specs.Holding.{SaysCalled, id_of, subscribe_said, upgrade_said};
 
 use crate::laws::worlds_read_back;
+use crate::tables::tables_keep;
 use crate::node::{Called, Node};
 use crate::words::{Fixed, client_words, declined_words, fixed_words, made_words, took_words};
 use crate::world::World;
 use std::alloc::Global;
 use sync_data::{Id, Instr, Listed, Name, NoMemory};
+
+use sync_subset::Subset;
 
 /// The words of a transaction.
 fn made(alloc: Global, called: Called<u32>) -> Result<Vec<u8>, NoMemory>
@@ -40,6 +43,17 @@ fn upgraded(alloc: Global, called: Called<bool>) -> Result<Vec<u8>, NoMemory>
     match called {
         Called::Answered(true) => fixed_words(alloc, Fixed::Upgraded),
         Called::Answered(false) => fixed_words(alloc, Fixed::Current),
+        Called::Declined(why) => declined_words(alloc, &why),
+        Called::Stopped => fixed_words(alloc, Fixed::Stopped),
+    }
+}
+
+/// The words of a client that has its tables.
+fn subscribed(alloc: Global, called: Called<()>) -> Result<Vec<u8>, NoMemory>
+    ensures { SaysCalled subscribe_said called result }
+{
+    match called {
+        Called::Answered(()) => fixed_words(alloc, Fixed::Subscribed),
         Called::Declined(why) => declined_words(alloc, &why),
         Called::Stopped => fixed_words(alloc, Fixed::Stopped),
     }
@@ -131,6 +145,21 @@ impl World {
         };
         match self.clients[place].upgrade(self.alloc) {
             Ok(called) => upgraded(self.alloc, called),
+            Err(NoMemory) => Err(NoMemory),
+        }
+    }
+
+    /// A client names its tables.
+    pub(crate) fn subscribe(&mut self, name: &Name, tables: Subset) -> Result<Vec<u8>, NoMemory>
+        ensures { (w : model.World) → Holds w self.old → Happens (model.happens the_profile w (model.Subscribes name.now tables)) result self.new }
+    {
+        worlds_read_back();
+        tables_keep(&tables);
+        let Some(place) = self.find(name) else {
+            return fixed_words(self.alloc, Fixed::NoNode);
+        };
+        match self.clients[place].subscribe(self.alloc, tables) {
+            Ok(called) => subscribed(self.alloc, called),
             Err(NoMemory) => Err(NoMemory),
         }
     }

@@ -1,26 +1,28 @@
-ghost use Rattle.std.specs.Prelude.{◌≡◌, List, ℕ, [], map, None, Some, Option, IfOk, OnOk};
+ghost use Rattle.std.specs.Prelude.{◌≡◌, List, ℕ, [], map, None, Some, Option, IfOk, OnOk, true};
 ghost use Rattle.sync_disk.specs.Images.{state};
 ghost use Rattle.sync_disk.specs.Leaving.{left_by};
 ghost use Rattle.sync_journal.specs.Records.{records_of};
 ghost use Rattle.sync_journal.specs.Records.Reading.{Good};
 ghost use Rattle.sync_journal.specs.Stands.{disk_of};
-ghost use Rattle.sync_model.specs.Servers as model;
-ghost use Rattle.sync_model.specs.Worlds.{Stop as ModelStop, stopped};
-ghost use Rattle.sync_exchange.specs.Profile.{the_profile};
-ghost use Rattle.sync_exchange.specs.Seen.{message_seen, server_bytes};
-ghost use Rattle.sync_server.specs.Serving.{IsServerOf, IsStored, journal_of};
+ghost use Rattle.node_model.specs.Files.{server_opens};
+ghost use Rattle.node_model.specs.Servers as model;
+ghost use Rattle.node_model.specs.Worlds.{Stop as ModelStop, stopped};
+ghost use Rattle.node_instance.specs.Profile.{the_profile};
+ghost use Rattle.node_instance.specs.Seen.{message_seen, server_bytes};
+ghost use Rattle.node_server.specs.Serving.{IsServerOf, IsStored, journal_of};
 ghost use Rattle.sync_world.specs.Nodes.{HoldsServer, ServerReadsBack, ServerStandReads, stop_seen};
 ghost use Rattle.sync_world.specs.Serves.{ServeEnds};
 
 use crate::disks::empty_disk;
+use crate::laws::worlds_read_back;
 use crate::stop::Stop;
 use std::alloc::Global;
 use std::mem;
 use sync_data::NoMemory;
 use sync_disk::{Disk, MemoryDisk};
 use sync_journal::stops_tell;
-use sync_messages::Message;
-use sync_server::{Server, ServerRefusal};
+use node_messages::Message;
+use node_server::{Server, ServerRefusal};
 
 /// The server of an exchange, over a disk in memory.
 #[derive(Drop)]
@@ -116,10 +118,11 @@ impl Hub {
         alloc: Global,
         message: Message,
     ) -> Result<Option<Message>, NoMemory>
-        ensures { (records : List model.ServerRecord) (s : Option ModelStop) → HoldsServer records s self.old.stop self.old.server
+        ensures { (records : List model.ServerRecord) (s : Option ModelStop) → server_opens the_profile model.no_server records ≡ true → HoldsServer records s self.old.stop self.old.server
             → ServerStandReads records (stopped s (model.serve the_profile (model.server_of the_profile records) (message_seen message)).records)
             → ServeEnds (model.serve the_profile (model.server_of the_profile records) (message_seen message)) records (stopped s (model.serve the_profile (model.server_of the_profile records) (message_seen message)).records) result self.new }
     {
+        worlds_read_back();
         stops_tell::<MemoryDisk>();
         match self.server.take(message) {
             Ok(reply) => {

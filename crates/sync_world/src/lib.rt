@@ -12,6 +12,7 @@ mod report;
 mod sends;
 mod stop;
 mod stopping;
+mod tables;
 mod text;
 mod words;
 mod world;

@@ -1,22 +1,22 @@
-ghost use Rattle.std.specs.Prelude.{◌≡◌, ◌++◌, List, length, OnOk};
+ghost use Rattle.std.specs.Prelude.{◌≡◌, ◌++◌, ◌≤◌, List, length, OnOk};
 ghost use Rattle.sync_recip.specs.Lists.{entry_of};
 ghost use Rattle.sync_dump.specs.Dump.{dump};
-ghost use Rattle.sync_model.specs.Clients as clients;
-ghost use Rattle.sync_model.specs.Servers as servers;
-ghost use Rattle.sync_model.specs.Reports.{node_line};
-ghost use Rattle.sync_exchange.specs.Profile.{the_profile};
-ghost use Rattle.sync_client.specs.Clients.{IsClientOf};
-ghost use Rattle.sync_server.specs.Serving.{IsServerOf, kept_of};
-ghost use Rattle.sync_world.specs.Reports.{client_text, entries_text, entry_text, server_text, standing_text};
+ghost use Rattle.node_model.specs.Clients as clients;
+ghost use Rattle.node_model.specs.Reports.{node_line};
+ghost use Rattle.node_instance.specs.Profile.{the_profile};
+ghost use Rattle.node_client.specs.Clients.{IsClientOf};
+ghost use Rattle.node_server.specs.Kept.{parts};
+ghost use Rattle.node_server.specs.Serving.{kept_of};
+ghost use Rattle.sync_world.specs.Reports.{client_text, entries_text, entry_text, floor_text, kept_text, standing_text};
 
 use super::text::{put, put_name, put_numbers, put_said};
 use std::alloc::Global;
-use sync_client::Client;
+use node_client::Client;
 use sync_codec::encode;
 use sync_data::{Entry, Name, NoMemory};
 use sync_disk::Disk;
 use sync_dump::dump_lines;
-use sync_server::Server;
+use node_server::Server;
 use sync_store::Store;
 
 /// Puts the dump of objects.
@@ -54,15 +54,26 @@ fn put_entry(alloc: Global, out: &mut Vec<u8>, version: u32, entry: &Entry) -> R
     put(out, "\n")
 }
 
-/// Puts a line for each entry of the history.
+/// Puts the line of the floor of a history, where it isn't 0.
+fn put_floor(alloc: Global, out: &mut Vec<u8>, floor: u32) -> Result<(), NoMemory>
+    ensures { OnOk result (out.new.items ≡ out.old.items ++ floor_text floor) }
+{
+    if floor == 0 {
+        return Ok(());
+    }
+    put_said(alloc, out, "floor", &[floor as u64])?;
+    put(out, "\n")
+}
+
+/// Puts a line for each entry of the history, from its floor on.
 fn put_entries<D: Disk>(
     alloc: Global,
     out: &mut Vec<u8>,
     server: &Server<D>,
 ) -> Result<(), NoMemory>
-    ensures { OnOk result (out.new.items ≡ out.old.items ++ entries_text 0 (kept_of server.now).history.entries) }
+    ensures { OnOk result (out.new.items ≡ out.old.items ++ entries_text (parts (kept_of server.now)).floor (parts (kept_of server.now)).entries) }
 {
-    for version in 0..server.len() {
+    for version in server.floor()..server.len() {
         if let Some(entry) = server.entry(version) {
             put_entry(alloc, out, version, entry)?;
         }
@@ -70,18 +81,19 @@ fn put_entries<D: Disk>(
     Ok(())
 }
 
-/// Puts the server's part of the report: how many entries the history has, a line for each, and the dump
+/// Puts the server's part of the report: how many entries the history has, its floor where it isn't 0, a line for each entry
+/// from there on, and the dump
 /// (docs/FORMATS.md, "Report and dump").
 pub fn put_server<D: Disk>(
     alloc: Global,
     out: &mut Vec<u8>,
     server: &Server<D>,
 ) -> Result<(), NoMemory>
-    ensures { (records : List servers.ServerRecord) → IsServerOf records server.now
-        → OnOk result (out.new.items ≡ out.old.items ++ server_text (servers.entries_from the_profile (servers.server_of the_profile records).log (length (servers.server_of the_profile records).log) 0) (servers.server_objects the_profile (servers.server_of the_profile records))) }
+    ensures { OnOk result (out.new.items ≡ out.old.items ++ kept_text (parts (kept_of server.now))) }
 {
     put_said(alloc, out, "server", &[server.len() as u64])?;
     put(out, "\n")?;
+    put_floor(alloc, out, server.floor())?;
     put_entries(alloc, out, server)?;
     put_dump(alloc, out, server.objects())
 }

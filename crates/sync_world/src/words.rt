@@ -1,14 +1,14 @@
 ghost use Rattle.std.specs.Prelude.{◌≡◌, ◌++◌, IfOk, OnOk};
-ghost use Rattle.sync_model.specs.Worlds as model;
-ghost use Rattle.sync_exchange.specs.Seen.{message_seen};
-ghost use Rattle.sync_client.specs.Refusals.{refusal_seen, IfSeen};
+ghost use Rattle.node_model.specs.Worlds as model;
+ghost use Rattle.node_instance.specs.Seen.{message_seen};
+ghost use Rattle.node_client.specs.Refusals.{refusal_seen, IfSeen};
 ghost use Rattle.sync_world.specs.Words.{fixed_seen, outcome_line, refused, reply_text, said, words_text};
 
 use super::text::{put, put_name, put_number, put_said};
 use std::alloc::Global;
-use sync_client::ClientRefusal;
+use node_client::ClientRefusal;
 use sync_data::{Name, NoMemory};
-use sync_messages::Message;
+use node_messages::Message;
 
 /// The words of an outcome that bear no numbers.
 #[derive(Clone, Copy, Debug, PartialEq, Eq)]
@@ -23,6 +23,8 @@ pub enum Fixed {
     Upgraded,
     /// The client's file was in form 2 already.
     Current,
+    /// The client has its tables from now on.
+    Subscribed,
     /// The name is the server's or a client's.
     NameTaken,
     /// A client has the uuid, or an injected Bind named it.
@@ -120,6 +122,16 @@ fn put_reply(alloc: Global, out: &mut Vec<u8>, reply: &Message) -> Result<(), No
             " refused",
             &[*ident as u64, *number as u64, *code as u64, *place as u64],
         ),
+        Message::Retired(retired) => put_said(
+            alloc,
+            out,
+            " retired",
+            &[
+                retired.ident() as u64,
+                retired.by() as u64,
+                retired.number() as u64,
+            ],
+        ),
         _ => Ok(()),
     }
 }
@@ -145,6 +157,9 @@ pub fn declined_words(alloc: Global, refusal: &ClientRefusal) -> Result<Vec<u8>,
         ClientRefusal::TooLarge => refused(alloc, "TooLarge", &[]),
         ClientRefusal::NumbersFull => refused(alloc, "NumbersFull", &[]),
         ClientRefusal::OldForm { place } => refused(alloc, "OldForm", &[place as u64]),
+        ClientRefusal::NotSubscribed { place } => {
+            refused(alloc, "NotSubscribed", &[place as u64])
+        }
         ClientRefusal::Break { place, code } => {
             refused(alloc, "Break", &[place as u64, code as u64])
         }
@@ -187,6 +202,8 @@ pub fn declined_words(alloc: Global, refusal: &ClientRefusal) -> Result<Vec<u8>,
         ClientRefusal::WasRefused { number, code } => {
             refused(alloc, "WasRefused", &[number as u64, code as u64])
         }
+        ClientRefusal::Subscribed => refused(alloc, "Subscribed", &[]),
+        ClientRefusal::TooLate => refused(alloc, "TooLate", &[]),
         ClientRefusal::Closed | ClientRefusal::DiskFault | ClientRefusal::NoMemory => {
             Ok(Vec::new(alloc))
         }
@@ -203,6 +220,7 @@ pub fn fixed_words(alloc: Global, said: Fixed) -> Result<Vec<u8>, NoMemory>
         Fixed::Stopped => "stopped",
         Fixed::Upgraded => "upgraded",
         Fixed::Current => "current",
+        Fixed::Subscribed => "subscribed",
         Fixed::NameTaken => "refused NameTaken",
         Fixed::UuidTaken => "refused UuidTaken",
         Fixed::NoNode => "refused NoNode",

@@ -1,23 +1,23 @@
 ghost use Rattle.std.specs.Prelude.{◌≡◌, ◌<◌, ◌++◌, length, List, map, None, Option, IfNone, IfOk, IfSome, OnOk};
-ghost use Rattle.sync_model.specs.Bytes.{Name as ModelName};
-ghost use Rattle.sync_model.specs.Reports.{node_line, report_of};
+ghost use Rattle.node_model.specs.Bytes.{Name as ModelName};
+ghost use Rattle.node_model.specs.Reports.{node_line, report_of};
 ghost use Rattle.sync_world.specs.Reports.{clients_text, report_text};
 ghost use Rattle.std.specs.List.{position};
 ghost use Rattle.sync_world.specs.Holding.{HoldsEach, named};
-ghost use Rattle.sync_model.specs.Worlds as model;
-ghost use Rattle.sync_exchange.specs.Profile.{the_profile};
-ghost use Rattle.sync_server.specs.Serving.{IsServerOf, IsStored};
+ghost use Rattle.node_model.specs.Worlds as model;
+ghost use Rattle.node_instance.specs.Profile.{the_profile};
+ghost use Rattle.node_server.specs.Serving.{IsServerOf, IsStored};
 
 use crate::hub::Hub;
 use crate::laws::worlds_read_back;
 use crate::node::Node;
 use crate::report::{put_client, put_server};
 use std::alloc::Global;
-use sync_client::Client;
+use node_client::Client;
 use sync_data::{Id, Name, NoMemory};
 use sync_disk::{Disk, MemoryDisk};
 use sync_edits::Event;
-use sync_server::Server;
+use node_server::Server;
 
 /// An exchange: a server and clients over disks in memory, all messages that were made, and the uuids that injected Binds
 /// named.
@@ -84,6 +84,7 @@ impl World {
             Event::Stop { node, at, leaves } => self.arm(&node, at, leaves),
             Event::Inject { message } => self.inject(&message),
             Event::Upgrade { client } => self.upgrade(&client),
+            Event::Subscribe { client, tables } => self.subscribe(&client, tables),
         }
     }
 
@@ -91,6 +92,7 @@ impl World {
     pub fn report(&self) -> Result<Vec<u8>, NoMemory>
         ensures { (w : model.World) → Holds w self.now → IfOk result (λ text. text.items ≡ report_text (report_of the_profile w)) }
     {
+        worlds_read_back();
         let mut out = Vec::new(self.alloc);
         put_server(self.alloc, &mut out, &self.hub.server)?;
         put_clients(self.alloc, &mut out, self.clients.as_slice())?;

@@ -1,4 +1,4 @@
-use Rattle.std.proofs.Common.{◌≡◌, ◌+◌, ◌∷◌, [], Some, None, length, map, sym, ap, ◌∙◌, subst, arith, length-append}
+use Rattle.std.proofs.Common.{◌≡◌, ◌+◌, ◌∷◌, [], length, sym, ap, ◌∙◌, subst, arith, length-append}
 use Rattle.std.specs.Option.{is_some}
 use Rattle.node_model.specs.Fronts.{uuid_is, uuid_step}
 use Rattle.node_server.specs.Fronting.{uuids_of}

@@ -1,4 +1,4 @@
-use Rattle.std.proofs.Common.{◌≡◌, ℕ, ◌+◌, ◌∷◌, [], Some, None, length, sym, ap, ◌∙◌, subst, arith, length-append}
+use Rattle.std.proofs.Common.{◌≡◌, ℕ, ◌+◌, ◌∷◌, [], length, sym, ap, ◌∙◌, subst, arith, length-append}
 use Rattle.node_model.specs.Fronts.{retired_is, retired_step}
 use Rattle.node_server.proofs.Fronted.{retires, retires_not}
 use Rattle.node_server.proofs.Walking.{KeptSoFar, keep_begins, keep_done, keep_next, keep_other, keep_refuses}

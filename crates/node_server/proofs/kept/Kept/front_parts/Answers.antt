@@ -1,4 +1,4 @@
-use Rattle.std.proofs.Common.{ap, sym, ◌∙◌, refl, subst, Ok, ◌≡◌, ◌+◌, length, arith}
+use Rattle.std.proofs.Common.{ap, sym, ◌∙◌, Ok, ◌≡◌, ◌+◌, length, arith}
 use Rattle.node_model.specs.Snapshots.{grown}
 use Rattle.node_instance.specs.Profile.{the_profile}
 use Rattle.node_server.specs.Fronting.{instrs_of}

@@ -1,35 +1,45 @@
-use Rattle.std.proofs.Common.{List, Option, Some, None, Err, ◌++◌, sym, ◌∙◌, ap, subst}
+use Rattle.std.proofs.Common.{◌≡◌, List, Option, Some, None, Ok, Err, ◌++◌, sym, ◌∙◌, ap, subst}
 use Rattle.sync_disk.specs.Origin.{Origin}
 use Rattle.sync_disk.specs.contracts.memory.MemoryDiskDisk.TheImpl.{ghosts}
 use Rattle.sync_journal.specs.Stands.{disk_of}
-use Rattle.sync_model.specs.Servers as model
-use Rattle.sync_exchange.specs.Profile.{the_profile}
-use Rattle.sync_exchange.specs.Seen.{message_seen, server_bytes}
-use Rattle.sync_messages.specs.declared.message.Message.{Message}
-use Rattle.sync_server.specs.Serving.{Asked, journal_of}
-use Rattle.sync_server.specs.declared.refusal.ServerRefusal.{ServerRefusal}
+use Rattle.node_model.specs.Servers as model
+use Rattle.node_instance.specs.Profile.{the_profile}
+use Rattle.node_instance.specs.Seen.{message_seen, server_bytes}
+use Rattle.node_messages.specs.declared.message.Message.{Message}
+use Rattle.node_model.specs.Parts.{serve_by}
+use Rattle.node_server.specs.Kept.{parts}
+use Rattle.node_server.specs.Serving.{Asked, IsServerOf, IsStored, journal_of, kept_of}
+use Rattle.node_server.specs.declared.refusal.ServerRefusal.{ServerRefusal}
 use Rattle.sync_world.specs.Nodes.{ServerStandReads}
 use Rattle.sync_world.specs.Serves.{ServeDone}
 use Rattle.sync_world.proofs.Stops.{StopsTell, cuts, goes}
 use Rattle.sync_world.proofs.hub.Hub.take.Goals as goal
 
 pub returns-in-Ok : goal.returns-in-Ok
-returns-in-Ok c records s h reads =
+returns-in-Ok c records s opens h reads =
     let tell : StopsTell ghosts = record { never = c.stops_tell.ensures.never; passed = c.stops_tell.ensures.passed; stopped = c.stops_tell.ensures.stopped } in
     let e = c.in-Ok.ensures in
-    let did = model.serve the_profile (model.server_of the_profile records) (message_seen c.args.message) in
-    let far = goes ghosts tell server_bytes records did.records _ (disk_of (journal_of c.args.self.now.server)) (disk_of (journal_of c.take.new.self)) h.stored.settled e.told e.origin s h.armed _ (e.strokes records h.server h.stored) in
+    let m = message_seen c.args.message in
+    let did = model.serve the_profile (model.server_of the_profile records) m in
+    let alike = c.worlds_read_back.ensures.serves records (parts (kept_of c.args.self.now.server)) m opens h.server.gives in
+    let same : (serve_by the_profile (parts (kept_of c.args.self.now.server)) m).records ≡ did.records = ap (λ x. x.records) alike in
+    let far = goes ghosts tell server_bytes records did.records _ (disk_of (journal_of c.args.self.now.server)) (disk_of (journal_of c.take.new.self)) h.stored.settled e.told e.origin s h.armed _ (subst (λ (rs : List model.ServerRecord). Asked {B = Message} ghosts.strokes rs c.args.self.now.server c.take.new.self (Ok c.in-Ok.reply)) same (e.strokes records h.server h.stored)) in
     let step = e.step records h.server in
+    let server = subst (λ (rs : List model.ServerRecord). IsServerOf (records ++ rs) c.take.new.self) same step.server in
+    let stored = subst (λ (rs : List model.ServerRecord). IsStored ghosts.content ghosts.images (records ++ rs) c.take.new.self) same (e.stored records h.server h.stored) in
     let listed = ap (λ (o : Origin). o.listed) e.origin in
     subst (λ (stand : Option (List model.ServerRecord)). ServeDone did records stand (Some c.in-Ok.reply) c.disarm.new.self) (sym far.0)
-    (record { said = sym step.reply_is; server = c.disarm.ensures (records ++ did.records) step.server (e.stored records h.server h.stored) (listed ∙ h.armed.listed) })
+    (record { said = sym (step.reply_is ∙ ap (λ x. x.answer) alike); server = c.disarm.ensures (records ++ did.records) server stored (listed ∙ h.armed.listed) })
 
 pub returns-in-Ok-crash : goal.returns-in-Ok-crash
-returns-in-Ok-crash c records s h reads =
+returns-in-Ok-crash c records s opens h reads =
     let tell : StopsTell ghosts = record { never = c.stops_tell.ensures.never; passed = c.stops_tell.ensures.passed; stopped = c.stops_tell.ensures.stopped } in
     let e = c.in-Err-DiskFault.ensures in
-    let did = model.serve the_profile (model.server_of the_profile records) (message_seen c.args.message) in
-    let asked = subst (λ (why : ServerRefusal). Asked {B = Message} ghosts.strokes did.records c.args.self.now.server c.take.new.self (Err why)) c.in-Err-DiskFault.field-0-is (e.strokes records h.server h.stored) in
+    let m = message_seen c.args.message in
+    let did = model.serve the_profile (model.server_of the_profile records) m in
+    let alike = c.worlds_read_back.ensures.serves records (parts (kept_of c.args.self.now.server)) m opens h.server.gives in
+    let same : (serve_by the_profile (parts (kept_of c.args.self.now.server)) m).records ≡ did.records = ap (λ x. x.records) alike in
+    let asked = subst (λ (why : ServerRefusal). Asked {B = Message} ghosts.strokes did.records c.args.self.now.server c.take.new.self (Err why)) c.in-Err-DiskFault.field-0-is (subst (λ (rs : List model.ServerRecord). Asked {B = Message} ghosts.strokes rs c.args.self.now.server c.take.new.self (Err c.in-Err-DiskFault.field-0)) same (e.strokes records h.server h.stored)) in
     let cut = cuts ghosts tell server_bytes records did.records _ (disk_of (journal_of c.args.self.now.server)) (disk_of (journal_of c.take.new.self)) h.stored.settled e.told e.origin s h.armed asked in
     let back = subst (ServerStandReads records) cut.1 reads in
     let listed = ap (λ (o : Origin). o.listed) e.origin in

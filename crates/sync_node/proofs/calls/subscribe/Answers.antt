@@ -1,0 +1,28 @@
+use Rattle.node_model.specs.Clients.{client_of, subscribe}
+use Rattle.node_instance.specs.Profile.{the_profile}
+use Rattle.node_instance.specs.Seen.{client_bytes}
+use Rattle.node_client.specs.Refusals.{refusal_seen}
+use Rattle.sync_node.specs.Steps.{subscribe_words}
+use Rattle.sync_node.proofs.Nodes.{leaves_now, prefix_leaves, said_err, said_ok}
+use Rattle.sync_node.proofs.calls.subscribe.Goals as goal
+
+pub returns-in-Ok-clause-done : goal.returns-in-Ok-clause-done
+returns-in-Ok-clause-done g c = λ records stands.
+    let did = subscribe (client_of the_profile records) c.args.tables in
+    said_ok subscribe_words c.args.number did records c.subscribe.new.self tt c.say.result (c.in-Ok.ensures.step records stands.client) (c.in-Ok.ensures.stored records stands.client stands.stored)
+    (c.say.ensures.said (subscribe_words tt) c.fixed_words.ensures)
+
+pub returns-in-Err-clause-done : goal.returns-in-Err-clause-done
+returns-in-Err-clause-done g c = λ records stands.
+    let did = subscribe (client_of the_profile records) c.args.tables in
+    said_err subscribe_words c.args.number did records c.subscribe.new.self (refusal_seen c.in-Err.refusal) c.decline.result (c.in-Err.ensures.step records stands.client) (c.in-Err.ensures.stored records stands.client stands.stored) c.decline.ensures.seen
+
+pub returns-in-Ok-clause-leaves : goal.returns-in-Ok-clause-leaves
+returns-in-Ok-clause-leaves g c = λ records stands image is.
+    prefix_leaves client_bytes records (subscribe (client_of the_profile records) c.args.tables).records image
+    (leaves_now g.D.Disk.moment g.D.Disk.images g.D.Disk.images_since g.met.D.Disk.counts_now c.args.client.now.journal.disk c.subscribe.new.self.journal.disk _ (c.subscribe.ensures.any_moment records stands.client stands.stored) image is)
+
+pub returns-in-Err-clause-leaves : goal.returns-in-Err-clause-leaves
+returns-in-Err-clause-leaves g c = λ records stands image is.
+    prefix_leaves client_bytes records (subscribe (client_of the_profile records) c.args.tables).records image
+    (leaves_now g.D.Disk.moment g.D.Disk.images g.D.Disk.images_since g.met.D.Disk.counts_now c.args.client.now.journal.disk c.subscribe.new.self.journal.disk _ (c.subscribe.ensures.any_moment records stands.client stands.stored) image is)

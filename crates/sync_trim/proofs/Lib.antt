@@ -1,0 +1,7 @@
+mod Pieces
+mod Given
+mod Versions
+mod Crossed
+mod Floors
+mod States
+mod Whole

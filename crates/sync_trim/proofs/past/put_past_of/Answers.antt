@@ -1,0 +1,45 @@
+use Rattle.std.proofs.Common.{ℕ, ◌+◌, ◌++◌, List, map, drop, sym, ap, ◌∙◌, append_assoc}
+use Rattle.std.specs.Prelude.{slice_get}
+use Rattle.sync_recip.specs.Lists.{entry_of}
+use Rattle.node_model.specs.Servers as model
+use Rattle.node_model.specs.Trimmed.{crossed_record}
+use Rattle.node_instance.specs.Profile.{the_profile}
+use Rattle.node_instance.specs.Seen.{server_seen}
+use Rattle.node_server.specs.Kept.{parts}
+use Rattle.node_server.specs.Readers.{item_from}
+use Rattle.node_server.specs.Serving.{kept_of}
+use Rattle.sync_trim.proofs.Crossed.{Pair, crossed, crossed_left, got_none, got_some, passed}
+use Rattle.sync_trim.proofs.Pieces.{at_some, none_next, get_at}
+use Rattle.sync_trim.proofs.past.put_past_of.Goals as goal
+use Rattle.sync_trim.proofs.past.put_past_of.Goals.{in-Some+then-from-version+in_ok-put_crossed, in-Some+else-from-version, in_default}
+
+pub loop-place-preserved : goal.loop-place-preserved
+loop-place-preserved g c =
+    let kept = parts (kept_of c.args.server.now) in
+    let place = c.loop-place.place in
+    let list = c.args.list.now in
+    let ident = c.args.ident in
+    let from = c.args.from in
+    let now = map server_seen c.loop-place.records.items in
+    elim c.match-get.branch [
+      | in-Some+then-from-version+in_ok-put_crossed w ↦ λ floor above below.
+          let q : Pair = (w.in-Some.version, entry_of w.in-Some.crossed.now) in
+          let first = at_some list place q (sym (get_at list place) ∙ sym (got_some c.get.result (slice_get list place) w.in-Some.version w.in-Some.crossed c.get.ensures w.in-Some.is)) in
+          let left = crossed_left ident kept.floor floor from kept.entries (drop (place + 1) list) in
+          let made = crossed_record the_profile ident q (item_from kept.floor kept.entries q.0) in
+          ap (λ r. map server_seen r.items ++ left) w.records-is
+          ∙ ap (λ l. l ++ left) w.in_ok-put_crossed.ensures
+          ∙ append_assoc now made left
+          ∙ ap (λ l. now ++ l) (sym (crossed ident kept.floor floor from kept.entries (drop place list) (drop (place + 1) list) q first w.if-from-version.true above below))
+          ∙ c.loop-place.invariant floor above below
+      | in-Some+else-from-version w ↦ λ floor above below.
+          let q : Pair = (w.in-Some.version, entry_of w.in-Some.crossed.now) in
+          let first = at_some list place q (sym (get_at list place) ∙ sym (got_some c.get.result (slice_get list place) w.in-Some.version w.in-Some.crossed c.get.ensures w.in-Some.is)) in
+          ap (λ r. map server_seen r.items ++ crossed_left ident kept.floor floor from kept.entries (drop (place + 1) list)) w.records-is
+          ∙ ap (λ l. now ++ l) (sym (passed ident kept.floor floor from kept.entries (drop place list) (drop (place + 1) list) q first w.if-from-version.false))
+          ∙ c.loop-place.invariant floor above below
+      | in_default w ↦ λ floor above below.
+          ap (λ r. map server_seen r.items ++ crossed_left ident kept.floor floor from kept.entries (drop (place + 1) list)) w.records-is
+          ∙ ap (λ l. now ++ crossed_left ident kept.floor floor from kept.entries l) (sym (none_next list place (sym (get_at list place) ∙ got_none c.get.result (slice_get list place) c.get.ensures w.in_default.is)))
+          ∙ c.loop-place.invariant floor above below
+    ]

@@ -1,0 +1,17 @@
+//! Files that begin with a state in place of a history: a server's without what lies before its next floor, and a client's
+//! that begins with the server's objects.
+#![tactic(auto)]
+
+mod bodies;
+mod floor;
+mod history;
+mod idents;
+mod lists;
+mod past;
+mod starting;
+#[cfg(test)]
+mod tests;
+mod trimming;
+
+pub use starting::started;
+pub use trimming::trimmed;

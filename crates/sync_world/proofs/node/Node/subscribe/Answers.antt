@@ -1,0 +1,15 @@
+use Rattle.node_model.specs.Clients as model
+use Rattle.node_model.specs.Worlds.{stopped}
+use Rattle.node_instance.specs.Profile.{the_profile}
+use Rattle.sync_disk.specs.contracts.memory.MemoryDiskDisk.TheImpl.{ghosts}
+use Rattle.sync_world.proofs.Stops.{StopsTell}
+use Rattle.sync_world.proofs.Calls.{after_call}
+use Rattle.sync_world.proofs.node.Node.subscribe.Goals as goal
+
+pub returns-clause-ends : goal.returns-clause-ends
+returns-clause-ends c records s h reads =
+    let tell : StopsTell ghosts = record { never = c.stops_tell.ensures.never; passed = c.stops_tell.ensures.passed; stopped = c.stops_tell.ensures.stopped } in
+    let e = c.subscribe-answer.ensures in
+    let did = model.subscribe (model.client_of the_profile records) c.args.tables in
+    c.end.ensures.ends did records (stopped s did.records)
+    (after_call did c.args.self.now.client c.subscribe-answer.new.self tell records s c.args.self.now.stop c.subscribe-answer.result h (e.step records h.client) (e.stored records h.client h.stored) (e.strokes records h.client h.stored) e.origin e.told) reads
