@@ -1,13 +1,13 @@
 //! A client of some tables, and one whose file begins with a state.
 
-use node_client::{Client, ClientRefusal};
-use node_messages::{Message, message_bytes, message_of};
 use std::alloc::Global;
 use std::test::Fail;
+use sync_client::{Client, ClientRefusal};
 use sync_codec::decode;
 use sync_data::{Instr, KeyKind, Name};
 use sync_disk::{Disk, MemoryDisk};
 use sync_journal::{OpenCause, OpenRefusal};
+use sync_messages::{Message, message_bytes, message_of};
 use sync_subset::Subset;
 
 /// AddTable "q", and CreateObject "t" 1, as changesets.

@@ -9,7 +9,7 @@ use Rattle.sync_data.specs.declared.value.Value.{Value}
 use Rattle.sync_base.specs.Effects.{ObjectName, Edit, Effect, Set, Insert, Include, Bind, NewTable, NewColumn, Create, Change, instr_of}
 use Rattle.sync_base.specs.States.{State, Table, Cell, Cells, One, Many, Members, Dict, column_in}
 use Rattle.sync_base.specs.After.{default_of}
-use Rattle.node_model.specs.Cuts.{cut}
+use Rattle.sync_model.specs.Cuts.{cut}
 use Rattle.store_walks.specs.Along.{in_order}
 
 -- one list behind the other

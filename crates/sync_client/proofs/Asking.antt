@@ -1,19 +1,26 @@
 -- The messages that a client sends, and what it tells of itself.
-use Rattle.std.proofs.Common.{◌≡◌, ℕ, suc, ◌≤◌, min, Bool, true, false, List, [], ◌∷◌, length, length-append, map, Result, Ok, Err, ap, ◌∙◌, sym, ◌==◌, if◌then◌else◌, le_refl, arith}
+use Rattle.std.proofs.Common.{◌≡◌, ℕ, ◌≤◌, min, Bool, true, List, [], ◌∷◌, Option, Some, None, length, Result, Ok, Err, ap, subst, ◌∙◌, sym, ◌==◌, if◌then◌else◌, le_refl, arith}
+use Rattle.std.specs.Prelude.{IfOk, IfErr}
 use Rattle.std.specs.Option.{is_some}
+use Rattle.sync_messages.specs.declared.message.Message.{Message as CodeMessage}
 use Rattle.sync_data.specs.declared.instr.Instr.{Instr}
 use Rattle.sync_base.specs.States.{State}
-use Rattle.sync_model.specs.Clients.{Client as Model, ClientRecord, Original, Unsent, after_record, after_records, answers, as_made, ask, carried_to, changeset_of, client_of, crossed, no_client, ok_list, settled_from, NotNamed, refuse}
-use Rattle.sync_model.specs.Profile.{Stuck, cross_changesets}
-use Rattle.sync_theory.specs.Changesets.{Changeset}
-use Rattle.sync_theory.specs.Grid.{rebase, tail}
-use Rattle.sync_model.specs.Messages.{Ask, Ask2}
-use Rattle.sync_model.specs.Limits.{ClientNumbers, Each, IsUnsent, and_each}
+use Rattle.sync_model.specs.Bytes.{Tables}
+use Rattle.sync_model.specs.Clients.{Client as Model, ClientRecord, Unsent, answers, ask, client_of, last, no_client, question, settled_from, NotNamed, refuse}
+use Rattle.sync_model.specs.Messages.{Message, Ask, Ask2, AskTables}
+use Rattle.sync_model.specs.Each.{Each, and_each}
+use Rattle.sync_model.specs.Limits.{ClientNumbers, IsUnsent}
 use Rattle.sync_model.proofs.Limits.{numbers_first, numbers_records}
 use Rattle.sync_model.proofs.Own.{if_false}
-use Rattle.sync_exchange.specs.Profile.{the_profile, unspell}
+use Rattle.sync_exchange.specs.Profile.{the_profile}
 use Rattle.sync_client.specs.declared.replica.Replica.{Replica}
 use Rattle.sync_client.specs.Keeping.{Keeps}
+use Rattle.sync_exchange.specs.Seen.{message_seen}
+use Rattle.sync_client.specs.declared.refusal.ClientRefusal.{ClientRefusal as CodeRefusal}
+use Rattle.sync_client.specs.declared.refusal.ClientRefusal.TheVariants as codes
+use Rattle.sync_client.specs.Refusals.{refusal_seen, IfSeen}
+use Rattle.sync_client.specs.Seen.{seen}
+use Rattle.sync_client.specs.Sending.{Sends}
 use Rattle.sync_client.proofs.Calls.{is_born}
 use Rattle.sync_client.proofs.Refusing.{differ}
 
@@ -35,60 +42,50 @@ settled_is records r k =
     let within = settled_within (client_of the_profile records).cursor (client_of the_profile records).unsent (numbers_of records r k).unsent in
     no_less (settled_from r.cursor r.unsent) r.cursor (omega (arith, unsent, cursor, within))
 
-pub ask_is : (records : List ClientRecord) (r : Replica) → Keeps records r → is_some r.id ≡ true → ¬ (r.ident ≡ 0)
-    → ask (client_of the_profile records) ≡ answers (if r.second then Ask2 r.ident r.cursor (settled_from r.cursor r.unsent) else Ask r.ident r.cursor (settled_from r.cursor r.unsent))
-ask_is records r k born named =
-    (is_born records r (λ id. if (client_of the_profile records).ident == 0 then refuse NotNamed else answers (if (client_of the_profile records).second then Ask2 (client_of the_profile records).ident (client_of the_profile records).cursor (settled_from (client_of the_profile records).cursor (client_of the_profile records).unsent) else Ask (client_of the_profile records).ident (client_of the_profile records).cursor (settled_from (client_of the_profile records).cursor (client_of the_profile records).unsent))) k born).1
-    ∙ ap (λ (c : Model Instr State). if c.ident == 0 then refuse NotNamed else answers (if c.second then Ask2 c.ident c.cursor (settled_from c.cursor c.unsent) else Ask c.ident c.cursor (settled_from c.cursor c.unsent))) k.stands_for
+asking : (records : List ClientRecord) (r : Replica) (k : Keeps records r) → is_some r.id ≡ true → ¬ (r.ident ≡ 0) → ask (client_of the_profile records) ≡ answers (question (seen k.past r) r.subset)
+asking records r k born named =
+    (is_born records r (λ id. if (client_of the_profile records).ident == 0 then refuse NotNamed else answers (question (client_of the_profile records) (client_of the_profile records).subset)) k born).1
+    ∙ ap (λ (c : Model Instr State). if c.ident == 0 then refuse NotNamed else answers (question c c.subset)) k.stands_for
     ∙ if_false (r.ident == 0) _ _ (differ r.ident 0 named)
 
--- the message, as the code makes it
-pub ask_answer : (records : List ClientRecord) (r : Replica) (second : Bool) (settled : ℕ) → Keeps records r → is_some r.id ≡ true → ¬ (r.ident ≡ 0) → r.second ≡ second → settled ≡ min (settled_from r.cursor r.unsent) r.cursor
+-- the question, as the code makes it
+abbrev question_as : Replica → ℕ → Option Tables → Message
+question_as r settled None = if r.second then Ask2 r.ident r.cursor settled else Ask r.ident r.cursor settled
+question_as r settled (Some t) = AskTables r.ident r.cursor settled r.second t
+
+same_question : (records : List ClientRecord) (r : Replica) (settled : ℕ) (k : Keeps records r) (o : Option Tables) → settled ≡ min (settled_from r.cursor r.unsent) r.cursor → question (seen k.past r) o ≡ question_as r settled o
+same_question records r settled k None is = ap (λ (n : ℕ). if r.second then Ask2 r.ident r.cursor n else Ask r.ident r.cursor n) (sym (is ∙ settled_is records r k))
+same_question records r settled k (Some t) is = ap (λ (n : ℕ). AskTables r.ident r.cursor n r.second t) (sym (is ∙ settled_is records r k))
+
+asked : (records : List ClientRecord) (r : Replica) (settled : ℕ) (o : Option Tables) → Keeps records r → is_some r.id ≡ true → ¬ (r.ident ≡ 0) → r.subset ≡ o → settled ≡ min (settled_from r.cursor r.unsent) r.cursor → (ask (client_of the_profile records)).answer ≡ Ok (question_as r settled o)
+asked records r settled o k born named tables is =
+    ap (λ d. d.answer) (asking records r k born named) ∙ ap (λ (m : Message). Ok m) (same_question records r settled k r.subset is ∙ ap (question_as r settled) tables)
+
+-- a client that gets all asks by its form
+pub ask_answer : (records : List ClientRecord) (r : Replica) (second : Bool) (settled : ℕ) → Keeps records r → is_some r.id ≡ true → ¬ (r.ident ≡ 0) → r.subset ≡ None → r.second ≡ second → settled ≡ min (settled_from r.cursor r.unsent) r.cursor
     → (ask (client_of the_profile records)).answer ≡ Ok (if second then Ask2 r.ident r.cursor settled else Ask r.ident r.cursor settled)
-ask_answer records r second settled k born named form is =
-    ap (λ d. d.answer) (ask_is records r k born named)
-    ∙ ap (λ (b : Bool). Ok (if b then Ask2 r.ident r.cursor (settled_from r.cursor r.unsent) else Ask r.ident r.cursor (settled_from r.cursor r.unsent))) form
-    ∙ ap (λ (n : ℕ). Ok (if second then Ask2 r.ident r.cursor n else Ask r.ident r.cursor n)) (sym (is ∙ settled_is records r k))
+ask_answer records r second settled k born named all form is =
+    asked records r settled None k born named all is
+    ∙ ap (λ (b : Bool). Ok (if b then Ask2 r.ident r.cursor settled else Ask r.ident r.cursor settled)) form
+
+-- and one of some tables by these
+pub tables_answer : (records : List ClientRecord) (r : Replica) (settled : ℕ) (tables : Tables) → Keeps records r → is_some r.id ≡ true → ¬ (r.ident ≡ 0) → r.subset ≡ Some tables → settled ≡ min (settled_from r.cursor r.unsent) r.cursor
+    → (ask (client_of the_profile records)).answer ≡ Ok (AskTables r.ident r.cursor settled r.second tables)
+tables_answer records r settled tables k born named some is = asked records r settled (Some tables) k born named some is
+
+-- the answer of the call that asks by tables
+pub tables_sends : (records : List ClientRecord) (r : Replica) (settled : ℕ) (tables : Tables) (a : Result CodeMessage CodeRefusal) → Keeps records r → is_some r.id ≡ true → ¬ (r.ident ≡ 0) → r.subset ≡ Some tables → settled ≡ min (settled_from r.cursor r.unsent) r.cursor
+    → IfOk a (λ m. message_seen m ≡ AskTables r.ident r.cursor settled r.second tables) → IfErr a (λ why. why ≡ codes.NoMemory) → Sends (ask (client_of the_profile records)) a
+tables_sends records r settled tables (Ok m) k born named some is asked_ memory = tables_answer records r settled tables k born named some is ∙ ap (λ (x : Message). Ok x) (sym asked_)
+tables_sends records r settled tables (Err why) k born named some is asked_ memory = subst (λ w. IfSeen (refusal_seen w) (λ x. (ask (client_of the_profile records)).answer ≡ Err x)) (sym memory) tt
+
+pub last_is : (records : List ClientRecord) (r : Replica) → Keeps records r → r.count ≡ last (client_of the_profile records)
+last_is records r k = sym (ap (λ (c : Model Instr State). length c.made) k.stands_for ∙ k.count)
 
 -- ---- how many changesets are unsent
-few_carried : (us : List (Unsent Instr)) (xs : List (Changeset Instr)) → length (carried_to us xs) ≤ length us
-few_carried [] xs = omega arith
-few_carried (u ∷ us) [] = omega arith
-few_carried (u ∷ us) (x ∷ xs) = let rest = few_carried us xs in omega (arith, rest)
-
-few_left : (us : List (Unsent Instr)) → length (tail us) ≤ length us
-few_left [] = omega arith
-few_left (u ∷ us) = omega arith
-
--- an entry that is taken leaves no more of them
-few_crossed : (c : Model Instr State) (r : Result (List (Changeset Instr) × Changeset Instr) (ℕ × Stuck)) → length c.unsent ≤ length c.made → length (crossed the_profile c r).unsent ≤ length (crossed the_profile c r).made
-few_crossed c (Ok q) h = let few = few_carried c.unsent q.0 in omega (arith, h, few)
-few_crossed c (Err f) h = h
-
-few_taken : (c : Model Instr State) (own : Bool) (r : Result (List (Changeset Instr) × Changeset Instr) (ℕ × Stuck)) → length c.unsent ≤ length c.made
-    → length (if own then record c { cursor = suc c.cursor; unsent = tail c.unsent } else crossed the_profile c r).unsent ≤ length (if own then record c { cursor = suc c.cursor; unsent = tail c.unsent } else crossed the_profile c r).made
-few_taken c true r h = let few = few_left c.unsent in omega (arith, h, few)
-few_taken c false r h = few_crossed c r h
-
-few_after : (c : Model Instr State) (next : ClientRecord) → length c.unsent ≤ length c.made → length (after_record the_profile c next).unsent ≤ length (after_record the_profile c next).made
-few_after c (ClientRecord.Born id) h = h
-few_after c (ClientRecord.Named ident) h = h
-few_after c (ClientRecord.Made number ms body) h =
-    let o : Original Instr = record { base = c.cursor; number = number; ms = ms; instrs = ok_list (unspell body) } in
-    let unsent = length-append c.unsent (as_made o ∷ []) in
-    let made = length-append c.made (o ∷ []) in
-    omega (arith, h, unsent, made)
-few_after c (ClientRecord.Took origin number ms body) h =
-    few_taken c (origin == c.ident) (rebase (cross_changesets the_profile) (map (changeset_of c.ident) c.unsent) (record { origin = origin; number = number; ms = ms; instrs = ok_list (unspell body) })) h
-few_after c ClientRecord.Form h = h
-
-few_unsent : (records : List ClientRecord) (c : Model Instr State) → length c.unsent ≤ length c.made → length (after_records the_profile c records).unsent ≤ length (after_records the_profile c records).made
-few_unsent [] c h = h
-few_unsent (x ∷ xs) c h = few_unsent xs (after_record the_profile c x) (few_after c x h)
-
 pub unsent_counted : (records : List ClientRecord) (r : Replica) (n : ℕ) → Keeps records r → n ≡ length r.unsent → min n 4294967295 ≡ length (client_of the_profile records).unsent
 unsent_counted records r n k is =
     let same = ap (λ (c : Model Instr State). length c.unsent) k.stands_for in
-    let few = few_unsent records (no_client the_profile) (omega arith) in
+    let few = (numbers_of records r k).kept in
     let made = (numbers_of records r k).made in
     no_less n 4294967295 (omega (arith, is, same, few, made)) ∙ is ∙ sym same

@@ -5,12 +5,13 @@ use Rattle.std.specs.Option.{is_some}
 use Rattle.sync_data.specs.declared.instr.Instr.{Instr}
 use Rattle.sync_base.specs.States.{State}
 use Rattle.sync_disk.specs.declared.disk.Disk.{Ghosts}
-use Rattle.sync_model.specs.Bytes.{Uuid}
-use Rattle.sync_model.specs.Clients.{Born, Client as Model, ClientRecord, ClientRefusal, ClientStep, NotBorn, Original, after_record, appends, answers, refuse, born, born_once, client_of, commit, commit_born, if_born, no_client, upgrade}
+use Rattle.sync_model.specs.Bytes.{Tables, Uuid}
+use Rattle.sync_model.specs.Clients.{Born, Client as Model, ClientRecord, ClientRefusal, ClientStep, NotBorn, Subscribed, TooLate, after_record, appends, answers, refuse, born, born_once, client_of, commit, commit_born, if_born, is_late, no_client, subscribe, subscribed_once, upgrade}
 use Rattle.sync_model.specs.Files.{client_opens}
-use Rattle.sync_model.specs.Limits.{no_more, and_each, IsClientRecord}
+use Rattle.sync_model.specs.Each.{no_more, and_each}
+use Rattle.sync_model.specs.Limits.{IsClientRecord}
 use Rattle.sync_model.proofs.Limits.{each_append}
-use Rattle.sync_model.proofs.Opening.{client_opens_on, born_opens, commit_opens, upgrade_opens}
+use Rattle.sync_model.proofs.Opening.{calm, client_opens_on, born_opens, commit_opens, subscribe_opens, upgrade_opens}
 use Rattle.sync_model.proofs.Own.{client_step}
 use Rattle.sync_exchange.specs.Profile.{the_profile}
 use Rattle.sync_exchange.specs.Lemmas.Lawful.{real_lawful}
@@ -18,7 +19,7 @@ use Rattle.sync_client.specs.declared.client.Client.{Client}
 use Rattle.sync_client.specs.declared.replica.Replica.{Replica}
 use Rattle.sync_client.specs.Clients.{Did, IsClientOf, Says}
 use Rattle.sync_client.specs.Keeping.{Keeps}
-use Rattle.sync_client.specs.Seen.{seen}
+use Rattle.sync_client.specs.Seen.{Past, and_made, seen}
 use Rattle.sync_client.specs.Transactions.{Commits, Uncommitted, next_original}
 use Rattle.sync_client.specs.declared.refusal.ClientRefusal.TheVariants as codes
 use Rattle.sync_client.specs.Refusals.{refusal_seen, IfSeen, IsPlain}
@@ -26,10 +27,10 @@ use Rattle.sync_client.specs.declared.refusal.ClientRefusal.{ClientRefusal as Co
 use Rattle.sync_client.specs.declared.transactions.Made.{Made}
 
 -- a record more
-pub keeps_next : (records : List ClientRecord) (next : ClientRecord) (r s : Replica) (made : List (Original Instr)) (k : Keeps records r) → client_opens the_profile (client_of the_profile records) (next ∷ []) ≡ true → IsClientRecord the_profile next
-    → seen made s ≡ after_record the_profile (seen k.made r) next → length made ≡ s.count → Keeps (records ++ next ∷ []) s
-keeps_next records next r s made k opens fits after count = record {
-  made = made;
+pub keeps_next : (records : List ClientRecord) (next : ClientRecord) (r s : Replica) (past : Past) (k : Keeps records r) → client_opens the_profile (client_of the_profile records) (next ∷ []) ≡ true → IsClientRecord the_profile next
+    → seen past s ≡ after_record the_profile (seen k.past r) next → length past.made ≡ s.count → Keeps (records ++ next ∷ []) s
+keeps_next records next r s past k opens fits after count = record {
+  past = past;
   count = count;
   stands_for = client_step the_profile records next ∙ ap (λ c. after_record the_profile c next) k.stands_for ∙ sym after;
   opens = client_opens_on the_profile (no_client the_profile) records (next ∷ []) k.opens opens;
@@ -60,7 +61,7 @@ born_is records r id k none = ap (λ o. born_once o (appends {A = ⊤} (Born id)
 
 pub born_keeps : (records : List ClientRecord) (r : Replica) (id : Uuid) → Keeps records r → is_some r.id ≡ false → Keeps (records ++ Born id ∷ []) (record r { id = Some id })
 born_keeps records r id k none =
-    keeps_next records (Born id) r (record r { id = Some id }) k.made k (subst (λ d. client_opens the_profile (client_of the_profile records) d.records ≡ true) (born_is records r id k none) (born_opens the_profile real_lawful (client_of the_profile records) id)) tt refl k.count
+    keeps_next records (Born id) r (record r { id = Some id }) k.past k (subst (λ d. client_opens the_profile (client_of the_profile records) d.records ≡ true) (born_is records r id k none) (born_opens the_profile real_lawful (client_of the_profile records) (calm the_profile records k.opens) id).0) tt refl k.count
 
 pub if_seen_both : (o : Option ClientRefusal) (P Q R : ClientRefusal → Type 0) → ((w : ClientRefusal) → P w → Q w → R w) → IfSeen o P → IfSeen o Q → IfSeen o R
 if_seen_both None P Q R f h g = tt
@@ -86,30 +87,30 @@ module _ {D : Type 0} {G : Ghosts D} where
   did_refuse did why records c is k = did_none did (Err why) records c (ap (λ d. d.records) is) (ap (λ d. d.answer) is) k
 
 -- ---- transactions
-committing : (records : List ClientRecord) (r : Replica) (ms : ℕ) (edits : List Instr) (k : Keeps records r) → is_some r.id ≡ true → commit the_profile (client_of the_profile records) ms edits ≡ commit_born the_profile (seen k.made r) ms edits
+committing : (records : List ClientRecord) (r : Replica) (ms : ℕ) (edits : List Instr) (k : Keeps records r) → is_some r.id ≡ true → commit the_profile (client_of the_profile records) ms edits ≡ commit_born the_profile (seen k.past r) ms edits
 committing records r ms edits k some =
     (is_born records r (λ id. commit_born the_profile (client_of the_profile records) ms edits) k some).1
     ∙ ap (λ c. commit_born the_profile c ms edits) k.stands_for
 
-pub commit_is : (records : List ClientRecord) (r s : Replica) (ms : ℕ) (edits : List Instr) (m : Made) (k : Keeps records r) → is_some r.id ≡ true → Commits k.made r s ms edits (Ok m)
+pub commit_is : (records : List ClientRecord) (r s : Replica) (ms : ℕ) (edits : List Instr) (m : Made) (k : Keeps records r) → is_some r.id ≡ true → Commits k.past r s ms edits (Ok m)
     → commit the_profile (client_of the_profile records) ms edits ≡ appends (ClientRecord.Made m.number ms m.body.items) m.number
 commit_is records r s ms edits m k some did = committing records r ms edits k some ∙ did.step
 
-pub commit_keeps : (records : List ClientRecord) (r s : Replica) (ms : ℕ) (edits : List Instr) (m : Made) (k : Keeps records r) → is_some r.id ≡ true → Commits k.made r s ms edits (Ok m) → m.number ≤ 4294967295
+pub commit_keeps : (records : List ClientRecord) (r s : Replica) (ms : ℕ) (edits : List Instr) (m : Made) (k : Keeps records r) → is_some r.id ≡ true → Commits k.past r s ms edits (Ok m) → m.number ≤ 4294967295
     → Keeps (records ++ ClientRecord.Made m.number ms m.body.items ∷ []) s
 commit_keeps records r s ms edits m k some did small =
-    keeps_next records (ClientRecord.Made m.number ms m.body.items) r s (k.made ++ next_original r m.number ms edits ∷ []) k
-    (subst (λ d. client_opens the_profile (client_of the_profile records) d.records ≡ true) (commit_is records r s ms edits m k some did) (commit_opens the_profile real_lawful (client_of the_profile records) ms edits))
+    keeps_next records (ClientRecord.Made m.number ms m.body.items) r s (and_made k.past (next_original r m.number ms edits)) k
+    (subst (λ d. client_opens the_profile (client_of the_profile records) d.records ≡ true) (commit_is records r s ms edits m k some did) (commit_opens the_profile real_lawful (client_of the_profile records) (calm the_profile records k.opens) ms edits).0)
     small
     did.after
-    (length-append k.made (next_original r m.number ms edits ∷ []) ∙ add-one (length k.made) ∙ ap suc k.count ∙ sym did.count)
+    (length-append k.past.made (next_original r m.number ms edits ∷ []) ∙ add-one (length k.past.made) ∙ ap suc k.count ∙ sym did.count)
 
 module _ {D : Type 0} {G : Ghosts D} where
   pub commit_refused : (records : List ClientRecord) (c n : Client D G) (s : Replica) (ms : ℕ) (edits : List Instr) (why : CodeRefusal) (k : IsClientOf records c) → is_some c.replica.id ≡ true
-      → IfSeen (refusal_seen why) (Uncommitted k.kept.made c.replica s ms edits) → IfSeen (refusal_seen why) (λ w. n ≡ record c { replica = s })
+      → IfSeen (refusal_seen why) (Uncommitted k.kept.past c.replica s ms edits) → IfSeen (refusal_seen why) (λ w. n ≡ record c { replica = s })
       → IfSeen (refusal_seen why) (λ w. Did (commit the_profile (client_of the_profile records) ms edits) (Err w) records n)
   commit_refused records c n s ms edits why k some did same =
-      if_seen_both (refusal_seen why) (Uncommitted k.kept.made c.replica s ms edits) (λ w. n ≡ record c { replica = s }) (λ w. Did (commit the_profile (client_of the_profile records) ms edits) (Err w) records n)
+      if_seen_both (refusal_seen why) (Uncommitted k.kept.past c.replica s ms edits) (λ w. n ≡ record c { replica = s }) (λ w. Did (commit the_profile (client_of the_profile records) ms edits) (Err w) records n)
       (λ w h g. did_refuse (commit the_profile (client_of the_profile records) ms edits) w records n (committing records c.replica ms edits k.kept some ∙ h.step)
       (subst (IsClientOf records) (sym (g ∙ ap (λ (r : Replica). record c { replica = r }) h.unchanged)) k))
       did same
@@ -129,7 +130,43 @@ upgraded_is records r k some second =
 
 pub upgrade_keeps : (records : List ClientRecord) (r : Replica) → Keeps records r → is_some r.id ≡ true → r.second ≡ false → Keeps (records ++ ClientRecord.Form ∷ []) (record r { second = true })
 upgrade_keeps records r k some first =
-    keeps_next records ClientRecord.Form r (record r { second = true }) k.made k (subst (λ d. client_opens the_profile (client_of the_profile records) d.records ≡ true) (upgrade_is records r k some first) (upgrade_opens the_profile real_lawful (client_of the_profile records))) tt refl k.count
+    keeps_next records ClientRecord.Form r (record r { second = true }) k.past k (subst (λ d. client_opens the_profile (client_of the_profile records) d.records ≡ true) (upgrade_is records r k some first) (upgrade_opens the_profile real_lawful (client_of the_profile records) (calm the_profile records k.opens)).0) tt refl k.count
+
+-- ---- tables
+abbrev behind_tables : Tables → Model Instr State → ClientStep ⊤
+behind_tables tables c = subscribed_once {A = ⊤} c.subset (if is_late c then refuse TooLate else appends (ClientRecord.Subset tables) tt)
+
+subscribing : (records : List ClientRecord) (r : Replica) (tables : Tables) (k : Keeps records r) → is_some r.id ≡ true → subscribe (client_of the_profile records) tables ≡ behind_tables tables (seen k.past r)
+subscribing records r tables k some = (is_born {A = ⊤} records r (λ id. behind_tables tables (client_of the_profile records)) k some).1 ∙ ap (behind_tables tables) k.stands_for
+
+no_tables : (o : Option Tables) → is_some o ≡ false → o ≡ None
+no_tables None e = refl
+no_tables (Some t) e = cc
+
+has_tables : (o : Option Tables) (did : ClientStep ⊤) → is_some o ≡ true → subscribed_once {A = ⊤} o did ≡ refuse Subscribed
+has_tables None did e = cc
+has_tables (Some t) did e = refl
+
+pub subscribed_is : (records : List ClientRecord) (r : Replica) (tables : Tables) → Keeps records r → is_some r.id ≡ true → is_some r.subset ≡ true → subscribe (client_of the_profile records) tables ≡ refuse Subscribed
+subscribed_is records r tables k some again = subscribing records r tables k some ∙ has_tables r.subset _ again
+
+unless_late : (records : List ClientRecord) (r : Replica) (tables : Tables) (k : Keeps records r) (late : Bool) → is_some r.id ≡ true → is_some r.subset ≡ false → is_late (seen k.past r) ≡ late
+    → subscribe (client_of the_profile records) tables ≡ (if late then refuse TooLate else appends (ClientRecord.Subset tables) tt)
+unless_late records r tables k late some first e =
+    subscribing records r tables k some
+    ∙ ap (λ o. subscribed_once {A = ⊤} o (if is_late (seen k.past r) then refuse TooLate else appends (ClientRecord.Subset tables) tt)) (no_tables r.subset first)
+    ∙ ap (λ b. if b then refuse TooLate else appends (ClientRecord.Subset tables) tt) e
+
+pub late_is : (records : List ClientRecord) (r : Replica) (tables : Tables) (k : Keeps records r) → is_some r.id ≡ true → is_some r.subset ≡ false → is_late (seen k.past r) ≡ true → subscribe (client_of the_profile records) tables ≡ refuse TooLate
+late_is records r tables k some first late = unless_late records r tables k true some first late
+
+pub subscribe_is : (records : List ClientRecord) (r : Replica) (tables : Tables) (k : Keeps records r) → is_some r.id ≡ true → is_some r.subset ≡ false → is_late (seen k.past r) ≡ false → subscribe (client_of the_profile records) tables ≡ appends (ClientRecord.Subset tables) tt
+subscribe_is records r tables k some first early = unless_late records r tables k false some first early
+
+pub subscribe_keeps : (records : List ClientRecord) (r : Replica) (tables : Tables) (k : Keeps records r) → is_some r.id ≡ true → is_some r.subset ≡ false → is_late (seen k.past r) ≡ false → Keeps (records ++ ClientRecord.Subset tables ∷ []) (record r { subset = Some tables })
+subscribe_keeps records r tables k some first early =
+    keeps_next records (ClientRecord.Subset tables) r (record r { subset = Some tables }) k.past k
+    (subst (λ d. client_opens the_profile (client_of the_profile records) d.records ≡ true) (subscribe_is records r tables k some first early) (subscribe_opens the_profile real_lawful (client_of the_profile records) (calm the_profile records k.opens) tables).0) tt refl k.count
 
 -- ---- refusals of a client in memory
 abbrev Told : Type 0 → CodeRefusal → CodeRefusal → Type 0
@@ -161,7 +198,7 @@ unseen why P (inl e) = subst (λ w. IfSeen (refusal_seen w) P) (sym e) tt
 unseen why P (inr e) = subst (λ w. IfSeen (refusal_seen w) P) (sym e) tt
 
 module _ {D : Type 0} {G : Ghosts D} where
-  pub commit_says : (records : List ClientRecord) (r s : Replica) (n : Client D G) (ms : ℕ) (edits : List Instr) (m : Made) (a : Result ℕ CodeRefusal) (k : Keeps records r) → is_some r.id ≡ true → Commits k.made r s ms edits (Ok m)
+  pub commit_says : (records : List ClientRecord) (r s : Replica) (n : Client D G) (ms : ℕ) (edits : List Instr) (m : Made) (a : Result ℕ CodeRefusal) (k : Keeps records r) → is_some r.id ≡ true → Commits k.past r s ms edits (Ok m)
       → m.number ≤ 4294967295 → IfOk a (λ number. number ≡ m.number) → n.replica ≡ s → OnOk a (n.closed ≡ false) → IfErr a (λ why. (why ≡ codes.DiskFault) ⊎ (why ≡ codes.NoMemory))
       → Says (commit the_profile (client_of the_profile records) ms edits) records n a
   commit_says records r s n ms edits m (Ok number) k some did small is same open_ refused =

@@ -1,4 +1,5 @@
 pub mod Needs
+pub mod Outside
 pub mod Acting
 pub mod Small
 pub mod Refusing
@@ -8,6 +9,9 @@ pub mod Calls
 pub mod Taken
 pub mod Downloads
 pub mod Records
+pub mod Parts
+pub mod Runs
+pub mod States
 pub mod Asking
 pub mod Uploads
 pub mod Leaving

@@ -3,7 +3,7 @@ use Rattle.std.proofs.Common.{◌≡◌, ℕ, true, List, [], ◌∷◌, Result,
 use Rattle.sync_theory.specs.Changesets.{Changeset}
 use Rattle.sync_theory.specs.Grid.{rebase, rebase_one, rebase_put}
 use Rattle.sync_model.specs.Profile.{Profile, Stuck, cross_changesets, is_small, Lawful}
-use Rattle.sync_model.specs.Limits.{and_each}
+use Rattle.sync_model.specs.Each.{and_each}
 use Rattle.sync_model.proofs.Small.{SmallSets, sets_small}
 
 module _ {I S : Type 0} (p : Profile I S) {Fits : S → Type 0} (law : Lawful p Fits) where

@@ -10,6 +10,7 @@ use Rattle.sync_model.specs.Files.{client_opens}
 use Rattle.sync_model.specs.Limits.{ClientLists}
 use Rattle.sync_model.specs.Messages.{Message, Sent}
 use Rattle.sync_model.specs.Worlds.{is_there}
+use Rattle.sync_model.proofs.Opening.{calm}
 use Rattle.sync_model.proofs.Small.{client_lists}
 use Rattle.sync_data.specs.declared.instr.Instr.{Instr}
 use Rattle.sync_base.specs.States.{State}
@@ -29,7 +30,7 @@ use Rattle.sync_client.proofs.Calls.{did_none, did_refuse, if_seen_both, keeps_n
 use Rattle.sync_client.proofs.Refusing.{differ}
 
 -- the lists of a client are small
-pub lists_of : (records : List ClientRecord) (r : Replica) (k : Keeps records r) → ClientLists the_profile (seen k.made r)
+pub lists_of : (records : List ClientRecord) (r : Replica) (k : Keeps records r) → ClientLists the_profile (seen k.past r)
 lists_of records r k = subst (ClientLists the_profile) k.stands_for (client_lists the_profile real_lawful records)
 
 both : (a b : Bool) → a ≡ true → b ≡ true → (a && b) ≡ true
@@ -61,29 +62,29 @@ admits records r e k m fine =
     (both _ _ (positive e.origin m.origin) (both _ _ (positive e.number m.number) (ap (λ o. not (is_there o)) fine)))))
     refl
 
-pub fine_of : (records : List ClientRecord) (r : Replica) (e : Sent) (o : Option ClientRefusal) (k : Keeps records r) → entry_refusal the_profile (seen k.made r) e ≡ o → entry_refusal the_profile (client_of the_profile records) e ≡ o
+pub fine_of : (records : List ClientRecord) (r : Replica) (e : Sent) (o : Option ClientRefusal) (k : Keeps records r) → entry_refusal the_profile (seen k.past r) e ≡ o → entry_refusal the_profile (client_of the_profile records) e ≡ o
 fine_of records r e o k h = ap (λ c. entry_refusal the_profile c e) k.stands_for ∙ h
 
-pub took_keeps : (records : List ClientRecord) (r s : Replica) (e : Sent) (k : Keeps records r) → MayBeTaken r e → TakesIt (seen k.made r) (seen k.made s) e → s.count ≡ r.count → Keeps (records ++ took e ∷ []) s
+pub took_keeps : (records : List ClientRecord) (r s : Replica) (e : Sent) (k : Keeps records r) → MayBeTaken r e → TakesIt (seen k.past r) (seen k.past s) e → s.count ≡ r.count → Keeps (records ++ took e ∷ []) s
 took_keeps records r s e k m t count =
-    keeps_next records (took e) r s k.made k (admits records r e k m (fine_of records r e None k t.fine)) (m.origin_small, m.number_small) t.after (k.count ∙ sym count)
+    keeps_next records (took e) r s k.past k (admits records r e k m (fine_of records r e None k t.fine)) (m.origin_small, m.number_small) t.after (k.count ∙ sym count)
 
 module _ {D : Type 0} {G : Ghosts D} where
   pub sent_refused : (records : List ClientRecord) (c n : Client D G) (s : Replica) (e : Sent) (why : CodeRefusal) (k : IsClientOf records c)
-      → IfSeen (refusal_seen why) (Declines (seen k.kept.made c.replica) (seen k.kept.made s) e) → IfSeen (refusal_seen why) (λ w. n ≡ record c { replica = s }) → s.count ≡ c.replica.count
+      → IfSeen (refusal_seen why) (Declines (seen k.kept.past c.replica) (seen k.kept.past s) e) → IfSeen (refusal_seen why) (λ w. n ≡ record c { replica = s }) → s.count ≡ c.replica.count
       → IfSeen (refusal_seen why) (SentRefused records n e)
   sent_refused records c n s e why k did same count =
-      if_seen_both (refusal_seen why) (Declines (seen k.kept.made c.replica) (seen k.kept.made s) e) (λ w. n ≡ record c { replica = s }) (SentRefused records n e)
+      if_seen_both (refusal_seen why) (Declines (seen k.kept.past c.replica) (seen k.kept.past s) e) (λ w. n ≡ record c { replica = s }) (SentRefused records n e)
       (λ w h g. record {
         cause = fine_of records c.replica e (Some w) k.kept h.cause;
         client = subst (IsClientOf records) (sym g) (record {
-          kept = record { made = k.kept.made; count = k.kept.count ∙ sym count; stands_for = k.kept.stands_for ∙ sym h.unchanged; opens = k.kept.opens; each = k.kept.each };
+          kept = record { past = k.kept.past; count = k.kept.count ∙ sym count; stands_for = k.kept.stands_for ∙ sym h.unchanged; opens = k.kept.opens; each = k.kept.each };
           open_ = k.open_;
         });
       })
       did same
 
-  pub sent_says : (records : List ClientRecord) (r s : Replica) (n : Client D G) (e : Sent) (a : Result (Unit {0}) CodeRefusal) (k : Keeps records r) → MayBeTaken r e → TakesIt (seen k.made r) (seen k.made s) e → s.count ≡ r.count
+  pub sent_says : (records : List ClientRecord) (r s : Replica) (n : Client D G) (e : Sent) (a : Result (Unit {0}) CodeRefusal) (k : Keeps records r) → MayBeTaken r e → TakesIt (seen k.past r) (seen k.past s) e → s.count ≡ r.count
       → n.replica ≡ s → OnOk a (n.closed ≡ false) → IfErr a (λ why. (why ≡ codes.DiskFault) ⊎ (why ≡ codes.NoMemory)) → SentSays records n e a
   sent_says records r s n e (Ok u) k m t count same open_ refused = record {
     fine = fine_of records r e None k t.fine;
@@ -100,8 +101,8 @@ pub named_keeps : (records : List ClientRecord) (r : Replica) (ident : ℕ) → 
 named_keeps records r ident k born none named small =
     let id = ap (λ (c : Model Instr State). c.id) k.stands_for in
     let old = ap (λ (c : Model Instr State). c.ident) k.stands_for in
-    keeps_next records (Named ident) r (record r { ident = ident }) k.made k
-    (both _ true (both _ _ (ap (λ o. is_there o) id ∙ there r.id born) (both _ _ (eq-eqb _ 0 (old ∙ none)) (positive ident named))) refl)
+    keeps_next records (Named ident) r (record r { ident = ident }) k.past k
+    (both _ true (both _ _ (ap (λ o. is_there o) id ∙ there r.id born) (both _ _ (ap not (calm the_profile records k.opens)) (both _ _ (eq-eqb _ 0 (old ∙ none)) (positive ident named)))) refl)
     (record { positive = λ e. none_positive ident named e; small = small }) refl k.count
   where
     there : (o : Option (List ℕ)) → is_some o ≡ true → is_there o ≡ true

@@ -7,5 +7,6 @@ pub mod Clients
 pub mod Taking
 pub mod Opening
 pub mod Reading
+pub mod Parts
 pub mod Files
 pub mod Sending

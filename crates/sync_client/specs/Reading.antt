@@ -1,5 +1,5 @@
 -- How a client is read from the bytes of its records.
-use Rattle.std.specs.Prelude.{◌≡◌, ℕ, Bool, true, false, List, [], ◌∷◌, ◌++◌, map, Result, Ok, Err}
+use Rattle.std.specs.Prelude.{◌≡◌, ◌≤◌, ◌+◌, ℕ, Bool, true, false, List, [], ◌∷◌, ◌++◌, length, map, Option, Result, Ok, Err}
 use Rattle.sync_data.specs.declared.memory.NoMemory.{NoMemory}
 use Rattle.sync_model.specs.Clients.{ClientRecord, client_of, no_client}
 use Rattle.sync_model.specs.Files.{client_admits, client_reads, read_one, read_put}
@@ -10,21 +10,40 @@ use Rattle.sync_client.specs.declared.opening.ReadRefusal.TheVariants as refusal
 use Rattle.sync_client.specs.declared.replica.Replica.{Replica}
 use Rattle.sync_client.specs.Keeping.{Keeps}
 
--- what reading one record gives, whatever is done with those behind it
-abbrev pub Next : List ClientRecord → List ℕ → (ClientRecord → Result (List ClientRecord) ℕ) → Result (List ClientRecord) ℕ
-Next records bytes go = read_one (read_client bytes) (client_admits the_profile (client_of the_profile records)) go
+-- what reading one record gives before those that are ahead, whatever is done with them
+abbrev pub Next : List ClientRecord → List (Option ClientRecord) → List ℕ → (ClientRecord → Result (List ClientRecord) ℕ) → Result (List ClientRecord) ℕ
+Next records ahead bytes go = read_one (read_client bytes) (client_admits the_profile (client_of the_profile records) ahead) go
 
 -- the bytes are a record that a client of these records writes next
 pub record ReadOn (records : List ClientRecord) (new : Replica) (bytes : List ℕ) : Type 0 where
   pub next : ClientRecord
   pub spelled : bytes ≡ client_bytes next
-  pub goes_on : (go : ClientRecord → Result (List ClientRecord) ℕ) → Next records bytes go ≡ read_put next (go next)
+  pub goes_on : (ahead : List (Option ClientRecord)) (go : ClientRecord → Result (List ClientRecord) ℕ) → Next records ahead bytes go ≡ read_put next (go next)
   pub keeps : Keeps (records ++ next ∷ []) new
 
 abbrev pub ReadsOne : List ClientRecord → Replica → List ℕ → Result Bool NoMemory → Type 0
 ReadsOne records new bytes (Ok true) = ReadOn records new bytes
-ReadsOne records new bytes (Ok false) = (go : ClientRecord → Result (List ClientRecord) ℕ) → Next records bytes go ≡ Err 0
+ReadsOne records new bytes (Ok false) = (ahead : List (Option ClientRecord)) (go : ClientRecord → Result (List ClientRecord) ℕ) → Next records ahead bytes go ≡ Err 0
 ReadsOne records new bytes (Err e) = Unit {0}
+
+-- these records are in front of what the rest gives
+abbrev pub read_puts : List ClientRecord → Result (List ClientRecord) ℕ → Result (List ClientRecord) ℕ
+read_puts [] r = r
+read_puts (x ∷ xs) r = read_put x (read_puts xs r)
+
+-- the first of these bytes are records that a client of these records writes next
+pub record ReadSome (records : List ClientRecord) (new : Replica) (file rest : List (List ℕ)) (count : ℕ) : Type 0 where
+  pub next : List ClientRecord
+  pub count_is : count ≡ length next
+  pub spelled : file ≡ map client_bytes next ++ rest
+  pub goes_on : client_reads the_profile read_client (client_of the_profile records) file ≡ read_puts next (client_reads the_profile read_client (client_of the_profile (records ++ next)) rest)
+  pub keeps : Keeps (records ++ next) new
+
+-- so is what is read from a place on; what is behind so many of its records is told by the function
+abbrev pub ReadsOn : List ClientRecord → Replica → List (List ℕ) → (ℕ → List (List ℕ)) → ℕ → Result ℕ ReadRefusal → Type 0
+ReadsOn records new file behind place (Ok next) = (count : ℕ) × (next ≡ place + count) × (1 ≤ count) × ReadSome records new file (behind count) count
+ReadsOn records new file behind place (Err (refusals.BadRecord bad)) = (count : ℕ) × (bad ≡ place + count) × (client_reads the_profile read_client (client_of the_profile records) file ≡ Err count)
+ReadsOn records new file behind place (Err refusals.NoMemory) = Unit {0}
 
 -- the records of these bytes, each read back from its own; the replica is what they stand for
 pub record ReadAll (file : List (List ℕ)) (new : Replica) : Type 0 where

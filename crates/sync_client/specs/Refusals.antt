@@ -15,6 +15,7 @@ refusal_seen codes.NotNamed = Some ClientRefusal.NotNamed
 refusal_seen codes.TooLarge = Some ClientRefusal.TooLarge
 refusal_seen codes.NumbersFull = Some ClientRefusal.NumbersFull
 refusal_seen (codes.OldForm place) = Some (ClientRefusal.OldForm place)
+refusal_seen (codes.NotSubscribed place) = Some (ClientRefusal.NotSubscribed place)
 refusal_seen (codes.Break place code) = Some (ClientRefusal.Break place code)
 refusal_seen codes.NotMine = Some ClientRefusal.NotMine
 refusal_seen (codes.IdentDiffers kept got) = Some (ClientRefusal.IdentDiffers kept got)
@@ -25,6 +26,8 @@ refusal_seen (codes.Mismatch version number kind) = Some (ClientRefusal.Mismatch
 refusal_seen (codes.Forked number) = Some (ClientRefusal.Forked number)
 refusal_seen (codes.NotApplicable version place code) = Some (ClientRefusal.NotApplicable version place code)
 refusal_seen (codes.WasRefused number code) = Some (ClientRefusal.WasRefused number code)
+refusal_seen codes.Subscribed = Some ClientRefusal.Subscribed
+refusal_seen codes.TooLate = Some ClientRefusal.TooLate
 refusal_seen codes.DiskFault = None
 refusal_seen codes.NoMemory = None
 

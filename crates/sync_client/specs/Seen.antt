@@ -1,10 +1,23 @@
 -- A client by what it keeps in memory.
-use Rattle.std.specs.Prelude.{List}
+use Rattle.std.specs.Prelude.{List, [], ◌∷◌, ◌++◌}
 use Rattle.sync_data.specs.declared.instr.Instr.{Instr}
 use Rattle.sync_base.specs.States.{State}
 use Rattle.sync_model.specs.Clients.{Client, Original}
 use Rattle.sync_client.specs.declared.replica.Replica.{Replica}
 
--- all that its records stand for, where these are the changesets that it made
-abbrev pub seen : List (Original Instr) → Replica → Client Instr State
-seen made r = record { id = r.id; ident = r.ident; second = r.second; cursor = r.cursor; made = made; unsent = r.unsent; objects = r.objects }
+-- what its records stand for and it doesn't keep: the changesets that it made, and the parts of the state with which its
+-- file begins
+pub record Past : Type 0 where
+  pub made : List (Original Instr)
+  pub parts : List (List Instr)
+
+abbrev pub no_past : Past
+no_past = record { made = []; parts = [] }
+
+-- a changeset more
+abbrev pub and_made : Past → Original Instr → Past
+and_made past o = record past { made = past.made ++ o ∷ [] }
+
+-- all that its records stand for, where this is past
+abbrev pub seen : Past → Replica → Client Instr State
+seen past r = record { id = r.id; ident = r.ident; second = r.second; subset = r.subset; parts = past.parts; floor = r.floor; cursor = r.cursor; made = past.made; unsent = r.unsent; objects = r.objects }

@@ -17,6 +17,7 @@ use sync_data::{Blob, Id, Instr};
 use sync_disk::{Disk, Leaves, MemoryDisk};
 use sync_journal::{Journal, JournalRefusal};
 use sync_records::ClientRecord;
+use sync_subset::Subset;
 
 /// A client over a disk: its journal, its objects, its cursor (the number of entries of the history that it has taken) and
 /// its unsent changesets.
@@ -62,7 +63,8 @@ impl<D: Disk> Client<D> {
 
     /// One transaction on the client's objects, at that time in milliseconds since the epoch. It answers its number, counted
     /// from 1, once it is on the disk; its base is the cursor. An empty one is accepted, and a client may commit before it has
-    /// an ident. Errors, in this order: Closed, NotBorn, TooLarge, NumbersFull, OldForm, Break; and DiskFault, NoMemory.
+    /// an ident. Errors, in this order: Closed, NotBorn, TooLarge, NumbersFull, OldForm, NotSubscribed,
+    /// Break; and DiskFault, NoMemory.
     pub fn commit(&mut self, ms: u64, edits: Vec<Instr>) -> Result<u32, ClientRefusal>
         ensures step { (records : List model.ClientRecord) → IsClientOf records self.old → Says (model.commit the_profile (model.client_of the_profile records) ms edits.items) records self.new result }
         ensures stored { (records : List model.ClientRecord) → IsClientOf records self.old → IsStored D.content D.images records self.old → Stores D.content D.images (model.commit the_profile (model.client_of the_profile records) ms edits.items) records self.new result }
@@ -148,6 +150,46 @@ impl<D: Disk> Client<D> {
         }
         self.replica.second = true;
         Ok(true)
+    }
+
+    /// From now on the client makes and gets changes of these tables alone. Errors, in this order: Closed, NotBorn,
+    /// Subscribed, TooLate; and DiskFault, NoMemory.
+    pub fn subscribe(&mut self, tables: Subset) -> Result<(), ClientRefusal>
+        ensures step { (records : List model.ClientRecord) → IsClientOf records self.old → Says (model.subscribe (model.client_of the_profile records) tables) records self.new result }
+        ensures stored { (records : List model.ClientRecord) → IsClientOf records self.old → IsStored D.content D.images records self.old → Stores D.content D.images (model.subscribe (model.client_of the_profile records) tables) records self.new result }
+        ensures any_moment { (records : List model.ClientRecord) → IsClientOf records self.old → IsStored D.content D.images records self.old
+            → LeavesOnly D.moment D.images_since (disk_of (journal_of self.old)) (disk_of (journal_of self.new)) (StandsForPrefix (map client_bytes records) (map client_bytes (model.subscribe (model.client_of the_profile records) tables).records)) }
+        ensures strokes { (records : List model.ClientRecord) → IsClientOf records self.old → IsStored D.content D.images records self.old → Asked D.strokes (model.subscribe (model.client_of the_profile records) tables) self.old self.new result }
+        ensures closed { IsErrOf result ClientRefusal.Closed ↔ (is_closed self.old ≡ true) }
+        ensures shut { IsErrOf result ClientRefusal.Closed → self.new ≡ self.old }
+        ensures closes { IsErrOf result ClientRefusal.DiskFault ⊎ IsErrOf result ClientRefusal.NoMemory → is_closed self.new ≡ true }
+        ensures later { D.faults (disk_of (journal_of self.old)) ≤ D.faults (disk_of (journal_of self.new)) }
+        ensures fault { IsErrOf result ClientRefusal.DiskFault → Rose (D.faults (disk_of (journal_of self.old))) (D.faults (disk_of (journal_of self.new))) }
+        ensures origin { D.origin (disk_of (journal_of self.new)) ≡ D.origin (disk_of (journal_of self.old)) }
+        ensures told { Told (D.content (disk_of (journal_of self.old))) (λ b. (c : List ℕ) × (D.content (disk_of (journal_of self.new)) ≡ Some c)) }
+    {
+        if self.closed {
+            return Err(ClientRefusal::Closed);
+        }
+        if self.replica.id.is_none() {
+            return Err(ClientRefusal::NotBorn);
+        }
+        if self.replica.subset.is_some() {
+            return Err(ClientRefusal::Subscribed);
+        }
+        if self.replica.is_late() {
+            return Err(ClientRefusal::TooLate);
+        }
+        let Ok(copy) = tables.copy() else {
+            self.closed = true;
+            return Err(ClientRefusal::NoMemory);
+        };
+        match self.append(&ClientRecord::Subset { tables: copy }) {
+            Ok(()) => {}
+            Err(refusal) => return Err(refusal),
+        }
+        self.replica.subset = Some(tables);
+        Ok(())
     }
 
     /// Want of memory closes the client.

@@ -1,12 +1,10 @@
 ghost use Rattle.std.specs.Prelude.{◌≡◌, ◌≢◌, ◌<◌, ◌+◌, ◌≤◌, ◌&&◌, not, List, [], length, Some, IfOk, IfErr, OnOk, OnErr};
 ghost use Rattle.sync_theory.specs.Grid.{tail};
 ghost use Rattle.sync_base.specs.Checks.{act_all};
-ghost use Rattle.sync_data.specs.declared.instr.Instr.{Instr};
 ghost use Rattle.sync_model.specs.Profile.{needs};
-ghost use Rattle.sync_model.specs.Clients.{Original};
 ghost use Rattle.sync_model.specs.Limits.{ClientLists};
 ghost use Rattle.sync_exchange.specs.Profile.{the_profile};
-ghost use Rattle.sync_client.specs.Seen.{seen};
+ghost use Rattle.sync_client.specs.Seen.{Past, seen};
 ghost use Rattle.sync_client.specs.Entries.{IsRead, IsUnread, RefusesActing, RefusesOther, Takes, TookOther};
 ghost use Rattle.sync_client.specs.Refusals.{rebase_refusal, IsPlain};
 ghost use Rattle.sync_rebase.specs.Taking.{IsHead};
@@ -64,7 +62,7 @@ impl Replica {
         ensures ident { self.new.ident ≡ self.old.ident }
         ensures count { self.new.count ≡ self.old.count }
         ensures cursor { OnOk result (self.new.cursor ≡ self.old.cursor + 1) }
-        ensures step { (made : List (Original Instr)) → ClientLists the_profile (seen made self.old) → Takes (seen made self.old) (seen made self.new) (record { origin = origin; number = number; ms = ms; body = body.now }) result }
+        ensures step { (past : Past) → ClientLists the_profile (seen past self.old) → Takes (seen past self.old) (seen past self.new) (record { origin = origin; number = number; ms = ms; body = body.now }) result }
     {
         let changes = match changes_of(alloc, self.cursor, ms, body) {
             Ok(changes) => changes,

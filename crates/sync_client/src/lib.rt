@@ -1,6 +1,7 @@
 //! A client of the exchange: its journal, its objects, its cursor and its unsent changesets.
 #![tactic(auto)]
 
+mod beginning;
 mod client;
 mod entries;
 mod files;
@@ -9,6 +10,7 @@ mod opening;
 mod refusal;
 mod replica;
 mod sending;
+mod tables;
 mod taking;
 mod transactions;
 

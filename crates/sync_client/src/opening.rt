@@ -1,16 +1,15 @@
-ghost use Rattle.std.specs.Prelude.{◌≡◌, ◌≤◌, ◌<◌, List, length, IfOk, IfErr, Some, None, true, false};
-ghost use Rattle.sync_data.specs.declared.instr.Instr.{Instr};
-ghost use Rattle.sync_model.specs.Clients.{Original};
+ghost use Rattle.std.specs.Prelude.{◌≡◌, ◌≤◌, ◌<◌, ◌+◌, List, drop, length, IfOk, IfErr, Some, None, true, false};
 ghost use Rattle.sync_model.specs.Clients as model;
 ghost use Rattle.sync_model.specs.Limits.{ClientLists};
 ghost use Rattle.sync_exchange.specs.Profile.{the_profile};
 ghost use Rattle.sync_exchange.specs.Seen.{client_seen};
 ghost use Rattle.sync_client.specs.Keeping.{Keeps};
-ghost use Rattle.sync_client.specs.Opening.{Admits, IsEmpty};
-ghost use Rattle.sync_client.specs.Reading.{Reads, ReadsOne};
+ghost use Rattle.sync_client.specs.Opening.{Admits, IsEmpty, IsPast};
+ghost use Rattle.sync_client.specs.Reading.{Reads, ReadsOn, ReadsOne};
 ghost use Rattle.sync_journal.specs.Records.{lists};
-ghost use Rattle.sync_client.specs.Seen.{seen};
+ghost use Rattle.sync_client.specs.Seen.{Past, seen};
 
+use crate::beginning::is_of_state;
 use crate::entries::changes_of;
 use crate::let_go::let_go;
 use crate::refusal::ClientRefusal;
@@ -20,9 +19,10 @@ use sync_data::{Ident, NoMemory};
 use sync_rebase::{PendingList, Unsent};
 use sync_records::{ClientRecord, RecordRefusal};
 use sync_store::Store;
+use sync_subset::Subset;
 
 /// The most bytes of a record (docs/FORMATS.md, "The journal").
-const LONGEST: usize = 67_108_864;
+pub(crate) const LONGEST: usize = 67_108_864;
 
 /// Why records aren't read: the first that a client wouldn't have written has that number, counted from 0; or memory ran
 /// out.
@@ -42,6 +42,8 @@ impl Replica {
                 id: None,
                 ident: 0,
                 second: false,
+                subset: None,
+                floor: None,
                 cursor: 0,
                 count: 0,
                 unsent: PendingList::new(alloc),
@@ -53,7 +55,7 @@ impl Replica {
 
     /// Whether a client would have written the record after those before it; then it stands for it too.
     pub(crate) fn admit(&mut self, alloc: Global, added: &ClientRecord) -> Result<bool, NoMemory>
-        ensures { (made : List (Original Instr)) → length made ≡ self.old.count → ClientLists the_profile (seen made self.old) → Admits made self.old self.new (client_seen added.now) result }
+        ensures { (past : Past) → IsPast past self.old → ClientLists the_profile (seen past self.old) → Admits past self.old self.new (client_seen added.now) result }
     {
         match added {
             ClientRecord::Born { id } => {
@@ -86,7 +88,20 @@ impl Replica {
                 self.second = true;
                 Ok(true)
             }
+            ClientRecord::Subset { tables } => self.admit_subset(tables),
+            // Those are read together (`admit_state`).
+            ClientRecord::Part { .. } | ClientRecord::Floor { .. } => Err(NoMemory),
         }
+    }
+
+    fn admit_subset(&mut self, tables: &Subset) -> Result<bool, NoMemory>
+        ensures { (past : Past) → IsPast past self.old → Admits past self.old self.new (model.Subset tables.now) result }
+    {
+        if self.id.is_none() || self.subset.is_some() || self.is_late() {
+            return Ok(false);
+        }
+        self.subset = Some(tables.copy()?);
+        Ok(true)
     }
 
     fn admit_took(
@@ -97,7 +112,7 @@ impl Replica {
         ms: u64,
         body: &[u8],
     ) -> Result<bool, NoMemory>
-        ensures { (made : List (Original Instr)) → length made ≡ self.old.count → ClientLists the_profile (seen made self.old) → Admits made self.old self.new (model.Took origin number ms body.now) result }
+        ensures { (past : Past) → IsPast past self.old → ClientLists the_profile (seen past self.old) → Admits past self.old self.new (model.Took origin number ms body.now) result }
     {
         if self.ident == 0 || self.cursor == u32::MAX || origin == 0 || number == 0 {
             return Ok(false);
@@ -119,7 +134,7 @@ impl Replica {
         ms: u64,
         body: &[u8],
     ) -> Result<bool, NoMemory>
-        ensures { (made : List (Original Instr)) → length made ≡ self.old.count → Admits made self.old self.new (model.Made number ms body.now) result }
+        ensures { (past : Past) → IsPast past self.old → Admits past self.old self.new (model.Made number ms body.now) result }
     {
         if self.id.is_none() || self.count == u32::MAX || number != self.count + 1 {
             return Ok(false);
@@ -132,7 +147,7 @@ impl Replica {
             Err(ClientRefusal::NoMemory) => return Err(NoMemory),
             Err(_) => return Ok(false),
         };
-        if self.is_beyond(&changes) {
+        if self.is_beyond(&changes) || self.outside(&changes).is_some() {
             return Ok(false);
         }
         match self.act(&changes) {
@@ -164,14 +179,35 @@ impl Replica {
         requires { IsEmpty self.old }
         ensures { Reads (lists records.now) self.new result }
     {
-        for place in 0..records.len() {
-            match self.read(alloc, records[place].as_slice()) {
-                Ok(true) => {}
-                Ok(false) => return Err(ReadRefusal::BadRecord { place }),
-                Err(NoMemory) => return Err(ReadRefusal::NoMemory),
+        let mut place = 0;
+        while place < records.len() {
+            match self.read_at(alloc, records, place) {
+                Ok(next) => place = next,
+                Err(refusal) => return Err(refusal),
             }
         }
         Ok(())
+    }
+
+    /// Reads the record at that place, or the state that begins there; answers the place behind it.
+    fn read_at(
+        &mut self,
+        alloc: Global,
+        records: &[Vec<u8>],
+        place: usize,
+    ) -> Result<usize, ReadRefusal>
+        requires { place < length records.now }
+        ensures { (before : List model.ClientRecord) → Keeps before self.old → ReadsOn before self.new (lists (drop place records.now)) (λ n. lists (drop (place + n) records.now)) place result }
+    {
+        let bytes = records[place].as_slice();
+        if is_of_state(bytes) {
+            return self.admit_state(alloc, records, place);
+        }
+        match self.read(alloc, bytes) {
+            Ok(true) => Ok(place + 1),
+            Ok(false) => Err(ReadRefusal::BadRecord { place }),
+            Err(NoMemory) => Err(ReadRefusal::NoMemory),
+        }
     }
 
     /// Whether the bytes are a record that a client would have written; then it stands for it too.

@@ -18,6 +18,9 @@ pub enum ClientRefusal {
     NumbersFull,
     /// The file is in form 1, and the instruction at this place, counted from 0, is the first that needs form 2.
     OldForm { place: u32 },
+    /// The client subscribed to tables, and the instruction at this place, counted from 0, is the first that is of no such
+    /// table.
+    NotSubscribed { place: u32 },
     /// The instruction at this place, counted from 0, is the first that doesn't act on the objects; the number of its break
     /// (docs/FORMATS.md, "Outcome lines").
     Break { place: u32, code: u8 },
@@ -42,6 +45,10 @@ pub enum ClientRefusal {
     NotApplicable { version: u32, place: u32, code: u8 },
     /// The server refused a changeset of this client: its number, and the code of the reason.
     WasRefused { number: u32, code: u32 },
+    /// The client has its tables already.
+    Subscribed,
+    /// The client has its ident, or began with a state, or made or took a changeset.
+    TooLate,
     /// The disk has failed.
     DiskFault,
     /// There was no memory.

@@ -1,8 +1,9 @@
-ghost use Rattle.std.specs.Prelude.{◌≡◌, ◌↔◌, ◌≤◌, ℕ, List, IsErrOf, IfOk, OnOk, ◌++◌, ◌∷◌, [], map, true, length, min};
+ghost use Rattle.std.specs.Prelude.{◌≡◌, ◌↔◌, ◌≤◌, ℕ, List, IsErrOf, IfErr, IfOk, OnOk, ◌++◌, ◌∷◌, [], map, true, length, min};
 ghost use Rattle.sync_journal.specs.Stands.{disk_of};
 ghost use Rattle.sync_model.specs.Clients as model;
 ghost use Rattle.sync_exchange.specs.Profile.{the_profile};
-ghost use Rattle.sync_exchange.specs.Seen.{change_seen};
+ghost use Rattle.sync_model.specs.Messages as sent;
+ghost use Rattle.sync_exchange.specs.Seen.{change_seen, message_seen};
 ghost use Rattle.sync_messages.specs.Parts.{bytes_of_changes, most_bytes, most_listed};
 ghost use Rattle.sync_client.specs.Sending.{uploaded};
 
@@ -13,9 +14,10 @@ use std::alloc::Global;
 use sync_codec::encode;
 use sync_data::{Blob, Id, Ident, NoMemory};
 use sync_disk::Disk;
-use sync_messages::{Ask, Change, Message, Upload};
+use sync_messages::{Ask, AskTables, Change, Message, Upload};
 use sync_rebase::{PendingList, Unsent};
 use sync_store::Store;
+use sync_subset::Subset;
 
 /// The most changes of an Upload, and the most bytes of their bodies together (docs/FORMATS.md, "Messages").
 const MOST_CHANGES: usize = 4_096;
@@ -41,7 +43,8 @@ impl<D: Disk> Client<D> {
     }
 
     /// The message that asks for the history from the cursor on, and tells the base of the oldest unsent changeset, or the
-    /// cursor where there is none; in form 2 the second kind of it. It takes no memory. Errors: Closed, NotBorn, NotNamed.
+    /// cursor where there is none; in form 2 the second kind of it, and where the client subscribed to tables, the third. Only
+    /// that one takes memory. Errors: Closed, NotBorn, NotNamed, NoMemory; none changes anything.
     pub fn ask(&self) -> Result<Message, ClientRefusal>
         ensures step { (records : List model.ClientRecord) → IsClientOf records self.now → Sends (model.ask (model.client_of the_profile records)) result }
         ensures closed { IsErrOf result ClientRefusal.Closed ↔ (is_closed self.now ≡ true) }
@@ -60,10 +63,27 @@ impl<D: Disk> Client<D> {
             self.replica.cursor,
             self.replica.settled(),
         );
-        if self.replica.second {
-            Ok(Message::Ask2(ask))
-        } else {
-            Ok(Message::Ask(ask))
+        match &self.replica.subset {
+            Some(tables) => self.ask_for(ask, tables),
+            None => {
+                if self.replica.second {
+                    Ok(Message::Ask2(ask))
+                } else {
+                    Ok(Message::Ask(ask))
+                }
+            }
+        }
+    }
+
+    /// The question for these tables.
+    fn ask_for(&self, ask: Ask, tables: &Subset) -> Result<Message, ClientRefusal>
+        ensures asked { IfOk result (λ m. message_seen m ≡ sent.AskTables ask.ident ask.cursor ask.settled (replica_of self.now).second tables.now) }
+        ensures memory { IfErr result (λ why. why ≡ ClientRefusal.NoMemory) }
+    {
+        let form = if self.replica.second { 2 } else { 1 };
+        match tables.copy() {
+            Ok(tables) => Ok(Message::AskTables(AskTables::new(ask, form, tables))),
+            Err(_) => Err(ClientRefusal::NoMemory),
         }
     }
 
@@ -71,6 +91,15 @@ impl<D: Disk> Client<D> {
     /// bytes are at most 16,777,216 together. Errors: Closed, NotBorn, NotNamed, NoMemory; none changes anything.
     pub fn upload(&self) -> Result<Message, ClientRefusal>
         ensures step { (records : List model.ClientRecord) → IsClientOf records self.now → Sends (model.upload the_profile (model.client_of the_profile records)) result }
+        ensures closed { IsErrOf result ClientRefusal.Closed ↔ (is_closed self.now ≡ true) }
+    {
+        self.upload_from(0)
+    }
+
+    /// The same of the unsent changesets with a number above this one. Errors: Closed, NotBorn, NotNamed, NoMemory; none
+    /// changes anything.
+    pub fn upload_from(&self, after: u32) -> Result<Message, ClientRefusal>
+        ensures step { (records : List model.ClientRecord) → IsClientOf records self.now → Sends (model.upload_from the_profile (model.client_of the_profile records) after) result }
         ensures closed { IsErrOf result ClientRefusal.Closed ↔ (is_closed self.now ≡ true) }
     {
         if self.closed {
@@ -82,7 +111,7 @@ impl<D: Disk> Client<D> {
         if self.replica.ident == 0 {
             return Err(ClientRefusal::NotNamed);
         }
-        match changes_of(self.alloc, &self.replica.unsent) {
+        match changes_of(self.alloc, &self.replica.unsent, after) {
             Ok(changes) => Ok(Message::Upload(Upload::new(self.replica.ident, changes))),
             Err(_) => Err(ClientRefusal::NoMemory),
         }
@@ -117,6 +146,13 @@ impl<D: Disk> Client<D> {
         self.replica.ident
     }
 
+    /// The number of the last changeset that the client made, or 0.
+    pub fn last(&self) -> u32
+        ensures { (records : List model.ClientRecord) → IsClientOf records self.now → result ≡ model.last (model.client_of the_profile records) }
+    {
+        self.replica.count
+    }
+
     /// How many changesets are unsent.
     pub fn unsent(&self) -> u32
         ensures { (records : List model.ClientRecord) → IsClientOf records self.now → result ≡ length (model.client_of the_profile records).unsent }
@@ -145,28 +181,33 @@ impl Replica {
     }
 }
 
-/// The originals that an Upload may bear.
-fn changes_of(alloc: Global, unsent: &PendingList) -> Result<Vec<Change>, NoMemory>
+/// The originals with a number above this one that an Upload may bear.
+fn changes_of(alloc: Global, unsent: &PendingList, after: u32) -> Result<Vec<Change>, NoMemory>
     ensures few { IfOk result (λ changes. length changes.items ≤ most_listed) }
     ensures small { IfOk result (λ changes. bytes_of_changes changes.items ≤ most_bytes) }
-    ensures listed { IfOk result (λ changes. map change_seen changes.items ≡ uploaded unsent.now) }
+    ensures listed { IfOk result (λ changes. map change_seen changes.items ≡ uploaded (model.unsent_above after unsent.now)) }
 {
     let mut changes = Vec::new(alloc);
     let mut room: usize = MOST_BYTES;
     for place in 0..unsent.len() {
-        if place == MOST_CHANGES {
-            return Ok(changes);
-        }
         let Some(item) = unsent.get(place) else {
             return Ok(changes);
         };
+        let number = item.number();
+        if number <= after {
+            continue;
+        }
+        if changes.len() == MOST_CHANGES {
+            return Ok(changes);
+        }
         let Ok(body) = encode(alloc, item.original()) else {
             return Err(NoMemory);
         };
-        if body.len() > room {
+        let size = body.len();
+        if size > room {
             return Ok(changes);
         }
-        room -= body.len();
+        room -= size;
         let change = change_of(alloc, item, body.as_slice())?;
         push(&mut changes, change)?;
     }

@@ -96,8 +96,13 @@ impl<D: Disk> Client<D> {
                 }
             }
             Message::Download(download) => self.take_download(download),
-            Message::Bind { uuid: _ } | Message::Upload(_) | Message::Ask(_) | Message::Ask2(_) =>
-                Err(ClientRefusal::NotMine),
+            Message::Bind { uuid: _ }
+            | Message::Upload(_)
+            | Message::Ask(_)
+            | Message::Ask2(_)
+            | Message::Retire(_)
+            | Message::Retired(_)
+            | Message::AskTables(_) => Err(ClientRefusal::NotMine),
         }
     }
 

@@ -1,10 +1,9 @@
 ghost use Rattle.std.specs.Prelude.{◌≡◌, ◌≤◌, ◌&&◌, not, List, length, IfSome, IfOk, IfErr, OnOk, OnErr, Some, None, true, false};
 ghost use Rattle.sync_base.specs.Checks.{act_all};
-ghost use Rattle.sync_model.specs.Profile.{first_need, needs};
-ghost use Rattle.sync_data.specs.declared.instr.Instr.{Instr};
-ghost use Rattle.sync_model.specs.Clients.{Original};
+ghost use Rattle.sync_model.specs.Profile.{all_admitted, first_need, first_outside, needs};
 ghost use Rattle.sync_exchange.specs.Profile.{the_profile};
 ghost use Rattle.sync_client.specs.Refusals.{IsPlain};
+ghost use Rattle.sync_client.specs.Seen.{Past};
 ghost use Rattle.sync_client.specs.Transactions.{Commits, RefusesEdits};
 
 use crate::refusal::ClientRefusal;
@@ -30,7 +29,7 @@ impl Replica {
         ms: u64,
         edits: Vec<Instr>,
     ) -> Result<Made, ClientRefusal>
-        ensures step { (made : List (Original Instr)) → length made ≡ self.old.count → Commits made self.old self.new ms edits.items result }
+        ensures step { (past : Past) → length past.made ≡ self.old.count → Commits past self.old self.new ms edits.items result }
         ensures number { IfOk result (λ made. made.number ≤ 4294967295) }
         ensures plain { IfErr result IsPlain }
     {
@@ -44,6 +43,10 @@ impl Replica {
             return Err(ClientRefusal::NumbersFull);
         }
         match self.check_form(&changes) {
+            Ok(()) => {}
+            Err(refusal) => return Err(refusal),
+        }
+        match self.check_tables(&changes) {
             Ok(()) => {}
             Err(refusal) => return Err(refusal),
         }
@@ -74,6 +77,19 @@ impl Replica {
         }
         match first_second(changes.instrs()) {
             Some(place) => Err(ClientRefusal::OldForm { place }),
+            None => Ok(()),
+        }
+    }
+
+    /// Each of the instructions is one that the client's tables admit.
+    fn check_tables(&self, changes: &Changeset) -> Result<(), ClientRefusal>
+        ensures fine { OnOk result (all_admitted the_profile self.now.subset changes.now.instrs ≡ true) }
+        ensures outside { OnErr result (all_admitted the_profile self.now.subset changes.now.instrs ≡ false) }
+        ensures place { IfErr result (λ why. why ≡ ClientRefusal.NotSubscribed (first_outside the_profile self.now.subset changes.now.instrs)) }
+        ensures plain { IfErr result IsPlain }
+    {
+        match self.outside(changes) {
+            Some(place) => Err(ClientRefusal::NotSubscribed { place }),
             None => Ok(()),
         }
     }

@@ -1,4 +1,6 @@
 pub mod Whole
+pub mod Adapting
 pub mod Profile
+pub mod Bounded
 pub mod Seen
 pub mod Lemmas

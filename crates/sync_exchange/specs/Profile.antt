@@ -9,6 +9,9 @@ use Rattle.sync_law.specs.Coded.{apply, meet_by_code}
 use Rattle.sync_codec.specs.declared.refusal.Fault.{Fault}
 use Rattle.sync_codec.specs.Spelling.{needs_second, spelling}
 use Rattle.sync_codec.specs.Decoding.{bad_bytes, instrs_in}
+use Rattle.sync_subset.specs.Tables.{admits, only}
+use Rattle.snapshot_law.specs.Build.{build}
+use Rattle.sync_exchange.specs.Adapting.{adapt}
 use Rattle.sync_exchange.specs.Whole.{is_whole}
 
 -- the bytes that an instruction carries; what can't be spelled is too heavy for any changeset
@@ -25,9 +28,11 @@ abbrev pub as_read : List ℕ → Result (List Instr) Fault → Result (List Ins
 as_read bytes (Ok is) = if fits_changeset is && bytes_eq (spelling is) bytes then Ok is else Err (0, 0)
 as_read bytes (Err fault) = Err ((bad_bytes bytes fault).offset, (bad_bytes bytes fault).rule)
 
+-- what bytes spell, or their first fault
 abbrev pub unspell : List ℕ → Result (List Instr) (ℕ × ℕ)
 unspell bytes = as_read bytes (instrs_in bytes)
 
+-- all that the model of nodes asks for
 abbrev pub the_profile : Profile Instr State
 the_profile = record {
   empty = no_state;
@@ -38,7 +43,11 @@ the_profile = record {
   weight = weight;
   most_instrs = 65536;
   most_weight = 4194304;
+  adapt = adapt;
   needs_second = needs_second;
+  admits = admits;
+  only = only;
+  build = build fits_changeset;
   most = 4096;
   room = 16777216;
   full = 4294967295;

@@ -5,10 +5,12 @@ use Rattle.std.specs.List.{AllByRecursion}
 use Rattle.std.proofs.lemmas.List.Elements.{recursion_from_All}
 use Rattle.std.proofs.lemmas.Bool.{le-leb}
 use Rattle.sync_io.specs.FormatLaws.{IsFormat, number_is, wide_is, bytes_is, body_is, both_is, only_is, seen_is, listed_is}
-use Rattle.sync_messages.specs.Parts.{GivenParts, ChangeParts, UploadParts, AskParts, SentParts, DownloadParts, StoredParts, IsGiven, IsUpload, IsAsk, IsDownload, IsStored, most_listed, most_bytes, last_version, bytes_of_changes, bytes_of_entries}
-use Rattle.sync_messages.specs.Spelling.{given_spelling, change_spelling, upload_spelling, ask_spelling, entry_spelling, download_spelling, stored_spelling}
-use Rattle.sync_messages.specs.Reading.{given_of, is_given, given_in, change_of, is_change, change_in, upload_of, is_upload, upload_in, ask_of, is_ask, ask_in, entry_of, is_entry, entry_in, download_of, is_download, download_in, stored_of, is_stored, stored_in}
-use Rattle.sync_messages.specs.Whole.{IsWholeChange, IsWholeEntry}
+use Rattle.subset_bytes.specs.Spelling.{AreTables}
+use Rattle.subset_bytes.specs.Laws.{FitsTables, tables_are, tables_fit}
+use Rattle.sync_messages.specs.Parts.{GivenParts, ChangeParts, UploadParts, AskParts, SentParts, DownloadParts, StoredParts, RetireParts, RetiredParts, AskTablesParts, IsGiven, IsUpload, IsAsk, IsDownload, IsStored, IsRetire, IsRetired, IsAskTables, most_listed, most_bytes, last_version, bytes_of_changes, bytes_of_entries}
+use Rattle.sync_messages.specs.Spelling.{given_spelling, change_spelling, upload_spelling, ask_spelling, entry_spelling, download_spelling, stored_spelling, retire_spelling, retired_spelling, ask_tables_spelling}
+use Rattle.sync_messages.specs.Reading.{given_of, is_given, given_in, change_of, is_change, change_in, upload_of, is_upload, upload_in, ask_of, is_ask, ask_in, entry_of, is_entry, entry_in, download_of, is_download, download_in, stored_of, is_stored, stored_in, retire_of, is_retire, retire_in, retired_of, is_retired, retired_in, ask_tables_of, is_ask_tables, ask_tables_in}
+use Rattle.sync_messages.specs.Whole.{IsWholeChange, IsWholeEntry, IsWholeAsk}
 
 abbrev pub FitsGiven : GivenParts → Type 0
 FitsGiven given = ((length given.uuid ≡ 16) × (given.ident < 2 ^ 32)) × (is_given given ≡ true)
@@ -59,6 +61,27 @@ pub stored_is : IsFormat stored_spelling stored_in FitsStored
 unfolding stored_in
 stored_is = only_is (seen_is (both_is number_is number_is) stored_of (λ stored. (stored.ident, stored.number)) (λ x. refl) (λ y. refl)) is_stored
 
+abbrev pub FitsRetire : RetireParts → Type 0
+FitsRetire retire = ((retire.ident < 2 ^ 32) × (retire.by < 2 ^ 32)) × (is_retire retire ≡ true)
+
+pub retire_is : IsFormat retire_spelling retire_in FitsRetire
+unfolding retire_in
+retire_is = only_is (seen_is (both_is number_is number_is) retire_of (λ retire. (retire.ident, retire.by)) (λ x. refl) (λ y. refl)) is_retire
+
+abbrev pub FitsRetired : RetiredParts → Type 0
+FitsRetired retired = (((retired.ident < 2 ^ 32) × (retired.by < 2 ^ 32)) × (retired.number < 2 ^ 32)) × (is_retired retired ≡ true)
+
+pub retired_is : IsFormat retired_spelling retired_in FitsRetired
+unfolding retired_in
+retired_is = only_is (seen_is (both_is (both_is number_is number_is) number_is) retired_of (λ retired. ((retired.ident, retired.by), retired.number)) (λ x. refl) (λ y. refl)) is_retired
+
+abbrev pub FitsAskTables : AskTablesParts → Type 0
+FitsAskTables asked = ((FitsAsk asked.ask × (asked.form < 2 ^ 32)) × FitsTables asked.tables) × (is_ask_tables asked ≡ true)
+
+pub ask_tables_is : IsFormat ask_tables_spelling ask_tables_in FitsAskTables
+unfolding ask_tables_in
+ask_tables_is = only_is (seen_is (both_is (both_is ask_is number_is) tables_are) ask_tables_of (λ asked. ((asked.ask, asked.form), asked.tables)) (λ x. refl) (λ y. refl)) is_ask_tables
+
 -- ---- what keeps the limits fits
 
 both_true : (a b : Bool) → a ≡ true → b ≡ true → a && b ≡ true
@@ -106,3 +129,14 @@ download_fits download is ident all =
 
 pub stored_fits : (stored : StoredParts) → IsStored stored → stored.ident < 2 ^ 32 → stored.number < 2 ^ 32 → FitsStored stored
 stored_fits stored is ident number = ((ident, number), le-leb 1 stored.ident is.named)
+
+pub retire_fits : (retire : RetireParts) → IsRetire retire → retire.ident < 2 ^ 32 → retire.by < 2 ^ 32 → FitsRetire retire
+retire_fits retire is ident by = ((ident, by), both_true (leb 1 retire.ident) (leb 1 retire.by) (le-leb _ _ is.named) (le-leb _ _ is.by_named))
+
+pub retired_fits : (retired : RetiredParts) → IsRetired retired → retired.ident < 2 ^ 32 → retired.by < 2 ^ 32 → retired.number < 2 ^ 32 → FitsRetired retired
+retired_fits retired is ident by number = (((ident, by), number), both_true (leb 1 retired.ident) (leb 1 retired.by) (le-leb _ _ is.named) (le-leb _ _ is.by_named))
+
+pub ask_tables_fits : (asked : AskTablesParts) → IsAskTables asked → IsWholeAsk asked.ask → AreTables asked.tables → FitsAskTables asked
+ask_tables_fits asked is ask tables =
+    let second : asked.form ≤ 2 = is.second in
+    (((ask_fits asked.ask ask.0 ask.1 ask.2, omega arith), tables_fit asked.tables tables), both_true (leb 1 asked.form) (leb asked.form 2) (le-leb _ _ is.first) (le-leb _ _ second))

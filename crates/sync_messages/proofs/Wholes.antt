@@ -3,11 +3,12 @@ use Rattle.std.proofs.Common.{◌≡◌, ◌+◌, Bool, true, false, leb, leb-tr
 use Rattle.std.specs.Prelude.{◌&&◌}
 use Rattle.std.specs.List.{AllByRecursion}
 use Rattle.std.proofs.lemmas.List.Elements.{All-from_recursion}
+use Rattle.subset_bytes.specs.Laws.{tables_whole}
 use Rattle.sync_messages.specs.declared.message.Message.{Message}
-use Rattle.sync_messages.specs.declared.message.Message.TheVariants.{Bind, Ident, Upload, Ask, Download, Refused, Stored, Ask2}
-use Rattle.sync_messages.specs.Parts.{GivenParts, ChangeParts, UploadParts, AskParts, SentParts, DownloadParts, StoredParts, most_bytes, last_version, bytes_of_changes, bytes_of_entries}
-use Rattle.sync_messages.specs.Whole.{IsMessage, IsWholeGiven, IsWholeChange, IsWholeUpload, IsWholeAsk, IsWholeEntry, IsWholeDownload, IsWholeStored}
-use Rattle.sync_messages.proofs.Formats.{FitsGiven, FitsChange, FitsUpload, FitsAsk, FitsEntry, FitsDownload, FitsStored}
+use Rattle.sync_messages.specs.declared.message.Message.TheVariants.{Bind, Ident, Upload, Ask, Download, Refused, Stored, Ask2, Retire, Retired, AskTables}
+use Rattle.sync_messages.specs.Parts.{GivenParts, ChangeParts, UploadParts, AskParts, SentParts, DownloadParts, StoredParts, RetireParts, RetiredParts, AskTablesParts, most_bytes, last_version, bytes_of_changes, bytes_of_entries}
+use Rattle.sync_messages.specs.Whole.{IsMessage, IsWholeGiven, IsWholeChange, IsWholeUpload, IsWholeAsk, IsWholeEntry, IsWholeDownload, IsWholeStored, IsWholeRetire, IsWholeRetired, IsWholeAskTables}
+use Rattle.sync_messages.proofs.Formats.{FitsGiven, FitsChange, FitsUpload, FitsAsk, FitsEntry, FitsDownload, FitsStored, FitsRetire, FitsRetired, FitsAskTables}
 use Rattle.sync_messages.proofs.Messages.{FitsMessage}
 
 left_true : (a b : Bool) → (a && b) ≡ true → a ≡ true
@@ -90,6 +91,37 @@ download_whole download f =
 stored_whole : (stored : StoredParts) → FitsStored stored → IsWholeStored stored
 stored_whole stored f = (record { named = leb-true 1 stored.ident f.1 }, f.0.0, f.0.1)
 
+retire_whole : (retire : RetireParts) → FitsRetire retire → IsWholeRetire retire
+retire_whole retire f = (
+  record {
+    named = leb-true 1 retire.ident (left_true (leb 1 retire.ident) (leb 1 retire.by) f.1);
+    by_named = leb-true 1 retire.by (right_true (leb 1 retire.ident) (leb 1 retire.by) f.1);
+  },
+  f.0.0,
+  f.0.1,
+)
+
+retired_whole : (retired : RetiredParts) → FitsRetired retired → IsWholeRetired retired
+retired_whole retired f = (
+  record {
+    named = leb-true 1 retired.ident (left_true (leb 1 retired.ident) (leb 1 retired.by) f.1);
+    by_named = leb-true 1 retired.by (right_true (leb 1 retired.ident) (leb 1 retired.by) f.1);
+  },
+  f.0.0.0,
+  f.0.0.1,
+  f.0.1,
+)
+
+ask_tables_whole : (asked : AskTablesParts) → FitsAskTables asked → IsWholeAskTables asked
+ask_tables_whole asked f = (
+  record {
+    first = leb-true 1 asked.form (left_true (leb 1 asked.form) (leb asked.form 2) f.1);
+    second = leb-true asked.form 2 (right_true (leb 1 asked.form) (leb asked.form 2) f.1);
+  },
+  ask_whole asked.ask f.0.0.0,
+  tables_whole asked.tables f.0.1,
+)
+
 pub message_whole : (message : Message) → FitsMessage message → IsMessage message
 message_whole (Bind uuid) f = f
 message_whole (Ident given) f = given_whole given f
@@ -99,3 +131,6 @@ message_whole (Download download) f = download_whole download f
 message_whole (Refused ident number code place) f = (f.0.0.0, f.0.0.1, f.0.1, f.1)
 message_whole (Stored stored) f = stored_whole stored f
 message_whole (Ask2 ask) f = ask_whole ask f
+message_whole (Retire retire) f = retire_whole retire f
+message_whole (Retired retired) f = retired_whole retired f
+message_whole (AskTables asked) f = ask_tables_whole asked f

@@ -1,5 +1,6 @@
 -- What messages are made of, and their limits.
 use Rattle.std.specs.Prelude.{ℕ, ◌+◌, ◌≤◌, List, length, sum_by}
+use Rattle.sync_subset.specs.Tables.{Tables}
 
 -- the most changes or entries of a message, and the most bytes that their bodies have together
 abbrev pub most_listed : ℕ
@@ -51,6 +52,23 @@ pub record StoredParts : Type 0 where
   pub ident : ℕ
   pub number : ℕ
 
+-- an ident that is to be retired, and the client that asks
+pub record RetireParts : Type 0 where
+  pub ident : ℕ
+  pub by : ℕ
+
+-- a retired ident, the client for which it was retired, and how many of its changes are in the history
+pub record RetiredParts : Type 0 where
+  pub ident : ℕ
+  pub by : ℕ
+  pub number : ℕ
+
+-- the question of a client of some tables, whose file is in this form
+pub record AskTablesParts : Type 0 where
+  pub ask : AskParts
+  pub form : ℕ
+  pub tables : Tables
+
 -- the bytes of all bodies
 abbrev pub bytes_of_changes : List ChangeParts → ℕ
 bytes_of_changes changes = sum_by (λ change. length change.body) changes
@@ -87,3 +105,15 @@ pub record IsDownload (download : DownloadParts) : Type 0 where
 
 pub record IsStored (stored : StoredParts) : Type 0 where
   pub named : 1 ≤ stored.ident
+
+pub record IsRetire (retire : RetireParts) : Type 0 where
+  pub named : 1 ≤ retire.ident
+  pub by_named : 1 ≤ retire.by
+
+pub record IsRetired (retired : RetiredParts) : Type 0 where
+  pub named : 1 ≤ retired.ident
+  pub by_named : 1 ≤ retired.by
+
+pub record IsAskTables (asked : AskTablesParts) : Type 0 where
+  pub first : 1 ≤ asked.form
+  pub second : asked.form ≤ 2

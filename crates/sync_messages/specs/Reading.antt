@@ -1,11 +1,13 @@
 -- How messages are read.
 use Rattle.std.specs.Prelude.{◌≡◌, ℕ, ◌+◌, ◌&&◌, Bool, List, [], ◌∷◌, length, nat_le, Option, None, Some, Result, Ok, Err}
-use Rattle.sync_io.specs.Formats.{number_in, wide_in, bytes_in, body_in, both_in, only_in, seen_in, listed_in, all_in, tagged_in, tag_in}
+use Rattle.sync_io.specs.Formats.{number_in, wide_in, bytes_in, body_in, both_in, only_in, seen_in, listed_in, all_in, tagged_in}
+use Rattle.sync_subset.specs.Tables.{Tables}
+use Rattle.subset_bytes.specs.Reading.{tables_in}
 use Rattle.sync_messages.specs.declared.refusal.MessageRefusal.{MessageRefusal}
 use Rattle.sync_messages.specs.declared.refusal.MessageRefusal.TheVariants as refusals
 use Rattle.sync_messages.specs.declared.message.Message.{Message}
-use Rattle.sync_messages.specs.declared.message.Message.TheVariants.{Bind, Ident, Upload, Ask, Download, Refused, Stored, Ask2}
-use Rattle.sync_messages.specs.Parts.{GivenParts, ChangeParts, UploadParts, AskParts, SentParts, DownloadParts, StoredParts, most_listed, most_bytes, last_version, bytes_of_changes, bytes_of_entries}
+use Rattle.sync_messages.specs.declared.message.Message.TheVariants.{Bind, Ident, Upload, Ask, Download, Refused, Stored, Ask2, Retire, Retired, AskTables}
+use Rattle.sync_messages.specs.Parts.{GivenParts, ChangeParts, UploadParts, AskParts, SentParts, DownloadParts, StoredParts, RetireParts, RetiredParts, AskTablesParts, most_listed, most_bytes, last_version, bytes_of_changes, bytes_of_entries}
 
 -- What a function returned, seen by view, is what reading gives, unless memory ran out.
 abbrev pub Fails : {Y : Type 0} → MessageRefusal → Option Y → Type 0
@@ -85,6 +87,33 @@ is_stored stored = nat_le 1 stored.ident
 unfoldable pub stored_in : List ℕ → Option (StoredParts × List ℕ)
 stored_in bytes = only_in is_stored (seen_in stored_of (both_in number_in number_in)) bytes
 
+abbrev pub retire_of : ℕ × ℕ → RetireParts
+retire_of p = record { ident = p.0; by = p.1 }
+
+abbrev pub is_retire : RetireParts → Bool
+is_retire retire = nat_le 1 retire.ident && nat_le 1 retire.by
+
+unfoldable pub retire_in : List ℕ → Option (RetireParts × List ℕ)
+retire_in bytes = only_in is_retire (seen_in retire_of (both_in number_in number_in)) bytes
+
+abbrev pub retired_of : (ℕ × ℕ) × ℕ → RetiredParts
+retired_of p = record { ident = p.0.0; by = p.0.1; number = p.1 }
+
+abbrev pub is_retired : RetiredParts → Bool
+is_retired retired = nat_le 1 retired.ident && nat_le 1 retired.by
+
+unfoldable pub retired_in : List ℕ → Option (RetiredParts × List ℕ)
+retired_in bytes = only_in is_retired (seen_in retired_of (both_in (both_in number_in number_in) number_in)) bytes
+
+abbrev pub ask_tables_of : (AskParts × ℕ) × Tables → AskTablesParts
+ask_tables_of p = record { ask = p.0.0; form = p.0.1; tables = p.1 }
+
+abbrev pub is_ask_tables : AskTablesParts → Bool
+is_ask_tables asked = nat_le 1 asked.form && nat_le asked.form 2
+
+unfoldable pub ask_tables_in : List ℕ → Option (AskTablesParts × List ℕ)
+ask_tables_in bytes = only_in is_ask_tables (seen_in ask_tables_of (both_in (both_in ask_in number_in) tables_in)) bytes
+
 -- each tag, and how the fields behind it are read
 abbrev pub forms : List (ℕ × (List ℕ → Option (Message × List ℕ)))
 forms =
@@ -96,11 +125,20 @@ forms =
     ∷ (6, seen_in refused_of refused_in)
     ∷ (7, seen_in Stored stored_in)
     ∷ (8, seen_in Ask2 ask_in)
+    ∷ (9, seen_in Retire retire_in)
+    ∷ (10, seen_in Retired retired_in)
+    ∷ (11, seen_in AskTables ask_tables_in)
     ∷ []
 
+-- the fields behind a tag
 unfoldable pub fields_in : ℕ → List ℕ → Option (Message × List ℕ)
 fields_in tag bytes = tagged_in forms tag bytes
 
+-- a tag and its fields
+abbrev pub tag_and_fields_in : List ℕ → Option (Message × List ℕ)
+tag_and_fields_in [] = None
+tag_and_fields_in (tag ∷ bytes) = fields_in tag bytes
+
 -- the message that all of the bytes spell
-unfoldable pub message_in : List ℕ → Option Message
-message_in bytes = all_in (tag_in forms) bytes
+abbrev pub message_in : List ℕ → Option Message
+message_in bytes = all_in tag_and_fields_in bytes

@@ -2,9 +2,10 @@
 use Rattle.std.specs.Prelude.{ℕ, List, ◌∷◌, ◌++◌}
 use Rattle.sync_io.specs.Varints.{varint}
 use Rattle.sync_io.specs.Formats.{body, listed}
-use Rattle.sync_messages.specs.Parts.{GivenParts, ChangeParts, UploadParts, AskParts, SentParts, DownloadParts, StoredParts}
+use Rattle.subset_bytes.specs.Spelling.{tables_spelling}
+use Rattle.sync_messages.specs.Parts.{GivenParts, ChangeParts, UploadParts, AskParts, SentParts, DownloadParts, StoredParts, RetireParts, RetiredParts, AskTablesParts}
 use Rattle.sync_messages.specs.declared.message.Message.{Message}
-use Rattle.sync_messages.specs.declared.message.Message.TheVariants.{Bind, Ident, Upload, Ask, Download, Refused, Stored, Ask2}
+use Rattle.sync_messages.specs.declared.message.Message.TheVariants.{Bind, Ident, Upload, Ask, Download, Refused, Stored, Ask2, Retire, Retired, AskTables}
 
 abbrev pub given_spelling : GivenParts → List ℕ
 given_spelling given = given.uuid ++ varint given.ident
@@ -27,6 +28,15 @@ download_spelling download = varint download.ident ++ varint download.from ++ li
 abbrev pub stored_spelling : StoredParts → List ℕ
 stored_spelling stored = varint stored.ident ++ varint stored.number
 
+abbrev pub retire_spelling : RetireParts → List ℕ
+retire_spelling retire = varint retire.ident ++ varint retire.by
+
+abbrev pub retired_spelling : RetiredParts → List ℕ
+retired_spelling retired = varint retired.ident ++ varint retired.by ++ varint retired.number
+
+abbrev pub ask_tables_spelling : AskTablesParts → List ℕ
+ask_tables_spelling asked = ask_spelling asked.ask ++ varint asked.form ++ tables_spelling asked.tables
+
 -- a tag, and the fields
 abbrev pub message_spelling : Message → List ℕ
 message_spelling (Bind uuid) = 1 ∷ uuid
@@ -37,3 +47,6 @@ message_spelling (Download download) = 5 ∷ download_spelling download
 message_spelling (Refused ident number code place) = 6 ∷ (varint ident ++ varint number ++ varint code ++ varint place)
 message_spelling (Stored stored) = 7 ∷ stored_spelling stored
 message_spelling (Ask2 ask) = 8 ∷ ask_spelling ask
+message_spelling (Retire retire) = 9 ∷ retire_spelling retire
+message_spelling (Retired retired) = 10 ∷ retired_spelling retired
+message_spelling (AskTables asked) = 11 ∷ ask_tables_spelling asked

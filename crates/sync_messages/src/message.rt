@@ -1,8 +1,11 @@
 ghost use Rattle.std.specs.Prelude.{◌≡◌, IfOk};
 
 use crate::ask::Ask;
+use crate::ask_tables::AskTables;
 use crate::download::Download;
 use crate::given::Given;
+use crate::retire::Retire;
+use crate::retired::Retired;
 use crate::stored::Stored;
 use crate::upload::Upload;
 use sync_data::{Id, Ident, NoMemory};
@@ -34,6 +37,12 @@ pub enum Message {
     Stored(Stored),
     /// A client asks for the history, and takes changesets of version 2 too.
     Ask2(Ask),
+    /// A client asks that an ident is retired.
+    Retire(Retire),
+    /// The server tells that an ident is retired.
+    Retired(Retired),
+    /// A client of some tables asks for the history.
+    AskTables(AskTables),
 }
 
 impl Message {
@@ -60,6 +69,9 @@ impl Message {
             }),
             Message::Stored(stored) => Ok(Message::Stored(stored.copy())),
             Message::Ask2(ask) => Ok(Message::Ask2(ask.copy())),
+            Message::Retire(retire) => Ok(Message::Retire(retire.copy())),
+            Message::Retired(retired) => Ok(Message::Retired(retired.copy())),
+            Message::AskTables(asked) => Ok(Message::AskTables(asked.copy()?)),
         }
     }
 }

@@ -1,23 +1,29 @@
 ghost use Rattle.std.specs.Prelude.{◌≡◌, ◌≤◌, ◌+◌, List, length, IfOk, Some};
 ghost use Rattle.sync_io.specs.Formats.{number_in, wide_in, bytes_in, body_in, many_in, seen_in};
 ghost use Rattle.sync_messages.specs.Parts.{most_listed, bytes_of_changes, bytes_of_entries};
-ghost use Rattle.sync_messages.specs.Reading.{Gives, given_in, change_in, upload_in, ask_in, entry_in, download_in, refused_of as read_refused, refused_in, stored_in, fields_in, message_in};
+ghost use Rattle.sync_messages.specs.Reading.{Gives, given_in, change_in, upload_in, ask_in, entry_in, download_in, refused_of as read_refused, refused_in, stored_in, retire_in, retired_in, ask_tables_in, fields_in, message_in};
+ghost use Rattle.subset_bytes.specs.Reading.{tables_in};
 ghost use Rattle.sync_messages.specs.Spelling.{message_spelling};
 ghost use Rattle.sync_messages.specs.Whole.{IsMessage};
 ghost use Rattle.sync_messages.specs.declared.message.Message.{Message};
 
 use crate::ask::Ask;
+use crate::ask_tables::AskTables;
 use crate::change::Change;
 use crate::download::Download;
 use crate::given::Given;
 use crate::message::Message;
 use crate::refusal::MessageRefusal;
+use crate::retire::Retire;
+use crate::retired::Retired;
 use crate::sent::Sent;
 use crate::stored::Stored;
 use crate::upload::Upload;
 use std::alloc::Global;
+use subset_bytes::{TablesRefusal, tables_of};
 use sync_data::{Blob, Id};
 use sync_io::{varint32_of, varint64_of};
+use sync_subset::Subset;
 
 /// The most changes or entries of a message.
 const MOST_LISTED: u32 = 4_096;
@@ -236,6 +242,54 @@ fn stored_of(bytes: &[u8]) -> Result<(Stored, &[u8]), MessageRefusal>
     Ok((Stored::new(ident, number), rest))
 }
 
+#[tactic(auto, unfolding(crate::specs::Reading::retire_in))]
+fn retire_of(bytes: &[u8]) -> Result<(Retire, &[u8]), MessageRefusal>
+    ensures { Gives (λ x. (x.0, x.1.now)) result (retire_in bytes.now) }
+{
+    let (ident, rest) = number_of(bytes)?;
+    let (by, rest) = number_of(rest)?;
+    if ident == 0 || by == 0 {
+        return Err(MessageRefusal::BadMessage);
+    }
+    Ok((Retire::new(ident, by), rest))
+}
+
+#[tactic(auto, unfolding(crate::specs::Reading::retired_in))]
+fn retired_of(bytes: &[u8]) -> Result<(Retired, &[u8]), MessageRefusal>
+    ensures { Gives (λ x. (x.0, x.1.now)) result (retired_in bytes.now) }
+{
+    let (ident, rest) = number_of(bytes)?;
+    let (by, rest) = number_of(rest)?;
+    let (number, rest) = number_of(rest)?;
+    if ident == 0 || by == 0 {
+        return Err(MessageRefusal::BadMessage);
+    }
+    Ok((Retired::new(ident, by, number), rest))
+}
+
+fn subset_of(alloc: Global, bytes: &[u8]) -> Result<(Subset, &[u8]), MessageRefusal>
+    ensures { Gives (λ x. (x.0, x.1.now)) result (tables_in bytes.now) }
+{
+    match tables_of(alloc, bytes) {
+        Ok(found) => Ok(found),
+        Err(TablesRefusal::BadTables) => Err(MessageRefusal::BadMessage),
+        Err(TablesRefusal::NoMemory) => Err(MessageRefusal::NoMemory),
+    }
+}
+
+#[tactic(auto, unfolding(crate::specs::Reading::ask_tables_in))]
+fn ask_tables_of(alloc: Global, bytes: &[u8]) -> Result<(AskTables, &[u8]), MessageRefusal>
+    ensures { Gives (λ x. (x.0, x.1.now)) result (ask_tables_in bytes.now) }
+{
+    let (ask, rest) = ask_of(bytes)?;
+    let (form, rest) = number_of(rest)?;
+    let (tables, rest) = subset_of(alloc, rest)?;
+    if form == 0 || form > 2 {
+        return Err(MessageRefusal::BadMessage);
+    }
+    Ok((AskTables::new(ask, form, tables), rest))
+}
+
 /// The fields of the message with that tag.
 #[tactic(auto, unfolding(crate::specs::Reading::fields_in))]
 fn fields_of(alloc: Global, tag: u8, bytes: &[u8]) -> Result<(Message, &[u8]), MessageRefusal>
@@ -271,11 +325,22 @@ fn fields_of(alloc: Global, tag: u8, bytes: &[u8]) -> Result<(Message, &[u8]), M
             let (ask, rest) = ask_of(bytes)?;
             Ok((Message::Ask2(ask), rest))
         }
+        9 => {
+            let (retire, rest) = retire_of(bytes)?;
+            Ok((Message::Retire(retire), rest))
+        }
+        10 => {
+            let (retired, rest) = retired_of(bytes)?;
+            Ok((Message::Retired(retired), rest))
+        }
+        11 => {
+            let (asked, rest) = ask_tables_of(alloc, bytes)?;
+            Ok((Message::AskTables(asked), rest))
+        }
         _ => Err(MessageRefusal::BadMessage),
     }
 }
 
-#[tactic(auto, unfolding(crate::specs::Reading::message_in, crate::specs::Reading::fields_in))]
 fn all_of(alloc: Global, bytes: &[u8]) -> Result<Message, MessageRefusal>
     ensures { Gives (λ x. x) result (message_in bytes.now) }
 {

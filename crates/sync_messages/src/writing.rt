@@ -3,18 +3,22 @@ ghost use Rattle.std.specs.List.{flat_map};
 ghost use Rattle.sync_io.specs.Formats.{body, listed};
 ghost use Rattle.sync_io.specs.Varints.{varint};
 ghost use Rattle.sync_messages.specs.Parts.{most_listed, most_bytes};
-ghost use Rattle.sync_messages.specs.Whole.{IsWholeGiven, IsWholeChange, IsWholeUpload, IsWholeAsk, IsWholeEntry, IsWholeDownload, IsWholeStored, IsMessage};
-ghost use Rattle.sync_messages.specs.Spelling.{given_spelling, change_spelling, upload_spelling, ask_spelling, entry_spelling, download_spelling, stored_spelling, message_spelling};
+ghost use Rattle.sync_messages.specs.Whole.{IsWholeGiven, IsWholeChange, IsWholeUpload, IsWholeAsk, IsWholeEntry, IsWholeDownload, IsWholeStored, IsWholeRetire, IsWholeRetired, IsWholeAskTables, IsMessage};
+ghost use Rattle.sync_messages.specs.Spelling.{given_spelling, change_spelling, upload_spelling, ask_spelling, entry_spelling, download_spelling, stored_spelling, retire_spelling, retired_spelling, ask_tables_spelling, message_spelling};
 
 use crate::ask::Ask;
+use crate::ask_tables::AskTables;
 use crate::change::Change;
 use crate::download::Download;
 use crate::given::Given;
 use crate::message::Message;
+use crate::retire::Retire;
+use crate::retired::Retired;
 use crate::sent::Sent;
 use crate::stored::Stored;
 use crate::upload::Upload;
 use std::alloc::Global;
+use subset_bytes::put_tables;
 use sync_data::NoMemory;
 use sync_io::{put_varint32, put_varint64};
 
@@ -128,6 +132,32 @@ fn put_stored(out: &mut Vec<u8>, stored: &Stored) -> Result<(), sync_io::NoMemor
     put_varint32(out, stored.number())
 }
 
+fn put_retire(out: &mut Vec<u8>, retire: &Retire) -> Result<(), sync_io::NoMemory>
+    ensures spelled { OnOk result (out.new.items ≡ out.old.items ++ retire_spelling retire.now) }
+    ensures is { OnOk result (IsWholeRetire retire.now) }
+{
+    put_varint32(out, retire.ident())?;
+    put_varint32(out, retire.by())
+}
+
+fn put_retired(out: &mut Vec<u8>, retired: &Retired) -> Result<(), sync_io::NoMemory>
+    ensures spelled { OnOk result (out.new.items ≡ out.old.items ++ retired_spelling retired.now) }
+    ensures is { OnOk result (IsWholeRetired retired.now) }
+{
+    put_varint32(out, retired.ident())?;
+    put_varint32(out, retired.by())?;
+    put_varint32(out, retired.number())
+}
+
+fn put_ask_tables(out: &mut Vec<u8>, asked: &AskTables) -> Result<(), sync_io::NoMemory>
+    ensures spelled { OnOk result (out.new.items ≡ out.old.items ++ ask_tables_spelling asked.now) }
+    ensures is { OnOk result (IsWholeAskTables asked.now) }
+{
+    put_ask(out, asked.ask())?;
+    put_varint32(out, asked.form())?;
+    put_tables(out, asked.tables())
+}
+
 fn put_message(out: &mut Vec<u8>, message: &Message) -> Result<(), sync_io::NoMemory>
     ensures spelled { OnOk result (out.new.items ≡ out.old.items ++ message_spelling message.now) }
     ensures is { OnOk result (IsMessage message.now) }
@@ -170,6 +200,18 @@ fn put_message(out: &mut Vec<u8>, message: &Message) -> Result<(), sync_io::NoMe
         Message::Ask2(ask) => {
             out.push(8)?;
             put_ask(out, ask)
+        }
+        Message::Retire(retire) => {
+            out.push(9)?;
+            put_retire(out, retire)
+        }
+        Message::Retired(retired) => {
+            out.push(10)?;
+            put_retired(out, retired)
+        }
+        Message::AskTables(asked) => {
+            out.push(11)?;
+            put_ask_tables(out, asked)
         }
     }
 }

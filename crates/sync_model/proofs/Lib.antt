@@ -1,6 +1,7 @@
 pub mod Bytes
 mod Examples
 pub mod Small
+pub mod Restricting
 pub mod Stamps
 pub mod Lists
 pub mod Moves
@@ -9,9 +10,12 @@ pub mod Steps
 pub mod Idents
 pub mod Entries
 pub mod Own
+pub mod Olds
+pub mod Starting
 pub mod Mismatches
 pub mod Taking
 pub mod Serving
+pub mod Fair
 pub mod Calling
 pub mod Holding
 pub mod Facts
@@ -24,7 +28,26 @@ pub mod Alone
 pub mod Keeping
 pub mod Parts
 pub mod Reached
+pub mod Alike
+pub mod Trims
+pub mod Folding
+pub mod Written
+pub mod Later
+pub mod Whole
+pub mod Fronts
+pub mod Trimmed
+pub mod Sound
+pub mod Integrated
+pub mod Kept
+pub mod GivenUp
 pub mod Limits
 pub mod Replies
 pub mod Spellings
 pub mod Reading
+pub mod Final
+pub mod Retiring
+pub mod Saving
+pub mod Heirs
+pub mod Recovering
+pub mod Running
+pub mod Progress

@@ -1,8 +1,8 @@
 -- The server answers a message.
-use Rattle.std.proofs.Common.{◌≡◌, ◌≢◌, ◌⊎◌, inl, inr, ⊎_elim, ℕ, zero, suc, ◌+◌, ◌-◌, ◌<◌, ◌≤◌, Bool, true, false, ◌&&◌, not, List, [], ◌∷◌, ◌++◌, Option, Some, Result, Ok, Err, refl, sym, ap, ◌∙◌, subst, subst₂, arith, append_assoc, if◌then◌else◌, ◌==◌, length, drop, take, map, length-append, nat_le, nat_lt, eqb-true}
+use Rattle.std.proofs.Common.{◌≡◌, ◌≢◌, ◌⊎◌, inl, inr, ⊎_elim, ℕ, zero, suc, ◌+◌, ◌-◌, ◌<◌, ◌≤◌, Bool, true, false, ◌&&◌, not, List, [], ◌∷◌, ◌++◌, Option, Some, None, Result, Ok, Err, refl, sym, ap, ◌∙◌, subst, subst₂, arith, append_assoc, if◌then◌else◌, ◌==◌, length, take, map, length-append, nat_le, nat_lt, eqb-true}
 use Rattle.std.proofs.lemmas.Bool.Decides.{nat_tests}
-use Rattle.std.proofs.lemmas.Bool.{ltb-false, le-leb}
-use Rattle.sync_model.specs.Bytes.{Uuid}
+use Rattle.std.proofs.lemmas.Bool.{ltb-false}
+use Rattle.sync_model.specs.Bytes.{Uuid, Tables}
 use Rattle.sync_theory.specs.Lists.{kept}
 use Rattle.sync_theory.specs.Grid.{Carried, carry, reciprocal, tail}
 use Rattle.sync_theory.specs.Logs.{Made as LogMade, Entry as LogEntry, made_at, of_origin, origin_at, Nodes, world_of}
@@ -10,24 +10,22 @@ use Rattle.sync_theory.proofs.Recip.{carry_carried}
 use Rattle.sync_theory.proofs.Server.{test_true}
 use Rattle.sync_theory.specs.Changesets.{Changeset}
 use Rattle.sync_theory.specs.Lists.{ok_state}
-use Rattle.sync_model.specs.Profile.{Profile, Stuck, apply_all, act_changeset, cross_changesets, is_small, Lawful, needs, fitting, IsNamedKind}
-use Rattle.sync_model.proofs.Mismatches.{carry_kind}
-use Rattle.sync_model.specs.Messages.{Change, Sent, Message, Bind, Ident, Upload, Ask, Download, Refused, Stored, Ask2}
-use Rattle.sync_model.specs.Clients.{Step, state_or, ok_list, change_of}
-use Rattle.sync_model.specs.Servers.{Server, ServerRecord, Client, Entry, Form, ServerStep, ServerRefusal, NumberGap, BaseBack, AheadOfHistory, HistoryFull, code_of, at_place, place_of, last_base, after_server, after_all, entry_of, made_in, history_of, state_of, entries_from, server_objects, count, new_records, merge_applied, merge_carried, carried_change, merge_read, merge, merged, serve_changes, sent_of, serve_bind, download, first_form, download_first, if_there, is_given, serve, refuses, replies}
+use Rattle.sync_model.specs.Profile.{Profile, Stuck, apply_all, act_changeset, cross_changesets, is_small, restricted, Lawful, needs, fitting}
+use Rattle.sync_model.specs.Messages.{Change, Sent, Message, Bind, Ident, Upload, Ask, Download, Refused, Stored, Ask2, Retire, Retired, AskTables}
+use Rattle.sync_model.specs.Clients.{state_or, ok_list, change_of}
+use Rattle.sync_model.specs.Servers.{Server, ServerRecord, Client, Entry, Form, ServerStep, ServerRefusal, NumberGap, BaseBack, AheadOfHistory, HistoryFull, IdentRetired, SelfRetire, RetiredBy, code_of, at_place, heir_of, is_retired, retire_for, serve_retire, place_of, last_base, after_server, after_all, entry_of, made_in, history_of, state_of, entries_from, server_objects, count, new_records, merge_applied, merge_carried, carried_change, merge_read, merge, merged, serve_changes, sent_of, serve_bind, download, first_form, download_first, download_tables, if_there, is_given, serve, refuses, replies, Settled, marking, marks_new}
 use Rattle.sync_model.specs.Worlds.{Node, at}
-use Rattle.sync_model.specs.Limits.{no_more, and_each}
-use Rattle.sync_model.specs.Log.{MayRefuse, IsFair}
-use Rattle.sync_theory.proofs.Integrate.{server_acts}
+use Rattle.sync_model.specs.Each.{no_more, and_each}
 use Rattle.sync_theory.proofs.Logs.{Rising}
 use Rattle.sync_model.proofs.Limits.{each_at, each_map}
 use Rattle.sync_model.proofs.Small.{SmallSets, SmallMade, SmallLog, entries_small, read_small, client_lists}
-use Rattle.sync_model.proofs.Stamps.{SameStamp, apply_is, carry_stamp, sets_law, sets_kinds}
+use Rattle.sync_model.proofs.Restricting.{restricted_small}
+use Rattle.sync_model.proofs.Stamps.{SameStamp, apply_is, carry_stamp}
 use Rattle.sync_model.proofs.Moves.{waiting_here, waiting_none}
-use Rattle.sync_model.proofs.Lists.{class, place_new, take_all, find_uuid, at_of_map, own_class, own_not_zero, most_at, last_below, rising_drop, drop_length}
-use Rattle.sync_model.proofs.Sim.{as_log, Numbered, no_numbers, a_number, uuid_of, uuids, Bears, no_entries, an_entry, Uploaded, a_change, Sim, TellsUpload, Mine, Tells, Later, HasForm, AllOld, no_more_old, an_old, Reads, longer}
+use Rattle.sync_model.proofs.Lists.{class, place_new, take_all, find_uuid, at_of_map, own_class, own_not_zero}
+use Rattle.sync_model.proofs.Sim.{as_log, Numbered, no_numbers, a_number, uuid_of, uuids, Bears, no_entries, an_entry, Uploaded, a_change, Sim, TellsUpload, Tells, Away, Later, HasForm, HasTables, AllOld, no_more_old, an_old, Reads, longer}
 use Rattle.sync_model.proofs.Steps.{later_refl}
-use Rattle.sync_model.proofs.Idents.{with_id, bind_own, bind_foreign, form_sim}
+use Rattle.sync_model.proofs.Idents.{with_id, bind_own, bind_foreign, form_sim, retired_sim, mark_sim}
 use Rattle.sync_model.proofs.Entries.{with_entry, entry_own, entry_own_later, entry_foreign, entry_foreign_later}
 use Rattle.sync_model.proofs.Own.{good_of}
 
@@ -36,6 +34,10 @@ use Rattle.sync_model.proofs.Own.{good_of}
 pub not_err : {A E : Type 0} (b : Bool) (w : E) (r : Result A E) (v : A) → (if b then Err w else r) ≡ Ok v → (b ≡ false) × (r ≡ Ok v)
 not_err true w r v e = cc
 not_err false w r v e = (refl, e)
+
+pub nobody : (o : Option ℕ) → is_retired o ≡ false → o ≡ None
+nobody None e = refl
+nobody (Some by) e = cc
 
 at_head : {A : Type 0} (xs ys : List A) (m : A) → at (xs ++ ys) (length xs) ≡ Some m → ys ≡ m ∷ tail ys
 at_head [] [] m e = cc
@@ -66,6 +68,7 @@ module _ {I S : Type 0} (p : Profile I S) where
         still_there = λ i u e. b.still_there i u (a.still_there i u e);
         cursors = λ c. let x = a.cursors c in let y = b.cursors c in omega arith;
         forms = λ c f. b.forms c (a.forms c f);
+        subsets = λ c t f. b.subsets c t (a.subsets c t f);
       }
 
   pub record ServerNext (s : Server I) (cls : List Node) (inj : List Uuid) (n : Nodes (Changeset I) S) (s2 : Server I) : Type 0 where
@@ -93,9 +96,26 @@ module _ {I S : Type 0} (p : Profile I S) where
   answered : (s : Server I) (cls : List Node) (inj : List Uuid) (n : Nodes (Changeset I) S) → Sim p s cls inj n → (m : Message) → Tells p n s.ids cls m → Served s cls inj n (replies m)
   answered s cls inj n sim m t = record { cut = silent s cls inj n sim; done = stay s cls inj n sim; tells = t }
 
+  -- the record of a settled number, if it is new
+  abbrev marked_next : (s : Server I) (cls : List Node) (inj : List Uuid) (n : Nodes (Changeset I) S) → Sim p s cls inj n → (c settled : ℕ) → ServerNext s cls inj n (after_server p s (Settled c settled))
+  marked_next s cls inj n sim c settled = record { m = n; sim = mark_sim p s cls inj n (Rattle.sync_theory.specs.World.put_at c settled s.marks) sim; later = later_refl p n s.ids cls }
+
+  marked : (s : Server I) (cls : List Node) (inj : List Uuid) (n : Nodes (Changeset I) S) → Sim p s cls inj n → (c mark cursor settled : ℕ) (m : Message) → Tells p n s.ids cls m → Served s cls inj n (marking c mark cursor settled m)
+  marked s cls inj n sim c mark cursor settled m t = on (marks_new mark cursor settled m)
+    where
+      cut : (j : ℕ) → ServerNext s cls inj n (after_all p s (take j (Settled c settled ∷ [])))
+      cut zero = stay s cls inj n sim
+      cut (suc zero) = marked_next s cls inj n sim c settled
+      cut (suc (suc j)) = marked_next s cls inj n sim c settled
+
+      on : (b : Bool) → Served s cls inj n (record { records = if b then Settled c settled ∷ [] else []; answer = m })
+      on false = record { cut = silent s cls inj n sim; done = stay s cls inj n sim; tells = t }
+      on true = record { cut = cut; done = marked_next s cls inj n sim c settled; tells = t }
+
   -- ---- a change that is integrated
 
   pub record Merging (s : Server I) (c : ℕ) (h : Change) (new : List ServerRecord) : Type 0 where
+    pub active : heir_of c s.retired ≡ None
     pub gap : h.number ≤ suc (count s c)
     pub back : last_base (of_origin c s.log) ≤ h.base
     pub ahead : h.base ≤ length s.log
@@ -139,12 +159,14 @@ module _ {I S : Type 0} (p : Profile I S) where
 
   pub merging : (s : Server I) (c : ℕ) (h : Change) (new : List ServerRecord) → merge p s c h ≡ Ok new → Merging s c h new
   merging s c h new e =
-      let a = not_err (nat_lt (suc (count s c)) h.number) _ _ new e in
+      let z = not_err (is_retired (heir_of c s.retired)) _ _ new e in
+      let a = not_err (nat_lt (suc (count s c)) h.number) _ _ new z.1 in
       let b = not_err (nat_lt h.base (last_base (of_origin c s.log))) _ _ new a.1 in
       let d = not_err (nat_lt (length s.log) h.base) _ _ new b.1 in
       let f = not_err (length s.log == p.full) _ _ new d.1 in
       let r = read_on s c h new (p.unspell h.body) f.1 in
       record {
+        active = nobody (heir_of c s.retired) z.0;
         gap = ltb-false (suc (count s c)) h.number a.0;
         back = ltb-false h.base (last_base (of_origin c s.log)) b.0;
         ahead = ltb-false (length s.log) h.base d.0;
@@ -171,9 +193,12 @@ module _ {I S : Type 0} (p : Profile I S) where
   IsPlain (Upload c hs) = ⊥
   IsPlain (Ask c cursor settled) = ⊥
   IsPlain (Ask2 c cursor settled) = ⊥
+  IsPlain (AskTables c cursor settled second tables) = ⊥
   IsPlain (Download c from es) = ⊥
   IsPlain (Refused c number code place) = Unit {0}
   IsPlain (Stored c number) = Unit {0}
+  IsPlain (Retire c by) = ⊥
+  IsPlain (Retired c by number) = Unit {0}
 
   plain_tells : (n : Nodes (Changeset I) S) (ids : List Uuid) (cls : List Node) (m : Message) → IsPlain m → Tells p n ids cls m
   plain_tells n ids us (Bind u) t = absurd t
@@ -181,9 +206,12 @@ module _ {I S : Type 0} (p : Profile I S) where
   plain_tells n ids us (Upload c hs) t = absurd t
   plain_tells n ids us (Ask c cursor settled) t = absurd t
   plain_tells n ids us (Ask2 c cursor settled) t = absurd t
+  plain_tells n ids us (AskTables c cursor settled second tables) t = absurd t
   plain_tells n ids us (Download c from es) t = absurd t
   plain_tells n ids us (Refused c number code place) t = tt
   plain_tells n ids us (Stored c number) t = tt
+  plain_tells n ids us (Retire c by) t = absurd t
+  plain_tells n ids us (Retired c by number) t = tt
 
   upload_plain : (s : Server I) (c : ℕ) (hs : List Change) → IsPlain (serve_changes p s c hs).answer
   upload_plain s c [] = tt
@@ -254,12 +282,12 @@ module _ {I S : Type 0} (p : Profile I S) where
                 next_then a (go (after_server p s (Entry c h.number h.base h.ms h.body)) a refl refl refl j)
 
         -- all of them
-        record Entered : Type 0 where
-          whole : ServerNext s cls inj n (after_all p s new)
-          is : whole.m ≡ o
-          ids_are : (after_all p s new).ids ≡ s.ids
+        pub record Entered : Type 0 where
+          pub whole : ServerNext s cls inj n (after_all p s new)
+          pub is : whole.m ≡ o
+          pub ids_are : (after_all p s new).ids ≡ s.ids
 
-        entered : Entered
+        pub entered : Entered
         entered = on (needs p g.instrs && not s.second) g.new_is
           where
             form1 : Sim p (record s { second = true }) cls inj n
@@ -280,7 +308,7 @@ module _ {I S : Type 0} (p : Profile I S) where
 
     -- the changes of a client of the exchange
 
-    own_change : (n : Nodes (Changeset I) S) (c f : ℕ) (m : LogMade (Changeset I)) (h : Change) (is : List I) → Numbered c 1 (n.mades c) → at (n.mades c) f ≡ Some m → h ≡ change_of p (record { base = m.base; number = m.change.number; ms = m.change.ms; instrs = m.change.instrs }) → is_small p m.change.instrs ≡ true → p.unspell h.body ≡ Ok is → made_of c h is ≡ m
+    pub own_change : (n : Nodes (Changeset I) S) (c f : ℕ) (m : LogMade (Changeset I)) (h : Change) (is : List I) → Numbered c 1 (n.mades c) → at (n.mades c) f ≡ Some m → h ≡ change_of p (record { base = m.base; number = m.change.number; ms = m.change.ms; instrs = m.change.instrs }) → is_small p m.change.instrs ≡ true → p.unspell h.body ≡ Ok is → made_of c h is ≡ m
     own_change n c f m h is numbered here h_is small read =
         let b = ap (λ z. z.base) h_is in
         let k = ap (λ z. z.number) h_is in
@@ -292,7 +320,7 @@ module _ {I S : Type 0} (p : Profile I S) where
         λ i. record { base = b i; change = record { origin = sym o i; number = k i; ms = ms i; instrs = instrs i } }
 
     -- what a client of the exchange made is within the limits of a changeset
-    made_small : (s : Server I) (n : Nodes (Changeset I) S) (sim : Sim p s cls inj n) (c k : ℕ) (m : LogMade (Changeset I)) → class s.ids us c ≡ true → at (n.mades c) k ≡ Some m → is_small p m.change.instrs ≡ true
+    pub made_small : (s : Server I) (n : Nodes (Changeset I) S) (sim : Sim p s cls inj n) (c k : ℕ) (m : LogMade (Changeset I)) → class s.ids us c ≡ true → at (n.mades c) k ≡ Some m → is_small p m.change.instrs ≡ true
     made_small s n sim c k m mine here =
         let o = own_class s.ids us c mine in
         let nd = at_of_map (uuid_of p) cls o.0 (Some o.1) o.2 in
@@ -349,152 +377,6 @@ module _ {I S : Type 0} (p : Profile I S) where
             subst (λ z. ServerNext s2 cls inj b1.m (after_all p s2 (take j (serve_changes p z c hs).records))) s2_is
             (rec s2 b1.m b1.sim c (suc f) given (subst (λ z. c ≤ length z) (sym ids_are) there) (ap (λ z. class z us c) ids_are ∙ mine) known2 up2 j))
 
-    -- they are refused by a mismatch or a full history alone
-
-    if_fair : {A : Type 0} (b : Bool) (w : ServerRefusal) (r : Result A ServerRefusal) (why : ServerRefusal) → (b ≡ true → MayRefuse w) → (b ≡ false → r ≡ Err why → MayRefuse why) → (if b then Err w else r) ≡ Err why → MayRefuse why
-    if_fair true w r why f g e = let same : w ≡ why = cc in subst MayRefuse same (f refl)
-    if_fair false w r why f g e = g refl e
-
-    -- what a client made has its base in the history
-    made_within : (s : Server I) (n : Nodes (Changeset I) S) (sim : Sim p s cls inj n) (c k : ℕ) (m : LogMade (Changeset I)) → class s.ids us c ≡ true → at (n.mades c) k ≡ Some m → m.base ≤ length n.log
-    made_within s n sim c k m mine here =
-        let o = own_class s.ids us c mine in
-        let nd = at_of_map (uuid_of p) cls o.0 (Some o.1) o.2 in
-        let w = sim.clients o.0 nd.0 nd.1 in
-        let a = w.born in
-        let b = nd.2 in
-        let same : w.id ≡ o.1 = cc (a, b) in
-        let is : c ≡ place_of w.id s.ids = o.3 ∙ ap (λ x. place_of x s.ids) (sym same) in
-        ⊎_elim (λ f. absurd (not_zero (is ∙ f.0)))
-        (λ g.
-        let v = g.1 in
-        let l = most_at (Rattle.sync_model.specs.Clients.client_of p nd.0.records).cursor (n.mades (place_of w.id s.ids)) k m v.within (subst (λ d. at (n.mades d) k ≡ Some m) is here) in
-        let r = v.reach in
-        omega arith)
-        w.is
-      where
-        not_zero : c ≡ 0 → ⊥
-        not_zero z = own_not_zero s.ids us c mine z
-
-    own_fair : (s : Server I) (n : Nodes (Changeset I) S) (sim : Sim p s cls inj n) (c : ℕ) (m : LogMade (Changeset I)) (more : List (LogMade (Changeset I))) (h : Change) → class s.ids us c ≡ true → n.mades c ≡ of_origin c n.log ++ m ∷ more → h ≡ change_of p (record { base = m.base; number = m.change.number; ms = m.change.ms; instrs = m.change.instrs }) → made_of c h m.change.instrs ≡ m → h.number ≡ suc (length (of_origin c n.log)) → (why : ServerRefusal) → merge p s c h ≡ Err why → MayRefuse why
-    own_fair s n sim c m more h mine next h_is same number why e =
-        if_fair (nat_lt (suc (count s c)) h.number) (NumberGap (suc (count s c))) _ why (λ b. absurd (not_lt (suc (count s c)) h.number b (let k = counted in omega arith))) (λ b e1.
-        if_fair (nat_lt h.base (last_base (of_origin c s.log))) (BaseBack (last_base (of_origin c s.log))) _ why (λ b2. absurd (not_lt h.base (last_base (of_origin c s.log)) b2 back)) (λ b2 e2.
-        if_fair (nat_lt (length s.log) h.base) (AheadOfHistory (length s.log)) _ why (λ b3. absurd (not_lt (length s.log) h.base b3 in_history)) (λ b3 e3.
-        if_fair (length s.log == p.full) (HistoryFull (length s.log)) _ why (λ b4. tt) (λ b4 e4. readable e4) e3) e2) e1) e
-      where
-        not_lt : (a b : ℕ) → nat_lt a b ≡ true → b ≤ a → ⊥
-        not_lt a b f le = grind (arith, nat_tests)
-
-        counted : count s c ≡ length (of_origin c n.log)
-        counted = ap (λ l. length (of_origin c l)) (sym sim.log_is)
-
-        base_is : h.base ≡ m.base
-        base_is = ap (λ z. z.base) h_is
-
-        back : last_base (of_origin c s.log) ≤ h.base
-        back = let l = last_below (of_origin c n.log) m more (subst (λ z. Rising z) next (sim.rising c)) in let f = ap (λ z. last_base (of_origin c z)) sim.log_is in let b = base_is in omega arith
-
-        here : at (n.mades c) (length (of_origin c n.log)) ≡ Some m
-        here = ap (λ z. at z (length (of_origin c n.log))) next ∙ at_start (of_origin c n.log)
-          where
-            at_start : (xs : List (LogMade (Changeset I))) → at (xs ++ m ∷ more) (length xs) ≡ Some m
-            at_start [] = refl
-            at_start (x ∷ xs) = at_start xs
-
-        in_history : h.base ≤ length s.log
-        in_history = let l = made_within s n sim c (length (of_origin c n.log)) m mine here in let f = ap length sim.log_is in let b = base_is in omega arith
-
-        body_is : p.unspell h.body ≡ Ok m.change.instrs
-        body_is = ap (λ z. p.unspell z.body) h_is ∙ law.spelled m.change.instrs (made_small s n sim c (length (of_origin c n.log)) m mine here)
-
-        open_is : Rattle.sync_theory.specs.Logs.open_of (n.mades c) n.log c ≡ m ∷ more
-        open_is = ap (drop (length (of_origin c n.log))) next ∙ drop_length (of_origin c n.log) (m ∷ more)
-
-        acts : (x : Changeset I) → Carried (cross_changesets p) (λ c k. made_at (of_origin c n.log) k) (λ k. origin_at n.log k) c m.base m.change (length n.log) x → (t : S) × (act_changeset p x n.objects ≡ Some t)
-        acts x r =
-            let good = good_of p law s cls inj n sim in
-            let rises : Rising (m ∷ more) = subst (λ l. Rising l) open_is (rising_drop (length (of_origin c n.log)) (n.mades c) (sim.rising c)) in
-            server_acts (act_changeset p) p.empty (cross_changesets p) (world_of n) good.log c m.base m.change (made_at more m.base) x (waiting_here n c m more open_is) (waiting_none n c m more open_is rises) r (sets_law p law) (good.clients c mine)
-
-        readable : merge_read p s c h (p.unspell h.body) ≡ Err why → MayRefuse why
-        readable e = carries (carried_change p s c h m.change.instrs) refl (ap (merge_read p s c h) (sym body_is) ∙ e)
-          where
-            applies : {t : S} (new : List ServerRecord) (r : Result S (ℕ × ℕ)) → ok_state r ≡ Some t → merge_applied new r ≡ Err why → MayRefuse why
-            applies new (Ok t) f g = cc
-            applies new (Err b) f g = cc
-
-            carries : (r : Result (Changeset I × List (Changeset I)) Stuck) → carried_change p s c h m.change.instrs ≡ r → merge_carried p s (new_records p s c h m.change.instrs) r ≡ Err why → MayRefuse why
-            carries (Err f) is e =
-                let same_why : ServerRefusal.Mismatch f.0 f.2 ≡ why = cc in
-                let good = good_of p law s cls inj n sim in
-                let rises : Rising (m ∷ more) = subst (λ l. Rising l) open_is (rising_drop (length (of_origin c n.log)) (n.mades c) (sim.rising c)) in
-                let stuck = subst (λ l. carry (cross_changesets p) (made_of c h m.change.instrs).change (reciprocal (cross_changesets p) (made_in p l) (λ k. origin_at l k) c (length l - h.base) h.base) ≡ Err f) (sym sim.log_is) is in
-                let stuck1 = subst (λ z. carry (cross_changesets p) z.change (reciprocal (cross_changesets p) (made_in p n.log) (λ k. origin_at n.log k) c (length n.log - z.base) z.base) ≡ Err f) same stuck in
-                let in_it = in_history in
-                let l = ap length sim.log_is in
-                let b = base_is in
-                subst MayRefuse same_why (carry_kind (act_changeset p) p.empty (cross_changesets p) (λ m. IsNamedKind m.2) (sets_law p law) (sets_kinds p law) (world_of n) good.log c m.base (good.clients c mine) m.change (made_at more m.base) (waiting_here n c m more open_is) (waiting_none n c m more open_is rises) (length n.log - m.base) (omega arith) f stuck1)
-            carries (Ok q) is e =
-                let r0 = carried_of s n sim c h m.change.instrs q.0 q.1 in_history is in
-                let r1 = subst (λ z. Carried (cross_changesets p) (λ c k. made_at (of_origin c n.log) k) (λ k. origin_at n.log k) c z.base z.change (length n.log) q.0) same r0 in
-                let a = acts q.0 r1 in
-                applies (new_records p s c h m.change.instrs) (apply_all p q.0.instrs (server_objects p s)) (sym (apply_is p q.0.instrs (server_objects p s)) ∙ ap (act_changeset p q.0) (objects_of s n sim) ∙ a.1) e
-
-    pub own_answers : (hs : List Change) (s : Server I) (n : Nodes (Changeset I) S) (sim : Sim p s cls inj n) (c f : ℕ) → c ≢ 0 → c ≤ length s.ids → class s.ids us c ≡ true → f ≤ length (of_origin c n.log) → Uploaded p (n.mades c) f hs → IsFair (serve_changes p s c hs).answer
-    own_answers [] s n sim c f given there mine known up = tt
-    own_answers (h ∷ hs) s n sim c f given there mine known (a_change m here h_is up) =
-        go (nat_le h.number (count s c)) refl (merge p s c h) refl (own_answers hs)
-      where
-        number_is : h.number ≡ suc f
-        number_is = let a = ap (λ z. z.number) h_is in let b = (numbered_at f m (sim.numbered c) here).0 in omega arith
-
-        count_is : count s c ≡ length (of_origin c n.log)
-        count_is = ap (λ l. length (of_origin c l)) (sym sim.log_is)
-
-        at_end : (xs ys : List (LogMade (Changeset I))) → n.mades c ≡ xs ++ ys → f ≡ length xs → n.mades c ≡ xs ++ m ∷ tail ys
-        at_end xs ys e is = e ∙ ap (λ l. xs ++ l) (at_head xs ys m (subst₂ (λ l k. at l k ≡ Some m) e is here))
-
-        go : (b : Bool) → nat_le h.number (count s c) ≡ b → (r : Result (List ServerRecord) ServerRefusal) → merge p s c h ≡ r
-            → ((s2 : Server I) (n2 : Nodes (Changeset I) S) (sim2 : Sim p s2 cls inj n2) (c2 f2 : ℕ) → c2 ≢ 0 → c2 ≤ length s2.ids → class s2.ids us c2 ≡ true → f2 ≤ length (of_origin c2 n2.log) → Uploaded p (n2.mades c2) f2 hs → IsFair (serve_changes p s2 c2 hs).answer)
-            → IsFair (if b then serve_changes p s c hs else merged c h.number r (λ new. serve_changes p (after_all p s new) c hs)).answer
-        go true b_is r r_is rec =
-            let le : h.number ≤ count s c = grind (arith, nat_tests) in
-            let a = number_is in
-            let b = count_is in
-            rec s n sim c (suc f) given there mine (omega arith) up
-        go false b_is r r_is rec =
-            let gt : count s c < h.number = grind (arith, nat_tests) in
-            let a = number_is in
-            let b = count_is in
-            let f_is : f ≡ length (of_origin c n.log) = omega arith in
-            let ahead = sim.ahead c in
-            on r r_is rec f_is (at_end (of_origin c n.log) ahead.0 ahead.1 f_is)
-          where
-            on : (r : Result (List ServerRecord) ServerRefusal) → merge p s c h ≡ r
-                → ((s2 : Server I) (n2 : Nodes (Changeset I) S) (sim2 : Sim p s2 cls inj n2) (c2 f2 : ℕ) → c2 ≢ 0 → c2 ≤ length s2.ids → class s2.ids us c2 ≡ true → f2 ≤ length (of_origin c2 n2.log) → Uploaded p (n2.mades c2) f2 hs → IsFair (serve_changes p s2 c2 hs).answer)
-                → f ≡ length (of_origin c n.log) → n.mades c ≡ of_origin c n.log ++ m ∷ tail (sim.ahead c).0
-                → IsFair (merged c h.number r (λ new. serve_changes p (after_all p s new) c hs)).answer
-            on (Err why) r_is rec f_is next =
-                let small = made_small s n sim c f m mine here in
-                let back = ap (λ z. p.unspell z.body) h_is ∙ law.spelled m.change.instrs small in
-                let same = own_change n c f m h m.change.instrs (sim.numbered c) here h_is small back in
-                let a = number_is in
-                (why, refl, refl, own_fair s n sim c m (tail (sim.ahead c).0) h mine next h_is same (omega arith) why r_is)
-            on (Ok new) r_is rec f_is next0 =
-                let g = merging s c h new r_is in
-                let same = own_change n c f m h g.instrs (sim.numbered c) here h_is (made_small s n sim c f m mine here) g.read in
-                let next : n.mades c ≡ of_origin c n.log ++ made_of c h g.instrs ∷ tail (sim.ahead c).0 = next0 ∙ ap (λ z. of_origin c n.log ++ z ∷ tail (sim.ahead c).0) (sym same) in
-                let o : Nodes (Changeset I) S = Rattle.sync_theory.specs.Logs.nodes_integrate n c (made_of c h g.instrs) g.entry g.state in
-                let longer_ = ap length (Rattle.sync_model.proofs.Moves.origin_here c (made_of c h g.instrs) n.log) ∙ Rattle.sync_theory.proofs.Logs.length_snoc (of_origin c n.log) (made_of c h g.instrs) in
-                let all = entered s n sim c h new g o
-                (λ s1 sim1 l i. entry_own p s1 cls inj n sim1 c (made_of c h g.instrs) g.entry g.state (stamp_here s n sim c h new g) refl (read_small p law h.body g.instrs g.read) (carried_here s n sim c h new g) (acts_here s n sim c h new g) (tail (sim.ahead c).0) next (ap (λ z. class z us c) i ∙ mine))
-                (entry_own_later p s cls inj n sim c (made_of c h g.instrs) g.entry g.state (stamp_here s n sim c h new g) refl (read_small p law h.body g.instrs g.read) (carried_here s n sim c h new g) (acts_here s n sim c h new g) (tail (sim.ahead c).0) next mine) in
-                let m_is = all.is in
-                let up2 : Uploaded p (all.whole.m.mades c) (suc f) hs = subst (λ z. Uploaded p (z.mades c) (suc f) hs) (sym m_is) up in
-                let known2 : suc f ≤ length (of_origin c all.whole.m.log) = subst (λ z. suc f ≤ length (of_origin c z.log)) (sym m_is) (omega (arith, longer_)) in
-                rec (after_all p s new) all.whole.m all.whole.sim c (suc f) given (subst (λ z. c ≤ length z) (sym all.ids_are) there) (ap (λ z. class z us c) all.ids_are ∙ mine) known2 up2
-
     -- the changes of a stranger
 
     pub serve_foreign : (hs : List Change) (s : Server I) (n : Nodes (Changeset I) S) (sim : Sim p s cls inj n) (c : ℕ) → c ≢ 0 → c ≤ length s.ids → class s.ids us c ≡ false → (j : ℕ) → ServerNext s cls inj n (after_all p s (take j (serve_changes p s c hs).records))
@@ -526,27 +408,31 @@ module _ {I S : Type 0} (p : Profile I S) where
 
     -- ---- a download
 
-    pub entries_bear : (s : Server I) (n : Nodes (Changeset I) S) → Sim p s cls inj n → (d k : ℕ) → k + d ≤ length n.log → Bears p n k (map (sent_of p) (entries_from p s.log d k))
-    entries_bear s n sim zero k h = no_entries
-    entries_bear s n sim (suc d) k h =
+    pub entries_bear : (s : Server I) (n : Nodes (Changeset I) S) → Sim p s cls inj n → (o : Option Tables) (d k : ℕ) → k + d ≤ length n.log → Bears p n o k (map (λ x. sent_of p (restricted p o x)) (entries_from p s.log d k))
+    entries_bear s n sim o zero k h = no_entries
+    entries_bear s n sim o (suc d) k h =
         let w = (good_of p law s cls inj n sim).log.whole k (omega arith) in
         let is : history_of p s.log k ≡ Some (n.entries k) = ap (λ l. history_of p l k) (sym sim.log_is) ∙ w in
-        subst (λ r. Bears p n k (map (sent_of p) (kept r ++ entries_from p s.log d (suc k)))) (sym is) (an_entry (omega arith) refl (entries_bear s n sim d (suc k) (omega arith)))
+        subst (λ r. Bears p n o k (map (λ x. sent_of p (restricted p o x)) (kept r ++ entries_from p s.log d (suc k)))) (sym is) (an_entry (omega arith) refl (entries_bear s n sim o d (suc k) (omega arith)))
 
-    bears_fitting : (n : Nodes (Changeset I) S) (k most room : ℕ) (es : List Sent) → Bears p n k es → Bears p n k (fitting (λ e. length e.body) most room es)
-    bears_fitting n k most room [] b = b
-    bears_fitting n k zero room (e ∷ es) b = no_entries
-    bears_fitting n k (suc most) room (e ∷ es) (an_entry lt is b) = go (nat_le (length e.body) room) (bears_fitting n (suc k) most (room - length e.body) es b)
+    sent_twice : (o : Option Tables) (xs : List (Changeset I)) → map (λ x. sent_of p (restricted p o x)) xs ≡ map (sent_of p) (map (restricted p o) xs)
+    sent_twice o [] = refl
+    sent_twice o (x ∷ xs) = ap (λ l. sent_of p (restricted p o x) ∷ l) (sent_twice o xs)
+
+    bears_fitting : (n : Nodes (Changeset I) S) (o : Option Tables) (k most room : ℕ) (es : List Sent) → Bears p n o k es → Bears p n o k (fitting (λ e. length e.body) most room es)
+    bears_fitting n o k most room [] b = b
+    bears_fitting n o k zero room (e ∷ es) b = no_entries
+    bears_fitting n o k (suc most) room (e ∷ es) (an_entry lt is b) = go (nat_le (length e.body) room) (bears_fitting n o (suc k) most (room - length e.body) es b)
       where
-        go : (t : Bool) → Bears p n (suc k) (fitting (λ e. length e.body) most (room - length e.body) es) → Bears p n k (if t then e ∷ fitting (λ e. length e.body) most (room - length e.body) es else [])
+        go : (t : Bool) → Bears p n o (suc k) (fitting (λ e. length e.body) most (room - length e.body) es) → Bears p n o k (if t then e ∷ fitting (λ e. length e.body) most (room - length e.body) es else [])
         go true r = an_entry lt is r
         go false r = no_entries
 
-    bears_first : (n : Nodes (Changeset I) S) (k : ℕ) (xs : List (Changeset I)) → Bears p n k (map (sent_of p) xs) → Bears p n k (map (sent_of p) (first_form p xs))
-    bears_first n k [] b = no_entries
-    bears_first n k (x ∷ xs) (an_entry lt is b) = go (needs p x.instrs) (bears_first n (suc k) xs b)
+    bears_first : (n : Nodes (Changeset I) S) (o : Option Tables) (k : ℕ) (xs : List (Changeset I)) → Bears p n o k (map (sent_of p) xs) → Bears p n o k (map (sent_of p) (first_form p xs))
+    bears_first n o k [] b = no_entries
+    bears_first n o k (x ∷ xs) (an_entry lt is b) = go (needs p x.instrs) (bears_first n o (suc k) xs b)
       where
-        go : (t : Bool) → Bears p n (suc k) (map (sent_of p) (first_form p xs)) → Bears p n k (map (sent_of p) (if t then [] else x ∷ first_form p xs))
+        go : (t : Bool) → Bears p n o (suc k) (map (sent_of p) (first_form p xs)) → Bears p n o k (map (sent_of p) (if t then [] else x ∷ first_form p xs))
         go true r = no_entries
         go false r = an_entry lt is r
 
@@ -568,26 +454,42 @@ module _ {I S : Type 0} (p : Profile I S) where
         go false is r = an_old (ap (λ q. needs p (ok_list q)) (law.spelled x.instrs small) ∙ is) r
 
     module _ (s : Server I) (n : Nodes (Changeset I) S) (sim : Sim p s cls inj n) where
-      downloaded : (c cursor : ℕ) (xs : List (Changeset I)) → c ≢ 0 → c ≤ length s.ids → Bears p n cursor (map (sent_of p) xs) → (class s.ids us c ≡ true → Reads p n cls s.ids c cursor (map (sent_of p) xs)) → Served s cls inj n (download p c cursor xs)
-      downloaded c cursor xs given there b reads = answered s cls inj n sim (Download c cursor (fitting (λ e. length e.body) p.most p.room (map (sent_of p) xs)))
-          (given, bears_fitting n cursor p.most p.room (map (sent_of p) xs) b, there, λ own. let r = reads own in record { before = r.before; form = ⊎_elim (λ o. inl (old_fitting p.most p.room (map (sent_of p) xs) o)) (λ f. inr f) r.form })
+      downloaded : (o : Option Tables) (c cursor : ℕ) (xs : List (Changeset I)) → c ≢ 0 → c ≤ length s.ids → Bears p n o cursor (map (sent_of p) xs) → (class s.ids us c ≡ true → Reads p n cls s.ids c o cursor (map (sent_of p) xs)) → Tells p n s.ids cls (download p c cursor xs).answer
+      downloaded o c cursor xs given there b reads = (
+        given,
+        there,
+        record {
+          tables = o;
+          bears = bears_fitting n o cursor p.most p.room (map (sent_of p) xs) b;
+          reads = λ own. let r = reads own in record { before = r.before; form = ⊎_elim (λ o. inl (old_fitting p.most p.room (map (sent_of p) xs) o)) (λ f. inr f) r.form; tables = r.tables };
+        },
+      )
 
-      downloaded_first : (c cursor : ℕ) (xs : List (Changeset I)) → SmallSets p xs → c ≢ 0 → c ≤ length s.ids → Bears p n cursor (map (sent_of p) xs) → (class s.ids us c ≡ true → cursor ≤ n.cursor c) → Served s cls inj n (download_first p c cursor xs)
-      downloaded_first c cursor [] smalls given there b before = downloaded c cursor [] given there b (λ own. record { before = before own; form = inl no_more_old })
-      downloaded_first c cursor (x ∷ xs) smalls given there b before = go (needs p x.instrs) (downloaded c cursor (first_form p (x ∷ xs)) given there (bears_first n cursor (x ∷ xs) b) (λ own. record { before = before own; form = inl (old_first (x ∷ xs) smalls) }))
+      downloaded_first : (o : Option Tables) (c cursor : ℕ) (xs : List (Changeset I)) → SmallSets p xs → c ≢ 0 → c ≤ length s.ids → Bears p n o cursor (map (sent_of p) xs) → (class s.ids us c ≡ true → (cursor ≤ n.cursor c) × HasTables p cls s.ids c o) → Tells p n s.ids cls (download_first p c cursor xs).answer
+      downloaded_first o c cursor [] smalls given there b before = downloaded o c cursor [] given there b (λ own. let h = before own in record { before = h.0; form = inl no_more_old; tables = h.1 })
+      downloaded_first o c cursor (x ∷ xs) smalls given there b before = go (needs p x.instrs) (downloaded o c cursor (first_form p (x ∷ xs)) given there (bears_first n o cursor (x ∷ xs) b) (λ own. let h = before own in record { before = h.0; form = inl (old_first (x ∷ xs) smalls); tables = h.1 }))
         where
-          go : (t : Bool) → Served s cls inj n (download p c cursor (first_form p (x ∷ xs))) → Served s cls inj n (if t then refuses c 0 (Rattle.sync_model.specs.Servers.NeedsForm2 cursor) else download p c cursor (first_form p (x ∷ xs)))
-          go true r = answered s cls inj n sim _ tt
+          go : (t : Bool) → Tells p n s.ids cls (download p c cursor (first_form p (x ∷ xs))).answer → Tells p n s.ids cls (if t then refuses c 0 (Rattle.sync_model.specs.Servers.NeedsForm2 cursor) else download p c cursor (first_form p (x ∷ xs))).answer
+          go true r = tt
           go false r = r
 
-      asked : (c cursor : ℕ) (go : List (Changeset I) → ServerStep) → (c ≢ 0 → c ≤ length s.ids → (xs : List (Changeset I)) → SmallSets p xs → Bears p n cursor (map (sent_of p) xs) → Served s cls inj n (go xs)) → Served s cls inj n (if_there p s c cursor go)
-      asked c cursor go then_ = first (is_given s c) refl (nat_lt (length s.log) cursor) refl
+      -- for a client of these tables, in either form
+      downloaded_tables : (second : Bool) (tables : Tables) (c cursor : ℕ) (xs : List (Changeset I)) → SmallSets p xs → c ≢ 0 → c ≤ length s.ids → Bears p n (Some tables) cursor (map (λ x. sent_of p (restricted p (Some tables) x)) xs) → (class s.ids us c ≡ true → (cursor ≤ n.cursor c) × HasTables p cls s.ids c (Some tables) × (second ≡ true → HasForm p cls s.ids c)) → Tells p n s.ids cls (download_tables p second tables c cursor xs).answer
+      downloaded_tables true tables c cursor xs smalls given there b comes =
+          downloaded (Some tables) c cursor (map (restricted p (Some tables)) xs) given there (subst (Bears p n (Some tables) cursor) (sent_twice (Some tables) xs) b)
+          (λ own. let h = comes own in record { before = h.0; form = inr (h.2 refl); tables = h.1 })
+      downloaded_tables false tables c cursor xs smalls given there b comes =
+          downloaded_first (Some tables) c cursor (map (restricted p (Some tables)) xs) (restricted_small p (Some tables) xs smalls) given there (subst (Bears p n (Some tables) cursor) (sent_twice (Some tables) xs) b)
+          (λ own. let h = comes own in (h.0, h.1))
+
+      asked : (c cursor settled : ℕ) (go : List (Changeset I) → ServerStep) → (c ≢ 0 → c ≤ length s.ids → (xs : List (Changeset I)) → SmallSets p xs → ((o : Option Tables) → Bears p n o cursor (map (λ x. sent_of p (restricted p o x)) xs)) → Tells p n s.ids cls (go xs).answer) → Served s cls inj n (if_there p s c cursor settled go)
+      asked c cursor settled go then_ = first (is_given s c) refl (nat_lt (length s.log) cursor) refl
         where
           given_then : (a b : Bool) → (a && b) ≡ true → (a ≡ true) × (b ≡ true)
           given_then true b e = (refl, e)
           given_then false b e = cc
 
-          first : (a : Bool) → is_given s c ≡ a → (b : Bool) → nat_lt (length s.log) cursor ≡ b → Served s cls inj n (if not a then refuses c 0 (Rattle.sync_model.specs.Servers.NoSuchIdent (length s.ids)) else (if b then refuses c 0 (Rattle.sync_model.specs.Servers.AheadOfHistory (length s.log)) else go (entries_from p s.log (length s.log - cursor) cursor)))
+          first : (a : Bool) → is_given s c ≡ a → (b : Bool) → nat_lt (length s.log) cursor ≡ b → Served s cls inj n (if not a then refuses c 0 (Rattle.sync_model.specs.Servers.NoSuchIdent (length s.ids)) else (if b then refuses c 0 (Rattle.sync_model.specs.Servers.AheadOfHistory (length s.log)) else marking c (s.marks c) cursor settled (go (entries_from p s.log (length s.log - cursor) cursor)).answer))
           first false a_is b b_is = answered s cls inj n sim _ tt
           first true a_is true b_is = answered s cls inj n sim _ tt
           first true a_is false b_is =
@@ -598,7 +500,8 @@ module _ {I S : Type 0} (p : Profile I S) where
               let there : c ≤ length s.ids = grind (arith, nat_tests) in
               let in_history : cursor ≤ length s.log = ltb-false (length s.log) cursor b_is in
               let l = ap length sim.log_is in
-              then_ given there (entries_from p s.log (length s.log - cursor) cursor) (entries_small p law s.log (subst (λ l. SmallLog p l) sim.log_is sim.small) (length s.log - cursor) cursor) (entries_bear s n sim (length s.log - cursor) cursor (omega arith))
+              marked s cls inj n sim c (s.marks c) cursor settled (go (entries_from p s.log (length s.log - cursor) cursor)).answer
+              (then_ given there (entries_from p s.log (length s.log - cursor) cursor) (entries_small p law s.log (subst (λ l. SmallLog p l) sim.log_is sim.small) (length s.log - cursor) cursor) (λ o. entries_bear s n sim o (length s.log - cursor) cursor (omega arith)))
 
       -- ---- any message
 
@@ -607,11 +510,14 @@ module _ {I S : Type 0} (p : Profile I S) where
       Comes (Bind u) = ((i : ℕ) × (at us i ≡ Some (Some u))) ⊎ (place_of u inj ≢ 0)
       Comes (Upload c hs) = ((class s.ids us c ≡ true) × TellsUpload p n c hs) ⊎ (class s.ids us c ≡ false)
       Comes (Ident u c) = Unit {0}
-      Comes (Ask c cursor settled) = class s.ids us c ≡ true → cursor ≤ n.cursor c
-      Comes (Ask2 c cursor settled) = class s.ids us c ≡ true → (cursor ≤ n.cursor c) × HasForm p cls s.ids c
+      Comes (Ask c cursor settled) = class s.ids us c ≡ true → (cursor ≤ n.cursor c) × HasTables p cls s.ids c None
+      Comes (Ask2 c cursor settled) = class s.ids us c ≡ true → (cursor ≤ n.cursor c) × HasTables p cls s.ids c None × HasForm p cls s.ids c
+      Comes (AskTables c cursor settled second tables) = class s.ids us c ≡ true → (cursor ≤ n.cursor c) × HasTables p cls s.ids c (Some tables) × (second ≡ true → HasForm p cls s.ids c)
       Comes (Download c from es) = Unit {0}
       Comes (Refused c number code place) = Unit {0}
       Comes (Stored c number) = Unit {0}
+      Comes (Retire c by) = class s.ids us c ≡ false
+      Comes (Retired c by number) = Unit {0}
 
       uploaded : (c : ℕ) (hs : List Change) → Comes (Upload c hs) → c ≢ 0 → c ≤ length s.ids → Served s cls inj n (serve_changes p s c hs)
       uploaded c hs comes given there =
@@ -625,7 +531,7 @@ module _ {I S : Type 0} (p : Profile I S) where
           at_client : ((i : ℕ) × (at us i ≡ Some (Some u))) ⊎ ((i : ℕ) → at us i ≡ Some (Some u) → ⊥) → Comes (Bind u) → ServerNext s cls inj n (with_id p s u)
           at_client (inl h) comes =
               let nd = at_of_map (uuid_of p) cls h.0 (Some u) h.1 in
-              let b = bind_own p s cls inj n sim u new h.0 nd.0 nd.1 nd.2 in
+              let b = bind_own p s cls inj n sim u new law h.0 nd.0 nd.1 nd.2 in
               record { m = b.0; sim = b.1; later = b.2 }
           at_client (inr none) (inl h) = absurd (none h.0 h.1)
           at_client (inr none) (inr injected) = let b = bind_foreign p s cls inj n sim u new injected none in record { m = n; sim = b.0; later = b.1 }
@@ -651,6 +557,41 @@ module _ {I S : Type 0} (p : Profile I S) where
           go true t_is true = answered s cls inj n sim _ tt
           go true t_is false = named (eqb-true (place_of u s.ids) 0 t_is)
 
+      given_here : (c : ℕ) → is_given s c ≡ true → (c ≢ 0) × (c ≤ length s.ids)
+      given_here c e =
+          let h = there (nat_le 1 c) (nat_le c (length s.ids)) e in
+          let h0 = h.0 in
+          let h1 = h.1 in
+          let l : 1 ≤ c = grind (arith, nat_tests) in
+          let r : c ≤ length s.ids = grind (arith, nat_tests) in
+          (λ z. omega arith, r)
+        where
+          there : (a b : Bool) → (a && b) ≡ true → (a ≡ true) × (b ≡ true)
+          there true b e = (refl, e)
+          there false b e = cc
+
+      retires : (c by : ℕ) → class s.ids us c ≡ false → Served s cls inj n (serve_retire s c by)
+      retires c by theirs = first (is_given s c) refl (is_given s by) (c == by)
+        where
+          one : Away s.ids us c → (j : ℕ) → ServerNext s cls inj n (after_all p s (take j (ServerRecord.Retired c by ∷ [])))
+          one away zero = stay s cls inj n sim
+          one away (suc zero) = record { m = n; sim = retired_sim p s cls inj n sim c by away; later = later_refl p n s.ids cls }
+          one away (suc (suc j)) = record { m = n; sim = retired_sim p s cls inj n sim c by away; later = later_refl p n s.ids cls }
+
+          on : Away s.ids us c → (o : Option ℕ) → Served s cls inj n (retire_for s c by o)
+          on away None = record { cut = one away; done = one away 1; tells = tt }
+          on away (Some other) = again (other == by)
+            where
+              again : (b : Bool) → Served s cls inj n (if b then replies (Retired c by (count s c)) else refuses by 0 (RetiredBy other))
+              again true = answered s cls inj n sim _ tt
+              again false = answered s cls inj n sim _ tt
+
+          first : (a : Bool) → is_given s c ≡ a → (b same : Bool) → Served s cls inj n (if not (a && b) then refuses by 0 (Rattle.sync_model.specs.Servers.NoSuchIdent (length s.ids)) else (if same then refuses by 0 (SelfRetire c) else retire_for s c by (heir_of c s.retired)))
+          first false a_is b same = answered s cls inj n sim _ tt
+          first true a_is false same = answered s cls inj n sim _ tt
+          first true a_is true true = answered s cls inj n sim _ tt
+          first true a_is true false = let t = given_here c a_is in on (record { given = t.0; there = t.1; theirs = theirs }) (heir_of c s.retired)
+
       pub served : (m : Message) → Comes m → Served s cls inj n (serve p s m)
       served (Bind u) comes = bound u comes
       served (Upload c hs) comes = go (is_given s c) refl
@@ -668,61 +609,12 @@ module _ {I S : Type 0} (p : Profile I S) where
               let r : c ≤ length s.ids = grind (arith, nat_tests) in
               uploaded c hs comes (λ z. omega arith) r
           go false a_is = answered s cls inj n sim _ tt
-      served (Ask c cursor settled) comes = asked c cursor (download_first p c cursor) (λ given there xs smalls b. downloaded_first c cursor xs smalls given there b comes)
-      served (Ask2 c cursor settled) comes = asked c cursor (download p c cursor) (λ given there xs smalls b. downloaded c cursor xs given there b (λ own. let x = comes own in record { before = x.0; form = inr x.1 }))
+      served (Ask c cursor settled) comes = asked c cursor settled (download_first p c cursor) (λ given there xs smalls b. downloaded_first None c cursor xs smalls given there (b None) comes)
+      served (Ask2 c cursor settled) comes = asked c cursor settled (download p c cursor) (λ given there xs smalls b. downloaded None c cursor xs given there (b None) (λ own. let x = comes own in record { before = x.0; form = inr x.2; tables = x.1 }))
+      served (AskTables c cursor settled second tables) comes = asked c cursor settled (download_tables p second tables c cursor) (λ given there xs smalls b. downloaded_tables second tables c cursor xs smalls given there (b (Some tables)) comes)
       served (Ident u c) comes = answered s cls inj n sim _ tt
       served (Download c from es) comes = answered s cls inj n sim _ tt
       served (Refused c number code place) comes = answered s cls inj n sim _ tt
       served (Stored c number) comes = answered s cls inj n sim _ tt
-
-      given_so : (c : ℕ) → Mine p s.ids us c → is_given s c ≡ true
-      given_so c m = both (nat_le 1 c) (nat_le c (length s.ids)) (le-leb 1 c (above m.given)) (le-leb c (length s.ids) m.there)
-        where
-          both : (a b : Bool) → a ≡ true → b ≡ true → (a && b) ≡ true
-          both true b e f = f
-          both false b e f = e
-
-          above : {k : ℕ} → k ≢ 0 → 1 ≤ k
-          above {k} ne = omega (arith, ne)
-
-      asks_fair : (c cursor : ℕ) (go : List (Changeset I) → ServerStep) → Mine p s.ids us c → cursor ≤ n.cursor c → ((xs : List (Changeset I)) → IsFair (go xs).answer) → IsFair (if_there p s c cursor go).answer
-      asks_fair c cursor go m le fair_ = first (is_given s c) (given_so c m) (nat_lt (length s.log) cursor) refl
-        where
-          first : (a : Bool) → a ≡ true → (b : Bool) → nat_lt (length s.log) cursor ≡ b → IsFair (if not a then refuses c 0 (Rattle.sync_model.specs.Servers.NoSuchIdent (length s.ids)) else (if b then refuses c 0 (Rattle.sync_model.specs.Servers.AheadOfHistory (length s.log)) else go (entries_from p s.log (length s.log - cursor) cursor))).answer
-          first false a_is b b_is = cc
-          first true a_is true b_is =
-              let w = ((good_of p law s cls inj n sim).clients c m.own).within in
-              let l = ap length sim.log_is in
-              absurd (not_lt (length s.log) cursor b_is (omega (arith, w)))
-            where
-              not_lt : (a b : ℕ) → nat_lt a b ≡ true → b ≤ a → ⊥
-              not_lt a b f le = grind (arith, nat_tests)
-          first true a_is false b_is = fair_ (entries_from p s.log (length s.log - cursor) cursor)
-
-      -- a message that a client of the exchange made is refused by these alone
-      pub fair : (m : Message) → Tells p n s.ids cls m → IsFair (serve p s m).answer
-      fair (Bind u) t = go (place_of u s.ids == 0) (length s.ids == p.full)
-        where
-          go : (a b : Bool) → IsFair (if not a then replies (Ident u (place_of u s.ids)) else (if b then refuses 0 0 (Rattle.sync_model.specs.Servers.IdentsFull (length s.ids)) else record { records = Client u ∷ []; answer = Ident u (suc (length s.ids)) })).answer
-          go false b = tt
-          go true true = (Rattle.sync_model.specs.Servers.IdentsFull (length s.ids), refl, refl, tt)
-          go true false = tt
-      fair (Upload c hs) t = go (is_given s c) (given_so c t.0)
-        where
-          go : (a : Bool) → a ≡ true → IsFair (if a then serve_changes p s c hs else refuses c 0 (Rattle.sync_model.specs.Servers.NoSuchIdent (length s.ids))).answer
-          go true is = own_answers hs s n sim c t.1.from t.0.given t.0.there t.0.own t.1.known t.1.changes
-          go false is = cc
-      fair (Ask c cursor settled) t = asks_fair c cursor (download_first p c cursor) t.0 t.1 (λ xs. first_fair xs)
-        where
-          first_fair : (xs : List (Changeset I)) → IsFair (download_first p c cursor xs).answer
-          first_fair [] = tt
-          first_fair (x ∷ xs) = go (needs p x.instrs)
-            where
-              go : (b : Bool) → IsFair (if b then refuses c 0 (Rattle.sync_model.specs.Servers.NeedsForm2 cursor) else download p c cursor (first_form p (x ∷ xs))).answer
-              go true = (Rattle.sync_model.specs.Servers.NeedsForm2 cursor, refl, refl, tt)
-              go false = tt
-      fair (Ask2 c cursor settled) t = asks_fair c cursor (download p c cursor) t.0 t.1 (λ xs. tt)
-      fair (Ident u c) t = (Rattle.sync_model.specs.Servers.NotForServer, refl, refl, tt)
-      fair (Download c from es) t = (Rattle.sync_model.specs.Servers.NotForServer, refl, refl, tt)
-      fair (Refused c number code place) t = (Rattle.sync_model.specs.Servers.NotForServer, refl, refl, tt)
-      fair (Stored c number) t = (Rattle.sync_model.specs.Servers.NotForServer, refl, refl, tt)
+      served (Retire c by) comes = retires c by comes
+      served (Retired c by number) comes = answered s cls inj n sim _ tt

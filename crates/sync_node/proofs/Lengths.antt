@@ -11,12 +11,12 @@ use Rattle.sync_io.specs.Formats.{body}
 use Rattle.sync_io.specs.Varints.{varint}
 use Rattle.sync_io.specs.VarintLaws.{varint_small, varint_large}
 use Rattle.subset_bytes.specs.Spelling.{IsTableName, tables_spelling}
-use Rattle.node_messages.specs.Parts.{AskParts, ChangeParts, SentParts}
-use Rattle.node_messages.specs.Spelling.{ask_spelling, change_spelling, ask_tables_spelling, download_spelling, entry_spelling, given_spelling, message_spelling, retire_spelling, retired_spelling, stored_spelling, upload_spelling}
-use Rattle.node_messages.specs.Whole.{IsMessage, IsWholeAsk, IsWholeChange, IsWholeEntry}
-use Rattle.node_messages.specs.declared.message.Message.{Message as CodeMessage}
-use Rattle.node_messages.specs.declared.message.Message.TheVariants as messages
-use Rattle.node_instance.specs.Seen.{change_seen, message_seen, sent_seen}
+use Rattle.sync_messages.specs.Parts.{AskParts, ChangeParts, SentParts}
+use Rattle.sync_messages.specs.Spelling.{ask_spelling, change_spelling, ask_tables_spelling, download_spelling, entry_spelling, given_spelling, message_spelling, retire_spelling, retired_spelling, stored_spelling, upload_spelling}
+use Rattle.sync_messages.specs.Whole.{IsMessage, IsWholeAsk, IsWholeChange, IsWholeEntry}
+use Rattle.sync_messages.specs.declared.message.Message.{Message as CodeMessage}
+use Rattle.sync_messages.specs.declared.message.Message.TheVariants as messages
+use Rattle.sync_exchange.specs.Seen.{change_seen, message_seen, sent_seen}
 use Rattle.sync_node.specs.Frames.{change_kept, message_kept, sent_kept}
 
 -- ---- lengths

@@ -10,22 +10,22 @@ use Rattle.sync_io.specs.declared.status.Status.TheVariants as statuses
 use Rattle.sync_journal.specs.Records.{StandsForPrefix, records_of}
 use Rattle.sync_journal.specs.Records.Reading.{Good}
 use Rattle.sync_journal.specs.Stands.{disk_of}
-use Rattle.node_model.specs.Clients.{ClientRecord, ClientRefusal, ClientStep}
+use Rattle.sync_model.specs.Clients.{ClientRecord, ClientRefusal, ClientStep}
 use Rattle.sync_base.specs.States.{State}
 use Rattle.sync_data.specs.declared.instr.Instr.{Instr}
-use Rattle.node_model.specs.Parts.{Served}
-use Rattle.node_model.specs.Servers.{ServerRecord}
-use Rattle.node_instance.specs.Seen.{client_bytes, message_seen, server_bytes}
-use Rattle.node_client.specs.Clients as clients
-use Rattle.node_client.specs.Refusals.{IfSeen, refusal_seen}
-use Rattle.node_client.specs.declared.refusal.ClientRefusal.{ClientRefusal as CodeRefusal}
-use Rattle.node_client.specs.declared.refusal.ClientRefusal.TheVariants as codes
+use Rattle.sync_model.specs.Parts.{Served}
+use Rattle.sync_model.specs.Servers.{ServerRecord}
+use Rattle.sync_exchange.specs.Seen.{client_bytes, message_seen, server_bytes}
+use Rattle.sync_client.specs.Clients as clients
+use Rattle.sync_client.specs.Refusals.{IfSeen, refusal_seen}
+use Rattle.sync_client.specs.declared.refusal.ClientRefusal.{ClientRefusal as CodeRefusal}
+use Rattle.sync_client.specs.declared.refusal.ClientRefusal.TheVariants as codes
 use Rattle.sync_data.specs.declared.memory.NoMemory.{NoMemory}
 use Rattle.sync_world.specs.Words.{outcome_line, refusal_text}
-use Rattle.node_client.specs.declared.client.Client.{Client}
-use Rattle.node_server.specs.Serving as servers
-use Rattle.node_server.specs.declared.server.Server.{Server}
-use Rattle.node_messages.specs.declared.message.Message.{Message as CodeMessage}
+use Rattle.sync_client.specs.declared.client.Client.{Client}
+use Rattle.sync_server.specs.Serving as servers
+use Rattle.sync_server.specs.declared.server.Server.{Server}
+use Rattle.sync_messages.specs.declared.message.Message.{Message as CodeMessage}
 use Rattle.sync_node.specs.Frames.{frame}
 use Rattle.sync_node.specs.Holding.{ClientStands, ServerStands}
 use Rattle.sync_node.specs.Items.{Items, Over, Bad, Limit, Next}

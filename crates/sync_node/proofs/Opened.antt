@@ -7,15 +7,15 @@ use Rattle.sync_journal.specs.Records.Reading.{Good}
 use Rattle.sync_journal.specs.Stands.{disk_of}
 use Rattle.sync_journal.specs.declared.opening.OpenCause.{OpenCause}
 use Rattle.sync_journal.specs.declared.opening.OpenCause.TheVariants as causes
-use Rattle.node_model.specs.Fronts.{file_gives}
-use Rattle.node_model.specs.Servers.{ServerRecord}
-use Rattle.node_instance.specs.Profile.{the_profile}
-use Rattle.node_client.specs.Clients as clients
-use Rattle.node_client.specs.Files as client_files
-use Rattle.node_client.specs.declared.client.Client.{Client}
-use Rattle.node_server.specs.Serving as servers
-use Rattle.node_server.specs.Files as server_files
-use Rattle.node_server.specs.declared.server.Server.{Server}
+use Rattle.sync_model.specs.Fronts.{file_gives}
+use Rattle.sync_model.specs.Servers.{ServerRecord}
+use Rattle.sync_exchange.specs.Profile.{the_profile}
+use Rattle.sync_client.specs.Clients as clients
+use Rattle.sync_client.specs.Files as client_files
+use Rattle.sync_client.specs.declared.client.Client.{Client}
+use Rattle.sync_server.specs.Serving as servers
+use Rattle.sync_server.specs.Files as server_files
+use Rattle.sync_server.specs.declared.server.Server.{Server}
 use Rattle.sync_node.specs.Opening.{HoldsThose, IsOpenStatus, OpenedClient, OpenedServer, all_read, at_gate, client_file, client_in, if_given, open_status, server_file, server_in}
 use Rattle.sync_node.specs.Texts.{TellsBad}
 

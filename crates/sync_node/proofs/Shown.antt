@@ -4,8 +4,8 @@ use Rattle.std.proofs.lemmas.Bool.{cases_lt}
 use Rattle.sync_disk.specs.Disk.{Rose}
 use Rattle.sync_journal.specs.Records.{Reading, records_of}
 use Rattle.sync_journal.proofs.Reading.{small}
-use Rattle.node_model.specs.Clients.{ClientRecord}
-use Rattle.node_model.specs.Servers.{ServerRecord}
+use Rattle.sync_model.specs.Clients.{ClientRecord}
+use Rattle.sync_model.specs.Servers.{ServerRecord}
 use Rattle.sync_node.specs.Opening.{HoldsThose, client_file, server_file}
 use Rattle.sync_node.specs.Showing.{NodeRecords, is_client_file, node_file, node_in, of_client, of_server}
 use Rattle.sync_node.specs.Showing.NodeRecords.{OfClient, OfServer}

@@ -1,11 +1,11 @@
 -- The frames of messages.
 use Rattle.std.specs.Prelude.{ℕ, List, ◌++◌, if◌then◌else◌, length, map}
 use Rattle.byteorder.specs.Endian.{big_bytes}
-use Rattle.node_messages.specs.Parts.{ChangeParts, SentParts}
-use Rattle.node_messages.specs.Spelling.{message_spelling}
-use Rattle.node_messages.specs.declared.message.Message.{Message as CodeMessage}
-use Rattle.node_messages.specs.declared.message.Message.TheVariants as messages
-use Rattle.node_model.specs.Messages.{Change, Sent, Message}
+use Rattle.sync_messages.specs.Parts.{ChangeParts, SentParts}
+use Rattle.sync_messages.specs.Spelling.{message_spelling}
+use Rattle.sync_messages.specs.declared.message.Message.{Message as CodeMessage}
+use Rattle.sync_messages.specs.declared.message.Message.TheVariants as messages
+use Rattle.sync_model.specs.Messages.{Change, Sent, Message}
 
 -- ---- the messages of the model as those of the code, one line a kind
 abbrev pub change_kept : Change → ChangeParts

@@ -6,13 +6,13 @@ use Rattle.sync_disk.specs.declared.disk.Disk.{Ghosts}
 use Rattle.sync_journal.specs.Records.{records_of}
 use Rattle.sync_journal.specs.Records.Reading.{Good}
 use Rattle.sync_journal.specs.Stands.{disk_of}
-use Rattle.node_model.specs.Clients.{ClientRecord}
-use Rattle.node_model.specs.Servers.{ServerRecord}
-use Rattle.node_instance.specs.Seen.{client_bytes, server_bytes}
-use Rattle.node_client.specs.Clients as clients
-use Rattle.node_client.specs.declared.client.Client.{Client}
-use Rattle.node_server.specs.Serving as servers
-use Rattle.node_server.specs.declared.server.Server.{Server}
+use Rattle.sync_model.specs.Clients.{ClientRecord}
+use Rattle.sync_model.specs.Servers.{ServerRecord}
+use Rattle.sync_exchange.specs.Seen.{client_bytes, server_bytes}
+use Rattle.sync_client.specs.Clients as clients
+use Rattle.sync_client.specs.declared.client.Client.{Client}
+use Rattle.sync_server.specs.Serving as servers
+use Rattle.sync_server.specs.declared.server.Server.{Server}
 
 module _ {D : Type 0} {G : Ghosts D} where
   -- an open client of these records, whose disk holds them

@@ -9,19 +9,19 @@ use Rattle.sync_journal.specs.Records.{Reading, records_of}
 use Rattle.sync_journal.specs.Records.Reading.{Good, BadAt}
 use Rattle.sync_journal.specs.declared.opening.OpenCause.{OpenCause}
 use Rattle.sync_journal.specs.declared.opening.OpenCause.TheVariants as causes
-use Rattle.node_model.specs.Clients.{ClientRecord, no_client}
+use Rattle.sync_model.specs.Clients.{ClientRecord, no_client}
 use Rattle.sync_base.specs.States.{State}
 use Rattle.sync_data.specs.declared.instr.Instr.{Instr}
-use Rattle.node_model.specs.Files.{client_reads}
-use Rattle.node_model.specs.Fronts.{file_gives}
-use Rattle.node_model.specs.Parts.{Parts}
-use Rattle.node_model.specs.Servers.{ServerRecord}
-use Rattle.node_instance.specs.Profile.{the_profile}
-use Rattle.node_instance.specs.Seen.{client_bytes, read_client, read_server, server_bytes}
-use Rattle.node_client.specs.Clients as clients
-use Rattle.node_client.specs.declared.client.Client.{Client}
-use Rattle.node_server.specs.Serving as servers
-use Rattle.node_server.specs.declared.server.Server.{Server}
+use Rattle.sync_model.specs.Files.{client_reads}
+use Rattle.sync_model.specs.Fronts.{file_gives}
+use Rattle.sync_model.specs.Parts.{Parts}
+use Rattle.sync_model.specs.Servers.{ServerRecord}
+use Rattle.sync_exchange.specs.Profile.{the_profile}
+use Rattle.sync_exchange.specs.Seen.{client_bytes, read_client, read_server, server_bytes}
+use Rattle.sync_client.specs.Clients as clients
+use Rattle.sync_client.specs.declared.client.Client.{Client}
+use Rattle.sync_server.specs.Serving as servers
+use Rattle.sync_server.specs.declared.server.Server.{Server}
 
 -- records, or the place of the gate of the first that isn't one
 abbrev pub at_gate : {R : Type 0} → List (List ℕ) → Result (List R) ℕ → Result (List R) ℕ

@@ -3,9 +3,9 @@ use Rattle.std.specs.Prelude.{◌≡◌, ℕ, ◌<◌, List, ◌∷◌, ◌++◌
 use Rattle.std.proofs.Common.{ap, arith, length-append}
 use Rattle.std.specs.Option.{option_map}
 use Rattle.byteorder.specs.Endian.{big_bytes}
-use Rattle.node_model.specs.Clients.{ClientRecord}
-use Rattle.node_model.specs.Messages.{Message}
-use Rattle.node_model.specs.Servers.{ServerRecord}
+use Rattle.sync_model.specs.Clients.{ClientRecord}
+use Rattle.sync_model.specs.Messages.{Message}
+use Rattle.sync_model.specs.Servers.{ServerRecord}
 use Rattle.sync_edits.specs.Lines.{node_form_of_line}
 use Rattle.sync_edits.specs.declared.event.NodeLine.{NodeLine}
 use Rattle.sync_edits.specs.declared.event.NodeLine.TheVariants as node_lines

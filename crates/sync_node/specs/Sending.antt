@@ -2,9 +2,9 @@
 use Rattle.std.specs.Prelude.{◌==◌, ℕ, if◌then◌else◌, List, [], Result, Ok, Err}
 use Rattle.sync_data.specs.declared.instr.Instr.{Instr}
 use Rattle.sync_base.specs.States.{State}
-use Rattle.node_model.specs.Clients.{Client, ClientRecord, ClientRefusal, ClientStep, ask, bind, client_of, upload}
-use Rattle.node_model.specs.Messages.{Message}
-use Rattle.node_instance.specs.Profile.{the_profile}
+use Rattle.sync_model.specs.Clients.{Client, ClientRecord, ClientRefusal, ClientStep, ask, bind, client_of, upload}
+use Rattle.sync_model.specs.Messages.{Message}
+use Rattle.sync_exchange.specs.Profile.{the_profile}
 use Rattle.sync_node.specs.Frames.{frame}
 use Rattle.sync_node.specs.declared.sending.Errand.{Errand}
 use Rattle.sync_node.specs.declared.sending.Errand.TheVariants as errands

@@ -2,10 +2,10 @@
 use Rattle.std.specs.Prelude.{ℕ, Bool, true, false, if◌then◌else◌, List, [], ◌∷◌, ◌++◌, codes, length, Option, Some, Result, Ok, Err}
 use Rattle.sync_journal.specs.Records.{Reading, records_of}
 use Rattle.sync_journal.specs.Records.Reading.{Good, BadAt}
-use Rattle.node_model.specs.Clients.{ClientRecord, client_of}
-use Rattle.node_model.specs.Servers.{ServerRecord}
-use Rattle.node_instance.specs.Profile.{the_profile}
-use Rattle.node_instance.specs.Seen.{read_client}
+use Rattle.sync_model.specs.Clients.{ClientRecord, client_of}
+use Rattle.sync_model.specs.Servers.{ServerRecord}
+use Rattle.sync_exchange.specs.Profile.{the_profile}
+use Rattle.sync_exchange.specs.Seen.{read_client}
 use Rattle.sync_node.specs.Opening.{client_in, server_in}
 use Rattle.sync_node.specs.Steps.{kept_by}
 use Rattle.sync_world.specs.Reports.{kept_text, standing_text}

@@ -1,16 +1,16 @@
 -- What answers a line or a frame, by the records of the node: the text that is written, and the records that are added before.
 use Rattle.std.specs.Prelude.{◌≡◌, ℕ, Bool, true, false, List, codes, map, Option, None, Some, Result, Ok, Err, ⊤}
 use Rattle.std.specs.Option.{is_some, option_map}
-use Rattle.node_model.specs.Clients as clients
-use Rattle.node_model.specs.Clients.{ClientRecord, ClientRefusal, ClientStep, client_of}
-use Rattle.node_model.specs.Messages.{Message}
+use Rattle.sync_model.specs.Clients as clients
+use Rattle.sync_model.specs.Clients.{ClientRecord, ClientRefusal, ClientStep, client_of}
+use Rattle.sync_model.specs.Messages.{Message}
 use Rattle.sync_base.specs.States.{State}
 use Rattle.sync_data.specs.declared.instr.Instr.{Instr}
-use Rattle.node_model.specs.Fronts.{file_gives}
-use Rattle.node_model.specs.Parts.{Parts, Served, no_parts, serve_by}
-use Rattle.node_model.specs.Servers.{ServerRecord}
-use Rattle.node_model.specs.Worlds.{Words}
-use Rattle.node_instance.specs.Profile.{the_profile}
+use Rattle.sync_model.specs.Fronts.{file_gives}
+use Rattle.sync_model.specs.Parts.{Parts, Served, no_parts, serve_by}
+use Rattle.sync_model.specs.Servers.{ServerRecord}
+use Rattle.sync_model.specs.Worlds.{Words}
+use Rattle.sync_exchange.specs.Profile.{the_profile}
 use Rattle.sync_edits.specs.Lines.{node_form_of_line}
 use Rattle.sync_edits.specs.declared.event.NodeLine.{NodeLine}
 use Rattle.sync_edits.specs.declared.event.NodeLine.TheVariants as node_lines

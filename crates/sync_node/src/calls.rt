@@ -1,9 +1,9 @@
 // The calls of a client over a file, each answered by its outcome line.
 ghost use Rattle.std.specs.Prelude.{◌≡◌, ◌≤◌, ℕ, List, Some, Ok, Err, IfOk};
 ghost use Rattle.sync_disk.specs.Disk.{Rose};
-ghost use Rattle.node_model.specs.Clients as model;
-ghost use Rattle.node_instance.specs.Profile.{the_profile};
-ghost use Rattle.node_instance.specs.Seen.{client_bytes, message_seen};
+ghost use Rattle.sync_model.specs.Clients as model;
+ghost use Rattle.sync_exchange.specs.Profile.{the_profile};
+ghost use Rattle.sync_exchange.specs.Seen.{client_bytes, message_seen};
 ghost use Rattle.sync_node.specs.Holding.{ClientStands, client_faults, client_images, client_origin};
 ghost use Rattle.sync_node.specs.Runs.{AnswersSo, LeavesSome};
 ghost use Rattle.sync_node.specs.Steps.{born_words, line_answer, made_words, said, subscribe_words, take_answer, took_words, upgrade_words};
@@ -11,12 +11,12 @@ ghost use Rattle.sync_node.specs.Steps.{born_words, line_answer, made_words, sai
 use super::command::ItemEnd;
 use super::outcome::{decline, say};
 use std::alloc::Global;
-use node_client::Client;
+use sync_client::Client;
 use sync_data::{Id, Instr, NoMemory};
 use sync_disk::Disk;
 use sync_edits::NodeLine;
+use sync_messages::Message;
 use sync_subset::Subset;
-use node_messages::Message;
 use sync_world::{Fixed, fixed_words, made_words, put, took_words};
 
 /// The word of a client that has its uuid now.

@@ -7,10 +7,10 @@ ghost use Rattle.sync_journal.specs.Records.Reading.{Good};
 use super::calls::{take, take_line};
 use super::command::{Command, ItemEnd};
 use std::alloc::Global;
-use node_client::Client;
+use sync_client::Client;
 use sync_disk::Disk;
 use sync_edits::{LineRefusal, node_line_of};
-use node_messages::{MessageRefusal, message_of};
+use sync_messages::{MessageRefusal, message_of};
 
 /// A client over a file that does what node lines say.
 #[derive(Drop)]
@@ -27,8 +27,8 @@ pub(crate) struct Taker<D: Disk> {
 }
 
 impl<D: Disk> Command for Editor<D> {
-    ghost use Rattle.node_model.specs.Clients.{ClientRecord};
-    ghost use Rattle.node_instance.specs.Seen.{client_bytes};
+    ghost use Rattle.sync_model.specs.Clients.{ClientRecord};
+    ghost use Rattle.sync_exchange.specs.Seen.{client_bytes};
     ghost use Rattle.sync_node.specs.Holding.{ClientStands, client_faults, client_images, client_keeps, client_origin};
     ghost use Rattle.sync_node.specs.Saying.{edit_says};
     ghost use Rattle.sync_node.specs.Steps.{edit_step};
@@ -61,8 +61,8 @@ impl<D: Disk> Command for Editor<D> {
 }
 
 impl<D: Disk> Command for Taker<D> {
-    ghost use Rattle.node_model.specs.Clients.{ClientRecord};
-    ghost use Rattle.node_instance.specs.Seen.{client_bytes};
+    ghost use Rattle.sync_model.specs.Clients.{ClientRecord};
+    ghost use Rattle.sync_exchange.specs.Seen.{client_bytes};
     ghost use Rattle.sync_node.specs.Holding.{ClientStands, client_faults, client_images, client_keeps, client_origin};
     ghost use Rattle.sync_node.specs.Saying.{take_says};
     ghost use Rattle.sync_node.specs.Steps.{take_step};

@@ -1,11 +1,11 @@
 ghost use Rattle.std.specs.Prelude.{◌≡◌, ◌++◌, IfOk, OnOk};
-ghost use Rattle.node_instance.specs.Seen.{message_seen};
+ghost use Rattle.sync_exchange.specs.Seen.{message_seen};
 ghost use Rattle.sync_node.specs.Frames.{frame};
 
 use byteorder::{BigEndian, ByteOrder};
 use std::alloc::Global;
 use sync_data::NoMemory;
-use node_messages::{Message, message_bytes};
+use sync_messages::{Message, message_bytes};
 
 /// Puts bytes behind others.
 fn put(out: &mut Vec<u8>, bytes: &[u8]) -> Result<(), NoMemory>

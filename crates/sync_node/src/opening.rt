@@ -3,16 +3,16 @@ ghost use Rattle.sync_disk.specs.Disk.{LeavesOnly, Rose, Told};
 ghost use Rattle.sync_journal.specs.Records.{records_of};
 ghost use Rattle.sync_journal.specs.Records.Reading.{Good};
 ghost use Rattle.sync_journal.specs.Stands.{disk_of};
-ghost use Rattle.node_client.specs.Clients as clients;
-ghost use Rattle.node_server.specs.Serving as servers;
+ghost use Rattle.sync_client.specs.Clients as clients;
+ghost use Rattle.sync_server.specs.Serving as servers;
 ghost use Rattle.sync_node.specs.Opening.{OpenedClient, OpenedServer, IsOpenStatus, client_file, open_status, server_file};
 
 use std::alloc::Global;
-use node_client::Client;
+use sync_client::Client;
 use sync_disk::Disk;
 use sync_io::Status;
 use sync_journal::{OpenCause, OpenRefusal};
-use node_server::Server;
+use sync_server::Server;
 
 /// How a command ended, and the disk of its node.
 #[derive(Drop)]

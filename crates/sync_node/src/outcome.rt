@@ -1,11 +1,11 @@
 ghost use Rattle.std.specs.Prelude.{◌≡◌, List, ℕ, Err, IfOk};
-ghost use Rattle.node_client.specs.Refusals.{refusal_seen};
+ghost use Rattle.sync_client.specs.Refusals.{refusal_seen};
 ghost use Rattle.sync_world.specs.Words.{outcome_line};
 ghost use Rattle.sync_node.specs.Steps.{Declined};
 
 use super::command::ItemEnd;
 use std::alloc::Global;
-use node_client::ClientRefusal;
+use sync_client::ClientRefusal;
 use sync_data::NoMemory;
 use sync_world::{declined_words, outcome_line};
 

@@ -4,11 +4,11 @@ ghost use Rattle.sync_io.specs.Faults.{HasRisen};
 ghost use Rattle.sync_journal.specs.Records.{records_of};
 ghost use Rattle.sync_journal.specs.Records.Reading.{Good};
 ghost use Rattle.sync_journal.specs.Stands.{disk_of};
-ghost use Rattle.node_model.specs.Clients.{ClientRecord, ClientStep, client_of};
-ghost use Rattle.node_model.specs.Messages.{Message as ModelMessage};
-ghost use Rattle.node_instance.specs.Profile.{the_profile};
-ghost use Rattle.node_client.specs.Clients.{IsClientOf, journal_of};
-ghost use Rattle.node_client.specs.Sending.{Sends};
+ghost use Rattle.sync_model.specs.Clients.{ClientRecord, ClientStep, client_of};
+ghost use Rattle.sync_model.specs.Messages.{Message as ModelMessage};
+ghost use Rattle.sync_exchange.specs.Profile.{the_profile};
+ghost use Rattle.sync_client.specs.Clients.{IsClientOf, journal_of};
+ghost use Rattle.sync_client.specs.Sending.{Sends};
 ghost use Rattle.sync_node.specs.Opening.{HoldsThose, client_file};
 ghost use Rattle.sync_node.specs.Sending.{asked, frames_of, sent, step_of, text_of};
 ghost use Rattle.sync_node.specs.Texts.{IsDoneOrNoMemory, IsMade, IsTellStatus, IsTextStatus, TellsBad, Writes};
@@ -18,11 +18,11 @@ use crate::lent::Lent;
 use crate::opening::{Ended, open_client};
 use crate::text::write_text;
 use std::alloc::Global;
-use node_client::{Client, ClientRefusal};
+use sync_client::{Client, ClientRefusal};
 use sync_data::NoMemory;
 use sync_disk::Disk;
 use sync_io::{Sink, Status};
-use node_messages::Message;
+use sync_messages::Message;
 
 /// What a client is to write.
 #[derive(Clone, Copy, Debug, PartialEq, Eq)]

@@ -4,9 +4,9 @@ ghost use Rattle.sync_io.specs.Faults.{HasRisen};
 ghost use Rattle.sync_journal.specs.Records.{records_of};
 ghost use Rattle.sync_journal.specs.Records.Reading.{Good};
 ghost use Rattle.sync_journal.specs.Stands.{disk_of};
-ghost use Rattle.node_model.specs.Servers.{ServerRecord};
-ghost use Rattle.node_instance.specs.Seen.{server_bytes};
-ghost use Rattle.node_server.specs.Serving.{journal_of};
+ghost use Rattle.sync_model.specs.Servers.{ServerRecord};
+ghost use Rattle.sync_exchange.specs.Seen.{server_bytes};
+ghost use Rattle.sync_server.specs.Serving.{journal_of};
 ghost use Rattle.sync_node.specs.Holding.{ServerStands};
 ghost use Rattle.sync_node.specs.Items.{frames_of};
 ghost use Rattle.sync_node.specs.Opening.{server_file};
@@ -21,7 +21,7 @@ use super::waiter::Waiter;
 use std::alloc::Global;
 use sync_disk::Disk;
 use sync_io::{Sink, Source, Status};
-use node_server::Server;
+use sync_server::Server;
 
 /// Runs a server on frames over its disk, and hands the disk back.
 fn serve_opened<S: Source, K: Sink, D: Disk>(

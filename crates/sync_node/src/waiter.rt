@@ -3,12 +3,12 @@ ghost use Rattle.std.specs.Prelude.{◌≡◌, ◌<◌, ◌≤◌, ℕ, List, �
 ghost use Rattle.sync_disk.specs.Disk.{Rose};
 ghost use Rattle.sync_journal.specs.Records.{records_of};
 ghost use Rattle.sync_journal.specs.Records.Reading.{Good};
-ghost use Rattle.node_model.specs.Parts.{serve_by};
-ghost use Rattle.node_model.specs.Servers as model;
-ghost use Rattle.node_server.specs.Kept.{parts};
-ghost use Rattle.node_server.specs.Serving.{kept_of};
-ghost use Rattle.node_instance.specs.Profile.{the_profile};
-ghost use Rattle.node_instance.specs.Seen.{message_seen, server_bytes};
+ghost use Rattle.sync_model.specs.Parts.{serve_by};
+ghost use Rattle.sync_model.specs.Servers as model;
+ghost use Rattle.sync_server.specs.Kept.{parts};
+ghost use Rattle.sync_server.specs.Serving.{kept_of};
+ghost use Rattle.sync_exchange.specs.Profile.{the_profile};
+ghost use Rattle.sync_exchange.specs.Seen.{message_seen, server_bytes};
 ghost use Rattle.sync_node.specs.Holding.{ServerStands, server_faults, server_images, server_origin};
 ghost use Rattle.sync_node.specs.Runs.{AnswersSo, LeavesSome};
 ghost use Rattle.sync_node.specs.Steps.{replied};
@@ -18,8 +18,8 @@ use super::frame::frame_of;
 use std::alloc::Global;
 use sync_data::NoMemory;
 use sync_disk::Disk;
-use node_messages::{Message, MessageRefusal, message_of};
-use node_server::{Server, ServerRefusal};
+use sync_messages::{Message, MessageRefusal, message_of};
+use sync_server::{Server, ServerRefusal};
 
 /// A server over a file that takes messages.
 #[derive(Drop)]
@@ -55,8 +55,8 @@ fn reply<D: Disk>(
 }
 
 impl<D: Disk> Command for Waiter<D> {
-    ghost use Rattle.node_model.specs.Servers.{ServerRecord};
-    ghost use Rattle.node_instance.specs.Seen.{server_bytes};
+    ghost use Rattle.sync_model.specs.Servers.{ServerRecord};
+    ghost use Rattle.sync_exchange.specs.Seen.{server_bytes};
     ghost use Rattle.sync_node.specs.Holding.{ServerStands, server_faults, server_images, server_keeps, server_origin};
     ghost use Rattle.sync_node.specs.Saying.{serve_says};
     ghost use Rattle.sync_node.specs.Steps.{serve_step};

@@ -1,11 +1,13 @@
 -- The two laws of records: what is read is spelled so, and what is spelled so is read.
-use Rattle.std.proofs.Common.{◌≡◌, ℕ, ◌<◌, ◌^◌, leb, eqb, true, List, ◌∷◌, ◌++◌, length, Some, Result, Ok, Err, refl, sym, ap, ◌∙◌, lit<}
+use Rattle.std.proofs.Common.{◌≡◌, ℕ, ◌<◌, ◌^◌, leb, eqb, true, List, ◌∷◌, ◌++◌, drop, length, Some, Result, Ok, Err, refl, sym, ap, ◌∙◌, lit<}
 use Rattle.std.specs.Prelude.{IfOk}
 use Rattle.std.specs.List.{AllByRecursion}
 use Rattle.std.proofs.lemmas.Bool.{eqb-true, le-leb}
 use Rattle.sync_io.specs.VarintLaws.{IsBytes}
 use Rattle.sync_io.specs.Varints.{varint}
-use Rattle.sync_io.specs.FormatLaws.{number_is, wide_is, bytes_is, both_is, only_is}
+use Rattle.sync_io.specs.FormatLaws.{some_is, number_is, wide_is, bytes_is, both_is, only_is}
+use Rattle.subset_bytes.specs.Laws.{FitsTables, tables_are, tables_fit}
+use Rattle.subset_bytes.specs.Spelling.{tables_spelling}
 use Rattle.sync_records.specs.declared.client.ClientRecord.{ClientRecord}
 use Rattle.sync_records.specs.declared.client.ClientRecord.TheVariants as client
 use Rattle.sync_records.specs.declared.server.ServerRecord.{ServerRecord}
@@ -13,7 +15,7 @@ use Rattle.sync_records.specs.declared.server.ServerRecord.TheVariants as server
 use Rattle.sync_records.specs.declared.refusal.RecordRefusal.{RecordRefusal}
 use Rattle.sync_records.specs.Limits.{IsClientRecord, IsServerRecord}
 use Rattle.sync_records.specs.Spelling.{client_spelling, server_spelling}
-use Rattle.sync_records.specs.Reading.{Gives, id_in, ident_in, form_in, made_in, took_in, entry_in, made_of, took_of, entry_of, client_forms, server_forms, record_in}
+use Rattle.sync_records.specs.Reading.{Gives, id_in, ident_in, form_in, made_in, took_in, entry_in, past_in, version_in, pair_in, count_in, names_in, rest_in, made_of, took_of, entry_of, pair_as, count_of, carried_of, past_of, client_forms, server_forms, record_in}
 use Rattle.sync_records.proofs.Whole.{IsWhole, all_is, rest_is, IsForm, form_is, form_again, record_takes}
 
 id_is : IsWhole (λ text. text) id_in (λ text. length text ≡ 16)
@@ -37,6 +39,24 @@ took_is = rest_is (both_is (both_is number_is number_is) wide_is)
 entry_is : IsWhole (λ (x : (((ℕ × ℕ) × ℕ) × ℕ) × List ℕ). varint x.0.0.0.0 ++ varint x.0.0.0.1 ++ varint x.0.0.1 ++ varint x.0.1 ++ x.1) entry_in (λ x. (((x.0.0.0.0 < 2 ^ 32) × (x.0.0.0.1 < 2 ^ 32)) × (x.0.0.1 < 2 ^ 32)) × (x.0.1 < 2 ^ 64))
 entry_is = rest_is (both_is (both_is (both_is number_is number_is) number_is) wide_is)
 
+version_is : IsWhole varint version_in (λ n. n < 2 ^ 32)
+version_is = all_is number_is
+
+pair_is : IsWhole (λ (x : ℕ × ℕ). varint x.0 ++ varint x.1) pair_in (λ x. (x.0 < 2 ^ 32) × (x.1 < 2 ^ 32))
+pair_is = all_is (both_is number_is number_is)
+
+count_is : IsWhole (λ (x : ((ℕ × ℕ) × ℕ) × ℕ). varint x.0.0.0 ++ varint x.0.0.1 ++ varint x.0.1 ++ varint x.1) count_in (λ x. (((x.0.0.0 < 2 ^ 32) × (x.0.0.1 < 2 ^ 32)) × (x.0.1 < 2 ^ 32)) × (x.1 < 2 ^ 32))
+count_is = all_is (both_is (both_is (both_is number_is number_is) number_is) number_is)
+
+names_is : IsWhole tables_spelling names_in FitsTables
+names_is = all_is tables_are
+
+body_is : IsWhole (λ body. body) rest_in (λ body. Unit {0})
+body_is = record { takes = λ bytes x fits e. (some_is bytes x e, tt); again = λ x fits. refl }
+
+past_is : IsWhole (λ (x : ((ℕ × ℕ) × ℕ) × List ℕ). varint x.0.0.0 ++ varint x.0.0.1 ++ varint x.0.1 ++ x.1) past_in (λ x. ((x.0.0.0 < 2 ^ 32) × (x.0.0.1 < 2 ^ 32)) × (x.0.1 < 2 ^ 64))
+past_is = took_is
+
 -- ---- a client's
 
 abbrev FitsClient : ClientRecord → Type 0
@@ -45,6 +65,9 @@ FitsClient (client.Named ident) = (ident < 2 ^ 32) × (leb 1 ident ≡ true)
 FitsClient (client.Made number ms body) = (number < 2 ^ 32) × (ms < 2 ^ 64)
 FitsClient (client.Took origin number ms body) = ((origin < 2 ^ 32) × (number < 2 ^ 32)) × (ms < 2 ^ 64)
 FitsClient client.Form = Unit {0}
+FitsClient (client.Subset tables) = FitsTables tables
+FitsClient (client.Part body) = Unit {0}
+FitsClient (client.Floor version) = version < 2 ^ 32
 
 client_forms_are : AllByRecursion (IsForm client_spelling FitsClient) client_forms
 client_forms_are = (
@@ -55,7 +78,16 @@ client_forms_are = (
       form_is made_is made_of client_spelling FitsClient 3 (λ x f. refl) (λ x f. f),
       (
         form_is took_is took_of client_spelling FitsClient 4 (λ x f. refl) (λ x f. f),
-        (form_is form_number_is (λ _. client.Form) client_spelling FitsClient 7 second (λ x f. tt), tt),
+        (
+          form_is form_number_is (λ _. client.Form) client_spelling FitsClient 7 second (λ x f. tt),
+          (
+            form_is names_is client.Subset client_spelling FitsClient 9 (λ x f. refl) (λ x f. f),
+            (
+              form_is body_is client.Part client_spelling FitsClient 11 (λ x f. refl) (λ x f. tt),
+              (form_is version_is client.Floor client_spelling FitsClient 12 (λ x f. refl) (λ x f. f), tt),
+            ),
+          ),
+        ),
       ),
     ),
   ),
@@ -67,6 +99,9 @@ client_again (client.Named ident) fits = form_again ident_is client.Named ident 
 client_again (client.Made number ms body) fits = form_again made_is made_of ((number, ms), body) fits
 client_again (client.Took origin number ms body) fits = form_again took_is took_of (((origin, number), ms), body) fits
 client_again client.Form fits = form_again form_number_is (λ _. client.Form) 2 (lit< tt, refl)
+client_again (client.Subset tables) fits = form_again names_is client.Subset tables fits
+client_again (client.Part body) fits = form_again body_is client.Part body tt
+client_again (client.Floor version) fits = form_again version_is client.Floor version fits
 
 client_fits : (record_ : ClientRecord) → IsClientRecord record_ → FitsClient record_
 client_fits (client.Born id) is = is
@@ -74,6 +109,9 @@ client_fits (client.Named ident) is = (is.1, le-leb 1 ident is.0)
 client_fits (client.Made number ms body) is = (is.0, is.1)
 client_fits (client.Took origin number ms body) is = ((is.0, is.1), is.2)
 client_fits client.Form is = tt
+client_fits (client.Subset tables) is = tables_fit tables is
+client_fits (client.Part body) is = tt
+client_fits (client.Floor version) is = is
 
 pub client_found : (bytes : List ℕ) (r : Result ClientRecord RecordRefusal) → IsBytes bytes → Gives (λ x. x) r (record_in client_forms bytes) → IfOk r (λ x. bytes ≡ client_spelling x)
 client_found bytes (Ok x) fits given = (record_takes client_spelling FitsClient client_forms client_forms_are bytes x fits given).0
@@ -88,13 +126,41 @@ abbrev FitsServer : ServerRecord → Type 0
 FitsServer (server.Client id) = length id ≡ 16
 FitsServer (server.Entry origin number base ms body) = (((origin < 2 ^ 32) × (number < 2 ^ 32)) × (base < 2 ^ 32)) × (ms < 2 ^ 64)
 FitsServer server.Form = Unit {0}
+FitsServer (server.Retired ident by) = (ident < 2 ^ 32) × (by < 2 ^ 32)
+FitsServer (server.Settled ident settled) = (ident < 2 ^ 32) × (settled < 2 ^ 32)
+FitsServer (server.Part body) = Unit {0}
+FitsServer (server.Floor version) = version < 2 ^ 32
+FitsServer (server.Count ident number base settled) = (((ident < 2 ^ 32) × (number < 2 ^ 32)) × (base < 2 ^ 32)) × (settled < 2 ^ 32)
+FitsServer (server.Carried origin number base ms body) = (((origin < 2 ^ 32) × (number < 2 ^ 32)) × (base < 2 ^ 32)) × (ms < 2 ^ 64)
+FitsServer (server.Past ident version ms body) = ((ident < 2 ^ 32) × (version < 2 ^ 32)) × (ms < 2 ^ 64)
+
+later_forms_are : AllByRecursion (IsForm server_spelling FitsServer) (drop 3 server_forms)
+later_forms_are = (
+  form_is pair_is (pair_as server.Retired) server_spelling FitsServer 8 (λ x f. refl) (λ x f. f),
+  (
+    form_is pair_is (pair_as server.Settled) server_spelling FitsServer 10 (λ x f. refl) (λ x f. f),
+    (
+      form_is body_is server.Part server_spelling FitsServer 11 (λ x f. refl) (λ x f. tt),
+      (
+        form_is version_is server.Floor server_spelling FitsServer 12 (λ x f. refl) (λ x f. f),
+        (
+          form_is count_is count_of server_spelling FitsServer 13 (λ x f. refl) (λ x f. f),
+          (
+            form_is entry_is carried_of server_spelling FitsServer 14 (λ x f. refl) (λ x f. f),
+            (form_is past_is past_of server_spelling FitsServer 15 (λ x f. refl) (λ x f. f), tt),
+          ),
+        ),
+      ),
+    ),
+  ),
+)
 
 server_forms_are : AllByRecursion (IsForm server_spelling FitsServer) server_forms
 server_forms_are = (
   form_is id_is server.Client server_spelling FitsServer 5 (λ x f. refl) (λ x f. f),
   (
     form_is entry_is entry_of server_spelling FitsServer 6 (λ x f. refl) (λ x f. f),
-    (form_is form_number_is (λ _. server.Form) server_spelling FitsServer 7 second (λ x f. tt), tt),
+    (form_is form_number_is (λ _. server.Form) server_spelling FitsServer 7 second (λ x f. tt), later_forms_are),
   ),
 )
 
@@ -102,11 +168,25 @@ server_again : (record_ : ServerRecord) → FitsServer record_ → record_in ser
 server_again (server.Client id) fits = form_again id_is server.Client id fits
 server_again (server.Entry origin number base ms body) fits = form_again entry_is entry_of ((((origin, number), base), ms), body) fits
 server_again server.Form fits = form_again form_number_is (λ _. server.Form) 2 (lit< tt, refl)
+server_again (server.Retired ident by) fits = form_again pair_is (pair_as server.Retired) (ident, by) fits
+server_again (server.Settled ident settled) fits = form_again pair_is (pair_as server.Settled) (ident, settled) fits
+server_again (server.Part body) fits = form_again body_is server.Part body tt
+server_again (server.Floor version) fits = form_again version_is server.Floor version fits
+server_again (server.Count ident number base settled) fits = form_again count_is count_of (((ident, number), base), settled) fits
+server_again (server.Carried origin number base ms body) fits = form_again entry_is carried_of ((((origin, number), base), ms), body) fits
+server_again (server.Past ident version ms body) fits = form_again past_is past_of (((ident, version), ms), body) fits
 
 server_fits : (record_ : ServerRecord) → IsServerRecord record_ → FitsServer record_
 server_fits (server.Client id) is = is
 server_fits (server.Entry origin number base ms body) is = (((is.0, is.1), is.2), is.3)
 server_fits server.Form is = tt
+server_fits (server.Retired ident by) is = (is.0, is.1)
+server_fits (server.Settled ident settled) is = (is.0, is.1)
+server_fits (server.Part body) is = tt
+server_fits (server.Floor version) is = is
+server_fits (server.Count ident number base settled) is = (((is.0, is.1), is.2), is.3)
+server_fits (server.Carried origin number base ms body) is = (((is.0, is.1), is.2), is.3)
+server_fits (server.Past ident version ms body) is = ((is.0, is.1), is.2)
 
 pub server_found : (bytes : List ℕ) (r : Result ServerRecord RecordRefusal) → IsBytes bytes → Gives (λ x. x) r (record_in server_forms bytes) → IfOk r (λ x. bytes ≡ server_spelling x)
 server_found bytes (Ok x) fits given = (record_takes server_spelling FitsServer server_forms server_forms_are bytes x fits given).0

@@ -1,5 +1,6 @@
--- Which values are records: each number fits its type, and a client that is named has an ident.
+-- Which values are records: each number fits its type, a client that is named has an ident, and tables are as they are spelled.
 use Rattle.std.specs.Prelude.{◌≡◌, ◌<◌, ◌≤◌, ◌^◌, length}
+use Rattle.subset_bytes.specs.Spelling.{AreTables}
 use Rattle.sync_records.specs.declared.client.ClientRecord.{ClientRecord}
 use Rattle.sync_records.specs.declared.client.ClientRecord.TheVariants as client
 use Rattle.sync_records.specs.declared.server.ServerRecord.{ServerRecord}
@@ -11,8 +12,18 @@ IsClientRecord (client.Named ident) = (1 ≤ ident) × (ident < 2 ^ 32)
 IsClientRecord (client.Made number ms body) = (number < 2 ^ 32) × (ms < 2 ^ 64)
 IsClientRecord (client.Took origin number ms body) = (origin < 2 ^ 32) × (number < 2 ^ 32) × (ms < 2 ^ 64)
 IsClientRecord client.Form = Unit {0}
+IsClientRecord (client.Subset tables) = AreTables tables
+IsClientRecord (client.Part body) = Unit {0}
+IsClientRecord (client.Floor version) = version < 2 ^ 32
 
 abbrev pub IsServerRecord : ServerRecord → Type 0
 IsServerRecord (server.Client id) = length id ≡ 16
 IsServerRecord (server.Entry origin number base ms body) = (origin < 2 ^ 32) × (number < 2 ^ 32) × (base < 2 ^ 32) × (ms < 2 ^ 64)
 IsServerRecord server.Form = Unit {0}
+IsServerRecord (server.Retired ident by) = (ident < 2 ^ 32) × (by < 2 ^ 32)
+IsServerRecord (server.Settled ident settled) = (ident < 2 ^ 32) × (settled < 2 ^ 32)
+IsServerRecord (server.Part body) = Unit {0}
+IsServerRecord (server.Floor version) = version < 2 ^ 32
+IsServerRecord (server.Count ident number base settled) = (ident < 2 ^ 32) × (number < 2 ^ 32) × (base < 2 ^ 32) × (settled < 2 ^ 32)
+IsServerRecord (server.Carried origin number base ms body) = (origin < 2 ^ 32) × (number < 2 ^ 32) × (base < 2 ^ 32) × (ms < 2 ^ 64)
+IsServerRecord (server.Past ident version ms body) = (ident < 2 ^ 32) × (version < 2 ^ 32) × (ms < 2 ^ 64)

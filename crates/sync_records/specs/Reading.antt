@@ -1,6 +1,8 @@
 -- How records are read.
 use Rattle.std.specs.Prelude.{◌≡◌, ℕ, ◌==◌, if◌then◌else◌, List, [], ◌∷◌, nat_le, Option, None, Some, Result, Ok, Err}
 use Rattle.sync_io.specs.Formats.{◌>>=◌, number_in, wide_in, bytes_in, both_in, only_in, all_in}
+use Rattle.subset_bytes.specs.Reading.{tables_in}
+use Rattle.sync_subset.specs.Tables.{Tables}
 use Rattle.sync_records.specs.declared.refusal.RecordRefusal.{RecordRefusal}
 use Rattle.sync_records.specs.declared.refusal.RecordRefusal.TheVariants as refusals
 use Rattle.sync_records.specs.declared.client.ClientRecord.{ClientRecord}
@@ -40,12 +42,33 @@ ident_in bytes = all_in (only_in (λ n. nat_le 1 n) number_in) bytes
 abbrev pub form_in : List ℕ → Option ℕ
 form_in bytes = all_in (only_in (λ n. n == 2) number_in) bytes
 
+-- one number, and two, and four
+abbrev pub version_in : List ℕ → Option ℕ
+version_in bytes = all_in number_in bytes
+
+abbrev pub pair_in : List ℕ → Option (ℕ × ℕ)
+pair_in bytes = all_in (both_in number_in number_in) bytes
+
+abbrev pub count_in : List ℕ → Option (((ℕ × ℕ) × ℕ) × ℕ)
+count_in bytes = all_in (both_in (both_in (both_in number_in number_in) number_in) number_in) bytes
+
+-- the names of tables
+abbrev pub names_in : List ℕ → Option Tables
+names_in bytes = all_in tables_in bytes
+
+-- all that is left
+abbrev pub rest_in : List ℕ → Option (List ℕ)
+rest_in bytes = Some bytes
+
 -- numbers, and what is left
 abbrev pub made_in : List ℕ → Option ((ℕ × ℕ) × List ℕ)
 made_in bytes = both_in number_in wide_in bytes
 
 abbrev pub took_in : List ℕ → Option (((ℕ × ℕ) × ℕ) × List ℕ)
 took_in bytes = both_in (both_in number_in number_in) wide_in bytes
+
+abbrev pub past_in : List ℕ → Option (((ℕ × ℕ) × ℕ) × List ℕ)
+past_in bytes = both_in (both_in number_in number_in) wide_in bytes
 
 abbrev pub entry_in : List ℕ → Option ((((ℕ × ℕ) × ℕ) × ℕ) × List ℕ)
 entry_in bytes = both_in (both_in (both_in number_in number_in) number_in) wide_in bytes
@@ -59,6 +82,18 @@ took_of p = client.Took p.0.0.0 p.0.0.1 p.0.1 p.1
 abbrev pub entry_of : (((ℕ × ℕ) × ℕ) × ℕ) × List ℕ → ServerRecord
 entry_of p = server.Entry p.0.0.0.0 p.0.0.0.1 p.0.0.1 p.0.1 p.1
 
+abbrev pub pair_as : (ℕ → ℕ → ServerRecord) → ℕ × ℕ → ServerRecord
+pair_as make p = make p.0 p.1
+
+abbrev pub count_of : ((ℕ × ℕ) × ℕ) × ℕ → ServerRecord
+count_of p = server.Count p.0.0.0 p.0.0.1 p.0.1 p.1
+
+abbrev pub carried_of : (((ℕ × ℕ) × ℕ) × ℕ) × List ℕ → ServerRecord
+carried_of p = server.Carried p.0.0.0.0 p.0.0.0.1 p.0.0.1 p.0.1 p.1
+
+abbrev pub past_of : ((ℕ × ℕ) × ℕ) × List ℕ → ServerRecord
+past_of p = server.Past p.0.0.0 p.0.0.1 p.0.1 p.1
+
 -- each tag, and how the fields behind it are read
 abbrev pub client_forms : List (ℕ × (List ℕ → Option ClientRecord))
 client_forms =
@@ -67,6 +102,9 @@ client_forms =
     ∷ (3, seen made_of made_in)
     ∷ (4, seen took_of took_in)
     ∷ (7, seen (λ _. client.Form) form_in)
+    ∷ (9, seen client.Subset names_in)
+    ∷ (11, seen client.Part rest_in)
+    ∷ (12, seen client.Floor version_in)
     ∷ []
 
 abbrev pub server_forms : List (ℕ × (List ℕ → Option ServerRecord))
@@ -74,4 +112,11 @@ server_forms =
     (5, seen server.Client id_in)
     ∷ (6, seen entry_of entry_in)
     ∷ (7, seen (λ _. server.Form) form_in)
+    ∷ (8, seen (pair_as server.Retired) pair_in)
+    ∷ (10, seen (pair_as server.Settled) pair_in)
+    ∷ (11, seen server.Part rest_in)
+    ∷ (12, seen server.Floor version_in)
+    ∷ (13, seen count_of count_in)
+    ∷ (14, seen carried_of entry_in)
+    ∷ (15, seen past_of past_in)
     ∷ []

@@ -4,12 +4,17 @@ ghost use Rattle.sync_records.specs.Reading.{Gives, seen, made_of as read_made, 
 ghost use Rattle.sync_records.specs.Spelling.{client_spelling};
 ghost use Rattle.sync_records.specs.declared.client.ClientRecord.{ClientRecord};
 
-use crate::fields::{FORM, body_of, form_of, id_of, named_of, number_of, wide_of};
+use crate::fields::{
+    FORM, body_of, form_of, id_of, named_of, names_of, number_of, version_of, wide_of,
+};
 use crate::named::Named;
 use crate::refusal::RecordRefusal;
+use crate::writing::{put_bytes, put_number, put_pair};
 use std::alloc::Global;
+use subset_bytes::put_tables;
 use sync_data::{Blob, Id, Ident, NoMemory};
-use sync_io::{put_varint32, put_varint64};
+use sync_io::put_varint64;
+use sync_subset::Subset;
 
 /// A record of a client's journal (docs/FORMATS.md, "Records").
 #[derive(Drop)]
@@ -37,6 +42,18 @@ pub enum ClientRecord {
     },
     /// From here on the file is in the second form, and may hold changesets of version 2.
     Form,
+    /// The client makes and gets changes of these tables alone.
+    Subset {
+        tables: Subset,
+    },
+    /// The bytes of a changeset, which is the next part of the state with which the file begins.
+    Part {
+        body: Blob,
+    },
+    /// That state is complete, and it is the one at this version of the history.
+    Floor {
+        version: u32,
+    },
 }
 
 fn made_of(alloc: Global, bytes: &[u8]) -> Result<ClientRecord, RecordRefusal>
@@ -76,6 +93,15 @@ fn fields_of(alloc: Global, tag: u8, bytes: &[u8]) -> Result<ClientRecord, Recor
             form_of(bytes)?;
             Ok(ClientRecord::Form)
         }
+        9 => Ok(ClientRecord::Subset {
+            tables: names_of(alloc, bytes)?,
+        }),
+        11 => Ok(ClientRecord::Part {
+            body: body_of(alloc, bytes)?,
+        }),
+        12 => Ok(ClientRecord::Floor {
+            version: version_of(bytes)?,
+        }),
         _ => Err(RecordRefusal::BadRecord),
     }
 }
@@ -94,19 +120,13 @@ fn put_record(out: &mut Vec<u8>, given: &ClientRecord) -> Result<(), sync_io::No
     ensures is { OnOk result (IsClientRecord given.now) }
 {
     match given {
-        ClientRecord::Born { id } => {
-            out.push(1)?;
-            out.extend_from_slice(id)?;
-        }
-        ClientRecord::Named(named) => {
-            out.push(2)?;
-            put_varint32(out, named.ident())?;
-        }
+        ClientRecord::Born { id } => put_bytes(out, 1, id),
+        ClientRecord::Named(named) => put_number(out, 2, named.ident()),
         ClientRecord::Made { number, ms, body } => {
-            out.push(3)?;
-            put_varint32(out, *number)?;
+            put_number(out, 3, *number)?;
             put_varint64(out, *ms)?;
             out.extend_from_slice(body.bytes())?;
+            Ok(())
         }
         ClientRecord::Took {
             origin,
@@ -114,18 +134,19 @@ fn put_record(out: &mut Vec<u8>, given: &ClientRecord) -> Result<(), sync_io::No
             ms,
             body,
         } => {
-            out.push(4)?;
-            put_varint32(out, *origin)?;
-            put_varint32(out, *number)?;
+            put_pair(out, 4, *origin, *number)?;
             put_varint64(out, *ms)?;
             out.extend_from_slice(body.bytes())?;
+            Ok(())
         }
-        ClientRecord::Form => {
-            out.push(7)?;
-            put_varint32(out, FORM)?;
+        ClientRecord::Form => put_number(out, 7, FORM),
+        ClientRecord::Subset { tables } => {
+            out.push(9)?;
+            put_tables(out, tables)
         }
+        ClientRecord::Part { body } => put_bytes(out, 11, body.bytes()),
+        ClientRecord::Floor { version } => put_number(out, 12, *version),
     }
-    Ok(())
 }
 
 impl ClientRecord {

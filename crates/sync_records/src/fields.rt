@@ -1,12 +1,14 @@
 ghost use Rattle.std.specs.Prelude.{◌≡◌, List, length, IfOk};
 ghost use Rattle.sync_io.specs.Formats.{number_in, wide_in, bytes_in};
-ghost use Rattle.sync_records.specs.Reading.{Gives, id_in, ident_in, form_in};
+ghost use Rattle.sync_records.specs.Reading.{Gives, id_in, ident_in, form_in, names_in, rest_in, pair_in, version_in};
 
 use crate::named::Named;
 use crate::refusal::RecordRefusal;
 use std::alloc::Global;
+use subset_bytes::{TablesRefusal, tables_of};
 use sync_data::{Blob, Id};
 use sync_io::{varint32_of, varint64_of};
+use sync_subset::Subset;
 
 /// What a record Form says: the files' second form.
 pub(crate) const FORM: u32 = 2;
@@ -59,9 +61,45 @@ pub(crate) fn form_of(bytes: &[u8]) -> Result<u32, RecordRefusal>
     Ok(form)
 }
 
+/// One number alone.
+pub(crate) fn version_of(bytes: &[u8]) -> Result<u32, RecordRefusal>
+    ensures { Gives (λ x. x) result (version_in bytes.now) }
+{
+    let (version, rest) = number_of(bytes)?;
+    if !rest.is_empty() {
+        return Err(RecordRefusal::BadRecord);
+    }
+    Ok(version)
+}
+
+/// Two numbers alone.
+pub(crate) fn pair_of(bytes: &[u8]) -> Result<(u32, u32), RecordRefusal>
+    ensures { Gives (λ x. (x.0, x.1)) result (pair_in bytes.now) }
+{
+    let (first, rest) = number_of(bytes)?;
+    let (second, rest) = number_of(rest)?;
+    if !rest.is_empty() {
+        return Err(RecordRefusal::BadRecord);
+    }
+    Ok((first, second))
+}
+
+/// The names of tables, alone.
+pub(crate) fn names_of(alloc: Global, bytes: &[u8]) -> Result<Subset, RecordRefusal>
+    ensures { Gives (λ x. x) result (names_in bytes.now) }
+{
+    match tables_of(alloc, bytes) {
+        Ok((tables, [])) => Ok(tables),
+        Ok(_) => Err(RecordRefusal::BadRecord),
+        Err(TablesRefusal::BadTables) => Err(RecordRefusal::BadRecord),
+        Err(TablesRefusal::NoMemory) => Err(RecordRefusal::NoMemory),
+    }
+}
+
 pub(crate) fn body_of(alloc: Global, bytes: &[u8]) -> Result<Blob, RecordRefusal>
     ensures ok { IfOk result (λ body. body ≡ bytes.now) }
     ensures err { result ≡ Err RecordRefusal.BadRecord → ⊥ }
+    ensures gives { Gives (λ x. x) result (rest_in bytes.now) }
 {
     match Blob::new(alloc, bytes) {
         Ok(body) => Ok(body),

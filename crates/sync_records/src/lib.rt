@@ -6,6 +6,9 @@ mod fields;
 mod named;
 mod refusal;
 mod server;
+#[cfg(test)]
+mod tests;
+mod writing;
 
 pub use client::ClientRecord;
 pub use named::Named;

@@ -17,9 +17,9 @@ use Rattle.sync_base.specs.Lemmas.Maps.{get-map_with}
 use Rattle.sync_base.specs.Objects.{object_of}
 use Rattle.sync_base.specs.States.{State, Tables, Cells, object_cmp, column_in, shape_rank}
 use Rattle.sync_law.specs.Coded.{apply, state_or_code}
-use Rattle.node_model.specs.Resets.{Saved, saved_from, saved, tried}
-use Rattle.node_instance.specs.Adapting.{adapt, spot_at}
-use Rattle.node_instance.specs.Profile.{the_profile}
+use Rattle.sync_model.specs.Resets.{Saved, saved_from, saved, tried}
+use Rattle.sync_exchange.specs.Adapting.{adapt, spot_at}
+use Rattle.sync_exchange.specs.Profile.{the_profile}
 use Rattle.sync_reset.specs.Parts.{IsAlike, IsAlikeFor, AreAlikeFor}
 
 abbrev Objects : Type 0

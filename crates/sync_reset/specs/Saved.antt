@@ -2,8 +2,8 @@
 use Rattle.std.specs.Prelude.{ℕ, List, ◌++◌, map}
 use Rattle.sync_data.specs.declared.instr.Instr.{Instr}
 use Rattle.sync_base.specs.States.{State}
-use Rattle.node_model.specs.Resets.{saved_from}
-use Rattle.node_instance.specs.Profile.{the_profile}
+use Rattle.sync_model.specs.Resets.{saved_from}
+use Rattle.sync_exchange.specs.Profile.{the_profile}
 use Rattle.sync_reset.specs.declared.answer.Dropped.{Dropped}
 
 -- each dropped instruction by its place and the code of its break

@@ -1,7 +1,7 @@
 ghost use Rattle.std.specs.Prelude.{◌≡◌, IfOk};
 ghost use Rattle.sync_base.specs.Effects.{path_of};
 ghost use Rattle.sync_base.specs.States.{cell_at};
-ghost use Rattle.node_instance.specs.Adapting.{adapt, spot_at, spot_in};
+ghost use Rattle.sync_exchange.specs.Adapting.{adapt, spot_at, spot_in};
 
 use sync_base::{Between, CellName, Instr, ListInsert, NoMemory};
 use sync_cells::Content;

@@ -1,6 +1,6 @@
 ghost use Rattle.std.specs.Prelude.{◌≡◌, IfOk};
-ghost use Rattle.node_model.specs.Resets.{saved};
-ghost use Rattle.node_instance.specs.Profile.{the_profile};
+ghost use Rattle.sync_model.specs.Resets.{saved};
+ghost use Rattle.sync_exchange.specs.Profile.{the_profile};
 ghost use Rattle.sync_reset.specs.Saved.{drops};
 
 use super::answer::Saved;

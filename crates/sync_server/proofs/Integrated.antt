@@ -9,7 +9,7 @@ use Rattle.sync_recip.specs.Carrying.{Carrying, entries_of}
 use Rattle.sync_recip.specs.Lists.{entry_of}
 use Rattle.sync_exchange.specs.Profile.{fits_changeset}
 use Rattle.sync_model.specs.Parts.{Given, settled, idents_after}
-use Rattle.sync_server.specs.History.{HistoryParts, IsHistory, IsEntry, IsOther, IsReciprocal, AreGiven, with_entry}
+use Rattle.sync_server.specs.History.{HistoryParts, IsHistory, IsEntry, IsOther, IsReciprocal, AreGiven, len_of, with_entry}
 use Rattle.sync_server.specs.Extending.{first_extended}
 use Rattle.sync_server.proofs.Idents.{IsAt}
 use Rattle.sync_server.proofs.Keeps.{settle_keeps, given_at, given_set, given_below, given_extended, settled_history, entered_history}
@@ -19,27 +19,33 @@ last_is : (es : List Entry) (x y : Entry) → get_or (es ++ x ∷ []) (length es
 last_is [] x y = refl
 last_is (e ∷ es) x y = last_is es x y
 
-module _ (es : List Entry) (second : Bool) (gs : List (Given Instr)) (ident number base : ℕ) (carried : Carrying) (g : Given Instr) (is_at : IsAt ident gs g)
-    (was : IsHistory (record { entries = map entry_of es; second = second; idents = gs })) (next : number ≡ suc g.count) (small : fits_changeset carried.changes.instrs ≡ true)
+module _ (floor : ℕ) (es : List Entry) (bs : List ℕ) (second : Bool) (gs : List (Given Instr)) (qs : List (ℕ × ℕ)) (ident number base : ℕ) (carried : Carrying) (g : Given Instr) (is_at : IsAt ident gs g)
+    (was : IsHistory (record { floor = floor; entries = map entry_of es; bases = bs; second = second; idents = gs; retired = qs })) (next : number ≡ suc g.count) (small : fits_changeset carried.changes.instrs ≡ true)
     (others : All (IsOther ident) (entries_of carried g.reciprocal)) (new : Given Instr) (new_is : new ≡ settled base (entries_of carried g.reciprocal) g) where
-  new_kept : All (IsReciprocal (length (map entry_of es)) (1 + (ident - 1))) new.reciprocal
+  abbrev h : HistoryParts
+  h = record { floor = floor; entries = map entry_of es; bases = bs; second = second; idents = gs; retired = qs }
+
+  long_is : len_of h ≡ floor + length es
+  long_is = ap (λ n. floor + n) (length-map es entry_of)
+
+  new_kept : All (IsReciprocal (len_of h) (1 + (ident - 1))) new.reciprocal
   new_kept =
-      let n = length (map entry_of es) in
+      let n = len_of h in
       let place : 1 + (ident - 1) ≡ ident = omega (arith, is_at.positive) in
-      let old = subst (λ h. All (IsReciprocal n (1 + (ident - 1))) h.reciprocal) (sym (is_at.here g)) (given_at n 1 (ident - 1) gs g is_at.within was.idents) in
+      let old = subst (λ d. All (IsReciprocal n (1 + (ident - 1))) d.reciprocal) (sym (is_at.here g)) (given_at n 1 (ident - 1) gs g is_at.within was.idents) in
       subst (λ k. All (IsReciprocal n k) new.reciprocal) (sym place)
-      (subst (λ h. All (IsReciprocal n ident) h.reciprocal) (sym new_is) (settle_keeps n ident base g.reciprocal (entries_of carried g.reciprocal) (subst (λ k. All (IsReciprocal n k) g.reciprocal) place old) others))
+      (subst (λ d. All (IsReciprocal n ident) d.reciprocal) (sym new_is) (settle_keeps n ident base g.reciprocal (entries_of carried g.reciprocal) (subst (λ k. All (IsReciprocal n k) g.reciprocal) place old) others))
 
-  pub not_entered : (now : List Entry) → now ≡ es → IsHistory (record { entries = map entry_of now; second = second; idents = set gs (ident - 1) new })
-  not_entered now e = settled_history (map entry_of es) (map entry_of now) second gs (ident - 1) new (ap (map entry_of) e) was new_kept
+  pub not_entered : (now : List Entry) (bases : List ℕ) → now ≡ es → bases ≡ bs → IsHistory (record h { entries = map entry_of now; bases = bases; idents = set gs (ident - 1) new })
+  not_entered now bases e b = settled_history h (map entry_of now) bases (ident - 1) new (ap (map entry_of) e) b was new_kept
 
-  given_new : AreGiven (length (map entry_of es)) 1 (set gs (ident - 1) new)
-  given_new = given_set (length (map entry_of es)) 1 (ident - 1) gs new was.idents new_kept
+  given_new : AreGiven (len_of h) 1 (set gs (ident - 1) new)
+  given_new = given_set (len_of h) 1 (ident - 1) gs new was.idents new_kept
 
-  pub below : All (λ h. All (λ q. q.0 < length es) h.reciprocal) (set gs (ident - 1) new)
-  below = subst (λ n. All (λ h. All (λ q. q.0 < n) h.reciprocal) (set gs (ident - 1) new)) (length-map es entry_of) (given_below (length (map entry_of es)) 1 (set gs (ident - 1) new) given_new)
+  pub below : All (λ d. All (λ q. q.0 < floor + length es) d.reciprocal) (set gs (ident - 1) new)
+  below = subst (λ n. All (λ d. All (λ q. q.0 < n) d.reciprocal) (set gs (ident - 1) new)) long_is (given_below (len_of h) 1 (set gs (ident - 1) new) given_new)
 
-  module _ (x : Entry) (x_is : x ≡ record { origin = ident; number = number; changes = carried.changes }) (now : List Entry) (more : now ≡ es ++ x ∷ []) (room : length (map entry_of es) < 4294967295) (y : Entry) (y_is : y ≡ get_or now (length es) y) where
+  module _ (x : Entry) (x_is : x ≡ record { origin = ident; number = number; changes = carried.changes }) (now : List Entry) (more : now ≡ es ++ x ∷ []) (bases : List ℕ) (based : bases ≡ bs ++ base ∷ []) (room : len_of h < 4294967295) (y : Entry) (y_is : y ≡ get_or now (length es) y) where
     y_same : entry_of y ≡ made_by ident number carried.changes
     y_same = ap entry_of (y_is ∙ ap (λ l. get_or l (length es) y) more ∙ last_is es x y ∙ x_is)
 
@@ -49,22 +55,22 @@ module _ (es : List Entry) (second : Bool) (gs : List (Given Instr)) (ident numb
     entry_ok : IsEntry (length gs) (made_by ident number carried.changes)
     entry_ok = record { made = omega (arith, is_at.positive); within = omega (arith, is_at.positive, is_at.within); numbered = omega (arith, next); small = small }
 
-    pub entered : (n : ℕ) (after : Bool) (hs : List (Given Instr)) → length hs ≡ length gs → hs ≡ first_extended n (ident - 1) (length es) (entry_of y) 0 (set gs (ident - 1) new) → IsHistory (record { entries = map entry_of now; second = after; idents = hs })
+    pub entered : (n : ℕ) (after : Bool) (hs : List (Given Instr)) → length hs ≡ length gs → hs ≡ first_extended n (ident - 1) (floor + length es) (entry_of y) 0 (set gs (ident - 1) new) → IsHistory (record h { entries = map entry_of now; bases = bases; second = after; idents = hs })
     entered n after hs size e =
-        let same : hs ≡ first_extended n (ident - 1) (length (map entry_of es)) (made_by ident number carried.changes) 0 (set gs (ident - 1) new) = e ∙ (λ i. first_extended n (ident - 1) (sym (length-map es entry_of) i) (y_same i) 0 (set gs (ident - 1) new)) in
-        entered_history (map entry_of es) (map entry_of now) second after gs hs (made_by ident number carried.changes) now_is was room entry_ok size
-        (subst (AreGiven (suc (length (map entry_of es))) 1) (sym same) (given_extended (ident - 1) (length (map entry_of es)) n 0 (made_by ident number carried.changes) (set gs (ident - 1) new) is_at.positive small given_new))
+        let same : hs ≡ first_extended n (ident - 1) (len_of h) (made_by ident number carried.changes) 0 (set gs (ident - 1) new) = e ∙ (λ i. first_extended n (ident - 1) (sym long_is i) (y_same i) 0 (set gs (ident - 1) new)) in
+        entered_history h (map entry_of now) bases base after hs (made_by ident number carried.changes) now_is based was room entry_ok size
+        (subst (AreGiven (suc (len_of h)) 1) (sym same) (given_extended (ident - 1) (len_of h) n 0 (made_by ident number carried.changes) (set gs (ident - 1) new) is_at.positive small given_new))
 
-    pub whole : (form : Bool) (hs : List (Given Instr)) → hs ≡ first_extended (length (set gs (ident - 1) new)) (ident - 1) (length es) (entry_of y) 0 (set gs (ident - 1) new)
-        → ◌≡◌ {A = HistoryParts} (record { entries = map entry_of now; second = second || form; idents = hs }) (with_entry (record { entries = map entry_of es; second = second; idents = gs }) ident base form (made_by ident number carried.changes) (entries_of carried g.reciprocal))
+    pub whole : (form : Bool) (hs : List (Given Instr)) → hs ≡ first_extended (length (set gs (ident - 1) new)) (ident - 1) (floor + length es) (entry_of y) 0 (set gs (ident - 1) new)
+        → ◌≡◌ {A = HistoryParts} (record h { entries = map entry_of now; bases = bases; second = second || form; idents = hs }) (with_entry h ident base form (made_by ident number carried.changes) (entries_of carried g.reciprocal))
     whole form hs e =
         let z = made_by ident number carried.changes in
         let fs = entries_of carried g.reciprocal in
-        let version = sym (length-map es entry_of) in
-        let all : hs ≡ idents_after ident base fs (length (map entry_of es)) z 1 gs =
+        let version = sym long_is in
+        let all : hs ≡ idents_after ident base fs (len_of h) z 1 gs =
         e
         ∙ (λ i. first_extended (length-set gs (ident - 1) new i) (ident - 1) (version i) (y_same i) 0 (set gs (ident - 1) (new_is i)))
-        ∙ all_after (ident - 1) (length (map entry_of es)) z base fs (ident - 1) 0 gs g (omega arith) is_at.within (is_at.here g)
-        ∙ ap (λ c. idents_after c base fs (length (map entry_of es)) z 1 gs) (sym is_at.positive)
+        ∙ all_after (ident - 1) (len_of h) z base fs (ident - 1) 0 gs g (omega arith) is_at.within (is_at.here g)
+        ∙ ap (λ c. idents_after c base fs (len_of h) z 1 gs) (sym is_at.positive)
         in
-        λ i. record { entries = now_is i; second = second || form; idents = all i }
+        λ i. record h { entries = now_is i; bases = based i; second = second || form; idents = all i }

@@ -1,5 +1,5 @@
 -- What a server keeps of its history stays right.
-use Rattle.std.proofs.Common.{◌≡◌, ℕ, zero, suc, ◌+◌, ◌-◌, ◌<◌, ◌≤◌, ◌==◌, Bool, true, false, List, [], ◌∷◌, ◌++◌, length, get_or, set, map, drop, All, Result, Ok, Err, IfOk, IfErr, OnOk, OnErr, Option, Some, None, IfSome, is_some, if◌then◌else◌, nat_lt, refl, sym, subst, arith, length-append, length-set}
+use Rattle.std.proofs.Common.{◌≡◌, ℕ, zero, suc, ◌+◌, ◌-◌, ◌<◌, ◌≤◌, ◌==◌, Bool, true, false, not, List, [], ◌∷◌, ◌++◌, length, get_or, set, map, drop, All, Result, Ok, Err, IfOk, IfErr, OnOk, OnErr, Option, Some, None, IfSome, is_some, if◌then◌else◌, nat_lt, refl, sym, subst, arith, length-append, length-set}
 use Rattle.std.proofs.lemmas.Bool.{eqb-false, ltb-true}
 use Rattle.std.proofs.lemmas.List.Elements.{All-nil, All-cons, All-head, All-tail, All-push}
 use Rattle.sync_data.specs.declared.entry.Entry.{Entry}
@@ -8,8 +8,8 @@ use Rattle.sync_recip.specs.Lists.{entry_of}
 use Rattle.sync_theory.specs.Changesets.{Changeset}
 use Rattle.sync_theory.specs.Reciprocals.{from_base, settle}
 use Rattle.sync_exchange.specs.Profile.{fits_changeset}
-use Rattle.sync_model.specs.Parts.{Given, extended, with_versions}
-use Rattle.sync_server.specs.History.{IsHistory, IsEntry, IsOther, IsReciprocal, AreGiven}
+use Rattle.sync_model.specs.Parts.{Given, extended, longer_list, with_versions}
+use Rattle.sync_server.specs.History.{HistoryParts, IsHistory, IsEntry, IsOther, IsReciprocal, AreGiven, len_of}
 use Rattle.sync_server.specs.Extending.{first_extended}
 
 -- ---- what holds of all holds of each
@@ -76,6 +76,11 @@ given_below len c [] a = All-nil (λ g. All (λ q. q.0 < len) g.reciprocal)
 given_below len c (g ∷ gs) a =
     All-cons (λ g. All (λ q. q.0 < len) g.reciprocal) g gs (all_to (IsReciprocal len c) (λ q. q.0 < len) g.reciprocal (λ q r. r.before) a.0) (given_below len (suc c) gs a.1)
 
+-- a list with one entry more, unless its ident is retired
+longer_keeps : (len c : ℕ) (o : Option ℕ) (qs : List (ℕ × Changeset Instr)) (q : ℕ × Changeset Instr) → All (IsReciprocal len c) qs → IsReciprocal len c q → All (IsReciprocal len c) (longer_list o qs q)
+longer_keeps len c None qs q a h = All-push (IsReciprocal len c) qs q a h
+longer_keeps len c (Some by) qs q a h = a
+
 -- each ident but the own one gets an entry
 pub given_extended : (own len n k : ℕ) (x : Changeset Instr) (gs : List (Given Instr)) → x.origin ≡ suc own → fits_changeset x.instrs ≡ true → AreGiven len (suc k) gs → AreGiven (suc len) (suc k) (first_extended n own len x k gs)
 given_extended own len zero k x gs e f a = given_later len (suc len) (suc k) gs (omega arith) a
@@ -87,44 +92,54 @@ given_extended own len (suc n) k x (g ∷ gs) e f a = (go (k == own) refl, given
 
     go : (b : Bool) → (k == own) ≡ b → All (IsReciprocal (suc len) (suc k)) (if b then g else extended len x g).reciprocal
     go true is = old
-    go false is = All-push (IsReciprocal (suc len) (suc k)) g.reciprocal (len, x) old (record { before = omega arith; entry = record { other = λ same. eqb-false k own is (omega (arith, same, e)); small = f } })
+    go false is = longer_keeps (suc len) (suc k) g.heir g.reciprocal (len, x) old (record { before = omega arith; entry = record { other = λ same. eqb-false k own is (omega (arith, same, e)); small = f } })
 
 -- ---- entries
 pub entries_more : (n m : ℕ) (es : List (Changeset Instr)) → n ≤ m → All (IsEntry n) es → All (IsEntry m) es
 entries_more n m es h a = all_to (IsEntry n) (IsEntry m) es (λ e r. record { made = r.made; within = omega (arith, r.within); numbered = r.numbered; small = r.small }) a
 
 -- ---- the whole
-pub settled_history : (es now : List (Changeset Instr)) (second : Bool) (gs : List (Given Instr)) (j : ℕ) (g : Given Instr) → now ≡ es → IsHistory (record { entries = es; second = second; idents = gs }) → All (IsReciprocal (length es) (1 + j)) g.reciprocal
-    → IsHistory (record { entries = now; second = second; idents = set gs j g })
-settled_history es now second gs j g e was a =
-    let size = length-set gs j g in
-    subst (λ l. IsHistory (record { entries = l; second = second; idents = set gs j g })) (sym e) (record {
-      short = was.short;
-      few = omega (arith, size, was.few);
-      entries = subst (λ n. All (IsEntry n) es) (sym size) was.entries;
-      idents = given_set (length es) 1 j gs g was.idents a;
-    })
 
-pub entered_history : (es now : List (Changeset Instr)) (second after : Bool) (gs hs : List (Given Instr)) (x : Changeset Instr) → now ≡ es ++ x ∷ [] → IsHistory (record { entries = es; second = second; idents = gs }) → length es < 4294967295 → IsEntry (length gs) x → length hs ≡ length gs → AreGiven (suc (length es)) 1 hs
-    → IsHistory (record { entries = now; second = after; idents = hs })
-entered_history es now second after gs hs x e was room ok size a =
-    let long : length (es ++ x ∷ []) ≡ suc (length es) = omega (arith, length-append es (x ∷ [])) in
-    subst (λ l. IsHistory (record { entries = l; second = after; idents = hs })) (sym e) (record {
-      short = omega (arith, long, room);
-      few = omega (arith, size, was.few);
-      entries = subst (λ n. All (IsEntry n) (es ++ x ∷ [])) (sym size) (All-push (IsEntry (length gs)) es x was.entries ok);
-      idents = subst (λ n. AreGiven n 1 hs) (sym long) a;
-    })
-
-pub bound_history : (es : List (Changeset Instr)) (second : Bool) (gs hs : List (Given Instr)) (g : Given Instr) → hs ≡ gs ++ g ∷ [] → IsHistory (record { entries = es; second = second; idents = gs }) → length gs < 4294967295 → g.reciprocal ≡ with_versions 0 es
-    → IsHistory (record { entries = es; second = second; idents = hs })
-bound_history es second gs hs g e was room is =
-    let long : length (gs ++ g ∷ []) ≡ suc (length gs) = omega (arith, length-append gs (g ∷ [])) in
-    subst (λ l. IsHistory (record { entries = es; second = second; idents = l })) (sym e) (record {
+-- one ident is another
+pub settled_history : (h : HistoryParts) (now : List (Changeset Instr)) (bases : List ℕ) (j : ℕ) (g : Given Instr) → now ≡ h.entries → bases ≡ h.bases → IsHistory h → All (IsReciprocal (len_of h) (1 + j)) g.reciprocal
+    → IsHistory (record h { entries = now; bases = bases; idents = set h.idents j g })
+settled_history h now bases j g e b was a =
+    let size = length-set h.idents j g in
+    subst (λ l. IsHistory (record h { entries = l; bases = bases; idents = set h.idents j g })) (sym e)
+    (subst (λ l. IsHistory (record h { bases = l; idents = set h.idents j g })) (sym b) (record {
       short = was.short;
+      based = was.based;
+      few = omega (arith, size, was.few);
+      entries = subst (λ n. All (IsEntry n) h.entries) (sym size) was.entries;
+      idents = given_set (len_of h) 1 j h.idents g was.idents a;
+    }))
+
+pub entered_history : (h : HistoryParts) (now : List (Changeset Instr)) (bases : List ℕ) (base : ℕ) (after : Bool) (hs : List (Given Instr)) (x : Changeset Instr) → now ≡ h.entries ++ x ∷ [] → bases ≡ h.bases ++ base ∷ [] → IsHistory h → len_of h < 4294967295 → IsEntry (length h.idents) x → length hs ≡ length h.idents
+    → AreGiven (suc (len_of h)) 1 hs
+    → IsHistory (record h { entries = now; bases = bases; second = after; idents = hs })
+entered_history h now bases base after hs x e b was room ok size a =
+    let long : length (h.entries ++ x ∷ []) ≡ suc (length h.entries) = omega (arith, length-append h.entries (x ∷ [])) in
+    let more : length (h.bases ++ base ∷ []) ≡ suc (length h.bases) = omega (arith, length-append h.bases (base ∷ [])) in
+    let whole : h.floor + length (h.entries ++ x ∷ []) ≡ suc (len_of h) = omega (arith, long) in
+    subst (λ l. IsHistory (record h { entries = l; bases = bases; second = after; idents = hs })) (sym e)
+    (subst (λ l. IsHistory (record h { entries = h.entries ++ x ∷ []; bases = l; second = after; idents = hs })) (sym b) (record {
+      short = omega (arith, whole, room);
+      based = omega (arith, long, more, was.based);
+      few = omega (arith, size, was.few);
+      entries = subst (λ n. All (IsEntry n) (h.entries ++ x ∷ [])) (sym size) (All-push (IsEntry (length h.idents)) h.entries x was.entries ok);
+      idents = subst (λ n. AreGiven n 1 hs) (sym whole) a;
+    }))
+
+pub bound_history : (h : HistoryParts) (hs : List (Given Instr)) (g : Given Instr) → hs ≡ h.idents ++ g ∷ [] → IsHistory h → length h.idents < 4294967295 → g.reciprocal ≡ with_versions h.floor h.entries
+    → IsHistory (record h { idents = hs })
+bound_history h hs g e was room is =
+    let long : length (h.idents ++ g ∷ []) ≡ suc (length h.idents) = omega (arith, length-append h.idents (g ∷ [])) in
+    subst (λ l. IsHistory (record h { idents = l })) (sym e) (record {
+      short = was.short;
+      based = was.based;
       few = omega (arith, long, room);
-      entries = subst (λ n. All (IsEntry n) es) (sym long) (entries_more (length gs) (suc (length gs)) es (omega arith) was.entries);
-      idents = given_push (length es) 1 gs g was.idents (subst (All (IsReciprocal (length es) (1 + length gs))) (sym is) (versions_keep (length gs) (1 + length gs) 0 (length es) es (omega arith) (omega arith) was.entries));
+      entries = subst (λ n. All (IsEntry n) h.entries) (sym long) (entries_more (length h.idents) (suc (length h.idents)) h.entries (omega arith) was.entries);
+      idents = given_push (len_of h) 1 h.idents g was.idents (subst (All (IsReciprocal (len_of h) (1 + length h.idents))) (sym is) (versions_keep (length h.idents) (1 + length h.idents) h.floor (len_of h) h.entries (omega arith) (omega arith) was.entries));
     })
 
 -- what a call leaves, whatever it answers
@@ -149,8 +164,12 @@ all_dropped n [] (suc k) a = All-nil (λ e. IsEntry n (entry_of e))
 all_dropped n (e ∷ es) zero a = all_here n (e ∷ es) a
 all_dropped n (e ∷ es) (suc k) a = all_dropped n es k (All-tail (IsEntry n) (entry_of e) (map entry_of es) a)
 
-pub same_history : (es : List (Changeset Instr)) (second : Bool) (gs hs : List (Given Instr)) → hs ≡ gs → IsHistory (record { entries = es; second = second; idents = gs }) → IsHistory (record { entries = es; second = second; idents = hs })
-same_history es second gs hs e was = subst (λ l. IsHistory (record { entries = es; second = second; idents = l })) (sym e) was
+pub same_history : (h : HistoryParts) (hs : List (Given Instr)) → hs ≡ h.idents → IsHistory h → IsHistory (record h { idents = hs })
+same_history h hs e was = subst (λ l. IsHistory (record h { idents = l })) (sym e) was
+
+-- the retired idents are free
+pub retired_history : (h : HistoryParts) (qs : List (ℕ × ℕ)) → IsHistory h → IsHistory (record h { retired = qs })
+retired_history h qs was = record { short = was.short; based = was.based; few = was.few; entries = was.entries; idents = was.idents }
 
 pub on_ok : {T E : Type 0} (r : Result T E) (A C : Type 0) → (OnOk r A) → (A → C) → OnOk r C
 on_ok (Ok u) A C a f = f a
@@ -163,6 +182,10 @@ at_ok (Err m) P Q p f = tt
 pub at_err : {T E : Type 0} (r : Result T E) (P Q : E → Type 0) → IfErr r P → ((m : E) → P m → Q m) → IfErr r Q
 at_err (Ok t) P Q p f = tt
 at_err (Err m) P Q p f = f m p
+
+pub not_false : (b : Bool) → not b ≡ false → b ≡ true
+not_false true e = refl
+not_false false e = cc
 
 pub the_same : {A : Type 0} {x y : A} → Some x ≡ Some y → x ≡ y
 the_same e = cc

@@ -51,3 +51,10 @@ pub bytes_back : (r : CodeRecord) → server_spelling r ≡ server_bytes (server
 bytes_back (servers.Client id) = refl
 bytes_back (servers.Entry origin number base ms body) = refl
 bytes_back servers.Form = refl
+bytes_back (servers.Retired ident by) = refl
+bytes_back (servers.Settled ident settled) = refl
+bytes_back (servers.Part body) = refl
+bytes_back (servers.Floor version) = refl
+bytes_back (servers.Count ident number base settled) = refl
+bytes_back (servers.Carried origin number base ms body) = refl
+bytes_back (servers.Past ident version ms body) = refl

@@ -8,7 +8,16 @@ pub mod Placed
 pub mod Steps
 pub mod Sending
 pub mod Adding
+pub mod Changed
+pub mod Pairs
 pub mod Uploading
+pub mod Continuing
+pub mod Spelled
+pub mod Walking
+pub mod Fronted
+pub mod Tallies
+pub mod There
+pub mod Begun
 pub mod Records
 pub mod Leaving
 pub mod Strokes

@@ -68,21 +68,21 @@ module _ (own version : ℕ) (x : Changeset Instr) where
         (λ i. (unless (k == own) a (extended version x a) f ∙ sym (unless (suc k == suc own) (settled base es a) (extended version x a) f2)) i ∷ all_after j (suc k) gs g (omega arith) (omega arith) is i)
 
 -- ---- the loops of the code
-pub versions_more : (es : List Entry) (i : ℕ) (e : Entry) (made new : List (ℕ × Changeset Instr)) → i < length es → e ≡ get_or es i e → made ≡ with_versions 0 (map entry_of (take i es)) → new ≡ made ++ (i, entry_of e) ∷ [] → new ≡ with_versions 0 (map entry_of (take (i + 1) es))
-versions_more es i e made new h is was now =
-    let size : 0 + length (map entry_of (take i es)) ≡ i = omega (arith, length-map (take i es) entry_of, length-take-le i es (omega arith)) in
+pub versions_more : (first : ℕ) (es : List Entry) (i : ℕ) (e : Entry) (made new : List (ℕ × Changeset Instr)) → i < length es → e ≡ get_or es i e → made ≡ with_versions first (map entry_of (take i es)) → new ≡ made ++ (first + i, entry_of e) ∷ [] → new ≡ with_versions first (map entry_of (take (i + 1) es))
+versions_more first es i e made new h is was now =
+    let size : first + length (map entry_of (take i es)) ≡ first + i = omega (arith, length-map (take i es) entry_of, length-take-le i es (omega arith)) in
     now
-    ∙ ap (λ l. l ++ (i, entry_of e) ∷ []) was
-    ∙ ap (λ n. with_versions 0 (map entry_of (take i es)) ++ (n, entry_of e) ∷ []) (sym size)
-    ∙ sym (versions_push 0 (map entry_of (take i es)) (entry_of e))
-    ∙ ap (with_versions 0) (sym (map-append entry_of (take i es) (e ∷ [])))
-    ∙ ap (λ d. with_versions 0 (map entry_of (take i es ++ d ∷ []))) is
-    ∙ ap (λ l. with_versions 0 (map entry_of l)) (sym (take_more es i e h))
+    ∙ ap (λ l. l ++ (first + i, entry_of e) ∷ []) was
+    ∙ ap (λ n. with_versions first (map entry_of (take i es)) ++ (n, entry_of e) ∷ []) (sym size)
+    ∙ sym (versions_push first (map entry_of (take i es)) (entry_of e))
+    ∙ ap (with_versions first) (sym (map-append entry_of (take i es) (e ∷ [])))
+    ∙ ap (λ d. with_versions first (map entry_of (take i es ++ d ∷ []))) is
+    ∙ ap (λ l. with_versions first (map entry_of l)) (sym (take_more es i e h))
 
-pub versions_before : (es : List Entry) (i : ℕ) (made : List (ℕ × Changeset Instr)) → i ≤ length es → made ≡ with_versions 0 (map entry_of (take i es)) → All (λ q. q.0 < i) made
-versions_before es i made h was =
-    let size : 0 + length (map entry_of (take i es)) ≡ i = omega (arith, length-map (take i es) entry_of, length-take-le i es h) in
-    subst (All (λ q. q.0 < i)) (sym was) (versions_below 0 i (map entry_of (take i es)) (omega arith))
+pub versions_before : (first : ℕ) (es : List Entry) (i : ℕ) (made : List (ℕ × Changeset Instr)) → i ≤ length es → made ≡ with_versions first (map entry_of (take i es)) → All (λ q. q.0 < first + i) made
+versions_before first es i made h was =
+    let size : first + length (map entry_of (take i es)) ≡ first + i = omega (arith, length-map (take i es) entry_of, length-take-le i es h) in
+    subst (All (λ q. q.0 < first + i)) (sym was) (versions_below first (first + i) (map entry_of (take i es)) (omega arith))
 
 -- another ident gets the entry
 pub next_other : (own version : ℕ) (x : Changeset Instr) (n : ℕ) (gs now : List (Given Instr)) (d h : Given Instr) → n < length gs → (n ≡ own → ⊥) → now ≡ first_extended n own version x 0 gs → h ≡ extended version x (get_or now n d)

@@ -1,5 +1,5 @@
 -- A merge, step by step.
-use Rattle.std.proofs.Common.{◌≡◌, ◌≢◌, ℕ, suc, ◌<◌, ◌≤◌, ◌==◌, Bool, true, false, List, [], ◌∷◌, ◌++◌, length, All, Option, None, Some, Result, Ok, Err, if◌then◌else◌, nat_lt, refl, sym, ap, ◌∙◌, subst, arith, length-append}
+use Rattle.std.proofs.Common.{◌≡◌, ◌≢◌, ℕ, suc, ◌+◌, ◌<◌, ◌≤◌, ◌==◌, Bool, true, false, List, [], ◌∷◌, ◌++◌, length, All, Option, None, Some, Result, Ok, Err, if◌then◌else◌, nat_lt, refl, sym, ap, ◌∙◌, subst, arith, length-append}
 use Rattle.std.specs.Prelude.{◌&&◌, not}
 use Rattle.std.proofs.lemmas.Bool.{ltb-false, eqb-false}
 use Rattle.std.proofs.lemmas.List.Elements.{All-nil, All-cons, All-head, All-tail}
@@ -15,12 +15,12 @@ use Rattle.sync_recip.specs.Carrying.{Carrying, Fits, entries_of}
 use Rattle.sync_law.specs.Coded.{meet_by_code}
 use Rattle.sync_model.specs.Messages.{Change}
 use Rattle.sync_model.specs.Profile.{Stuck, apply_all, cross_changesets, needs}
-use Rattle.sync_model.specs.Servers.{ServerRefusal, entry_of}
+use Rattle.sync_model.specs.Servers.{ServerRefusal, entry_of, is_retired}
 use Rattle.sync_model.specs.Parts.{Given, Parts, Merged, at_ident, merge_by, merge_read_by, merge_carried_by, merge_applied_by, integrated}
 use Rattle.sync_model.proofs.Small.{sets_small}
 use Rattle.sync_exchange.specs.Profile.{fits_changeset, the_profile, unspell}
 use Rattle.sync_exchange.specs.Lemmas.Lawful.{real_lawful}
-use Rattle.sync_server.specs.History.{HistoryParts, IsOther, IsReciprocal, with_entry}
+use Rattle.sync_server.specs.History.{HistoryParts, IsOther, IsReciprocal, len_of, with_entry}
 use Rattle.sync_server.specs.Integrating.{IsNext}
 use Rattle.sync_server.specs.Kept.{parts}
 use Rattle.sync_server.specs.Merging.{numbers_broken, Reads, Carries, AppliesBy, crossing, IsReady, Prepares, Merges, records_of}
@@ -38,17 +38,19 @@ pub record Numbers (kept : Parts Instr State) (c : ℕ) (g : Given Instr) (h : C
   pub next : h.number ≤ suc g.count
   pub room : kept.len ≢ 4294967295
 
-pub numbers_right : (kept : Parts Instr State) (c : ℕ) (g : Given Instr) (h : Change) → numbers_broken kept.len g h.number h.base ≡ None → Numbers kept c g h (merge_by the_profile kept c g h)
-numbers_right kept c g h = go (nat_lt (suc g.count) h.number) (nat_lt h.base g.last) (nat_lt kept.len h.base) (kept.len == 4294967295) refl refl
+pub numbers_right : (kept : Parts Instr State) (c : ℕ) (g : Given Instr) (h : Change) → numbers_broken kept.len kept.floor g h.number h.base ≡ None → Numbers kept c g h (merge_by the_profile kept c g h)
+numbers_right kept c g h = go (is_retired g.heir) (nat_lt (suc g.count) h.number) (nat_lt h.base g.last) (nat_lt kept.len h.base) (nat_lt h.base kept.floor) (kept.len == 4294967295) refl refl
   where
-    go : (a b d f : Bool) → nat_lt (suc g.count) h.number ≡ a → (kept.len == 4294967295) ≡ f
-        → ◌≡◌ {A = Option ServerRefusal} (if a then Some (ServerRefusal.NumberGap (suc g.count)) else if b then Some (ServerRefusal.BaseBack g.last) else if d then Some (ServerRefusal.AheadOfHistory kept.len) else if f then Some (ServerRefusal.HistoryFull kept.len) else None) None
-        → Numbers kept c g h (if a then Err (ServerRefusal.NumberGap (suc g.count)) else if b then Err (ServerRefusal.BaseBack g.last) else if d then Err (ServerRefusal.AheadOfHistory kept.len) else if f then Err (ServerRefusal.HistoryFull kept.len) else merge_read_by the_profile kept c g h (unspell h.body))
-    go true b d f ea ef e = cc
-    go false true d f ea ef e = cc
-    go false false true f ea ef e = cc
-    go false false false true ea ef e = cc
-    go false false false false ea ef e = record { reads = refl; next = ltb-false (suc g.count) h.number ea; room = eqb-false kept.len 4294967295 ef }
+    go : (r a b d t f : Bool) → nat_lt (suc g.count) h.number ≡ a → (kept.len == 4294967295) ≡ f
+        → ◌≡◌ {A = Option ServerRefusal} (if r then Some (ServerRefusal.IdentRetired g.count) else if a then Some (ServerRefusal.NumberGap (suc g.count)) else if b then Some (ServerRefusal.BaseBack g.last) else if d then Some (ServerRefusal.AheadOfHistory kept.len) else if t then Some (ServerRefusal.Trimmed kept.floor) else if f then Some (ServerRefusal.HistoryFull kept.len) else None) None
+        → Numbers kept c g h (if r then Err (ServerRefusal.IdentRetired g.count) else if a then Err (ServerRefusal.NumberGap (suc g.count)) else if b then Err (ServerRefusal.BaseBack g.last) else if d then Err (ServerRefusal.AheadOfHistory kept.len) else if t then Err (ServerRefusal.Trimmed kept.floor) else if f then Err (ServerRefusal.HistoryFull kept.len) else merge_read_by the_profile kept c g h (unspell h.body))
+    go true a b d t f ea ef e = cc
+    go false true b d t f ea ef e = cc
+    go false false true d t f ea ef e = cc
+    go false false false true t f ea ef e = cc
+    go false false false false true f ea ef e = cc
+    go false false false false false true ea ef e = cc
+    go false false false false false false ea ef e = record { reads = refl; next = ltb-false (suc g.count) h.number ea; room = eqb-false kept.len 4294967295 ef }
 
 -- ---- what is carried stays within the limits
 got : {A E : Type 0} {x y : A} → ◌≡◌ {A = Result A E} (Ok x) (Ok y) → x ≡ y
@@ -94,9 +96,9 @@ carry_keeps c x (d ∷ es) y fs e small a = go (cross_changesets the_profile x d
 stamped : (c : ℕ) (h : Change) (v : Changes) → v.ms ≡ h.ms → (entry_of c h v.instrs).change ≡ made_by c h.number v
 stamped c h v e = ap (λ t. record { origin = c; number = h.number; ms = t; instrs = v.instrs }) (sym e)
 
-module _ (kept : Parts Instr State) (c : ℕ) (found g : Given Instr) (h : Change) (v : Changes) (same : found ≡ g) (numbers : numbers_broken kept.len found h.number h.base ≡ None) (read : Reads (Ok v) h) where
+module _ (kept : Parts Instr State) (c : ℕ) (found g : Given Instr) (h : Change) (v : Changes) (same : found ≡ g) (numbers : numbers_broken kept.len kept.floor found h.number h.base ≡ None) (read : Reads (Ok v) h) where
   right : Numbers kept c g h (merge_by the_profile kept c g h)
-  right = numbers_right kept c g h (ap (λ d. numbers_broken kept.len d h.number h.base) (sym same) ∙ numbers)
+  right = numbers_right kept c g h (ap (λ d. numbers_broken kept.len kept.floor d h.number h.base) (sym same) ∙ numbers)
 
   carrying : merge_by the_profile kept c g h ≡ merge_carried_by the_profile kept c h v.instrs (crossing c h.number v h.base found.reciprocal)
   carrying =
@@ -129,22 +131,23 @@ module _ (kept : Parts Instr State) (c : ℕ) (found g : Given Instr) (h : Chang
 module _ (p : Prepared) (kept : Kept) (c : ℕ) (g : Given Instr) (h : Change) (r : Result (Merged Instr State) ServerRefusal) (is_ready : IsReady p (parts kept) c g h r) where
   pub merged : (form : Bool) (after : HistoryParts) (t : State) → apply_all the_profile p.carried.changes.instrs kept.objects ≡ Ok t → form ≡ (p.second && not kept.history.second)
       → after ≡ with_entry kept.history c h.base p.second (made_by c h.number p.carried.changes) (entries_of p.carried g.reciprocal)
-      → r ≡ Ok (record { records = records_of form c h; parts = parts (record { history = after; objects = t }) })
+      → r ≡ Ok (record { records = records_of form c h; parts = parts (record kept { history = after; objects = t }) })
   merged form after t acts form_is after_is =
       let x = made_by c h.number p.carried.changes in
       let es = entries_of p.carried g.reciprocal in
-      let long : suc (length kept.history.entries) ≡ length (kept.history.entries ++ x ∷ []) = omega (arith, length-append kept.history.entries (x ∷ [])) in
+      let more : length (kept.history.entries ++ x ∷ []) ≡ suc (length kept.history.entries) = omega (arith, length-append kept.history.entries (x ∷ [])) in
+      let long : suc (len_of kept.history) ≡ kept.history.floor + length (kept.history.entries ++ x ∷ []) = omega (arith, more) in
       is_ready.gives
       ∙ ap (merge_applied_by the_profile (parts kept) c h is_ready.made x es) acts
       ∙ (λ i. Ok (record { records = records_of (is_ready.second i && not kept.history.second) c h; parts = integrated (parts kept) c h.base (is_ready.second i) x es t }))
       ∙ ap (λ n. Ok (record { records = records_of (p.second && not kept.history.second) c h; parts = record (integrated (parts kept) c h.base p.second x es t) { len = n } })) long
-      ∙ (λ i. Ok (record { records = records_of (sym form_is i) c h; parts = parts (record { history = sym after_is i; objects = t }) }))
+      ∙ (λ i. Ok (record { records = records_of (sym form_is i) c h; parts = parts (record kept { history = sym after_is i; objects = t }) }))
 
-  pub broke : (e : ChangeRefusal) (new : State) → AppliesBy (Err e) p.carried.changes.instrs kept.objects new → Merges (Err e) r c h (parts kept) (parts (record { history = kept.history; objects = new }))
+  pub broke : (e : ChangeRefusal) (new : State) → AppliesBy (Err e) p.carried.changes.instrs kept.objects new → Merges (Err e) r c h (parts kept) (parts (record kept { objects = new }))
   broke NoMemory new is = tt
   broke (Refused why) new is = (
     is_ready.gives ∙ ap (merge_applied_by the_profile (parts kept) c h is_ready.made (made_by c h.number p.carried.changes) (entries_of p.carried g.reciprocal)) is.1 ∙ ap Err (sym is.2),
-    ap (λ s. parts (record { history = kept.history; objects = s })) is.3,
+    ap (λ s. parts (record kept { objects = s })) is.3,
   )
 
 pub next_of : (p : Prepared) (kept : Kept) (c number base : ℕ) (g : Given Instr) (h : Change) (r : Result (Merged Instr State) ServerRefusal) → IsReady p (parts kept) c g h r → number ≡ h.number → base ≡ h.base → at_ident c kept.history.idents ≡ Some g → IsNext c number base p.carried kept.history.idents

@@ -1,20 +1,21 @@
 -- How a file of a server is opened.
-use Rattle.std.specs.Prelude.{◌≡◌, ◌⊎◌, ℕ, List, map, Option, Ok, Err}
+use Rattle.std.specs.Prelude.{◌≡◌, ◌⊎◌, ℕ, List, map, Option, Err}
 use Rattle.sync_disk.specs.declared.disk.Disk.{Ghosts}
 use Rattle.sync_journal.specs.Gates.{gate_of, told}
 use Rattle.sync_journal.specs.Records.{records_of}
 use Rattle.sync_journal.specs.Records.Reading.{Good, BadAt}
-use Rattle.sync_model.specs.Servers.{ServerRecord, no_server}
-use Rattle.sync_model.specs.Files.{server_reads}
+use Rattle.sync_model.specs.Servers.{ServerRecord}
+use Rattle.sync_model.specs.Fronts.{file_gives}
 use Rattle.sync_exchange.specs.Profile.{the_profile}
-use Rattle.sync_exchange.specs.Seen.{read_server, server_bytes}
+use Rattle.sync_exchange.specs.Seen.{read_server}
 use Rattle.sync_server.specs.declared.server.Server.{Server}
+use Rattle.sync_server.specs.Opening.{AreRecords}
 use Rattle.sync_server.specs.Serving.{IsServerOf, IsStored}
 
 -- the record of some number isn't one that a server would have written there, and its gate stands at this place
 pub record BadRecordAt (file : List (List ℕ)) (place : ℕ) : Type 0 where
   pub number : ℕ
-  pub reads : server_reads the_profile read_server no_server file ≡ Err number
+  pub reads : file_gives the_profile (map read_server file) ≡ Err number
   pub gate : place ≡ told (gate_of file number)
 
 -- such a record stands in these bytes
@@ -33,7 +34,6 @@ module _ {D : Type 0} {G : Ghosts D} where
     pub file : List (List ℕ)
     pub holds : records_of bytes ≡ Good file
     pub records : List ServerRecord
-    pub reads : server_reads the_profile read_server no_server file ≡ Ok records
-    pub spelled : map server_bytes records ≡ file
+    pub are : AreRecords file records
     pub server : IsServerOf records s
     pub stored : IsStored content images records s

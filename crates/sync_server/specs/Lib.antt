@@ -5,6 +5,9 @@ pub mod Integrating
 pub mod Merging
 pub mod Kept
 pub mod Sending
+pub mod Readers
+pub mod Retiring
 pub mod Serving
 pub mod Opening
+pub mod Fronting
 pub mod Files

@@ -10,7 +10,7 @@ use Rattle.sync_transform.specs.Sets.{made_by}
 use Rattle.sync_recip.specs.Carrying.{Carrying, Fits, entries_of}
 use Rattle.sync_model.specs.Messages.{Change}
 use Rattle.sync_model.specs.Profile.{Stuck, apply_all, cross_changesets, needs}
-use Rattle.sync_model.specs.Servers.{ServerRecord, ServerRefusal, NumberGap, BaseBack, AheadOfHistory, HistoryFull, BadBytes, Mismatch, Break, Entry, Form}
+use Rattle.sync_model.specs.Servers.{ServerRecord, ServerRefusal, NumberGap, BaseBack, AheadOfHistory, HistoryFull, BadBytes, Mismatch, Break, IdentRetired, Trimmed, Entry, Form, is_retired}
 use Rattle.sync_model.specs.Parts.{Given, Parts, Merged, at_ident, merge_applied_by}
 use Rattle.sync_exchange.specs.Profile.{fits_changeset, the_profile, unspell}
 use Rattle.sync_server.specs.History.{IsOther}
@@ -32,12 +32,14 @@ abbrev pub refused : {T : Type 0} → Result T Refusal → Option ServerRefusal
 refused (Ok t) = None
 refused (Err why) = Some (refusal_seen why)
 
--- the first rule that the number and the base of a change break, where the history has this length
-abbrev pub numbers_broken : ℕ → Given Instr → (number base : ℕ) → Option ServerRefusal
-numbers_broken len g number base =
-    if nat_lt (suc g.count) number then Some (NumberGap (suc g.count))
+-- the first rule that the number and the base of a change break, where the history has this length and begins at a floor
+abbrev pub numbers_broken : (len floor : ℕ) → Given Instr → (number base : ℕ) → Option ServerRefusal
+numbers_broken len floor g number base =
+    if is_retired g.heir then Some (IdentRetired g.count)
+    else if nat_lt (suc g.count) number then Some (NumberGap (suc g.count))
     else if nat_lt base g.last then Some (BaseBack g.last)
     else if nat_lt len base then Some (AheadOfHistory len)
+    else if nat_lt base floor then Some (Trimmed floor)
     else if len == 4294967295 then Some (HistoryFull len)
     else None
 

@@ -16,3 +16,7 @@ refusal_seen (refusals.NoSuchIdent given) = ServerRefusal.NoSuchIdent given
 refusal_seen (refusals.IdentsFull given) = ServerRefusal.IdentsFull given
 refusal_seen refusals.NotForServer = ServerRefusal.NotForServer
 refusal_seen (refusals.NeedsForm2 cursor) = ServerRefusal.NeedsForm2 cursor
+refusal_seen (refusals.IdentRetired count) = ServerRefusal.IdentRetired count
+refusal_seen (refusals.SelfRetire ident) = ServerRefusal.SelfRetire ident
+refusal_seen (refusals.RetiredBy by) = ServerRefusal.RetiredBy by
+refusal_seen (refusals.Trimmed floor) = ServerRefusal.Trimmed floor

@@ -9,10 +9,10 @@ use Rattle.sync_disk.specs.Strokes.{Stroke}
 use Rattle.sync_journal.specs.Records.{StandsForPrefix}
 use Rattle.sync_journal.specs.Several.{Asks, AsksSome}
 use Rattle.sync_journal.specs.Stands.{Stands, disk_of}
-use Rattle.sync_model.specs.Files.{server_opens}
+use Rattle.sync_model.specs.Fronts.{file_gives}
 use Rattle.sync_model.specs.Messages.{Change}
-use Rattle.sync_model.specs.Parts.{Given, Merged, Parts, Served, ServedByPartsSoFar, merge_by, parts_of}
-use Rattle.sync_model.specs.Servers.{ServerRecord, ServerRefusal, ServerStep, no_server, server_of}
+use Rattle.sync_model.specs.Parts.{Given, Merged, Parts, Served, ServedByPartsSoFar, merge_by}
+use Rattle.sync_model.specs.Servers.{ServerRecord, ServerRefusal}
 use Rattle.sync_exchange.specs.Profile.{the_profile}
 use Rattle.sync_exchange.specs.Seen.{message_seen, server_bytes}
 use Rattle.sync_messages.specs.declared.message.Message.{Message as CodeMessage}
@@ -77,19 +77,20 @@ module _ {D : Type 0} {G : Ghosts D} where
   Asked strokes next old new (Err causes.NoMemory) = Unit {0}
   Asked strokes next old new (Err causes.Closed) = Unit {0}
 
-  -- an open server of these records
+  -- an open server of these records, which may begin with those of a trimmed file
   pub record IsServerOf (records : List ServerRecord) (s : Server D G) : Type 0 where
-    pub opens : server_opens the_profile no_server records ≡ true
-    pub keeps : parts_of the_profile (server_of the_profile records) ≡ parts s.kept
+    pub gives : file_gives the_profile (map (λ r. Some r) records) ≡ Ok (parts s.kept)
     pub open_ : s.closed ≡ false
 
   -- its disk holds them
   abbrev pub IsStored : (content : D → Option (List ℕ)) (images : D → List ℕ → Type 0) → List ServerRecord → Server D G → Type 0
   IsStored content images records s = Stands content images (map server_bytes records) s.journal
 
-  -- a message is answered by the step's reply, and the server is one of the records with the step's
-  pub record Did (did : ServerStep) (reply : CodeMessage) (records : List ServerRecord) (s : Server D G) : Type 0 where
+  -- a message is answered by the step's reply, and the server keeps what the step leaves, and is one of the records with
+  -- the step's
+  pub record Did (did : Served Instr State) (reply : CodeMessage) (records : List ServerRecord) (s : Server D G) : Type 0 where
     pub reply_is : message_seen reply ≡ did.answer
+    pub parts_are : parts s.kept ≡ did.parts
     pub server : IsServerOf (records ++ did.records) s
 
 -- ---- the loop over the changes of an Upload

@@ -1,4 +1,4 @@
-ghost use Rattle.std.specs.Prelude.{◌≡◌, ◌<◌, ◌≤◌, ℕ, length, map, All, IfOk, OnOk, OnErr};
+ghost use Rattle.std.specs.Prelude.{◌≡◌, ◌<◌, ◌≤◌, ◌+◌, ℕ, length, map, All, IfOk, OnOk, OnErr};
 ghost use Rattle.sync_recip.specs.Lists.{entry_of};
 ghost use Rattle.sync_model.specs.Parts.{with_versions};
 ghost use Rattle.sync_server.specs.Extending.{first_extended};
@@ -8,14 +8,18 @@ use std::alloc::Global;
 use sync_base::NoMemory;
 use sync_recip::{Recip, SharedEntry};
 
-/// All entries with their versions. They are shared and not copied.
-pub(crate) fn with_versions(alloc: Global, entries: &[SharedEntry]) -> Result<Recip, NoMemory>
-    requires { length entries.now ≤ 4294967295 }
-    ensures { IfOk result (λ made. made ≡ with_versions 0 (map entry_of entries.now)) }
+/// All entries with their versions, from that of the first on. They are shared and not copied.
+pub(crate) fn with_versions(
+    alloc: Global,
+    first: u32,
+    entries: &[SharedEntry],
+) -> Result<Recip, NoMemory>
+    requires { first + length entries.now ≤ 4294967295 }
+    ensures { IfOk result (λ made. made ≡ with_versions first (map entry_of entries.now)) }
 {
     let mut made = Recip::new(alloc);
-    for (version, entry) in entries.iter().enumerate() {
-        match made.push_shared(version as u32, entry) {
+    for (place, entry) in entries.iter().enumerate() {
+        match made.push_shared(first + place as u32, entry) {
             Ok(()) => {}
             Err(NoMemory) => return Err(NoMemory),
         }

@@ -22,6 +22,7 @@ impl<D: Disk> Server<D> {
     /// have written after those before it, with the place of its gate. An `Err` hands the disk back.
     pub fn open(alloc: Global, disk: D) -> Result<Server<D>, OpenRefusal<D>>
         ensures opened { Told (D.content disk) (λ b. IfOk result (Opened D.content D.images b)) }
+        ensures open_ { IfOk result (λ s. is_closed s ≡ false) }
         ensures bad { Told (D.content disk) (λ b. IfErr result (λ e. (place : ℕ) → e.cause ≡ OpenCause.BadFile place → BadPlace b place)) }
         ensures kept { Told (D.content disk) (λ b. IfErr result (λ e. (place : ℕ) → e.cause ≡ OpenCause.BadFile place → D.content e.disk ≡ Some b)) }
 
@@ -58,12 +59,8 @@ impl<D: Disk> Server<D> {
         ensures bad { IfErr result (λ e. (place : ℕ) → e.cause ≡ OpenCause.BadFile place → BadRecordAt (lists files.items) place) }
         ensures no_fault { IfErr result (λ e. e.cause ≡ OpenCause.DiskFault → ⊥) }
     {
-        let mut kept = match Kept::new(alloc) {
-            Ok(kept) => kept,
-            Err(_) => return Err(journal.refuse(OpenCause::NoMemory)),
-        };
-        match kept.admit_all(alloc, files.as_slice()) {
-            Ok(()) => Ok(Server {
+        match Kept::of(alloc, files.as_slice()) {
+            Ok(kept) => Ok(Server {
                 alloc,
                 journal,
                 kept,

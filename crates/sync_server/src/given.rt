@@ -1,21 +1,26 @@
-ghost use Rattle.std.specs.Prelude.{◌≡◌, ◌≤◌, ◌<◌, suc, length, map, OnOk, OnErr, All};
+ghost use Rattle.std.specs.Prelude.{◌≡◌, ◌≤◌, ◌<◌, suc, length, map, None, OnOk, OnErr, All};
 ghost use Rattle.sync_recip.specs.Lists.{entry_of};
 ghost use Rattle.sync_recip.specs.Carrying.{Fits, entries_of};
-ghost use Rattle.sync_model.specs.Parts.{settled, extended};
+ghost use Rattle.sync_model.specs.Parts.{settled, extended, given_up};
 ghost use Rattle.sync_model.specs.Servers.{place_of};
 ghost use Rattle.sync_server.specs.Integrating.{found};
 
+use crate::kinds::Counted;
+use std::alloc::Global;
 use std::marker::Model;
 use sync_base::{Changeset, Id, Ident, NoMemory};
 use sync_recip::{Carried, Recip, SharedEntry};
 
 /// What a server keeps of an ident: the client's uuid, how many of its changes are integrated, the base of the last
-/// one, and the entries of others as its changes crossed them.
+/// one, for whom it was retired, the greatest settled number of its questions, and the entries of others as its changes
+/// crossed them. A retired ident has none of these.
 #[derive(Drop)]
 pub(crate) struct Given {
     id: Id,
     count: u32,
     last: u32,
+    heir: Option<Ident>,
+    mark: u32,
     reciprocal: Recip,
 }
 
@@ -25,18 +30,34 @@ impl Model for Given {
 
     ghost Value = { GivenParts Instr };
 
-    ghost view = { λ a. record { uuid = a.id; count = a.count; last = a.last; reciprocal = a.reciprocal } };
+    ghost view = { λ a. record { uuid = a.id; count = a.count; last = a.last; heir = a.heir; mark = a.mark; reciprocal = a.reciprocal } };
 }
 
 impl Given {
     /// A client of which no change is integrated.
     pub(crate) fn new(id: Id, reciprocal: Recip) -> Given
-        ensures { result ≡ record { uuid = id; count = 0; last = 0; reciprocal = reciprocal } }
+        ensures { result ≡ record { uuid = id; count = 0; last = 0; heir = None; mark = 0; reciprocal = reciprocal } }
     {
         Given {
             id,
             count: 0,
             last: 0,
+            heir: None,
+            mark: 0,
+            reciprocal,
+        }
+    }
+
+    /// A client with that count, which was retired for the heir if there is one.
+    pub(crate) fn counted(id: Id, count: Counted, heir: Option<Ident>, reciprocal: Recip) -> Given
+        ensures { result ≡ record { uuid = id; count = count.number; last = count.base; heir = heir; mark = count.settled; reciprocal = reciprocal } }
+    {
+        Given {
+            id,
+            count: count.number,
+            last: count.base,
+            heir,
+            mark: count.settled,
             reciprocal,
         }
     }
@@ -62,6 +83,20 @@ impl Given {
         self.last
     }
 
+    /// For whom it was retired, if it was.
+    pub(crate) fn heir(&self) -> Option<Ident>
+        ensures { result ≡ self.now.heir }
+    {
+        self.heir
+    }
+
+    /// The greatest settled number of its questions.
+    pub(crate) fn mark(&self) -> u32
+        ensures { result ≡ self.now.mark }
+    {
+        self.mark
+    }
+
     /// The entries of others, as its changes crossed them.
     pub(crate) fn reciprocal(&self) -> &Recip
         ensures { result.now ≡ self.now.reciprocal }
@@ -82,12 +117,30 @@ impl Given {
         self.reciprocal.settle(carried)
     }
 
-    /// Shares an entry of another, whose version is above all before.
+    /// Takes another settled number.
+    pub(crate) fn settle_at(&mut self, settled: u32)
+        ensures { self.new ≡ record self.old { mark = settled } }
+    {
+        self.mark = settled;
+    }
+
+    /// Retires it for another. It takes no memory.
+    pub(crate) fn retire(&mut self, alloc: Global, by: Ident)
+        ensures { self.new ≡ given_up by self.old }
+    {
+        self.heir = Some(by);
+        self.reciprocal = Recip::new(alloc);
+    }
+
+    /// Shares an entry of another, whose version is above all before. A retired ident has no use for it.
     pub(crate) fn extend(&mut self, version: u32, entry: &SharedEntry) -> Result<(), NoMemory>
         requires { All (λ pair. pair.0 < version) self.old.reciprocal }
         ensures ok { OnOk result (self.new ≡ extended version (entry_of entry.now) self.old) }
         ensures unchanged { OnErr result (self.new ≡ self.old) }
     {
+        if self.heir.is_some() {
+            return Ok(());
+        }
         self.reciprocal.push_shared(version, entry)
     }
 }

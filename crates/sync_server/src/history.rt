@@ -1,13 +1,14 @@
-ghost use Rattle.std.specs.Prelude.{◌≡◌, ◌≤◌, ◌<◌, ◌++◌, ◌∷◌, [], ◌||◌, ℕ, suc, true, length, map, drop, slice_get, All, Some, None, IfSome, IfOk, OnOk, OnErr};
+ghost use Rattle.std.specs.Prelude.{◌≡◌, ◌≤◌, ◌<◌, ◌+◌, ◌-◌, ◌++◌, ◌∷◌, [], ◌||◌, ℕ, suc, true, length, map, drop, slice_get, All, Some, None, IfSome, IfOk, OnOk, OnErr};
 ghost use Rattle.std.specs.Option.{option_copied, option_map};
 ghost use Rattle.sync_recip.specs.Lists.{entry_of};
 ghost use Rattle.sync_recip.specs.Carrying.{entries_of};
 ghost use Rattle.sync_transform.specs.Sets.{made_by};
 ghost use Rattle.sync_model.specs.Servers.{place_of};
-ghost use Rattle.sync_model.specs.Parts.{Given as GivenParts, at_ident};
+ghost use Rattle.sync_model.specs.Parts.{Given as GivenParts, at_ident, idents_retired, marked};
 ghost use Rattle.sync_data.specs.declared.instr.Instr.{Instr};
-ghost use Rattle.sync_server.specs.History.{no_history, newly_given, with_entry, IsEntry, IsReciprocal};
+ghost use Rattle.sync_server.specs.History.{no_history, newly_given, with_entry, len_of, IsEntry, IsReciprocal};
 ghost use Rattle.sync_server.specs.Integrating.{found, IsNext};
+ghost use Rattle.sync_server.specs.Readers.{item_from};
 
 use crate::extending::{extend_others, with_versions};
 use crate::given::{Given, ident_in};
@@ -20,13 +21,17 @@ use sync_recip::{Carried, SharedEntry};
 /// The greatest length of a history, and the greatest ident.
 pub(crate) const LAST: u32 = 4_294_967_295;
 
-/// The history, whether the file is in form 2, and what is kept of each ident. The first ident is 1. A reciprocal list
-/// shares the entries of the history, but for those that changed as they were crossed.
+/// The history from its floor on with the bases of its entries, whether the file is in form 2, what is kept of each
+/// ident, and the retired idents with their heirs. The first ident is 1. A reciprocal list shares the entries of the
+/// history, but for those that changed as they were crossed.
 #[derive(Drop)]
 pub(crate) struct History {
+    floor: u32,
     entries: Vec<SharedEntry>,
+    bases: Vec<u32>,
     second: bool,
     idents: Vec<Given>,
+    retired: Vec<(Ident, Ident)>,
 }
 
 impl Model for History {
@@ -36,9 +41,9 @@ impl Model for History {
 
     ghost Value = { HistoryParts };
 
-    ghost view = { λ a. record { entries = map entry_of a.entries.items; second = a.second; idents = a.idents.items } };
+    ghost view = { λ a. record { floor = a.floor; entries = map entry_of a.entries.items; bases = a.bases.items; second = a.second; idents = a.idents.items; retired = a.retired.items } };
 
-    ghost invariant = { λ a. IsHistory (record { entries = map entry_of a.entries.items; second = a.second; idents = a.idents.items }) };
+    ghost invariant = { λ a. IsHistory (record { floor = a.floor; entries = map entry_of a.entries.items; bases = a.bases.items; second = a.second; idents = a.idents.items; retired = a.retired.items }) };
 }
 
 impl History {
@@ -47,36 +52,65 @@ impl History {
         ensures { result ≡ no_history }
     {
         History {
+            floor: 0,
             entries: Vec::new(alloc),
+            bases: Vec::new(alloc),
             second: false,
             idents: Vec::new(alloc),
+            retired: Vec::new(alloc),
         }
     }
 
-    /// How many entries there are.
-    pub(crate) fn len(&self) -> u32
-        ensures { result ≡ length self.now.entries }
+    /// The version of the first entry.
+    pub(crate) fn floor(&self) -> u32
+        ensures { result ≡ self.now.floor }
     {
-        self.entries.len() as u32
+        self.floor
     }
 
-    /// The entry of a version, if there is one.
-    pub(crate) fn entry(&self, version: u32) -> Option<&Entry>
-        ensures { option_map (λ e. entry_of e.now) result ≡ slice_get self.now.entries version }
+    /// How many entries there were, those before the floor among them.
+    pub(crate) fn len(&self) -> u32
+        ensures { result ≡ len_of self.now }
     {
-        match self.entries.as_slice().get(version as usize) {
+        self.floor + self.entries.len() as u32
+    }
+
+    /// The entry of a version, if it is kept.
+    pub(crate) fn entry(&self, version: u32) -> Option<&Entry>
+        ensures { option_map (λ e. entry_of e.now) result ≡ item_from self.now.floor self.now.entries version }
+    {
+        if version < self.floor {
+            return None;
+        }
+        match self.entries.as_slice().get((version - self.floor) as usize) {
             Some(shared) => Some(shared.entry()),
             None => None,
         }
     }
 
+    /// The base of the entry of a version, if it is kept.
+    pub(crate) fn base(&self, version: u32) -> Option<u32>
+        ensures { result ≡ item_from self.now.floor self.now.bases version }
+    {
+        if version < self.floor {
+            return None;
+        }
+        self.bases
+            .as_slice()
+            .get((version - self.floor) as usize)
+            .copied()
+    }
+
     /// The entries from a version on.
     pub(crate) fn from(&self, version: u32) -> &[SharedEntry]
-        requires { version ≤ length self.now.entries }
-        ensures entries { map entry_of result.now ≡ drop version self.now.entries }
+        requires kept { self.now.floor ≤ version }
+        requires within { version ≤ len_of self.now }
+        ensures entries { map entry_of result.now ≡ drop (version - self.now.floor) self.now.entries }
         ensures each { All (λ e. IsEntry (length self.now.idents) (entry_of e)) result.now }
+        ensures short { version + length result.now ≤ 4294967295 }
     {
-        &self.entries[version as usize..]
+        let place = (version - self.floor) as usize;
+        &self.entries[place..]
     }
 
     /// Whether the file is in form 2.
@@ -103,7 +137,7 @@ impl History {
     /// What is kept of an ident, if it was given.
     pub(crate) fn at(&self, ident: Ident) -> Option<&Given>
         ensures given { option_copied result ≡ at_ident ident self.now.idents }
-        ensures others { IfSome result (λ g. All (IsReciprocal (length self.now.entries) ident) g.now.reciprocal) }
+        ensures others { IfSome result (λ g. All (IsReciprocal (len_of self.now) ident) g.now.reciprocal) }
     {
         if ident == 0 {
             return None;
@@ -118,13 +152,20 @@ impl History {
         ident_in(self.idents.as_slice(), id)
     }
 
+    /// The retired idents with their heirs, in the order of their records.
+    pub(crate) fn retired(&self) -> &[(Ident, Ident)]
+        ensures { result.now ≡ self.now.retired }
+    {
+        self.retired.as_slice()
+    }
+
     /// Gives a uuid the next ident.
     pub(crate) fn bind(&mut self, alloc: Global, id: Id) -> Result<Ident, NoMemory>
         requires { length self.old.idents < 4294967295 }
-        ensures bound { OnOk result (self.new ≡ record self.old { idents = self.old.idents ++ newly_given id self.old.entries ∷ [] }) }
+        ensures bound { OnOk result (self.new ≡ record self.old { idents = self.old.idents ++ newly_given id self.old.floor self.old.entries ∷ [] }) }
         ensures ident { IfOk result (λ ident. ident ≡ suc (length self.old.idents)) }
     {
-        let reciprocal = match with_versions(alloc, self.entries.as_slice()) {
+        let reciprocal = match with_versions(alloc, self.floor, self.entries.as_slice()) {
             Ok(reciprocal) => reciprocal,
             Err(NoMemory) => return Err(NoMemory),
         };
@@ -132,6 +173,29 @@ impl History {
             Ok(()) => Ok(self.idents.len() as u32),
             Err(NoMemory) => Err(NoMemory),
         }
+    }
+
+    /// Takes another settled number of an ident that is given.
+    pub(crate) fn settle_at(&mut self, ident: Ident, settled: u32)
+        requires { (g : GivenParts Instr) × (at_ident ident self.old.idents ≡ Some g) }
+        ensures { self.new ≡ record self.old { idents = marked ident settled 1 self.old.idents } }
+    {
+        let place = ident as usize - 1;
+        self.idents[place].settle_at(settled);
+    }
+
+    /// Retires an ident that is given for another.
+    pub(crate) fn retire(&mut self, alloc: Global, ident: Ident, by: Ident) -> Result<(), NoMemory>
+        requires { (g : GivenParts Instr) × (at_ident ident self.old.idents ≡ Some g) }
+        ensures { OnOk result (self.new ≡ record self.old { idents = idents_retired ident by 1 self.old.idents; retired = self.old.retired ++ (ident, by) ∷ [] }) }
+    {
+        let place = ident as usize - 1;
+        match keep(&mut self.retired, (ident, by)) {
+            Ok(()) => {}
+            Err(NoMemory) => return Err(NoMemory),
+        }
+        self.idents[place].retire(alloc, by);
+        Ok(())
     }
 
     /// Takes the next change of an ident as integrated.
@@ -144,39 +208,54 @@ impl History {
         second: bool,
         carried: Carried,
     ) -> Result<(), NoMemory>
-        requires room { length self.old.entries < 4294967295 }
+        requires room { len_of self.old < 4294967295 }
         requires given { IsNext ident number base carried self.old.idents }
         ensures { (g : GivenParts Instr) → at_ident ident self.old.idents ≡ Some g → OnOk result (self.new ≡ with_entry self.old ident base second (made_by ident number carried.changes) (entries_of carried g.reciprocal)) }
     {
         let place = ident as usize - 1;
-        let version = self.entries.len();
+        let last = self.entries.len();
+        let version = self.floor + last as u32;
         let changes = self.idents[place].settle(number, base, carried);
         let entry = Entry {
             origin: ident,
             number,
             changes,
         };
-        match keep_entry(&mut self.entries, alloc, entry) {
+        match keep_entry(&mut self.entries, &mut self.bases, alloc, entry, base) {
             Ok(()) => {}
             Err(NoMemory) => return Err(NoMemory),
         }
         self.second |= second;
-        extend_others(
-            &mut self.idents,
-            place,
-            version as u32,
-            &self.entries[version],
-        )
+        extend_others(&mut self.idents, place, version, &self.entries[last])
     }
 }
 
-/// Puts an entry at the end, for others to share.
-fn keep_entry(entries: &mut Vec<SharedEntry>, alloc: Global, entry: Entry) -> Result<(), NoMemory>
+/// Puts an entry at the end, for others to share, and its base beside it.
+fn keep_entry(
+    entries: &mut Vec<SharedEntry>,
+    bases: &mut Vec<u32>,
+    alloc: Global,
+    entry: Entry,
+    base: u32,
+) -> Result<(), NoMemory>
     ensures ok { OnOk result (entries.new.items ≡ entries.old.items ++ entry ∷ []) }
+    ensures based { OnOk result (bases.new.items ≡ bases.old.items ++ base ∷ []) }
     ensures unchanged { OnErr result (entries.new.items ≡ entries.old.items) }
+    ensures bases_unchanged { OnErr result (bases.new.items ≡ bases.old.items) }
 {
-    match SharedEntry::new(alloc, entry) {
-        Ok(shared) => keep(entries, shared),
-        Err(NoMemory) => Err(NoMemory),
+    let shared = match SharedEntry::new(alloc, entry) {
+        Ok(shared) => shared,
+        Err(NoMemory) => return Err(NoMemory),
+    };
+    match keep(bases, base) {
+        Ok(()) => {}
+        Err(NoMemory) => return Err(NoMemory),
+    }
+    match keep(entries, shared) {
+        Ok(()) => Ok(()),
+        Err(NoMemory) => {
+            bases.pop();
+            Err(NoMemory)
+        }
     }
 }

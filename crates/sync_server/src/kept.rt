@@ -1,9 +1,8 @@
 ghost use Rattle.std.specs.Prelude.{◌≡◌, ◌≤◌, ◌&&◌, not, Some, length, IfOk, OnOk};
 ghost use Rattle.sync_data.specs.declared.instr.Instr.{Instr};
 ghost use Rattle.sync_exchange.specs.Profile.{the_profile, unspell};
-ghost use Rattle.sync_model.specs.Files.{is_second};
 ghost use Rattle.sync_exchange.specs.Seen.{change_seen};
-ghost use Rattle.sync_model.specs.Parts.{Given as GivenParts, at_ident, merge_by};
+ghost use Rattle.sync_model.specs.Parts.{Given as GivenParts, at_ident, is_newer, merge_by};
 ghost use Rattle.sync_server.specs.Merging.{IsFresh, Merges, Prepares, change_of};
 
 use crate::history::History;
@@ -15,23 +14,26 @@ use sync_base::{Ident, NoMemory};
 use sync_messages::Change;
 use sync_store::Store;
 
-/// What a server keeps in memory.
+/// What a server keeps in memory: the history, the objects, and the state at the floor of the history.
 #[derive(Drop)]
 pub(crate) struct Kept {
     pub(crate) history: History,
     pub(crate) objects: Store,
+    pub(crate) below: Store,
 }
 
 impl Kept {
-    ghost use Rattle.sync_server.specs.Kept.{parts, no_parts};
+    ghost use Rattle.sync_server.specs.Kept.{parts};
+    ghost use Rattle.sync_model.specs.Parts.{no_parts};
 
     /// What is kept of no records.
     pub(crate) fn new(alloc: Global) -> Result<Kept, NoMemory>
-        ensures { IfOk result (λ made. parts made ≡ no_parts) }
+        ensures { IfOk result (λ made. parts made ≡ no_parts the_profile) }
     {
         Ok(Kept {
             history: History::new(alloc),
             objects: Store::new(alloc)?,
+            below: Store::new(alloc)?,
         })
     }
 
@@ -45,13 +47,13 @@ impl Kept {
     ) -> Result<Prepared, ChangeRefusal>
         requires fresh { IsFresh ident (change_of head body.now) self.now.history.idents }
         requires small { length body.now ≤ 67108864 }
-        ensures second { IfOk result (λ p. p.second ≡ is_second the_profile (unspell body.now)) }
+        ensures second { IfOk result (λ p. p.second ≡ is_newer the_profile (unspell body.now)) }
         ensures prepared { (g : GivenParts Instr) → at_ident ident self.now.history.idents ≡ Some g → Prepares result (parts self.now) ident g (change_of head body.now) (merge_by the_profile (parts self.now) ident g (change_of head body.now)) }
     {
         let Some(given) = self.history.at(ident) else {
             unreachable!()
         };
-        match admit(given, self.history.len(), head) {
+        match admit(given, self.history.len(), self.history.floor(), head) {
             Ok(()) => {}
             Err(why) => return Err(ChangeRefusal::Refused(why)),
         }
@@ -75,7 +77,7 @@ impl Kept {
     ) -> Result<bool, ChangeRefusal>
         requires { IsFresh ident (change_seen change.now) self.old.history.idents }
         ensures given { OnOk result (length self.new.history.idents ≡ length self.old.history.idents) }
-        ensures form { IfOk result (λ form. form ≡ (is_second the_profile (unspell change.now.body) && not self.old.history.second)) }
+        ensures form { IfOk result (λ form. form ≡ (is_newer the_profile (unspell change.now.body) && not self.old.history.second)) }
         ensures merged { (g : GivenParts Instr) → at_ident ident self.old.history.idents ≡ Some g → Merges result (merge_by the_profile (parts self.old) ident g (change_seen change.now)) ident (change_seen change.now) (parts self.old) (parts self.new) }
     {
         self.merge_body(alloc, ident, ChangeHead::of(change), change.body())
@@ -92,7 +94,7 @@ impl Kept {
         requires fresh { IsFresh ident (change_of head body.now) self.old.history.idents }
         requires small { length body.now ≤ 67108864 }
         ensures given { OnOk result (length self.new.history.idents ≡ length self.old.history.idents) }
-        ensures form { IfOk result (λ form. form ≡ (is_second the_profile (unspell body.now) && not self.old.history.second)) }
+        ensures form { IfOk result (λ form. form ≡ (is_newer the_profile (unspell body.now) && not self.old.history.second)) }
         ensures merged { (g : GivenParts Instr) → at_ident ident self.old.history.idents ≡ Some g → Merges result (merge_by the_profile (parts self.old) ident g (change_of head body.now)) ident (change_of head body.now) (parts self.old) (parts self.new) }
     {
         let Prepared { carried, second } = match self.prepare(alloc, ident, head, body) {

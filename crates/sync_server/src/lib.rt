@@ -2,17 +2,27 @@
 #![tactic(auto)]
 
 mod asking;
+mod counting;
+mod counts;
+mod crossed;
 mod extending;
 mod files;
+mod front;
 mod given;
 mod history;
 mod kept;
+mod kinds;
 mod lists;
 mod merging;
 mod opening;
 mod refusal;
+mod retiring;
 mod server;
+#[cfg(test)]
+mod tests;
+mod uuids;
 mod version;
 
+pub use counts::Counts;
 pub use refusal::ServerRefusal;
 pub use server::Server;

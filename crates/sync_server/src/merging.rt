@@ -42,11 +42,14 @@ impl ChangeHead {
 }
 
 /// Whether the numbers of a change are those of its client's next one.
-pub(crate) fn admit(given: &Given, len: u32, head: ChangeHead) -> Result<(), Refusal>
+pub(crate) fn admit(given: &Given, len: u32, floor: u32, head: ChangeHead) -> Result<(), Refusal>
     requires { 1 ≤ head.number }
-    ensures { refused result ≡ numbers_broken len given.now head.number head.base }
+    ensures { refused result ≡ numbers_broken len floor given.now head.number head.base }
 {
     let (count, last) = (given.count(), given.last());
+    if given.heir().is_some() {
+        return Err(Refusal::IdentRetired { count });
+    }
     if head.number - 1 > count {
         return Err(Refusal::NumberGap {
             expected: count + 1,
@@ -57,6 +60,9 @@ pub(crate) fn admit(given: &Given, len: u32, head: ChangeHead) -> Result<(), Ref
     }
     if head.base > len {
         return Err(Refusal::AheadOfHistory { len });
+    }
+    if head.base < floor {
+        return Err(Refusal::Trimmed { floor });
     }
     if len == LAST {
         return Err(Refusal::HistoryFull { len });

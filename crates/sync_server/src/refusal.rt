@@ -41,6 +41,14 @@ pub(crate) enum Refusal {
     NotForServer,
     /// The entry at the cursor is of version 2, and the client takes version 1 alone.
     NeedsForm2 { cursor: u32 },
+    /// The ident is retired, and so many of its changes are integrated for good.
+    IdentRetired { count: u32 },
+    /// An ident can't be retired for itself.
+    SelfRetire { ident: u32 },
+    /// The ident is retired for another, which is this.
+    RetiredBy { by: u32 },
+    /// The base or cursor lies before the kept history, which begins at this version.
+    Trimmed { floor: u32 },
 }
 
 impl Refusal {
@@ -60,6 +68,10 @@ impl Refusal {
             Refusal::IdentsFull { .. } => 65,
             Refusal::NotForServer => 66,
             Refusal::NeedsForm2 { .. } => 67,
+            Refusal::IdentRetired { .. } => 68,
+            Refusal::SelfRetire { .. } => 69,
+            Refusal::RetiredBy { .. } => 70,
+            Refusal::Trimmed { .. } => 71,
         }
     }
 
@@ -79,6 +91,10 @@ impl Refusal {
             Refusal::IdentsFull { given } => given,
             Refusal::NotForServer => 0,
             Refusal::NeedsForm2 { cursor } => cursor,
+            Refusal::IdentRetired { count } => count,
+            Refusal::SelfRetire { ident } => ident,
+            Refusal::RetiredBy { by } => by,
+            Refusal::Trimmed { floor } => floor,
         }
     }
 }

@@ -1,31 +1,34 @@
-ghost use Rattle.std.specs.Prelude.{◌≡◌, ◌↔◌, ◌⊎◌, ◌≤◌, ◌++◌, ◌∷◌, [], ℕ, List, map, length, slice_get, false, true, Some, IsErrOf, IfErr, IfOk, OnOk, OnErr};
-ghost use Rattle.std.specs.Option.{option_map};
+ghost use Rattle.std.specs.Prelude.{◌≡◌, ◌↔◌, ◌⊎◌, ◌≤◌, ◌++◌, ◌∷◌, [], ℕ, List, map, length, slice_get, if◌then◌else◌, false, true, Some, IsErrOf, IfErr, IfOk, OnOk, OnErr};
+ghost use Rattle.std.specs.Option.{option_copied, option_map};
 ghost use Rattle.sync_data.specs.declared.instr.Instr.{Instr};
 ghost use Rattle.sync_disk.specs.Disk.{LeavesOnly, Rose, SameDisk, Told};
 ghost use Rattle.sync_disk.specs.Faults.{armed, begun, disarmed, has_stopped};
 ghost use Rattle.sync_journal.specs.Records.{StandsForPrefix};
 ghost use Rattle.sync_journal.specs.Stands.{Stands, disk_of};
 ghost use Rattle.sync_model.specs.Servers as model;
-ghost use Rattle.sync_model.specs.Worlds.{at};
-ghost use Rattle.sync_model.specs.Parts.{Given as GivenParts, ask_by, at_ident, bind_by, merge_by, serve_by, upload_by};
+ghost use Rattle.sync_model.specs.Parts.{Given as GivenParts, at_ident, bind_by, merge_by, serve_by, upload_by};
 ghost use Rattle.sync_exchange.specs.Profile.{the_profile};
 ghost use Rattle.sync_exchange.specs.Seen.{change_seen, message_seen, server_bytes, server_seen};
 ghost use Rattle.sync_recip.specs.Lists.{entry_of};
 ghost use Rattle.sync_server.specs.Integrating.{found};
 ghost use Rattle.sync_server.specs.Merging.{IsFresh, records_of};
-ghost use Rattle.sync_server.specs.Sending.{downloads};
+ghost use Rattle.sync_server.specs.Sending.{asked};
+ghost use Rattle.sync_server.specs.Retiring.{retiring};
+ghost use Rattle.sync_server.specs.Readers.{changes_of, counts_of, item_from, past};
 
 use crate::asking::refuse;
+use crate::counts::Counts;
 use crate::history::LAST;
 use crate::kept::Kept;
 use crate::refusal::{ChangeRefusal, Refusal, ServerRefusal};
 use std::alloc::Global;
-use sync_base::{Blob, Entry, Id, Ident, NoMemory};
+use sync_base::{Blob, Changeset, Entry, Id, Ident, NoMemory};
 use sync_disk::{Disk, Leaves, MemoryDisk};
 use sync_journal::{Journal, JournalRefusal};
-use sync_messages::{Ask, Change, Given, Message, Stored, Upload};
+use sync_messages::{Ask, Change, Given, Message, Retire, Retired, Stored, Upload};
 use sync_records::ServerRecord;
 use sync_store::Store;
+use sync_subset::Subset;
 
 /// A server over a disk: its journal, and what it keeps in memory of the history, the objects and the clients.
 #[derive(Drop)]
@@ -261,25 +264,78 @@ impl<D: Disk> Server<D> {
         }
     }
 
-    /// Answers a question for the history.
-    fn take_ask(&mut self, ask: &Ask, second: bool) -> Result<Message, ServerRefusal>
+    /// Answers a question for the history, and keeps its settled number where it is new.
+    fn take_ask(
+        &mut self,
+        ask: &Ask,
+        second: bool,
+        tables: Option<&Subset>,
+    ) -> Result<Message, ServerRefusal>
         requires { is_closed self.old ≡ false }
-        ensures reply { IfOk result (λ reply. message_seen reply ≡ (ask_by (parts (kept_of self.old)) ask.now.ident ask.now.cursor (at_ident ask.now.ident (kept_of self.old).history.idents) (downloads second ask.now.ident ask.now.cursor)).answer) }
-        ensures same { OnOk result (self.new ≡ self.old) }
-        ensures journal { journal_of self.new ≡ journal_of self.old }
+        ensures served { IfOk result (λ reply. IsServed (asked (parts (kept_of self.old)) ask.now.ident ask.now.cursor ask.now.settled (option_copied tables.entry) second) reply (kept_of self.new)) }
+        ensures stored { OnOk result (Adds D.content D.images (asked (parts (kept_of self.old)) ask.now.ident ask.now.cursor ask.now.settled (option_copied tables.entry) second).records self.old self.new) }
+        ensures any_moment { LeavesPrefix D.content D.images D.moment D.images_since (asked (parts (kept_of self.old)) ask.now.ident ask.now.cursor ask.now.settled (option_copied tables.entry) second).records self.old self.new }
         ensures stays_open { OnOk result (is_closed self.new ≡ false) }
         ensures closes { OnErr result (is_closed self.new ≡ true) }
         ensures refused { IsErrOf result ServerRefusal.Closed → ⊥ }
-        ensures strokes { Asked D.strokes [] self.old self.new result }
+        ensures strokes { Told (D.content (disk_of (journal_of self.old))) (λ b. Asked D.strokes (asked (parts (kept_of self.old)) ask.now.ident ask.now.cursor ask.now.settled (option_copied tables.entry) second).records self.old self.new result) }
+        ensures origin { D.origin (disk_of (journal_of self.new)) ≡ D.origin (disk_of (journal_of self.old)) }
+        ensures told { Told (D.content (disk_of (journal_of self.old))) (λ b. (c : List ℕ) × (D.content (disk_of (journal_of self.new)) ≡ Some c)) }
         ensures later { D.faults (disk_of (journal_of self.old)) ≤ D.faults (disk_of (journal_of self.new)) }
         ensures fault { IsErrOf result ServerRefusal.DiskFault → Rose (D.faults (disk_of (journal_of self.old))) (D.faults (disk_of (journal_of self.new))) }
     {
-        match self.kept.ask(self.alloc, ask.ident(), ask.cursor(), second) {
-            Ok(reply) => Ok(reply),
+        let reply = match self.kept.ask(self.alloc, ask, second, tables) {
+            Ok(reply) => reply,
             Err(NoMemory) => {
                 self.closed = true;
-                Err(ServerRefusal::NoMemory)
+                return Err(ServerRefusal::NoMemory);
             }
+        };
+        if !self.kept.settles(ask, &reply) {
+            return Ok(reply);
+        }
+        let (ident, settled) = (ask.ident(), ask.settled());
+        self.kept.history.settle_at(ident, settled);
+        match self.append(&ServerRecord::Settled { ident, settled }) {
+            Ok(()) => Ok(reply),
+            Err(refusal) => Err(refusal),
+        }
+    }
+
+    /// Retires an ident for another.
+    fn take_retire(&mut self, retire: &Retire) -> Result<Message, ServerRefusal>
+        requires { is_closed self.old ≡ false }
+        ensures served { IfOk result (λ reply. IsServed (retiring (parts (kept_of self.old)) retire.now.ident retire.now.by) reply (kept_of self.new)) }
+        ensures stored { OnOk result (Adds D.content D.images (retiring (parts (kept_of self.old)) retire.now.ident retire.now.by).records self.old self.new) }
+        ensures any_moment { LeavesPrefix D.content D.images D.moment D.images_since (retiring (parts (kept_of self.old)) retire.now.ident retire.now.by).records self.old self.new }
+        ensures stays_open { OnOk result (is_closed self.new ≡ false) }
+        ensures closes { OnErr result (is_closed self.new ≡ true) }
+        ensures refused { IsErrOf result ServerRefusal.Closed → ⊥ }
+        ensures strokes { Told (D.content (disk_of (journal_of self.old))) (λ b. Asked D.strokes (retiring (parts (kept_of self.old)) retire.now.ident retire.now.by).records self.old self.new result) }
+        ensures origin { D.origin (disk_of (journal_of self.new)) ≡ D.origin (disk_of (journal_of self.old)) }
+        ensures told { Told (D.content (disk_of (journal_of self.old))) (λ b. (c : List ℕ) × (D.content (disk_of (journal_of self.new)) ≡ Some c)) }
+        ensures later { D.faults (disk_of (journal_of self.old)) ≤ D.faults (disk_of (journal_of self.new)) }
+        ensures fault { IsErrOf result ServerRefusal.DiskFault → Rose (D.faults (disk_of (journal_of self.old))) (D.faults (disk_of (journal_of self.new))) }
+    {
+        let (ident, by) = (retire.ident(), retire.by());
+        let retirement = match self.kept.retirement(ident, by) {
+            Ok(retirement) => retirement,
+            Err(why) => return Ok(refuse(by, 0, why)),
+        };
+        let reply = Message::Retired(Retired::new(ident, by, retirement.number));
+        if !retirement.is_new {
+            return Ok(reply);
+        }
+        match self.kept.history.retire(self.alloc, ident, by) {
+            Ok(()) => {}
+            Err(NoMemory) => {
+                self.closed = true;
+                return Err(ServerRefusal::NoMemory);
+            }
+        }
+        match self.append(&ServerRecord::Retired { ident, by }) {
+            Ok(()) => Ok(reply),
+            Err(refusal) => Err(refusal),
         }
     }
 
@@ -301,30 +357,35 @@ impl<D: Disk> Server<D> {
         match message {
             Message::Bind { uuid } => self.take_bind(*uuid),
             Message::Upload(upload) => self.take_upload(upload),
-            Message::Ask(ask) => self.take_ask(ask, false),
-            Message::Ask2(ask) => self.take_ask(ask, true),
+            Message::Ask(ask) => self.take_ask(ask, false, None),
+            Message::Ask2(ask) => self.take_ask(ask, true, None),
+            Message::AskTables(asked) => {
+                self.take_ask(asked.ask(), asked.form() == 2, Some(asked.tables()))
+            }
+            Message::Retire(retire) => self.take_retire(retire),
             Message::Ident(given) => Ok(refuse(given.ident(), 0, Refusal::NotForServer)),
             Message::Download(entries) => Ok(refuse(entries.ident(), 0, Refusal::NotForServer)),
             Message::Stored(stored) => Ok(refuse(stored.ident(), 0, Refusal::NotForServer)),
             Message::Refused { ident, .. } => Ok(refuse(*ident, 0, Refusal::NotForServer)),
+            Message::Retired(retired) => Ok(refuse(retired.ident(), 0, Refusal::NotForServer)),
         }
     }
 
     /// Takes a message, and answers the reply (docs/GUARANTEES.md, "Nodes"). What it answers is on the disk. `Closed` comes exactly
     /// after an earlier `DiskFault` or `NoMemory`.
     pub fn take(&mut self, message: Message) -> Result<Message, ServerRefusal>
-        // It answers as a server that reads its records, and keeps what they stand for.
-        ensures step { (records : List model.ServerRecord) → IsServerOf records self.old → IfOk result (λ reply. Did (model.serve the_profile (model.server_of the_profile records) (message_seen message)) reply records self.new) }
+        // It answers by what its records give, and keeps what they give with the new ones.
+        ensures step { (records : List model.ServerRecord) → IsServerOf records self.old → IfOk result (λ reply. Did (serve_by the_profile (parts (kept_of self.old)) (message_seen message)) reply records self.new) }
         // The disk holds the new records too.
         ensures stored { (records : List model.ServerRecord) → IsServerOf records self.old → IsStored D.content D.images records self.old
-            → OnOk result (IsStored D.content D.images (records ++ (model.serve the_profile (model.server_of the_profile records) (message_seen message)).records) self.new) }
+            → OnOk result (IsStored D.content D.images (records ++ (serve_by the_profile (parts (kept_of self.old)) (message_seen message)).records) self.new) }
         // A crash at any moment of the call leaves the old records and some of the new ones, from the first on.
         ensures any_moment { (records : List model.ServerRecord) → IsServerOf records self.old → IsStored D.content D.images records self.old
-            → LeavesOnly D.moment D.images_since (disk_of (journal_of self.old)) (disk_of (journal_of self.new)) (StandsForPrefix (map server_bytes records) (map server_bytes (model.serve the_profile (model.server_of the_profile records) (message_seen message)).records)) }
+            → LeavesOnly D.moment D.images_since (disk_of (journal_of self.old)) (disk_of (journal_of self.new)) (StandsForPrefix (map server_bytes records) (map server_bytes (serve_by the_profile (parts (kept_of self.old)) (message_seen message)).records)) }
         // At an answer the disk was asked for the appends of the new records and for nothing else, at a fault for the first of them, up to
         // the stroke that failed.
         ensures strokes { (records : List model.ServerRecord) → IsServerOf records self.old → IsStored D.content D.images records self.old
-            → Asked D.strokes (model.serve the_profile (model.server_of the_profile records) (message_seen message)).records self.old self.new result }
+            → Asked D.strokes (serve_by the_profile (parts (kept_of self.old)) (message_seen message)).records self.old self.new result }
         // What no call of the disk changes.
         ensures origin { D.origin (disk_of (journal_of self.new)) ≡ D.origin (disk_of (journal_of self.old)) }
         ensures told { Told (D.content (disk_of (journal_of self.old))) (λ b. (c : List ℕ) × (D.content (disk_of (journal_of self.new)) ≡ Some c)) }
@@ -343,35 +404,106 @@ impl<D: Disk> Server<D> {
 
     /// The objects. Once the server is closed they may be any.
     pub fn objects(&self) -> &Store
-        ensures state { (records : List model.ServerRecord) → IsServerOf records self.now → result.now ≡ model.server_objects the_profile (model.server_of the_profile records) }
-        ensures kept { result.now ≡ (kept_of self.now).objects }
+        ensures { result.now ≡ (parts (kept_of self.now)).objects }
     {
         &self.kept.objects
     }
 
-    /// How many entries the history has.
+    /// How many entries the history has, those before the floor among them.
     pub fn len(&self) -> u32
-        ensures count { (records : List model.ServerRecord) → IsServerOf records self.now → result ≡ length (model.server_of the_profile records).log }
-        ensures kept { result ≡ length (kept_of self.now).history.entries }
+        ensures { result ≡ (parts (kept_of self.now)).len }
     {
         self.kept.history.len()
     }
 
-    /// The entry of a version; none from the length on.
+    /// The entry of a version; none below the floor, and from the length on.
     pub fn entry(&self, version: u32) -> Option<&Entry>
-        ensures is { (records : List model.ServerRecord) → IsServerOf records self.now
-            → option_map (λ e. entry_of e.now) result ≡ at (model.entries_from the_profile (model.server_of the_profile records).log (length (model.server_of the_profile records).log) 0) version }
-        ensures kept { option_map (λ e. entry_of e.now) result ≡ slice_get (kept_of self.now).history.entries version }
+        ensures { option_map (λ e. entry_of e.now) result ≡ item_from (parts (kept_of self.now)).floor (parts (kept_of self.now)).entries version }
     {
         self.kept.history.entry(version)
     }
 
+    /// The base at which the entry of a version was made; none where there is no entry of that version.
+    pub fn base_of(&self, version: u32) -> Option<u32>
+        ensures { result ≡ item_from (parts (kept_of self.now)).floor (parts (kept_of self.now)).bases version }
+    {
+        self.kept.history.base(version)
+    }
+
+    /// The form of the file: 1, or 2 where it may hold changesets of version 2.
+    pub fn form(&self) -> u32
+        ensures { result ≡ (if (parts (kept_of self.now)).second then 2 else 1) }
+    {
+        if self.kept.history.second() { 2 } else { 1 }
+    }
+
+    /// The first version of the kept history; 0 where nothing was trimmed.
+    pub fn floor(&self) -> u32
+        ensures { result ≡ (parts (kept_of self.now)).floor }
+    {
+        self.kept.history.floor()
+    }
+
+    /// The objects at the floor.
+    pub fn floor_objects(&self) -> &Store
+        ensures { result.now ≡ (parts (kept_of self.now)).below }
+    {
+        &self.kept.below
+    }
+
+    /// How many idents were given.
+    pub fn idents(&self) -> u32
+        ensures { result ≡ length (parts (kept_of self.now)).idents }
+    {
+        self.kept.history.given()
+    }
+
     /// The ident of a uuid; none where no Bind with it was recorded.
     pub fn ident_of(&self, id: &Id) -> Option<Ident>
-        ensures given { (records : List model.ServerRecord) → IsServerOf records self.now → result ≡ found (model.place_of id.now (model.server_of the_profile records).ids) }
-        ensures kept { result ≡ found (model.place_of id.now (map (λ g. g.uuid) (kept_of self.now).history.idents)) }
+        ensures { result ≡ found (model.place_of id.now (map (λ g. g.uuid) (parts (kept_of self.now)).idents)) }
     {
         self.kept.history.ident_of(id)
+    }
+
+    /// The uuid of an ident; none where it isn't given.
+    pub fn id_of(&self, ident: Ident) -> Option<&Id>
+        ensures { option_map (λ id. id.now) result ≡ option_map (λ g. g.uuid) (at_ident ident (parts (kept_of self.now)).idents) }
+    {
+        match self.kept.history.at(ident) {
+            Some(given) => Some(given.id()),
+            None => None,
+        }
+    }
+
+    /// The numbers of an ident; none where it isn't given.
+    pub fn counts(&self, ident: Ident) -> Option<Counts>
+        ensures { result ≡ option_map counts_of (at_ident ident (parts (kept_of self.now)).idents) }
+    {
+        match self.kept.history.at(ident) {
+            Some(given) => Some(Counts {
+                number: given.count(),
+                base: given.last(),
+                settled: given.mark(),
+            }),
+            None => None,
+        }
+    }
+
+    /// The retired ident of that place, counted from 0 in the order in which they were retired, and the ident for which it
+    /// was; none from their count on.
+    pub fn retired(&self, place: u32) -> Option<(Ident, Ident)>
+        ensures { result ≡ slice_get (parts (kept_of self.now)).retired place }
+    {
+        self.kept.history.retired().get(place as usize).copied()
+    }
+
+    /// The entry of a version as the next changes of an ident cross it. None comes where the ident isn't given or is
+    /// retired, where the version is below the floor or the base of the ident's last change, or from the length on, and
+    /// where the ident made the entry.
+    pub fn past(&self, ident: Ident, version: u32) -> Option<&Changeset>
+        ensures { option_map (λ c. c.now) result ≡ option_map changes_of (past (parts (kept_of self.now)) ident version) }
+    {
+        self.kept.past(ident, version)
     }
 
     /// Hands the disk back.

@@ -13,10 +13,10 @@ use Rattle.sync_base.specs.Effects.{effect_of, is_effect}
 use Rattle.sync_base.specs.States.{State}
 use Rattle.sync_codec.specs.Spelling.{spelling}
 use Rattle.sync_law.specs.Coded.{apply, state_or_code}
-use Rattle.node_model.specs.Profile.{apply_all, apply_then, one_more}
-use Rattle.node_model.specs.Snapshots.{run_parts, grown_on, part_differs}
-use Rattle.node_instance.specs.Lemmas.Coded.{all_act}
-use Rattle.node_instance.specs.Profile.{the_profile}
+use Rattle.sync_model.specs.Profile.{apply_all, apply_then, one_more}
+use Rattle.sync_model.specs.Snapshots.{run_parts, grown_on, part_differs}
+use Rattle.sync_exchange.specs.Lemmas.Coded.{all_act}
+use Rattle.sync_exchange.specs.Profile.{the_profile}
 use Rattle.sync_snapshot.specs.Grown.{lists_of}
 use Rattle.sync_snapshot.specs.Parts.{untimed}
 

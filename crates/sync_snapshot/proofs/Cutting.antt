@@ -7,8 +7,8 @@ use Rattle.std.specs.declared.cmp.Ordering.{Ordering}
 use Rattle.store_walks.specs.Walk.{from_key, from, Step}
 use Rattle.sync_data.specs.Payload.{Changes}
 use Rattle.sync_data.specs.declared.instr.Instr.{Instr}
-use Rattle.node_model.specs.Cuts.{closed, cut_after}
-use Rattle.node_instance.specs.Profile.{weight, fits_changeset}
+use Rattle.sync_model.specs.Cuts.{closed, cut_after}
+use Rattle.sync_exchange.specs.Profile.{weight, fits_changeset}
 use Rattle.sync_snapshot.specs.Parts.{Cut, untimed, parts_with, Leaves, Takes}
 
 one_longer : (xs : List Instr) (i : Instr) → length (xs ++ i ∷ []) ≡ length xs + 1

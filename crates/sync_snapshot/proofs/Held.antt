@@ -15,10 +15,10 @@ use Rattle.sync_data.specs.declared.instr.Instr.TheVariants as instrs
 use Rattle.sync_base.specs.Effects.{path_of}
 use Rattle.sync_codec.specs.Spelling.{value_fields, strings_in_field}
 use Rattle.sync_codec.specs.Valid.{IsGap, IsValue, IsString}
-use Rattle.node_instance.specs.Bounded.{IsHeldName, IsHeldKey, IsHeldKind, names_of}
-use Rattle.node_instance.specs.Lemmas.Held.{IsHeldPath, light_table, light_column, light_create, light_set, light_include, light_insert, light_bind}
-use Rattle.node_instance.specs.Lemmas.Weights.{light_whole, carried}
-use Rattle.node_instance.specs.Profile.{weight}
+use Rattle.sync_exchange.specs.Bounded.{IsHeldName, IsHeldKey, IsHeldKind, names_of}
+use Rattle.sync_exchange.specs.Lemmas.Held.{IsHeldPath, light_table, light_column, light_create, light_set, light_include, light_insert, light_bind}
+use Rattle.sync_exchange.specs.Lemmas.Weights.{light_whole, carried}
+use Rattle.sync_exchange.specs.Profile.{weight}
 
 fits_beside : (n m : ℕ) → n + m ≤ 4194304 → m ≤ 4194304 - n
 fits_beside n m h = omega (arith, h)

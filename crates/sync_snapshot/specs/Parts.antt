@@ -2,8 +2,8 @@
 use Rattle.std.specs.Prelude.{◌≡◌, List, ◌++◌, map}
 use Rattle.sync_data.specs.Payload.{Changes}
 use Rattle.sync_data.specs.declared.instr.Instr.{Instr}
-use Rattle.node_model.specs.Cuts.{cut_after}
-use Rattle.node_instance.specs.Profile.{fits_changeset}
+use Rattle.sync_model.specs.Cuts.{cut_after}
+use Rattle.sync_exchange.specs.Profile.{fits_changeset}
 
 -- instructions as a changeset, whose time is 0
 abbrev pub untimed : List Instr → Changes

@@ -1,7 +1,7 @@
 ghost use Rattle.std.specs.Prelude.{◌≡◌, map, flat_map, IfOk, OnOk};
 ghost use Rattle.std.specs.FinMap as fin;
 ghost use Rattle.snapshot_law.specs.Build.{build};
-ghost use Rattle.node_instance.specs.Profile.{fits_changeset};
+ghost use Rattle.sync_exchange.specs.Profile.{fits_changeset};
 ghost use Rattle.sync_snapshot.specs.Lists.{table_instrs};
 ghost use Rattle.sync_snapshot.specs.Parts.{untimed, Takes};
 

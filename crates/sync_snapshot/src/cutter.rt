@@ -1,6 +1,6 @@
 ghost use Rattle.std.specs.Prelude.{◌≡◌, ◌≤◌, ◌++◌, ◌∷◌, [], true, map, IfOk, OnOk};
-ghost use Rattle.node_model.specs.Cuts.{cut, closed};
-ghost use Rattle.node_instance.specs.Profile.{fits_changeset, weight};
+ghost use Rattle.sync_model.specs.Cuts.{cut, closed};
+ghost use Rattle.sync_exchange.specs.Profile.{fits_changeset, weight};
 ghost use Rattle.sync_snapshot.specs.Parts.{untimed, parts_with, Takes};
 
 use super::whole::weight;
@@ -20,7 +20,7 @@ pub(crate) struct Cutter {
 
 impl Model for Cutter {
     ghost use Rattle.std.specs.Prelude.{◌≡◌, ◌≤◌, length, sum_by};
-    ghost use Rattle.node_instance.specs.Profile.{weight};
+    ghost use Rattle.sync_exchange.specs.Profile.{weight};
     ghost use Rattle.sync_snapshot.specs.Parts.{Cut};
 
     ghost Value = { Cut };

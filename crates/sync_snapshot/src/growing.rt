@@ -2,8 +2,8 @@ ghost use Rattle.std.specs.Prelude.{◌≡◌, bytes_eq, false, Err, IfOk, slice
 ghost use Rattle.std.specs.Option.{option_map_or};
 ghost use Rattle.sync_base.specs.States.{no_state};
 ghost use Rattle.sync_codec.specs.Spelling.{spelling};
-ghost use Rattle.node_model.specs.Snapshots.{grown, run_parts, part_differs};
-ghost use Rattle.node_instance.specs.Profile.{the_profile};
+ghost use Rattle.sync_model.specs.Snapshots.{grown, run_parts, part_differs};
+ghost use Rattle.sync_exchange.specs.Profile.{the_profile};
 ghost use Rattle.sync_snapshot.specs.Grown.{lists_of, Names, Grows};
 
 use super::building::build;

@@ -4,10 +4,10 @@ ghost use Rattle.sync_data.specs.Payload.{payload, value_payload};
 ghost use Rattle.sync_io.specs.Varints.{zigzag};
 ghost use Rattle.sync_codec.specs.Spelling.{value_fields, strings_in_field};
 ghost use Rattle.sync_codec.specs.Valid.{IsGap, IsValue, IsTimeValue, IsString};
-ghost use Rattle.node_instance.specs.Bounded.{IsHeldName, IsHeldKey, IsHeldKind};
-ghost use Rattle.node_instance.specs.Lemmas.Held.{IsHeldPath};
+ghost use Rattle.sync_exchange.specs.Bounded.{IsHeldName, IsHeldKey, IsHeldKind};
+ghost use Rattle.sync_exchange.specs.Lemmas.Held.{IsHeldPath};
 ghost use Rattle.sync_base.specs.Effects.{path_of};
-ghost use Rattle.node_instance.specs.Profile.{weight};
+ghost use Rattle.sync_exchange.specs.Profile.{weight};
 
 use sync_base::{
     Between, CellName, DictUpdate, Id, Instr, Key, KeyText, Kind, MOST_PAYLOAD, Name, Time, Value,

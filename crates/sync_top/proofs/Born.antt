@@ -3,16 +3,16 @@ use Rattle.std.proofs.Common.{◌≡◌, ℕ, Bool, true, false, if◌then◌els
 use Rattle.std.specs.Prelude.{⊤, bytes_eq, ◌==◌}
 use Rattle.sync_theory.specs.Grid.{rebase, tail}
 use Rattle.sync_theory.specs.Changesets.{Changeset}
-use Rattle.node_model.specs.Bytes.{Name, Uuid}
-use Rattle.node_model.specs.Profile.{Profile, Stuck, cross_changesets}
-use Rattle.node_model.specs.Each.{Each, no_more, and_each}
-use Rattle.node_model.specs.Messages.{Message, Bind, Ident, Upload, Ask, Download, Refused, Stored, Ask2, Retire, Retired, AskTables}
-use Rattle.node_model.specs.Clients.{Client, ClientRecord, Born, Named, Made, Took, Form, Subset, Part, Floor, ClientRefusal, ClientStep, after_record, after_records, ask, bind, changeset_of, client_of, commit, crossed, no_client, ok_list, take as take_message, takes_entry, upgrade, subscribe, upload}
-use Rattle.node_model.specs.Servers.{ServerRecord, serve, server_of}
-use Rattle.node_model.specs.Worlds as worlds
-use Rattle.node_model.specs.Worlds.{World, Node, Event, Joins, Starts, Edits, Binds, Uploads, Asks, Upgrades, Subscribes, Delivers, Restarts, Stops, Injects, Outcome, at, arm, client_called, client_calls, client_ends, client_moved, delivers, empty_world, happens, has_id, has_name, is_node, is_there, made_words, message_at, message_words, named_by, names_own, put, says, seek, server_called, server_ends, server_name, stopped, subscribe_words, took_words, upgrade_words, world_after}
-use Rattle.node_model.proofs.Lists.{seek_found}
-use Rattle.node_model.proofs.Limits.{each_append, each_at}
+use Rattle.sync_model.specs.Bytes.{Name, Uuid}
+use Rattle.sync_model.specs.Profile.{Profile, Stuck, cross_changesets}
+use Rattle.sync_model.specs.Each.{Each, no_more, and_each}
+use Rattle.sync_model.specs.Messages.{Message, Bind, Ident, Upload, Ask, Download, Refused, Stored, Ask2, Retire, Retired, AskTables}
+use Rattle.sync_model.specs.Clients.{Client, ClientRecord, Born, Named, Made, Took, Form, Subset, Part, Floor, ClientRefusal, ClientStep, after_record, after_records, ask, bind, changeset_of, client_of, commit, crossed, no_client, ok_list, take as take_message, takes_entry, upgrade, subscribe, upload}
+use Rattle.sync_model.specs.Servers.{ServerRecord, serve, server_of}
+use Rattle.sync_model.specs.Worlds as worlds
+use Rattle.sync_model.specs.Worlds.{World, Node, Event, Joins, Starts, Edits, Binds, Uploads, Asks, Upgrades, Subscribes, Delivers, Restarts, Stops, Injects, Outcome, at, arm, client_called, client_calls, client_ends, client_moved, delivers, empty_world, happens, has_id, has_name, is_node, is_there, made_words, message_at, message_words, named_by, names_own, put, says, seek, server_called, server_ends, server_name, stopped, subscribe_words, took_words, upgrade_words, world_after}
+use Rattle.sync_model.proofs.Lists.{seek_found}
+use Rattle.sync_model.proofs.Limits.{each_append, each_at}
 use Rattle.sync_world.proofs.Moves.{each_put}
 
 -- the first record is a birth

@@ -4,8 +4,8 @@ use Rattle.sync_data.specs.declared.instr.Instr.{Instr}
 use Rattle.sync_io.specs.Reading.{Reading, Ends, Gives, AtEnd, AtLongLine, AtLimit}
 use Rattle.sync_edits.specs.declared.event.Event.{Event as CodeEvent}
 use Rattle.sync_edits.specs.Lines.{event_form_of_line}
-use Rattle.node_model.specs.Worlds.{World, Event, happens, world_after}
-use Rattle.node_instance.specs.Profile.{the_profile}
+use Rattle.sync_model.specs.Worlds.{World, Event, happens, world_after}
+use Rattle.sync_exchange.specs.Profile.{the_profile}
 use Rattle.sync_world.specs.Events.{event_seen}
 use Rattle.sync_top.specs.Runs.{Ran, is_blank, answered, onto, run_from, Passes}
 use Rattle.sync_top.specs.Exchange.{answers, report, answered_form, event_before, events_of}

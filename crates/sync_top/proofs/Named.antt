@@ -3,20 +3,20 @@ use Rattle.std.proofs.Common.{◌≡◌, ◌≤◌, ◌<◌, ◌⊎◌, ⊎_elim
 use Rattle.std.specs.Prelude.{⊤, bytes_eq, ◌==◌, ◌-◌, map}
 use Rattle.sync_data.specs.declared.instr.Instr.{Instr}
 use Rattle.sync_base.specs.States.{IsState}
-use Rattle.node_instance.specs.Profile.{the_profile}
+use Rattle.sync_exchange.specs.Profile.{the_profile}
 use Rattle.sync_theory.specs.Changesets.{Changeset}
-use Rattle.node_model.specs.Bytes.{Name, Uuid, Tables}
-use Rattle.node_model.specs.Profile.{Profile, IsNamedKind, all_admitted, apply_all, first_need, first_outside, is_small, needs, restricted}
-use Rattle.node_model.specs.Log.{IsFair, MayDecline, MayRefuse, WorldFacts}
-use Rattle.node_model.specs.Messages.{Message, Bind, Ident, Upload, Ask, Download, Refused, Stored, Ask2, Retire, Retired, AskTables}
-use Rattle.node_model.specs.Clients as clients
-use Rattle.node_model.specs.Clients.{Client, ClientRecord, ClientRefusal, ClientStep, answers, appends, ask, bind, change_of, client_of, commit, commit_applied, commit_born, if_born, if_named, is_late, question, refuse, settled_from, subscribe, subscribed_once, take as take_message, to_upload, upgrade, upload}
-use Rattle.node_model.specs.Servers as servers
-use Rattle.node_model.specs.Servers.{Server, ServerRecord, ServerRefusal, ServerStep, code_of, download, download_first, download_tables, entries_from, first_form, heir_of, if_there, is_given, marking, place_of, refuses, retire_for, serve_retire, replies, serve, server_of}
-use Rattle.node_model.specs.Worlds as worlds
-use Rattle.node_model.specs.Worlds.{World, Node, Event, Joins, Starts, Edits, Binds, Uploads, Asks, Upgrades, Subscribes, Delivers, Restarts, Stops, Injects, Outcome, Words, arm, at, client_called, client_calls, client_ends, client_moved, delivers, empty_world, happens, has_id, has_name, is_node, is_there, made_words, message_at, message_words, named_by, names_own, says, seek, server_called, server_ends, server_moved, server_name, starts_at, stopped, subscribe_words, took_words, upgrade_words}
-use Rattle.node_model.proofs.Lists.{seek_found}
-use Rattle.node_model.proofs.Limits.{each_at}
+use Rattle.sync_model.specs.Bytes.{Name, Uuid, Tables}
+use Rattle.sync_model.specs.Profile.{Profile, IsNamedKind, all_admitted, apply_all, first_need, first_outside, is_small, needs, restricted}
+use Rattle.sync_model.specs.Log.{IsFair, MayDecline, MayRefuse, WorldFacts}
+use Rattle.sync_model.specs.Messages.{Message, Bind, Ident, Upload, Ask, Download, Refused, Stored, Ask2, Retire, Retired, AskTables}
+use Rattle.sync_model.specs.Clients as clients
+use Rattle.sync_model.specs.Clients.{Client, ClientRecord, ClientRefusal, ClientStep, answers, appends, ask, bind, change_of, client_of, commit, commit_applied, commit_born, if_born, if_named, is_late, question, refuse, settled_from, subscribe, subscribed_once, take as take_message, to_upload, upgrade, upload}
+use Rattle.sync_model.specs.Servers as servers
+use Rattle.sync_model.specs.Servers.{Server, ServerRecord, ServerRefusal, ServerStep, code_of, download, download_first, download_tables, entries_from, first_form, heir_of, if_there, is_given, marking, place_of, refuses, retire_for, serve_retire, replies, serve, server_of}
+use Rattle.sync_model.specs.Worlds as worlds
+use Rattle.sync_model.specs.Worlds.{World, Node, Event, Joins, Starts, Edits, Binds, Uploads, Asks, Upgrades, Subscribes, Delivers, Restarts, Stops, Injects, Outcome, Words, arm, at, client_called, client_calls, client_ends, client_moved, delivers, empty_world, happens, has_id, has_name, is_node, is_there, made_words, message_at, message_words, named_by, names_own, says, seek, server_called, server_ends, server_moved, server_name, starts_at, stopped, subscribe_words, took_words, upgrade_words}
+use Rattle.sync_model.proofs.Lists.{seek_found}
+use Rattle.sync_model.proofs.Limits.{each_at}
 use Rattle.sync_top.specs.Named.{IsNamedOutcome, IsNamedReply, IsReplyTo, MayNotCommit, MayNotSend, MayNotSubscribe, RefusesBy, SaysOnly}
 use Rattle.sync_top.proofs.Born.{AllBorn, born_id}
 

@@ -4,13 +4,13 @@ use Rattle.std.proofs.Math.Seq.{drop-cons}
 use Rattle.std.proofs.lemmas.List.Sums.{sum_by-append}
 use Rattle.std.specs.List.{count_by}
 use Rattle.sync_data.specs.declared.instr.Instr.{Instr}
-use Rattle.node_instance.specs.Profile.{the_profile}
+use Rattle.sync_exchange.specs.Profile.{the_profile}
 use Rattle.sync_gen.specs.Turns.{turn_of}
 use Rattle.sync_gen.specs.declared.turns.TurnKind.{TurnKind}
 use Rattle.sync_gen.specs.declared.turns.TurnKind.TheVariants as kinds
 use Rattle.sync_gen.specs.Clients.{name_of}
-use Rattle.node_model.specs.Bytes.{Name}
-use Rattle.node_model.specs.Worlds.{Event, Words, World, empty_world, happens, server_name}
+use Rattle.sync_model.specs.Bytes.{Name}
+use Rattle.sync_model.specs.Worlds.{Event, Words, World, empty_world, happens, server_name}
 use Rattle.sync_world.specs.Holding.{Holds}
 use Rattle.sync_world.specs.Words.{words_text}
 use Rattle.sync_world.specs.declared.world.World.{World as CodeWorld}

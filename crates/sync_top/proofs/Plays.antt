@@ -8,8 +8,8 @@ use Rattle.sync_gen.specs.declared.turns.TurnKind.TheVariants as kinds
 use Rattle.sync_io.specs.Devices.{Took, TookSome}
 use Rattle.sync_io.specs.declared.sink.SinkRefusal.{SinkRefusal}
 use Rattle.sync_io.specs.declared.sink.SinkRefusal.TheVariants as refusals
-use Rattle.node_model.specs.Bytes.{Name, Uuid}
-use Rattle.node_model.specs.Worlds.{Event, empty_world}
+use Rattle.sync_model.specs.Bytes.{Name, Uuid}
+use Rattle.sync_model.specs.Worlds.{Event, empty_world}
 use Rattle.sync_world.specs.declared.world.World.{World as CodeWorld}
 use Rattle.sync_top.specs.declared.counts.Counts.{Counts}
 use Rattle.sync_top.specs.declared.plan.Move.TheVariants as moves

@@ -1,8 +1,8 @@
 -- What is shown of a node, whichever it is.
 use Rattle.std.proofs.Common.{◌≡◌, ℕ, Bool, true, false, if◌then◌else◌, List, Option, Result, Ok, Err, refl, subst}
 use Rattle.sync_io.specs.declared.status.Status.{Status}
-use Rattle.node_model.specs.Clients.{ClientRecord}
-use Rattle.node_model.specs.Servers.{ServerRecord}
+use Rattle.sync_model.specs.Clients.{ClientRecord}
+use Rattle.sync_model.specs.Servers.{ServerRecord}
 use Rattle.sync_node.specs.Opening.{client_file, server_file}
 use Rattle.sync_node.specs.Showing.{NodeRecords, client_shown, is_client_file, node_file, of_client, of_server, server_shown, shown}
 use Rattle.sync_node.specs.Showing.NodeRecords.{OfClient, OfServer}

@@ -6,7 +6,7 @@ use Rattle.sync_gen.specs.Clients.{name_of}
 use Rattle.sync_gen.specs.Turns.{turn_of}
 use Rattle.sync_gen.specs.declared.turns.Turn.{Turn}
 use Rattle.sync_gen.specs.declared.turns.TurnKind.{TurnKind}
-use Rattle.node_model.specs.Worlds.{Words, World}
+use Rattle.sync_model.specs.Worlds.{Words, World}
 use Rattle.sync_world.specs.Words.{words_text}
 use Rattle.sync_top.specs.declared.counts.Counts.{Counts}
 use Rattle.sync_top.specs.declared.plan.Move.TheVariants as moves

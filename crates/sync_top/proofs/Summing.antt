@@ -3,18 +3,18 @@ use Rattle.std.proofs.Common.{◌≡◌, ◌==◌, ◌&&◌, ℕ, false, List, l
 use Rattle.std.specs.Result.{IfOk, OnOk}
 use Rattle.std.specs.Str.{bytes_eq}
 use Rattle.sync_base.specs.States.{State, no_state}
-use Rattle.node_client.specs.Clients.{IsClientOf}
-use Rattle.node_client.specs.declared.client.Client.{Client}
+use Rattle.sync_client.specs.Clients.{IsClientOf}
+use Rattle.sync_client.specs.declared.client.Client.{Client}
 use Rattle.sync_data.specs.declared.instr.Instr.{Instr}
 use Rattle.sync_data.specs.declared.memory.NoMemory.{NoMemory}
 use Rattle.sync_disk.specs.declared.disk.Disk.{Ghosts}
 use Rattle.sync_disk.specs.declared.memory.MemoryDisk.{MemoryDisk}
 use Rattle.sync_dump.specs.Dump.{dump}
-use Rattle.node_instance.specs.Profile.{the_profile}
+use Rattle.sync_exchange.specs.Profile.{the_profile}
 use Rattle.sync_gen.specs.Edits.{edit_of}
-use Rattle.node_model.specs.Bytes.{Name}
-use Rattle.node_model.specs.Clients.{ClientRecord, client_of}
-use Rattle.node_model.specs.Worlds.{World, has_name, seek}
+use Rattle.sync_model.specs.Bytes.{Name}
+use Rattle.sync_model.specs.Clients.{ClientRecord, client_of}
+use Rattle.sync_model.specs.Worlds.{World, has_name, seek}
 use Rattle.sync_world.specs.Holding.{IsClient}
 use Rattle.sync_top.specs.Generated.{node_objects, objects_of}
 use Rattle.sync_top.specs.Summaries.{equals, history_in, server_dump, sought_equals}

@@ -3,11 +3,11 @@ use Rattle.std.proofs.Common.{◌≡◌, ℕ, List, [], ◌∷◌, ◌++◌, ref
 use Rattle.sync_data.specs.declared.instr.Instr.{Instr}
 use Rattle.sync_base.specs.States.{IsState}
 use Rattle.sync_io.specs.Reading.{Reading}
-use Rattle.node_model.specs.Bytes.{Name}
-use Rattle.node_model.specs.Log.{Stands, WorldFacts}
-use Rattle.node_model.specs.Reports.{report_by_log, report_of}
-use Rattle.node_model.specs.Worlds.{Edits, Event, IsReached, Made, World, empty_world, happens, world_after}
-use Rattle.node_instance.specs.Profile.{the_profile}
+use Rattle.sync_model.specs.Bytes.{Name}
+use Rattle.sync_model.specs.Log.{Stands, WorldFacts}
+use Rattle.sync_model.specs.Reports.{report_by_log, report_of}
+use Rattle.sync_model.specs.Worlds.{Edits, Event, IsReached, Made, World, empty_world, happens, world_after}
+use Rattle.sync_exchange.specs.Profile.{the_profile}
 use Rattle.sync_top.specs.Runs.{Passes, run_from}
 use Rattle.sync_top.specs.Exchange.{answers, report, events_of}
 use Rattle.sync_top.specs.Synced.{IsSynced, first}

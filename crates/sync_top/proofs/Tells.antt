@@ -1,11 +1,11 @@
 -- What is told of events, as the model has them: how many messages there are afterwards, and the number of a reply.
 use Rattle.std.proofs.Common.{◌≡◌, ◌+◌, ℕ, suc, Bool, true, false, List, [], ◌∷◌, ◌++◌, length, length-append, Option, None, Some, Result, Ok, Err, refl, sym, ap, ◌∙◌, add-zero, if◌then◌else◌, bytes_eq}
-use Rattle.node_model.specs.Bytes.{Name, Uuid}
-use Rattle.node_model.specs.Messages.{Message}
-use Rattle.node_model.specs.Clients.{Client, ClientRecord, ClientRefusal, ClientStep, client_of, commit, upgrade, subscribe, bind, upload, ask, take as take_message}
-use Rattle.node_model.specs.Profile.{Profile}
-use Rattle.node_model.specs.Servers.{ServerRecord, ServerStep, server_of, serve}
-use Rattle.node_model.specs.Worlds.{Event, Node, Outcome, Words, World, client_called, client_calls, client_ends, client_moved, delivers, happens, has_name, injects, is_node, made_words, message_at, message_words, messaged, named_by, names_own, reply_words, says, seek, server_called, server_ends, server_moved, server_name, stopped, subscribe_words, took_words, upgrade_words}
+use Rattle.sync_model.specs.Bytes.{Name, Uuid}
+use Rattle.sync_model.specs.Messages.{Message}
+use Rattle.sync_model.specs.Clients.{Client, ClientRecord, ClientRefusal, ClientStep, client_of, commit, upgrade, subscribe, bind, upload, ask, take as take_message}
+use Rattle.sync_model.specs.Profile.{Profile}
+use Rattle.sync_model.specs.Servers.{ServerRecord, ServerStep, server_of, serve}
+use Rattle.sync_model.specs.Worlds.{Event, Node, Outcome, Words, World, client_called, client_calls, client_ends, client_moved, delivers, happens, has_name, injects, is_node, made_words, message_at, message_words, messaged, named_by, names_own, reply_words, says, seek, server_called, server_ends, server_moved, server_name, stopped, subscribe_words, took_words, upgrade_words}
 use Rattle.sync_top.specs.Telling.{IsPlace, Tells, is_message, one_if}
 
 -- ---- one outcome or another

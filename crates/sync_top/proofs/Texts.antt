@@ -6,9 +6,9 @@ use Rattle.std.specs.Str.Parse.{AllDigits}
 use Rattle.std.proofs.lemmas.Bool.Decides.{nat_tests}
 use Rattle.std.proofs.lemmas.Fmt.{decimal_is_IsNumeral}
 use Rattle.std.proofs.lemmas.Str.Parse.{digit_from_value}
-use Rattle.node_model.specs.Clients.{ClientRefusal}
-use Rattle.node_model.specs.Messages.{Message}
-use Rattle.node_model.specs.Worlds.{Words}
+use Rattle.sync_model.specs.Clients.{ClientRefusal}
+use Rattle.sync_model.specs.Messages.{Message}
+use Rattle.sync_model.specs.Worlds.{Words}
 use Rattle.sync_world.specs.Words.{refusal_text, reply_text, said, words_text}
 use Rattle.sync_top.specs.Counting.{begins, from_space, tells_made, tells_message, tells_refused}
 use Rattle.sync_top.specs.Telling.{PlaceFits, is_made, is_message, is_refusal, is_refused}

@@ -7,7 +7,7 @@ use Rattle.sync_io.specs.declared.status.Status.{Status}
 use Rattle.sync_io.specs.declared.status.Status.TheVariants as statuses
 use Rattle.sync_edits.specs.declared.event.Event.{Event}
 use Rattle.sync_edits.specs.Lines.{event_form_of_line}
-use Rattle.node_model.specs.Worlds.{World, is_there}
+use Rattle.sync_model.specs.Worlds.{World, is_there}
 use Rattle.sync_top.specs.declared.command.LineEnd.{LineEnd}
 use Rattle.sync_top.specs.Runs.{Ran, is_blank, answered, answer_to, run_from, runs, FollowsTold, IsRunStatus, IsDoneOrNoMemory}
 use Rattle.sync_top.specs.Exchange.{answers, report, answered_form, IsValidReading, IsValidInput}

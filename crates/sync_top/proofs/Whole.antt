@@ -6,7 +6,7 @@ use Rattle.std.specs.declared.alloc.Global.{Global}
 use Rattle.sync_data.specs.declared.instr.Instr.{Instr}
 use Rattle.sync_data.specs.declared.memory.NoMemory.{NoMemory}
 use Rattle.sync_gen.specs.Clients.{name_of}
-use Rattle.node_model.specs.Worlds.{Event, World, empty_world}
+use Rattle.sync_model.specs.Worlds.{Event, World, empty_world}
 use Rattle.sync_world.specs.Holding.{Holds}
 use Rattle.sync_world.specs.declared.world.World.{World as CodeWorld}
 use Rattle.sync_top.specs.declared.counts.Counts.{Counts}

@@ -5,7 +5,7 @@ use Rattle.sync_io.specs.declared.status.Status.{Status}
 use Rattle.sync_io.specs.declared.status.Status.TheVariants as statuses
 use Rattle.sync_journal.specs.Records.{records_of}
 use Rattle.sync_journal.specs.Records.Reading.{Good}
-use Rattle.node_instance.specs.Seen.{client_bytes, server_bytes}
+use Rattle.sync_exchange.specs.Seen.{client_bytes, server_bytes}
 use Rattle.sync_node.specs.Items.{Items, frames_of, lines_of}
 use Rattle.sync_node.specs.Opening.{HoldsThose, client_file, server_file}
 use Rattle.sync_node.specs.Runs.{Answer, DiskHolds, FollowsTold, IsNodeStatus, Left, added, is_fault, runs}

@@ -6,9 +6,9 @@ use Rattle.sync_io.specs.Input.{input_ahead}
 use Rattle.sync_io.specs.Reading.{Reading, Ends, Gives, AtEnd, reading_of}
 use Rattle.sync_edits.specs.declared.event.Event.{Event as CodeEvent}
 use Rattle.sync_edits.specs.Lines.{event_form_of_line}
-use Rattle.node_model.specs.Worlds.{Event, Outcome, World, happens, is_there}
-use Rattle.node_model.specs.Reports.{report_of}
-use Rattle.node_instance.specs.Profile.{the_profile}
+use Rattle.sync_model.specs.Worlds.{Event, Outcome, World, happens, is_there}
+use Rattle.sync_model.specs.Reports.{report_of}
+use Rattle.sync_exchange.specs.Profile.{the_profile}
 use Rattle.sync_world.specs.Events.{event_seen}
 use Rattle.sync_world.specs.Reports.{report_text}
 use Rattle.sync_world.specs.Words.{outcome_line, words_text}

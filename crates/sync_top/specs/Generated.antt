@@ -2,10 +2,10 @@
 use Rattle.std.specs.Prelude.{ℕ, List, [], ◌∷◌, ◌++◌, length, Option, None, Some}
 use Rattle.sync_base.specs.States.{State, no_state}
 use Rattle.sync_data.specs.declared.instr.Instr.{Instr}
-use Rattle.node_model.specs.Bytes.{Name}
-use Rattle.node_model.specs.Clients.{client_of}
-use Rattle.node_model.specs.Worlds.{Event, Node, Words, World, empty_world, happens, has_name, seek, server_name}
-use Rattle.node_instance.specs.Profile.{the_profile}
+use Rattle.sync_model.specs.Bytes.{Name}
+use Rattle.sync_model.specs.Clients.{client_of}
+use Rattle.sync_model.specs.Worlds.{Event, Node, Words, World, empty_world, happens, has_name, seek, server_name}
+use Rattle.sync_exchange.specs.Profile.{the_profile}
 use Rattle.sync_gen.specs.Clients.{first_edits_of, id_of, name_of}
 use Rattle.sync_gen.specs.Draws.{Drawing, given}
 use Rattle.sync_gen.specs.Edits.{edit_of}

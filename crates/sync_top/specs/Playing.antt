@@ -6,7 +6,7 @@ use Rattle.sync_gen.specs.Draws.{Drawing}
 use Rattle.sync_io.specs.Devices.{Took, TookSome}
 use Rattle.sync_io.specs.declared.status.Status.{Status}
 use Rattle.sync_io.specs.declared.status.Status.TheVariants as statuses
-use Rattle.node_model.specs.Worlds.{Event, World, empty_world}
+use Rattle.sync_model.specs.Worlds.{Event, World, empty_world}
 use Rattle.sync_world.specs.declared.world.World.{World as CodeWorld}
 use Rattle.sync_top.specs.declared.plan.Move.{Move}
 use Rattle.sync_top.specs.declared.progress.Progress.{Progress}

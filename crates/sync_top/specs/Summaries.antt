@@ -3,12 +3,12 @@ use Rattle.std.specs.Prelude.{ℕ, Bool, false, ◌==◌, ◌&&◌, List, [], �
 use Rattle.std.specs.Str.{bytes_eq}
 use Rattle.sync_data.specs.declared.instr.Instr.{Instr}
 use Rattle.sync_dump.specs.Dump.{dump}
-use Rattle.node_instance.specs.Profile.{the_profile}
+use Rattle.sync_exchange.specs.Profile.{the_profile}
 use Rattle.sync_gen.specs.Clients.{name_of}
-use Rattle.node_model.specs.Bytes.{Name}
-use Rattle.node_model.specs.Clients.{client_of}
-use Rattle.node_model.specs.Servers.{server_objects, server_of}
-use Rattle.node_model.specs.Worlds.{Event, Node, World, empty_world, has_name, seek}
+use Rattle.sync_model.specs.Bytes.{Name}
+use Rattle.sync_model.specs.Clients.{client_of}
+use Rattle.sync_model.specs.Servers.{server_objects, server_of}
+use Rattle.sync_model.specs.Worlds.{Event, Node, World, empty_world, has_name, seek}
 use Rattle.sync_world.specs.Words.{said}
 use Rattle.sync_top.specs.Generated.{events_of, words_by, world_by}
 use Rattle.sync_top.specs.Plans.{clients}

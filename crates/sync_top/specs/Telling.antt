@@ -1,7 +1,7 @@
 -- What is told of events.
 use Rattle.std.specs.Prelude.{◌≡◌, ◌<◌, ◌+◌, ◌^◌, ℕ, suc, Bool, true, false, length}
-use Rattle.node_model.specs.Messages.{Message}
-use Rattle.node_model.specs.Worlds.{Outcome, Words, World}
+use Rattle.sync_model.specs.Messages.{Message}
+use Rattle.sync_model.specs.Worlds.{Outcome, Words, World}
 
 -- a transaction got its number
 abbrev pub is_made : Words → Bool

@@ -1,6 +1,6 @@
 ghost use Rattle.std.specs.Prelude.{◌≡◌, ◌<◌, ◌+◌, ◌^◌, ◌∷◌, ◌++◌, [], List, length, OnOk};
 ghost use Rattle.sync_data.specs.declared.instr.Instr.{Instr};
-ghost use Rattle.node_model.specs.Worlds as model;
+ghost use Rattle.sync_model.specs.Worlds as model;
 ghost use Rattle.sync_gen.specs.Clients.{name_of};
 ghost use Rattle.sync_world.specs.Events.{IsCounted, event_seen};
 ghost use Rattle.sync_world.specs.Words.{words_text};

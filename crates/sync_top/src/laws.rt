@@ -2,14 +2,14 @@
 ghost use Rattle.std.specs.Prelude.{◌≡◌, ℕ, List};
 ghost use Rattle.sync_data.specs.declared.instr.Instr.{Instr};
 ghost use Rattle.sync_base.specs.States.{IsState};
-ghost use Rattle.node_instance.specs.Profile.{the_profile};
-ghost use Rattle.node_model.specs.Bytes.{Name};
-ghost use Rattle.node_model.specs.Log.{Stands, WorldFacts};
-ghost use Rattle.node_model.specs.Reports.{report_by_log, report_of};
-ghost use Rattle.node_model.specs.Worlds.{Edits, Event, IsReached, Made, World, happens, world_after};
+ghost use Rattle.sync_exchange.specs.Profile.{the_profile};
+ghost use Rattle.sync_model.specs.Bytes.{Name};
+ghost use Rattle.sync_model.specs.Log.{Stands, WorldFacts};
+ghost use Rattle.sync_model.specs.Reports.{report_by_log, report_of};
+ghost use Rattle.sync_model.specs.Worlds.{Edits, Event, IsReached, Made, World, happens, world_after};
 
-use node_instance::Instrs;
-use node_model::worlds_hold;
+use sync_exchange::Instrs;
+use sync_model::worlds_hold;
 
 /// What holds of every world that events make of the empty one, at the project's own instructions.
 pub(crate) fn exchanges_hold()

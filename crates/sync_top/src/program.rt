@@ -3,7 +3,7 @@ ghost use Rattle.sync_disk.specs.Disk.{Rose, Told};
 ghost use Rattle.sync_io.specs.Faults.{HasRisen};
 ghost use Rattle.sync_io.specs.Readers.{readings};
 ghost use Rattle.sync_io.specs.Reading.{Reading};
-ghost use Rattle.node_model.specs.Worlds as model;
+ghost use Rattle.sync_model.specs.Worlds as model;
 ghost use Rattle.sync_world.specs.Holding.{Holds};
 ghost use Rattle.sync_top.specs.Commands.{Does, IsFileFor, IsInputFor, ReadsNothing};
 ghost use Rattle.sync_top.specs.Exchange.{IsValidInput, answers, events_of, report};

@@ -1,7 +1,7 @@
 ghost use Rattle.std.specs.Prelude.{◌≡◌, ◌<◌, ◌*◌, ◌^◌, ◌∷◌, [], length, IfOk, OnOk};
 ghost use Rattle.sync_gen.specs.Clients.{name_of};
 ghost use Rattle.sync_gen.specs.Edits.{edit_of};
-ghost use Rattle.node_model.specs.Worlds as model;
+ghost use Rattle.sync_model.specs.Worlds as model;
 ghost use Rattle.sync_world.specs.Holding.{Holds};
 ghost use Rattle.sync_top.specs.Counting.{Goes};
 ghost use Rattle.sync_top.specs.Generated.{done_by, events_by, move_events, objects_of};

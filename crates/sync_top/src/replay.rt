@@ -18,7 +18,7 @@ fn counted_event(alloc: Global, line: &[u8]) -> Result<Event, LineRefusal>
 }
 
 impl Command for World {
-    ghost use Rattle.node_model.specs.Worlds as model;
+    ghost use Rattle.sync_model.specs.Worlds as model;
     ghost use Rattle.sync_world.specs.Holding.{Holds};
 
     ghost State = { model.World };

@@ -1,6 +1,6 @@
 ghost use Rattle.std.specs.Prelude.{◌≡◌, ◌&&◌, ◌++◌, ◌<◌, ◌^◌, count_by, length, IfOk, OnOk};
 ghost use Rattle.sync_gen.specs.Clients.{name_of};
-ghost use Rattle.node_model.specs.Worlds as model;
+ghost use Rattle.sync_model.specs.Worlds as model;
 ghost use Rattle.sync_world.specs.Holding.{Holds};
 ghost use Rattle.sync_top.specs.Plans.{AreClients, clients};
 ghost use Rattle.sync_top.specs.Summaries.{equals, history_in, line, server_dump, summary_text};

@@ -8,13 +8,13 @@ use Rattle.sync_theory.specs.Changesets.{Changeset}
 use Rattle.sync_data.specs.declared.entry.Entry.{Entry}
 use Rattle.sync_recip.specs.Lists.{entry_of}
 use Rattle.sync_data.specs.declared.instr.Instr.{Instr}
-use Rattle.node_model.specs.Parts.{Given}
-use Rattle.node_model.specs.Servers as model
-use Rattle.node_model.specs.Trimmed.{count_records, crossed_record, crossed_of, crossed_records}
-use Rattle.node_model.specs.Trims.{is_live, pairs_from, trimmed_given}
-use Rattle.node_model.specs.Worlds.{at}
-use Rattle.node_instance.specs.Profile.{the_profile}
-use Rattle.node_server.specs.Readers.{item_from}
+use Rattle.sync_model.specs.Parts.{Given}
+use Rattle.sync_model.specs.Servers as model
+use Rattle.sync_model.specs.Trimmed.{count_records, crossed_record, crossed_of, crossed_records}
+use Rattle.sync_model.specs.Trims.{is_live, pairs_from, trimmed_given}
+use Rattle.sync_model.specs.Worlds.{at}
+use Rattle.sync_exchange.specs.Profile.{the_profile}
+use Rattle.sync_server.specs.Readers.{item_from}
 use Rattle.sync_trim.proofs.Given.{Idents}
 use Rattle.sync_trim.proofs.Versions.{from_floor}
 

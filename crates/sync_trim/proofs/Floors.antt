@@ -2,8 +2,8 @@
 use Rattle.std.proofs.Common.{◌≡◌, ℕ, suc, ◌+◌, ◌≤◌, Bool, true, false, List, [], ◌∷◌, drop, length, refl, sym, ap, ◌∙◌, subst, arith}
 use Rattle.std.specs.Prelude.{min, max, if◌then◌else◌}
 use Rattle.sync_data.specs.declared.instr.Instr.{Instr}
-use Rattle.node_model.specs.Parts.{Given}
-use Rattle.node_model.specs.Trims.{is_live, least_settled}
+use Rattle.sync_model.specs.Parts.{Given}
+use Rattle.sync_model.specs.Trims.{is_live, least_settled}
 use Rattle.sync_trim.proofs.Given.{Idents}
 
 -- the floor of the idents so far, and that of the rest, are that of all; it isn't above the length, and not below the floor

@@ -2,8 +2,8 @@
 use Rattle.std.proofs.Common.{◌≡◌, ℕ, zero, suc, ◌+◌, ◌<◌, arith, length, List, [], ◌∷◌, map, drop, Option, Some, None, refl, sym, ap, ◌∙◌, add-one}
 use Rattle.std.specs.Option.{option_map}
 use Rattle.sync_data.specs.declared.instr.Instr.{Instr}
-use Rattle.node_model.specs.Parts.{Given, at_ident}
-use Rattle.node_model.specs.Worlds.{at}
+use Rattle.sync_model.specs.Parts.{Given, at_ident}
+use Rattle.sync_model.specs.Worlds.{at}
 use Rattle.sync_trim.proofs.Pieces.{at_some, at_none, read_some, read_none}
 
 abbrev pub Idents : Type 0

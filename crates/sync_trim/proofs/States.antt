@@ -17,12 +17,12 @@ use Rattle.sync_law.specs.CodedLaw.{applies}
 use Rattle.sync_codec.specs.Spelling.{spelling}
 use Rattle.snapshot_law.specs.Build.{build, built_list}
 use Rattle.snapshot_law.specs.Lemmas.Runs.{built_runs}
-use Rattle.node_model.specs.Clients.{state_or}
-use Rattle.node_model.specs.Profile.{act_changeset}
-use Rattle.node_model.specs.Profile.{act as act_by}
-use Rattle.node_model.specs.Snapshots.{grown, grown_as, grown_to, part_differs, run_parts}
-use Rattle.node_model.specs.Lemmas.Cuts.{cut_runs}
-use Rattle.node_instance.specs.Profile.{fits_changeset, the_profile}
+use Rattle.sync_model.specs.Clients.{state_or}
+use Rattle.sync_model.specs.Profile.{act_changeset}
+use Rattle.sync_model.specs.Profile.{act as act_by}
+use Rattle.sync_model.specs.Snapshots.{grown, grown_as, grown_to, part_differs, run_parts}
+use Rattle.sync_model.specs.Lemmas.Cuts.{cut_runs}
+use Rattle.sync_exchange.specs.Profile.{fits_changeset, the_profile}
 use Rattle.sync_snapshot.specs.Grown.{lists_of}
 use Rattle.sync_snapshot.specs.Parts.{untimed}
 

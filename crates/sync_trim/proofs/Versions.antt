@@ -4,10 +4,10 @@ use Rattle.std.specs.Prelude.{slice_get, nat_lt, if◌then◌else◌}
 use Rattle.std.proofs.lemmas.Bool.{le-ltb}
 use Rattle.sync_theory.specs.Changesets.{Changeset}
 use Rattle.sync_data.specs.declared.instr.Instr.{Instr}
-use Rattle.node_model.specs.Trimmed.{entry_records}
-use Rattle.node_model.specs.Worlds.{at}
-use Rattle.node_instance.specs.Profile.{the_profile}
-use Rattle.node_server.specs.Readers.{item_from}
+use Rattle.sync_model.specs.Trimmed.{entry_records}
+use Rattle.sync_model.specs.Worlds.{at}
+use Rattle.sync_exchange.specs.Profile.{the_profile}
+use Rattle.sync_server.specs.Readers.{item_from}
 use Rattle.sync_trim.proofs.Pieces.{at_some, at_none, get_at}
 
 pub from_floor : {A : Type 0} (floor v : ℕ) (xs : List A) → floor ≤ v → item_from floor xs v ≡ at xs (v - floor)

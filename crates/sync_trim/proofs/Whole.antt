@@ -5,14 +5,14 @@ use Rattle.sync_data.specs.declared.instr.Instr.{Instr}
 use Rattle.sync_base.specs.States.{State}
 use Rattle.sync_codec.specs.Spelling.{spelling}
 use Rattle.snapshot_law.specs.Build.{build}
-use Rattle.node_model.specs.Bytes.{Uuid}
-use Rattle.node_model.specs.Clients as clients
-use Rattle.node_model.specs.Parts.{Parts}
-use Rattle.node_model.specs.Servers as servers
-use Rattle.node_model.specs.Starts.{started}
-use Rattle.node_model.specs.Trimmed.{count_records, entry_records, crossed_records, front_records, trim_records}
-use Rattle.node_model.specs.Trims.{next_floor, state_from, trimmed_at}
-use Rattle.node_instance.specs.Profile.{fits_changeset, the_profile}
+use Rattle.sync_model.specs.Bytes.{Uuid}
+use Rattle.sync_model.specs.Clients as clients
+use Rattle.sync_model.specs.Parts.{Parts}
+use Rattle.sync_model.specs.Servers as servers
+use Rattle.sync_model.specs.Starts.{started}
+use Rattle.sync_model.specs.Trimmed.{count_records, entry_records, crossed_records, front_records, trim_records}
+use Rattle.sync_model.specs.Trims.{next_floor, state_from, trimmed_at}
+use Rattle.sync_exchange.specs.Profile.{fits_changeset, the_profile}
 use Rattle.sync_trim.proofs.Pieces.{and_more}
 use Rattle.sync_trim.proofs.Crossed.{clients_left, counts_left, crossed_idents_left}
 

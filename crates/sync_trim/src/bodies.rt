@@ -1,7 +1,7 @@
 ghost use Rattle.std.specs.Prelude.{◌≡◌, map, IfOk};
 ghost use Rattle.sync_codec.specs.Spelling.{spelling};
 ghost use Rattle.snapshot_law.specs.Build.{build};
-ghost use Rattle.node_instance.specs.Profile.{fits_changeset};
+ghost use Rattle.sync_exchange.specs.Profile.{fits_changeset};
 
 use crate::lists::put;
 use std::alloc::Global;

@@ -1,15 +1,15 @@
 ghost use Rattle.std.specs.Prelude.{◌≡◌, ◌≤◌, if◌then◌else◌, min, max, Some, IfOk};
 ghost use Rattle.sync_data.specs.declared.instr.Instr.{Instr};
-ghost use Rattle.node_model.specs.Parts.{Given, at_ident};
-ghost use Rattle.node_model.specs.Trims.{is_live, next_floor, state_from};
-ghost use Rattle.node_instance.specs.Profile.{the_profile};
-ghost use Rattle.node_server.specs.Kept.{parts};
-ghost use Rattle.node_server.specs.Serving.{kept_of};
+ghost use Rattle.sync_model.specs.Parts.{Given, at_ident};
+ghost use Rattle.sync_model.specs.Trims.{is_live, next_floor, state_from};
+ghost use Rattle.sync_exchange.specs.Profile.{the_profile};
+ghost use Rattle.sync_server.specs.Kept.{parts};
+ghost use Rattle.sync_server.specs.Serving.{kept_of};
 
-use node_server::Server;
 use std::alloc::Global;
 use sync_base::{Ident, NoMemory};
 use sync_disk::Disk;
+use sync_server::Server;
 use sync_snapshot::{build, grown};
 use sync_store::{AllRefusal, Store};
 

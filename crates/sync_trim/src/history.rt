@@ -1,17 +1,17 @@
 ghost use Rattle.std.specs.Prelude.{◌≡◌, ◌≤◌, ◌-◌, ◌++◌, map, drop, OnOk};
-ghost use Rattle.node_model.specs.Trimmed.{entry_records};
-ghost use Rattle.node_instance.specs.Profile.{the_profile};
-ghost use Rattle.node_instance.specs.Seen.{server_seen};
-ghost use Rattle.node_server.specs.Kept.{parts};
-ghost use Rattle.node_server.specs.Serving.{kept_of};
+ghost use Rattle.sync_model.specs.Trimmed.{entry_records};
+ghost use Rattle.sync_exchange.specs.Profile.{the_profile};
+ghost use Rattle.sync_exchange.specs.Seen.{server_seen};
+ghost use Rattle.sync_server.specs.Kept.{parts};
+ghost use Rattle.sync_server.specs.Serving.{kept_of};
 
 use crate::bodies::body_of;
 use crate::lists::put;
-use node_records::ServerRecord;
-use node_server::Server;
 use std::alloc::Global;
 use sync_base::NoMemory;
 use sync_disk::Disk;
+use sync_records::ServerRecord;
+use sync_server::Server;
 
 /// Puts the entries from a version on.
 pub(crate) fn put_entries<D: Disk>(

@@ -1,16 +1,16 @@
 ghost use Rattle.std.specs.Prelude.{◌≡◌, ◌++◌, map, OnOk};
-ghost use Rattle.node_model.specs.Servers as model;
-ghost use Rattle.node_model.specs.Trimmed.{count_records};
-ghost use Rattle.node_instance.specs.Profile.{the_profile};
-ghost use Rattle.node_instance.specs.Seen.{server_seen};
-ghost use Rattle.node_server.specs.Kept.{parts};
-ghost use Rattle.node_server.specs.Serving.{kept_of};
+ghost use Rattle.sync_model.specs.Servers as model;
+ghost use Rattle.sync_model.specs.Trimmed.{count_records};
+ghost use Rattle.sync_exchange.specs.Profile.{the_profile};
+ghost use Rattle.sync_exchange.specs.Seen.{server_seen};
+ghost use Rattle.sync_server.specs.Kept.{parts};
+ghost use Rattle.sync_server.specs.Serving.{kept_of};
 
 use crate::lists::put;
-use node_records::ServerRecord;
-use node_server::Server;
 use sync_base::NoMemory;
 use sync_disk::Disk;
+use sync_records::ServerRecord;
+use sync_server::Server;
 
 /// Puts the uuids of all idents.
 pub(crate) fn put_clients<D: Disk>(

@@ -1,23 +1,23 @@
 ghost use Rattle.std.specs.Prelude.{◌≡◌, ◌≤◌, ◌-◌, ◌++◌, [], ℕ, map, drop, if◌then◌else◌, max, Some, OnOk};
-ghost use Rattle.node_model.specs.Trimmed.{crossed_record, crossed_of, crossed_records};
+ghost use Rattle.sync_model.specs.Trimmed.{crossed_record, crossed_of, crossed_records};
 ghost use Rattle.sync_data.specs.declared.instr.Instr.{Instr};
-ghost use Rattle.node_model.specs.Parts.{Given, at_ident};
-ghost use Rattle.node_model.specs.Trims.{is_live, pairs_from};
-ghost use Rattle.node_instance.specs.Profile.{the_profile};
-ghost use Rattle.node_instance.specs.Seen.{server_seen};
-ghost use Rattle.node_server.specs.Kept.{parts};
-ghost use Rattle.node_server.specs.Readers.{item_from};
-ghost use Rattle.node_server.specs.Serving.{kept_of};
+ghost use Rattle.sync_model.specs.Parts.{Given, at_ident};
+ghost use Rattle.sync_model.specs.Trims.{is_live, pairs_from};
+ghost use Rattle.sync_exchange.specs.Profile.{the_profile};
+ghost use Rattle.sync_exchange.specs.Seen.{server_seen};
+ghost use Rattle.sync_server.specs.Kept.{parts};
+ghost use Rattle.sync_server.specs.Readers.{item_from};
+ghost use Rattle.sync_server.specs.Serving.{kept_of};
 ghost use Rattle.sync_recip.specs.Lists.{entry_of};
 
 use crate::bodies::body_of;
 use crate::lists::put;
-use node_records::ServerRecord;
-use node_server::Server;
 use std::alloc::Global;
 use sync_base::{Entry, Ident, NoMemory};
 use sync_disk::Disk;
 use sync_recip::Recip;
+use sync_records::ServerRecord;
+use sync_server::Server;
 
 /// Puts, of each ident that isn't retired, the entries from a floor on that its next changes cross as others than they
 /// stand in the history.

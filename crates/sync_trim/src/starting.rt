@@ -1,18 +1,18 @@
 ghost use Rattle.std.specs.Prelude.{◌≡◌, ◌++◌, ◌∷◌, [], map, if◌then◌else◌, false, IfOk, OnOk};
-ghost use Rattle.node_model.specs.Clients as model;
-ghost use Rattle.node_model.specs.Starts.{started};
-ghost use Rattle.node_instance.specs.Profile.{the_profile};
-ghost use Rattle.node_instance.specs.Seen.{client_seen};
-ghost use Rattle.node_server.specs.Kept.{parts};
-ghost use Rattle.node_server.specs.Serving.{is_closed, kept_of};
+ghost use Rattle.sync_model.specs.Clients as model;
+ghost use Rattle.sync_model.specs.Starts.{started};
+ghost use Rattle.sync_exchange.specs.Profile.{the_profile};
+ghost use Rattle.sync_exchange.specs.Seen.{client_seen};
+ghost use Rattle.sync_server.specs.Kept.{parts};
+ghost use Rattle.sync_server.specs.Serving.{is_closed, kept_of};
 
 use crate::bodies::part_bodies;
 use crate::lists::put;
-use node_records::ClientRecord;
-use node_server::Server;
 use std::alloc::Global;
 use sync_base::{Blob, Id, NoMemory};
 use sync_disk::Disk;
+use sync_records::ClientRecord;
+use sync_server::Server;
 
 /// The records of a client that begins with the objects of a server: its uuid, a Form where the server's file has one, the
 /// parts of the objects, and a Floor with the length of the server's history. The uuid is to be one that no server has

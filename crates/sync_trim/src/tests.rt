@@ -1,13 +1,13 @@
 ghost use Rattle.std.specs.Prelude.{◌≡◌, false, IfOk};
-ghost use Rattle.node_server.specs.Serving.{is_closed};
+ghost use Rattle.sync_server.specs.Serving.{is_closed};
 
 use super::*;
-use node_messages::message_of;
-use node_records::{ClientRecord, ServerRecord};
-use node_server::Server;
 use std::alloc::Global;
 use std::test::Fail;
 use sync_disk::MemoryDisk;
+use sync_messages::message_of;
+use sync_records::{ClientRecord, ServerRecord};
+use sync_server::Server;
 
 /// Two clients get their idents, client 1 adds a table of six columns and an object, and both have settled that entry.
 const EXCHANGE: [&[u8]; 5] = [

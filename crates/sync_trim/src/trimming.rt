@@ -1,10 +1,10 @@
 ghost use Rattle.std.specs.Prelude.{◌≡◌, ◌++◌, ◌∷◌, [], map, if◌then◌else◌, false, IfOk, OnOk};
-ghost use Rattle.node_model.specs.Servers as model;
-ghost use Rattle.node_model.specs.Trimmed.{trim_records};
-ghost use Rattle.node_instance.specs.Profile.{the_profile};
-ghost use Rattle.node_instance.specs.Seen.{server_seen};
-ghost use Rattle.node_server.specs.Kept.{parts};
-ghost use Rattle.node_server.specs.Serving.{is_closed, kept_of};
+ghost use Rattle.sync_model.specs.Servers as model;
+ghost use Rattle.sync_model.specs.Trimmed.{trim_records};
+ghost use Rattle.sync_exchange.specs.Profile.{the_profile};
+ghost use Rattle.sync_exchange.specs.Seen.{server_seen};
+ghost use Rattle.sync_server.specs.Kept.{parts};
+ghost use Rattle.sync_server.specs.Serving.{is_closed, kept_of};
 
 use crate::bodies::part_bodies;
 use crate::floor::{next_floor, state_at};
@@ -12,11 +12,11 @@ use crate::history::put_entries;
 use crate::idents::{put_clients, put_counts, put_retired};
 use crate::lists::put;
 use crate::past::put_past;
-use node_records::ServerRecord;
-use node_server::Server;
 use std::alloc::Global;
 use sync_base::{Blob, NoMemory};
 use sync_disk::Disk;
+use sync_records::ServerRecord;
+use sync_server::Server;
 
 /// The records of the file that may stand in place of a server's file: those without the history before its next floor,
 /// which is the least, over the idents that aren't retired, of the greater of the ident's settled number and the floor,

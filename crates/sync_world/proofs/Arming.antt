@@ -5,15 +5,15 @@ use Rattle.sync_disk.specs.Faults.{armed, has_stopped}
 use Rattle.sync_disk.specs.Origin.{Origin}
 use Rattle.sync_disk.specs.declared.disk.Disk.{Ghosts}
 use Rattle.sync_journal.specs.Stands.{disk_of}
-use Rattle.node_model.specs.Clients.{ClientRecord}
-use Rattle.node_model.specs.Servers.{ServerRecord}
-use Rattle.node_model.specs.Worlds.{Stop}
-use Rattle.node_client.specs.Clients as clients
-use Rattle.node_client.specs.Keeping.{Keeps}
-use Rattle.node_client.specs.declared.client.Client.{Client}
-use Rattle.node_server.specs.Kept.{parts}
-use Rattle.node_server.specs.Serving as servers
-use Rattle.node_server.specs.declared.server.Server.{Server}
+use Rattle.sync_model.specs.Clients.{ClientRecord}
+use Rattle.sync_model.specs.Servers.{ServerRecord}
+use Rattle.sync_model.specs.Worlds.{Stop}
+use Rattle.sync_client.specs.Clients as clients
+use Rattle.sync_client.specs.Keeping.{Keeps}
+use Rattle.sync_client.specs.declared.client.Client.{Client}
+use Rattle.sync_server.specs.Kept.{parts}
+use Rattle.sync_server.specs.Serving as servers
+use Rattle.sync_server.specs.declared.server.Server.{Server}
 use Rattle.sync_world.specs.Events.{leaves_seen}
 use Rattle.sync_world.specs.Nodes.{HoldsClient, HoldsServer, IsArmed, stop_seen}
 use Rattle.sync_world.specs.declared.stop.Stop.{Stop as CodeStop}

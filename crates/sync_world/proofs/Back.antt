@@ -1,14 +1,14 @@
 -- Records are read back from their bytes.
 use Rattle.std.proofs.Common.{◌≡◌, ◌≢◌, ℕ, zero, suc, ◌<◌, ◌≤◌, ◌^◌, List, [], ◌∷◌, Some, refl, ap, ◌∙◌, arith}
 use Rattle.std.specs.Option.{option_map}
-use Rattle.node_model.specs.Clients.{ClientRecord}
-use Rattle.node_model.specs.Each.{Each, no_more, and_each}
-use Rattle.node_model.specs.Limits.{IsClientRecord, IsServerRecord}
-use Rattle.node_model.specs.Servers.{ServerRecord}
-use Rattle.node_records.specs.Limits as records
-use Rattle.node_records.proofs.Records.{client_read, server_read}
-use Rattle.node_instance.specs.Profile.{the_profile}
-use Rattle.node_instance.specs.Seen.{client_bytes, client_kept, client_seen, read_client, read_server, server_bytes, server_kept, server_seen}
+use Rattle.sync_model.specs.Clients.{ClientRecord}
+use Rattle.sync_model.specs.Each.{Each, no_more, and_each}
+use Rattle.sync_model.specs.Limits.{IsClientRecord, IsServerRecord}
+use Rattle.sync_model.specs.Servers.{ServerRecord}
+use Rattle.sync_records.specs.Limits as records
+use Rattle.sync_records.proofs.Records.{client_read, server_read}
+use Rattle.sync_exchange.specs.Profile.{the_profile}
+use Rattle.sync_exchange.specs.Seen.{client_bytes, client_kept, client_seen, read_client, read_server, server_bytes, server_kept, server_seen}
 use Rattle.sync_world.specs.Nodes.{FitsClient, FitsServer}
 
 within : (n : ℕ) → n ≤ 4294967295 → n < 2 ^ 32

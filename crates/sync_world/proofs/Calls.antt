@@ -5,14 +5,14 @@ use Rattle.sync_disk.specs.Origin.{Origin}
 use Rattle.sync_disk.specs.declared.disk.Disk.{Ghosts}
 use Rattle.sync_journal.specs.Several.{Asks, AsksSome}
 use Rattle.sync_journal.specs.Stands.{disk_of}
-use Rattle.node_model.specs.Clients.{ClientRecord, ClientRefusal, ClientStep}
-use Rattle.node_model.specs.Worlds.{Stop, stopped}
-use Rattle.node_instance.specs.Seen.{client_bytes}
-use Rattle.node_client.specs.Clients.{Asked, Says, Stores, journal_of}
-use Rattle.node_client.specs.Refusals.{refusal_seen}
-use Rattle.node_client.specs.declared.client.Client.{Client}
-use Rattle.node_client.specs.declared.refusal.ClientRefusal.{ClientRefusal as CodeRefusal}
-use Rattle.node_client.specs.declared.refusal.ClientRefusal.TheVariants as codes
+use Rattle.sync_model.specs.Clients.{ClientRecord, ClientRefusal, ClientStep}
+use Rattle.sync_model.specs.Worlds.{Stop, stopped}
+use Rattle.sync_exchange.specs.Seen.{client_bytes}
+use Rattle.sync_client.specs.Clients.{Asked, Says, Stores, journal_of}
+use Rattle.sync_client.specs.Refusals.{refusal_seen}
+use Rattle.sync_client.specs.declared.client.Client.{Client}
+use Rattle.sync_client.specs.declared.refusal.ClientRefusal.{ClientRefusal as CodeRefusal}
+use Rattle.sync_client.specs.declared.refusal.ClientRefusal.TheVariants as codes
 use Rattle.sync_world.specs.Calls.{AfterCall, IsAnswer, is_cut, is_lost}
 use Rattle.sync_world.specs.Nodes.{HoldsClient}
 use Rattle.sync_world.specs.declared.stop.Stop.{Stop as CodeStop}

@@ -6,12 +6,12 @@ use Rattle.sync_theory.specs.Changesets.{Changeset}
 use Rattle.std.specs.Prelude.{codes}
 use Rattle.sync_base.specs.States.{State}
 use Rattle.sync_dump.specs.Dump.{dump}
-use Rattle.node_model.specs.Parts.{Parts, parts_of}
-use Rattle.node_model.specs.Servers.{Server, entries_from, server_objects}
-use Rattle.node_instance.specs.Profile.{the_profile}
-use Rattle.node_server.specs.Kept.{parts}
-use Rattle.node_server.specs.Readers.{item_from}
-use Rattle.node_server.specs.declared.kept.Kept.{Kept}
+use Rattle.sync_model.specs.Parts.{Parts, parts_of}
+use Rattle.sync_model.specs.Servers.{Server, entries_from, server_objects}
+use Rattle.sync_exchange.specs.Profile.{the_profile}
+use Rattle.sync_server.specs.Kept.{parts}
+use Rattle.sync_server.specs.Readers.{item_from}
+use Rattle.sync_server.specs.declared.kept.Kept.{Kept}
 use Rattle.sync_world.specs.Reports.{entries_text, entry_text, kept_text, server_text}
 use Rattle.sync_world.specs.Words.{said}
 

@@ -5,16 +5,16 @@ use Rattle.sync_data.specs.declared.memory.NoMemory.{NoMemory}
 use Rattle.sync_data.specs.declared.instr.Instr.{Instr}
 use Rattle.sync_base.specs.States.{State}
 use Rattle.sync_journal.specs.Records.{lists}
-use Rattle.node_model.specs.Bytes.{Name}
-use Rattle.node_model.specs.Clients.{Client, ClientRecord, ClientRefusal, ClientStep, client_of}
-use Rattle.node_model.specs.Each.{Each}
-use Rattle.node_model.specs.Worlds.{IsReached, Node, Outcome, Stop, Words, World, arm, at, client_called, client_calls, client_ends, client_moved, has_name, is_node, is_there, put, says, seek, server_name, stopped}
-use Rattle.node_model.proofs.Limits.{each_append, each_take}
-use Rattle.node_model.proofs.Lists.{at_put, map_put, seek_found}
-use Rattle.node_model.proofs.Holding.{cut_by}
-use Rattle.node_instance.specs.Profile.{the_profile}
-use Rattle.node_client.specs.Refusals.{refusal_seen, IfSeen}
-use Rattle.node_client.specs.declared.refusal.ClientRefusal.{ClientRefusal as CodeRefusal}
+use Rattle.sync_model.specs.Bytes.{Name}
+use Rattle.sync_model.specs.Clients.{Client, ClientRecord, ClientRefusal, ClientStep, client_of}
+use Rattle.sync_model.specs.Each.{Each}
+use Rattle.sync_model.specs.Worlds.{IsReached, Node, Outcome, Stop, Words, World, arm, at, client_called, client_calls, client_ends, client_moved, has_name, is_node, is_there, put, says, seek, server_name, stopped}
+use Rattle.sync_model.proofs.Limits.{each_append, each_take}
+use Rattle.sync_model.proofs.Lists.{at_put, map_put, seek_found}
+use Rattle.sync_model.proofs.Holding.{cut_by}
+use Rattle.sync_exchange.specs.Profile.{the_profile}
+use Rattle.sync_client.specs.Refusals.{refusal_seen, IfSeen}
+use Rattle.sync_client.specs.declared.refusal.ClientRefusal.{ClientRefusal as CodeRefusal}
 use Rattle.sync_world.specs.Calls.{CallEnds, IsCalled, left}
 use Rattle.sync_world.specs.Holding.{AreBoth, AreNames, Happens, Holds, HoldsEach, HoldsNode, IsText, SaysCalled, Stands}
 use Rattle.sync_world.specs.Messages.{AreSpelled}

@@ -1,15 +1,15 @@
 -- Uuids of clients, and those that were injected.
 use Rattle.std.proofs.Common.{◌≡◌, ℕ, zero, suc, Bool, true, false, ◌||◌, ◌&&◌, not, ◌==◌, if◌then◌else◌, List, [], ◌∷◌, map, Option, None, Some, refl, sym, ◌∙◌, ap, arith}
 use Rattle.std.specs.List.{list_any}
-use Rattle.node_model.specs.Bytes.{Name, Uuid}
-use Rattle.node_model.specs.Clients.{client_of}
+use Rattle.sync_model.specs.Bytes.{Name, Uuid}
+use Rattle.sync_model.specs.Clients.{client_of}
 use Rattle.sync_data.specs.declared.instr.Instr.{Instr}
-use Rattle.node_model.specs.Parts.{idents_of}
-use Rattle.node_model.specs.Servers.{Server, place_of}
-use Rattle.node_model.specs.Worlds.{Node, Stop, further, has_id, id_is, ident_is, is_there, seek}
-use Rattle.node_server.specs.Integrating.{found}
+use Rattle.sync_model.specs.Parts.{idents_of}
+use Rattle.sync_model.specs.Servers.{Server, place_of}
+use Rattle.sync_model.specs.Worlds.{Node, Stop, further, has_id, id_is, ident_is, is_there, seek}
+use Rattle.sync_server.specs.Integrating.{found}
 use Rattle.std.proofs.lemmas.Bool.Decides.{nat_tests}
-use Rattle.node_instance.specs.Profile.{the_profile}
+use Rattle.sync_exchange.specs.Profile.{the_profile}
 use Rattle.sync_world.specs.Holding.{HoldsEach, HoldsNode, id_of}
 use Rattle.sync_world.specs.declared.node.Node.{Node as CodeNode}
 

@@ -1,8 +1,8 @@
 -- A client comes in.
 use Rattle.std.proofs.Common.{◌≡◌, Bool, false, ◌||◌, [], ◌∷◌, ◌++◌, ap, ◌∙◌}
 use Rattle.std.specs.Prelude.{bytes_eq}
-use Rattle.node_model.specs.Bytes.{Name}
-use Rattle.node_model.specs.Worlds.{Node, World, has_name, is_node, is_there, seek, server_name}
+use Rattle.sync_model.specs.Bytes.{Name}
+use Rattle.sync_model.specs.Worlds.{Node, World, has_name, is_node, is_there, seek, server_name}
 use Rattle.sync_world.proofs.Moves.{fewer_nodes, first_not, rest_not}
 
 -- whoever isn't a node afterwards wasn't one before

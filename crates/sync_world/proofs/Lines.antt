@@ -1,12 +1,12 @@
 -- The clients' parts of a report.
 use Rattle.std.proofs.Common.{◌≡◌, ℕ, zero, suc, ◌+◌, ◌<◌, ◌≤◌, List, [], ◌∷◌, ◌++◌, Option, Some, length, map, drop, get_or, refl, sym, ◌∙◌, ap, arith, add-one, append_assoc, append-nil}
 use Rattle.std.proofs.Math.ListN.{drop_of_length-le}
-use Rattle.node_model.specs.Bytes.{Name}
-use Rattle.node_model.specs.Clients.{ClientRecord}
-use Rattle.node_model.specs.Reports.{node_line}
-use Rattle.node_model.specs.Worlds.{Node, Stop, at}
-use Rattle.node_instance.specs.Profile.{the_profile}
-use Rattle.node_client.specs.Clients.{IsClientOf}
+use Rattle.sync_model.specs.Bytes.{Name}
+use Rattle.sync_model.specs.Clients.{ClientRecord}
+use Rattle.sync_model.specs.Reports.{node_line}
+use Rattle.sync_model.specs.Worlds.{Node, Stop, at}
+use Rattle.sync_exchange.specs.Profile.{the_profile}
+use Rattle.sync_client.specs.Clients.{IsClientOf}
 use Rattle.sync_world.specs.Holding.{AreBoth, HoldsEach, HoldsNode}
 use Rattle.sync_world.specs.Reports.{client_text, clients_text}
 use Rattle.sync_world.specs.declared.node.Node.{Node as CodeNode}

@@ -5,17 +5,17 @@ use Rattle.sync_data.specs.declared.memory.NoMemory.{NoMemory}
 use Rattle.sync_data.specs.declared.instr.Instr.{Instr}
 use Rattle.sync_base.specs.States.{State}
 use Rattle.sync_journal.specs.Records.{lists}
-use Rattle.node_messages.specs.declared.message.Message.{Message as CodeMessage}
-use Rattle.node_model.specs.Bytes.{Uuid}
-use Rattle.node_model.specs.Clients.{Client, ClientRecord, ClientRefusal, ClientStep, NotNamed, answers, ask, bind, if_born, if_named, refuse, upload}
-use Rattle.node_model.specs.Each.{Each, no_more}
-use Rattle.node_model.specs.Messages.{Message, Bind}
-use Rattle.node_model.specs.Worlds.{IsReached, Node, Outcome, Stop, Words, World, at, client_ends, client_moved, message_words, messaged, says, stopped}
-use Rattle.node_instance.specs.Profile.{the_profile}
-use Rattle.node_instance.specs.Seen.{message_seen}
-use Rattle.node_client.specs.Refusals.{refusal_seen, IfSeen}
-use Rattle.node_client.specs.Sending.{Sends}
-use Rattle.node_client.specs.declared.refusal.ClientRefusal.{ClientRefusal as CodeRefusal}
+use Rattle.sync_messages.specs.declared.message.Message.{Message as CodeMessage}
+use Rattle.sync_model.specs.Bytes.{Uuid}
+use Rattle.sync_model.specs.Clients.{Client, ClientRecord, ClientRefusal, ClientStep, NotNamed, answers, ask, bind, if_born, if_named, refuse, upload}
+use Rattle.sync_model.specs.Each.{Each, no_more}
+use Rattle.sync_model.specs.Messages.{Message, Bind}
+use Rattle.sync_model.specs.Worlds.{IsReached, Node, Outcome, Stop, Words, World, at, client_ends, client_moved, message_words, messaged, says, stopped}
+use Rattle.sync_exchange.specs.Profile.{the_profile}
+use Rattle.sync_exchange.specs.Seen.{message_seen}
+use Rattle.sync_client.specs.Refusals.{refusal_seen, IfSeen}
+use Rattle.sync_client.specs.Sending.{Sends}
+use Rattle.sync_client.specs.declared.refusal.ClientRefusal.{ClientRefusal as CodeRefusal}
 use Rattle.sync_world.specs.Holding.{Happens, Holds, IsText, Stands}
 use Rattle.sync_world.specs.Messages.{AreSpelled}
 use Rattle.sync_world.specs.Nodes.{FitsClient, HoldsClient}
@@ -76,7 +76,7 @@ module _ (w : World) (old : CodeWorld) (h : Stands w old) (i : ℕ) (n : Node) (
         where
           go : (r : Result (Vec ℕ Global) NoMemory) → ((ms : List Message) → AreSpelled ms (lists mid.messages.items) → OnOk r (AreSpelled (ms ++ message_seen m ∷ []) (lists new.messages.items))) → OnOk r (Stands (record v { messages = v.messages ++ message_seen m ∷ [] }) new)
           go (Ok text) all = record {
-            server = subst (λ hub. Rattle.sync_world.specs.Nodes.HoldsServer v.server (v.stops Rattle.node_model.specs.Worlds.server_name) hub.stop hub.server) (sym kept.others.hub) stands.server;
+            server = subst (λ hub. Rattle.sync_world.specs.Nodes.HoldsServer v.server (v.stops Rattle.sync_model.specs.Worlds.server_name) hub.stop hub.server) (sym kept.others.hub) stands.server;
             clients = subst (λ cs. Rattle.sync_world.specs.Holding.HoldsEach v.stops v.clients cs.items) (sym kept.others.clients) stands.clients;
             named = stands.named;
             server_fits = stands.server_fits;

@@ -3,11 +3,11 @@ use Rattle.std.proofs.Common.{◌≡◌, ℕ, zero, suc, ◌+◌, ◌<◌, Bool,
 use Rattle.std.specs.Prelude.{bytes_eq}
 use Rattle.std.specs.List.{list_any, position_or_len, position}
 use Rattle.std.proofs.lemmas.Bool.Decides.{nat_tests}
-use Rattle.node_model.specs.Bytes.{Name}
-use Rattle.node_model.specs.Each.{Each, no_more, and_each}
-use Rattle.node_model.specs.Worlds.{Node, Stop, World, arm, at, further, has_name, is_node, is_there, put, seek, server_name}
-use Rattle.node_model.proofs.Lists.{seek_map}
-use Rattle.node_model.proofs.Bytes.{bytes_false, bytes_true}
+use Rattle.sync_model.specs.Bytes.{Name}
+use Rattle.sync_model.specs.Each.{Each, no_more, and_each}
+use Rattle.sync_model.specs.Worlds.{Node, Stop, World, arm, at, further, has_name, is_node, is_there, put, seek, server_name}
+use Rattle.sync_model.proofs.Lists.{seek_map}
+use Rattle.sync_model.proofs.Bytes.{bytes_false, bytes_true}
 use Rattle.sync_world.specs.Holding.{AreBoth, AreNames, Found, HoldsEach, HoldsNode, named}
 use Rattle.sync_world.specs.declared.node.Node.{Node as CodeNode}
 

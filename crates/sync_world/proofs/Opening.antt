@@ -4,18 +4,18 @@ use Rattle.sync_disk.specs.declared.disk.Disk.{Ghosts}
 use Rattle.sync_journal.specs.Records as records
 use Rattle.sync_journal.specs.Records.{Reading, records_of}
 use Rattle.sync_journal.specs.Records.Reading.{Good}
-use Rattle.node_model.specs.Clients.{ClientRecord, no_client}
-use Rattle.node_model.specs.Each.{Each, no_more, and_each}
-use Rattle.node_model.specs.Files.{client_reads}
-use Rattle.node_model.specs.Servers.{ServerRecord}
-use Rattle.node_instance.specs.Profile.{the_profile}
-use Rattle.node_instance.specs.Seen.{client_bytes, read_client, read_server, server_bytes}
-use Rattle.node_client.specs.Clients as clients
-use Rattle.node_client.specs.Files as client_files
-use Rattle.node_client.specs.declared.client.Client.{Client}
-use Rattle.node_server.specs.Serving as servers
-use Rattle.node_server.specs.Files as server_files
-use Rattle.node_server.specs.declared.server.Server.{Server}
+use Rattle.sync_model.specs.Clients.{ClientRecord, no_client}
+use Rattle.sync_model.specs.Each.{Each, no_more, and_each}
+use Rattle.sync_model.specs.Files.{client_reads}
+use Rattle.sync_model.specs.Servers.{ServerRecord}
+use Rattle.sync_exchange.specs.Profile.{the_profile}
+use Rattle.sync_exchange.specs.Seen.{client_bytes, read_client, read_server, server_bytes}
+use Rattle.sync_client.specs.Clients as clients
+use Rattle.sync_client.specs.Files as client_files
+use Rattle.sync_client.specs.declared.client.Client.{Client}
+use Rattle.sync_server.specs.Serving as servers
+use Rattle.sync_server.specs.Files as server_files
+use Rattle.sync_server.specs.declared.server.Server.{Server}
 use Rattle.sync_world.specs.Nodes.{ReadsBack, ServerReadsBack}
 
 one_file : (a b : List (List ℕ)) → Good a ≡ Good b → a ≡ b

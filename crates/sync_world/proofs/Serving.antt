@@ -2,15 +2,15 @@
 use Rattle.std.proofs.Common.{◌≡◌, ℕ, suc, List, [], ◌∷◌, ◌++◌, length, Option, None, Some, Result, Vec, Global, refl, sym, ◌∙◌, ap, subst}
 use Rattle.sync_data.specs.declared.memory.NoMemory.{NoMemory}
 use Rattle.sync_journal.specs.Records.{lists}
-use Rattle.node_messages.specs.declared.message.Message.{Message as CodeMessage}
-use Rattle.node_model.specs.Each.{Each}
-use Rattle.node_model.specs.Messages.{Message}
-use Rattle.node_model.specs.Servers.{ServerRecord, ServerStep}
-use Rattle.node_model.specs.Worlds.{IsReached, Stop, Words, World, arm, named_by, says, server_ends, server_moved, server_name, stopped}
-use Rattle.node_model.proofs.Limits.{each_append, each_take}
-use Rattle.node_model.proofs.Holding.{cut_by}
-use Rattle.node_instance.specs.Profile.{the_profile}
-use Rattle.node_instance.specs.Seen.{message_seen}
+use Rattle.sync_messages.specs.declared.message.Message.{Message as CodeMessage}
+use Rattle.sync_model.specs.Each.{Each}
+use Rattle.sync_model.specs.Messages.{Message}
+use Rattle.sync_model.specs.Servers.{ServerRecord, ServerStep}
+use Rattle.sync_model.specs.Worlds.{IsReached, Stop, Words, World, arm, named_by, says, server_ends, server_moved, server_name, stopped}
+use Rattle.sync_model.proofs.Limits.{each_append, each_take}
+use Rattle.sync_model.proofs.Holding.{cut_by}
+use Rattle.sync_exchange.specs.Profile.{the_profile}
+use Rattle.sync_exchange.specs.Seen.{message_seen}
 use Rattle.sync_world.specs.Holding.{Happens, Holds, IsText, Stands}
 use Rattle.sync_world.specs.Messages.{AreSpelled}
 use Rattle.sync_world.specs.Nodes.{FitsServer, HoldsServer, ServerReadsBack, ServerStandReads}

@@ -2,10 +2,10 @@
 use Rattle.std.proofs.Common.{◌≡◌, ℕ, zero, suc, ◌-◌, ◌<◌, ◌≤◌, List, [], ◌∷◌, ◌++◌, length, get_or, None, Some, Vec, Global, refl, sym, ◌∙◌, ap, subst, arith}
 use Rattle.std.specs.Option.{option_map}
 use Rattle.sync_journal.specs.Records.{lists}
-use Rattle.node_messages.proofs.Messages.{is_read}
-use Rattle.node_model.specs.Messages.{Message}
-use Rattle.node_model.specs.Worlds.{World, at, message_at}
-use Rattle.node_instance.specs.Seen.{message_seen}
+use Rattle.sync_messages.proofs.Messages.{is_read}
+use Rattle.sync_model.specs.Messages.{Message}
+use Rattle.sync_model.specs.Worlds.{World, at, message_at}
+use Rattle.sync_exchange.specs.Seen.{message_seen}
 use Rattle.sync_world.specs.Messages.{AreSpelled, IsSpelled, message_read, numbered}
 
 pub spelled_more : (ms : List Message) (bs : List (List ℕ)) (m : Message) (b : List ℕ) → AreSpelled ms bs → IsSpelled m b → AreSpelled (ms ++ m ∷ []) (bs ++ b ∷ [])

@@ -15,7 +15,7 @@ use Rattle.sync_journal.specs.Records.{records_of}
 use Rattle.sync_journal.specs.Records.Reading.{Good}
 use Rattle.sync_journal.specs.Several.{AsksAll, AsksPart}
 use Rattle.sync_journal.specs.Stopping as journal
-use Rattle.node_model.specs.Worlds.{Stop, is_keep, standing, stopped}
+use Rattle.sync_model.specs.Worlds.{Stop, is_keep, standing, stopped}
 use Rattle.sync_world.specs.Events.{leaves_seen}
 use Rattle.sync_world.specs.Nodes.{IsArmed}
 

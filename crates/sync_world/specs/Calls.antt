@@ -8,13 +8,13 @@ use Rattle.sync_disk.specs.declared.disk.Disk.{Ghosts}
 use Rattle.sync_journal.specs.Records.{records_of}
 use Rattle.sync_journal.specs.Records.Reading.{Good}
 use Rattle.sync_journal.specs.Stands.{disk_of}
-use Rattle.node_model.specs.Clients.{ClientRecord, ClientRefusal, ClientStep}
-use Rattle.node_instance.specs.Seen.{client_bytes}
-use Rattle.node_client.specs.Clients as clients
-use Rattle.node_client.specs.Refusals.{refusal_seen}
-use Rattle.node_client.specs.declared.client.Client.{Client}
-use Rattle.node_client.specs.declared.refusal.ClientRefusal.{ClientRefusal as CodeRefusal}
-use Rattle.node_client.specs.declared.refusal.ClientRefusal.TheVariants as codes
+use Rattle.sync_model.specs.Clients.{ClientRecord, ClientRefusal, ClientStep}
+use Rattle.sync_exchange.specs.Seen.{client_bytes}
+use Rattle.sync_client.specs.Clients as clients
+use Rattle.sync_client.specs.Refusals.{refusal_seen}
+use Rattle.sync_client.specs.declared.client.Client.{Client}
+use Rattle.sync_client.specs.declared.refusal.ClientRefusal.{ClientRefusal as CodeRefusal}
+use Rattle.sync_client.specs.declared.refusal.ClientRefusal.TheVariants as codes
 use Rattle.sync_world.specs.Nodes.{HoldsClient}
 use Rattle.sync_world.specs.declared.node.Called.{Called}
 use Rattle.sync_world.specs.declared.node.Called.TheVariants as called

@@ -5,7 +5,7 @@ use Rattle.sync_disk.specs.declared.leaves.Leaves.{Leaves as CodeLeaves}
 use Rattle.sync_disk.specs.declared.leaves.Leaves.TheVariants as leaves
 use Rattle.sync_edits.specs.declared.event.Event.{Event as CodeEvent}
 use Rattle.sync_edits.specs.declared.event.Event.TheVariants as events
-use Rattle.node_model.specs.Worlds.{Event, Leaves}
+use Rattle.sync_model.specs.Worlds.{Event, Leaves}
 use Rattle.sync_world.specs.Messages.{message_read}
 
 abbrev pub leaves_seen : CodeLeaves → Leaves

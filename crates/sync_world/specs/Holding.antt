@@ -4,19 +4,19 @@ use Rattle.std.specs.List.{list_any}
 use Rattle.std.specs.declared.alloc.Global.{Global}
 use Rattle.sync_data.specs.declared.memory.NoMemory.{NoMemory}
 use Rattle.sync_journal.specs.Records.{lists}
-use Rattle.node_model.specs.Bytes.{Name}
-use Rattle.node_model.specs.Each.{Each}
-use Rattle.node_model.specs.Worlds.{IsReached, Node, Outcome, Stop, Words, World, has_name, is_node, seek, server_name}
-use Rattle.node_instance.specs.Profile.{the_profile}
-use Rattle.node_client.specs.Refusals.{refusal_seen, IfSeen}
+use Rattle.sync_model.specs.Bytes.{Name}
+use Rattle.sync_model.specs.Each.{Each}
+use Rattle.sync_model.specs.Worlds.{IsReached, Node, Outcome, Stop, Words, World, has_name, is_node, seek, server_name}
+use Rattle.sync_exchange.specs.Profile.{the_profile}
+use Rattle.sync_client.specs.Refusals.{refusal_seen, IfSeen}
 use Rattle.sync_world.specs.Messages.{AreSpelled}
 use Rattle.sync_world.specs.Nodes.{FitsClient, FitsServer, HoldsClient, HoldsServer}
 use Rattle.sync_world.specs.Words.{words_text}
-use Rattle.node_client.specs.Clients.{IsClientOf, IsStored, replica_of}
-use Rattle.node_client.specs.declared.client.Client.{Client}
-use Rattle.node_server.specs.Kept.{parts}
-use Rattle.node_server.specs.Serving.{kept_of}
-use Rattle.node_server.specs.declared.server.Server.{Server}
+use Rattle.sync_client.specs.Clients.{IsClientOf, IsStored, replica_of}
+use Rattle.sync_client.specs.declared.client.Client.{Client}
+use Rattle.sync_server.specs.Kept.{parts}
+use Rattle.sync_server.specs.Serving.{kept_of}
+use Rattle.sync_server.specs.declared.server.Server.{Server}
 use Rattle.sync_disk.specs.declared.disk.Disk.{Ghosts}
 use Rattle.sync_disk.specs.declared.memory.MemoryDisk.{MemoryDisk}
 use Rattle.sync_world.specs.declared.node.Called.{Called}

@@ -2,13 +2,13 @@
 use Rattle.std.specs.Prelude.{◌≡◌, ℕ, zero, suc, List, [], ◌∷◌, Option, None, Some, Result, Ok, Err}
 use Rattle.std.specs.Option.{option_map}
 use Rattle.sync_data.specs.declared.memory.NoMemory.{NoMemory}
-use Rattle.node_messages.specs.Spelling.{message_spelling}
-use Rattle.node_messages.specs.Reading.{message_in}
-use Rattle.node_messages.specs.Whole.{IsMessage}
-use Rattle.node_messages.specs.declared.message.Message.{Message as CodeMessage}
-use Rattle.node_model.specs.Messages.{Message}
-use Rattle.node_model.specs.Worlds.{at}
-use Rattle.node_instance.specs.Seen.{message_seen}
+use Rattle.sync_messages.specs.Spelling.{message_spelling}
+use Rattle.sync_messages.specs.Reading.{message_in}
+use Rattle.sync_messages.specs.Whole.{IsMessage}
+use Rattle.sync_messages.specs.declared.message.Message.{Message as CodeMessage}
+use Rattle.sync_model.specs.Messages.{Message}
+use Rattle.sync_model.specs.Worlds.{at}
+use Rattle.sync_exchange.specs.Seen.{message_seen}
 
 -- the bytes of a message
 pub record IsSpelled (m : Message) (bytes : List ℕ) : Type 0 where

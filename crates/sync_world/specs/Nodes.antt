@@ -4,18 +4,18 @@ use Rattle.std.specs.Option.{option_map}
 use Rattle.sync_disk.specs.Origin.{Origin}
 use Rattle.sync_disk.specs.declared.disk.Disk.{Ghosts}
 use Rattle.sync_journal.specs.Stands.{disk_of}
-use Rattle.node_model.specs.Clients.{ClientRecord, no_client}
-use Rattle.node_model.specs.Each.{Each}
-use Rattle.node_model.specs.Files.{client_reads, server_opens}
-use Rattle.node_model.specs.Servers.{ServerRecord, no_server}
-use Rattle.node_model.specs.Worlds.{Stop}
-use Rattle.node_instance.specs.Profile.{the_profile}
-use Rattle.node_instance.specs.Seen.{client_bytes, read_client, read_server, server_bytes}
+use Rattle.sync_model.specs.Clients.{ClientRecord, no_client}
+use Rattle.sync_model.specs.Each.{Each}
+use Rattle.sync_model.specs.Files.{client_reads, server_opens}
+use Rattle.sync_model.specs.Servers.{ServerRecord, no_server}
+use Rattle.sync_model.specs.Worlds.{Stop}
+use Rattle.sync_exchange.specs.Profile.{the_profile}
+use Rattle.sync_exchange.specs.Seen.{client_bytes, read_client, read_server, server_bytes}
 use Rattle.subset_bytes.specs.Spelling.{AreTables}
-use Rattle.node_client.specs.Clients as clients
-use Rattle.node_client.specs.declared.client.Client.{Client}
-use Rattle.node_server.specs.Serving as servers
-use Rattle.node_server.specs.declared.server.Server.{Server}
+use Rattle.sync_client.specs.Clients as clients
+use Rattle.sync_client.specs.declared.client.Client.{Client}
+use Rattle.sync_server.specs.Serving as servers
+use Rattle.sync_server.specs.declared.server.Server.{Server}
 use Rattle.sync_world.specs.Events.{leaves_seen}
 use Rattle.sync_world.specs.declared.stop.Stop.{Stop as CodeStop}
 

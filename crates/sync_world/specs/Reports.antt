@@ -6,8 +6,8 @@ use Rattle.sync_base.specs.States.{State}
 use Rattle.sync_theory.specs.Changesets.{Changeset}
 use Rattle.sync_codec.specs.Spelling.{spelling}
 use Rattle.sync_dump.specs.Dump.{dump}
-use Rattle.node_model.specs.Parts.{Parts}
-use Rattle.node_model.specs.Reports.{ClientLine, Report}
+use Rattle.sync_model.specs.Parts.{Parts}
+use Rattle.sync_model.specs.Reports.{ClientLine, Report}
 use Rattle.sync_world.specs.Words.{name_text, numbers_text, said}
 
 -- ---- the server: the length of its history, a line for each entry, and its dump

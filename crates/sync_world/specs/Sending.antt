@@ -2,14 +2,14 @@
 use Rattle.std.specs.Prelude.{◌≡◌, ℕ, suc, List, [], ◌∷◌, ◌++◌, length, Option, None, Some, Result, Ok, Err, OnOk, IfOk, Vec}
 use Rattle.std.specs.declared.alloc.Global.{Global}
 use Rattle.sync_data.specs.declared.memory.NoMemory.{NoMemory}
-use Rattle.node_model.specs.Clients.{ClientRefusal}
+use Rattle.sync_model.specs.Clients.{ClientRefusal}
 use Rattle.sync_journal.specs.Records.{lists}
-use Rattle.node_messages.specs.declared.message.Message.{Message as CodeMessage}
-use Rattle.node_model.specs.Messages.{Message}
-use Rattle.node_model.specs.Worlds.{Words}
-use Rattle.node_instance.specs.Seen.{message_seen}
-use Rattle.node_client.specs.Refusals.{refusal_seen}
-use Rattle.node_client.specs.declared.refusal.ClientRefusal.{ClientRefusal as CodeRefusal}
+use Rattle.sync_messages.specs.declared.message.Message.{Message as CodeMessage}
+use Rattle.sync_model.specs.Messages.{Message}
+use Rattle.sync_model.specs.Worlds.{Words}
+use Rattle.sync_exchange.specs.Seen.{message_seen}
+use Rattle.sync_client.specs.Refusals.{refusal_seen}
+use Rattle.sync_client.specs.declared.refusal.ClientRefusal.{ClientRefusal as CodeRefusal}
 use Rattle.sync_world.specs.Holding.{IsText}
 use Rattle.sync_world.specs.Messages.{AreSpelled}
 use Rattle.sync_world.specs.declared.world.World.{World as CodeWorld}

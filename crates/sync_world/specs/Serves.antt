@@ -1,9 +1,9 @@
 -- What a message comes to at the server, where its disk may stop in the call.
 use Rattle.std.specs.Prelude.{◌≡◌, ◌++◌, List, Option, None, Some, Result, Ok, Err}
 use Rattle.sync_data.specs.declared.memory.NoMemory.{NoMemory}
-use Rattle.node_messages.specs.declared.message.Message.{Message as CodeMessage}
-use Rattle.node_model.specs.Servers.{ServerRecord, ServerStep}
-use Rattle.node_instance.specs.Seen.{message_seen}
+use Rattle.sync_messages.specs.declared.message.Message.{Message as CodeMessage}
+use Rattle.sync_model.specs.Servers.{ServerRecord, ServerStep}
+use Rattle.sync_exchange.specs.Seen.{message_seen}
 use Rattle.sync_world.specs.Calls.{left}
 use Rattle.sync_world.specs.Nodes.{HoldsServer}
 use Rattle.sync_world.specs.declared.hub.Hub.{Hub}

@@ -3,9 +3,9 @@ use Rattle.std.specs.Prelude.{ℕ, List, [], ◌∷◌, ◌++◌, codes, decimal
 use Rattle.std.specs.List.{flat_map}
 use Rattle.serde_json.specs.Data.{string}
 use Rattle.serde_json.specs.Written.{compact_text}
-use Rattle.node_model.specs.Messages.{Message}
-use Rattle.node_model.specs.Clients.{ClientRefusal}
-use Rattle.node_model.specs.Worlds.{Words}
+use Rattle.sync_model.specs.Messages.{Message}
+use Rattle.sync_model.specs.Clients.{ClientRefusal}
+use Rattle.sync_model.specs.Worlds.{Words}
 use Rattle.sync_world.specs.declared.words.Fixed.{Fixed}
 use Rattle.sync_world.specs.declared.words.Fixed.TheVariants as fixed
 

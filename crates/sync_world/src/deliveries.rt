@@ -1,11 +1,11 @@
 ghost use Rattle.std.specs.Prelude.{◌≡◌, bytes_eq, false, true, OnOk};
 ghost use Rattle.std.specs.List.{list_any};
-ghost use Rattle.node_model.specs.Files.{server_opens};
-ghost use Rattle.node_model.specs.Servers.{no_server};
-ghost use Rattle.node_model.specs.Worlds as model;
-ghost use Rattle.node_instance.specs.Profile.{the_profile};
-ghost use Rattle.node_instance.specs.Seen.{message_seen};
-ghost use Rattle.node_messages.specs.Whole.{IsMessage};
+ghost use Rattle.sync_model.specs.Files.{server_opens};
+ghost use Rattle.sync_model.specs.Servers.{no_server};
+ghost use Rattle.sync_model.specs.Worlds as model;
+ghost use Rattle.sync_exchange.specs.Profile.{the_profile};
+ghost use Rattle.sync_exchange.specs.Seen.{message_seen};
+ghost use Rattle.sync_messages.specs.Whole.{IsMessage};
 ghost use Rattle.sync_world.specs.Holding.{given_ids, id_of};
 ghost use Rattle.sync_world.specs.Messages.{message_read};
 
@@ -17,8 +17,8 @@ use crate::words::{Fixed, fixed_words, reply_words};
 use crate::world::World;
 use sync_data::{Blob, Ident, Name, NoMemory};
 use sync_disk::MemoryDisk;
-use node_messages::Message;
-use node_server::Server;
+use sync_messages::Message;
+use sync_server::Server;
 
 /// Whether the server gave the ident to that client.
 fn is_of(node: &Node, server: &Server<MemoryDisk>, ident: Ident) -> bool

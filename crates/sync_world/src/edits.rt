@@ -1,17 +1,16 @@
 ghost use Rattle.std.specs.Prelude.{◌≡◌, bytes_eq};
 ghost use Rattle.std.specs.List.{list_any};
-ghost use Rattle.node_model.specs.Worlds as model;
-ghost use Rattle.node_instance.specs.Profile.{the_profile};
+ghost use Rattle.sync_model.specs.Worlds as model;
+ghost use Rattle.sync_exchange.specs.Profile.{the_profile};
 ghost use Rattle.sync_world.specs.Holding.{SaysCalled, id_of, subscribe_said, upgrade_said};
 
 use crate::laws::worlds_read_back;
-use crate::tables::tables_keep;
 use crate::node::{Called, Node};
+use crate::tables::tables_keep;
 use crate::words::{Fixed, client_words, declined_words, fixed_words, made_words, took_words};
 use crate::world::World;
 use std::alloc::Global;
 use sync_data::{Id, Instr, Listed, Name, NoMemory};
-
 use sync_subset::Subset;
 
 /// The words of a transaction.

@@ -4,12 +4,12 @@ ghost use Rattle.sync_disk.specs.Leaving.{left_by};
 ghost use Rattle.sync_journal.specs.Records.{records_of};
 ghost use Rattle.sync_journal.specs.Records.Reading.{Good};
 ghost use Rattle.sync_journal.specs.Stands.{disk_of};
-ghost use Rattle.node_model.specs.Files.{server_opens};
-ghost use Rattle.node_model.specs.Servers as model;
-ghost use Rattle.node_model.specs.Worlds.{Stop as ModelStop, stopped};
-ghost use Rattle.node_instance.specs.Profile.{the_profile};
-ghost use Rattle.node_instance.specs.Seen.{message_seen, server_bytes};
-ghost use Rattle.node_server.specs.Serving.{IsServerOf, IsStored, journal_of};
+ghost use Rattle.sync_model.specs.Files.{server_opens};
+ghost use Rattle.sync_model.specs.Servers as model;
+ghost use Rattle.sync_model.specs.Worlds.{Stop as ModelStop, stopped};
+ghost use Rattle.sync_exchange.specs.Profile.{the_profile};
+ghost use Rattle.sync_exchange.specs.Seen.{message_seen, server_bytes};
+ghost use Rattle.sync_server.specs.Serving.{IsServerOf, IsStored, journal_of};
 ghost use Rattle.sync_world.specs.Nodes.{HoldsServer, ServerReadsBack, ServerStandReads, stop_seen};
 ghost use Rattle.sync_world.specs.Serves.{ServeEnds};
 
@@ -21,8 +21,8 @@ use std::mem;
 use sync_data::NoMemory;
 use sync_disk::{Disk, MemoryDisk};
 use sync_journal::stops_tell;
-use node_messages::Message;
-use node_server::{Server, ServerRefusal};
+use sync_messages::Message;
+use sync_server::{Server, ServerRefusal};
 
 /// The server of an exchange, over a disk in memory.
 #[derive(Drop)]

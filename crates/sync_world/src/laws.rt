@@ -2,18 +2,18 @@
 ghost use Rattle.std.specs.Prelude.{◌≡◌, ℕ, List, Ok, Some, map, true};
 ghost use Rattle.sync_base.specs.States.{State};
 ghost use Rattle.sync_data.specs.declared.instr.Instr.{Instr};
-ghost use Rattle.node_instance.specs.Profile.{the_profile};
-ghost use Rattle.node_model.specs.Each.{Each};
-ghost use Rattle.node_model.specs.Files.{server_opens};
-ghost use Rattle.node_model.specs.Fronts.{file_gives};
-ghost use Rattle.node_model.specs.Messages.{Message};
-ghost use Rattle.node_model.specs.Parts.{Parts, parts_of, serve_by, served_of};
-ghost use Rattle.node_model.specs.Servers.{ServerRecord, no_server, serve, server_of};
-ghost use Rattle.node_model.specs.Worlds.{Event, IsReached, Node, World, at, empty_world, happens};
+ghost use Rattle.sync_exchange.specs.Profile.{the_profile};
+ghost use Rattle.sync_model.specs.Each.{Each};
+ghost use Rattle.sync_model.specs.Files.{server_opens};
+ghost use Rattle.sync_model.specs.Fronts.{file_gives};
+ghost use Rattle.sync_model.specs.Messages.{Message};
+ghost use Rattle.sync_model.specs.Parts.{Parts, parts_of, serve_by, served_of};
+ghost use Rattle.sync_model.specs.Servers.{ServerRecord, no_server, serve, server_of};
+ghost use Rattle.sync_model.specs.Worlds.{Event, IsReached, Node, World, at, empty_world, happens};
 ghost use Rattle.sync_world.specs.Nodes.{FitsClient, FitsServer, ReadsBack, ServerReadsBack};
 
-use node_instance::Instrs;
-use node_model::{
+use sync_exchange::Instrs;
+use sync_model::{
     files_read_back, nodes_stay_within_limits, server_files_give_what_is_kept,
     servers_answer_by_parts, worlds_hold,
 };

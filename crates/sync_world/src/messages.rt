@@ -1,12 +1,12 @@
 ghost use Rattle.std.specs.Prelude.{◌≡◌, ◌++◌, ◌∷◌, [], suc, length, List, IfOk, OnOk};
 ghost use Rattle.sync_journal.specs.Records.{lists};
-ghost use Rattle.node_model.specs.Messages as model;
-ghost use Rattle.node_instance.specs.Seen.{message_seen};
+ghost use Rattle.sync_model.specs.Messages as model;
+ghost use Rattle.sync_exchange.specs.Seen.{message_seen};
 ghost use Rattle.sync_world.specs.Messages.{AreSpelled, ReadsAt, ReadsBytes};
 
 use std::alloc::Global;
 use sync_data::NoMemory;
-use node_messages::{Message, MessageRefusal, message_bytes, message_of};
+use sync_messages::{Message, MessageRefusal, message_bytes, message_of};
 
 /// Keeps a message as its bytes behind those that were made; answers its number, counted from 1.
 pub(crate) fn keep(

@@ -4,12 +4,12 @@ ghost use Rattle.sync_disk.specs.Leaving.{left_by};
 ghost use Rattle.sync_journal.specs.Records.{records_of};
 ghost use Rattle.sync_journal.specs.Records.Reading.{Good};
 ghost use Rattle.sync_journal.specs.Stands.{disk_of};
-ghost use Rattle.node_model.specs.Clients as model;
-ghost use Rattle.node_model.specs.Worlds.{Stop as ModelStop, stopped};
-ghost use Rattle.node_instance.specs.Profile.{the_profile};
-ghost use Rattle.node_instance.specs.Seen.{client_bytes, message_seen};
-ghost use Rattle.node_client.specs.Clients.{IsClientOf, IsStored, journal_of};
-ghost use Rattle.node_client.specs.Sending.{Sends};
+ghost use Rattle.sync_model.specs.Clients as model;
+ghost use Rattle.sync_model.specs.Worlds.{Stop as ModelStop, stopped};
+ghost use Rattle.sync_exchange.specs.Profile.{the_profile};
+ghost use Rattle.sync_exchange.specs.Seen.{client_bytes, message_seen};
+ghost use Rattle.sync_client.specs.Clients.{IsClientOf, IsStored, journal_of};
+ghost use Rattle.sync_client.specs.Sending.{Sends};
 ghost use Rattle.sync_world.specs.Nodes.{HoldsClient, ReadsBack, StandReads, stop_seen};
 ghost use Rattle.sync_world.specs.Calls.{AfterCall, Ends, is_cut, is_lost};
 
@@ -17,12 +17,12 @@ use crate::disks::empty_disk;
 use crate::stop::Stop;
 use std::alloc::Global;
 use std::mem;
-use node_client::{Client, ClientRefusal};
+use sync_client::{Client, ClientRefusal};
 use sync_data::{Id, Instr, Name, NoMemory};
 use sync_disk::{Disk, MemoryDisk};
 use sync_journal::stops_tell;
+use sync_messages::Message;
 use sync_subset::Subset;
-use node_messages::Message;
 
 /// What a call of a client came to.
 #[derive(Drop)]

@@ -1,22 +1,22 @@
 ghost use Rattle.std.specs.Prelude.{◌≡◌, ◌++◌, ◌≤◌, List, length, OnOk};
 ghost use Rattle.sync_recip.specs.Lists.{entry_of};
 ghost use Rattle.sync_dump.specs.Dump.{dump};
-ghost use Rattle.node_model.specs.Clients as clients;
-ghost use Rattle.node_model.specs.Reports.{node_line};
-ghost use Rattle.node_instance.specs.Profile.{the_profile};
-ghost use Rattle.node_client.specs.Clients.{IsClientOf};
-ghost use Rattle.node_server.specs.Kept.{parts};
-ghost use Rattle.node_server.specs.Serving.{kept_of};
+ghost use Rattle.sync_model.specs.Clients as clients;
+ghost use Rattle.sync_model.specs.Reports.{node_line};
+ghost use Rattle.sync_exchange.specs.Profile.{the_profile};
+ghost use Rattle.sync_client.specs.Clients.{IsClientOf};
+ghost use Rattle.sync_server.specs.Kept.{parts};
+ghost use Rattle.sync_server.specs.Serving.{kept_of};
 ghost use Rattle.sync_world.specs.Reports.{client_text, entries_text, entry_text, floor_text, kept_text, standing_text};
 
 use super::text::{put, put_name, put_numbers, put_said};
 use std::alloc::Global;
-use node_client::Client;
+use sync_client::Client;
 use sync_codec::encode;
 use sync_data::{Entry, Name, NoMemory};
 use sync_disk::Disk;
 use sync_dump::dump_lines;
-use node_server::Server;
+use sync_server::Server;
 use sync_store::Store;
 
 /// Puts the dump of objects.

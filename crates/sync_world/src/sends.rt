@@ -1,7 +1,7 @@
 ghost use Rattle.std.specs.Prelude.{◌≡◌, ℕ, List};
-ghost use Rattle.node_model.specs.Clients.{ask as ask_of, bind as bind_of, client_of, upload as upload_of};
-ghost use Rattle.node_model.specs.Worlds as model;
-ghost use Rattle.node_instance.specs.Profile.{the_profile};
+ghost use Rattle.sync_model.specs.Clients.{ask as ask_of, bind as bind_of, client_of, upload as upload_of};
+ghost use Rattle.sync_model.specs.Worlds as model;
+ghost use Rattle.sync_exchange.specs.Profile.{the_profile};
 ghost use Rattle.sync_world.specs.Sending.{SentFrom};
 
 use crate::laws::worlds_read_back;
@@ -9,9 +9,9 @@ use crate::messages;
 use crate::node::{is_cut, is_lost};
 use crate::words::{Fixed, declined_words, fixed_words, message_words};
 use crate::world::World;
-use node_client::ClientRefusal;
+use sync_client::ClientRefusal;
 use sync_data::{Name, NoMemory};
-use node_messages::Message;
+use sync_messages::Message;
 
 impl World {
     ghost use Rattle.sync_world.specs.Holding.{Happens, Holds};

@@ -1,6 +1,6 @@
 ghost use Rattle.std.specs.Prelude.{◌≡◌, ◌≤◌, ℕ, List};
-ghost use Rattle.node_model.specs.Worlds as model;
-ghost use Rattle.node_instance.specs.Profile.{the_profile};
+ghost use Rattle.sync_model.specs.Worlds as model;
+ghost use Rattle.sync_exchange.specs.Profile.{the_profile};
 ghost use Rattle.sync_world.specs.Events.{leaves_seen};
 
 use crate::laws::worlds_read_back;

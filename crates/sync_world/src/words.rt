@@ -1,14 +1,14 @@
 ghost use Rattle.std.specs.Prelude.{◌≡◌, ◌++◌, IfOk, OnOk};
-ghost use Rattle.node_model.specs.Worlds as model;
-ghost use Rattle.node_instance.specs.Seen.{message_seen};
-ghost use Rattle.node_client.specs.Refusals.{refusal_seen, IfSeen};
+ghost use Rattle.sync_model.specs.Worlds as model;
+ghost use Rattle.sync_exchange.specs.Seen.{message_seen};
+ghost use Rattle.sync_client.specs.Refusals.{refusal_seen, IfSeen};
 ghost use Rattle.sync_world.specs.Words.{fixed_seen, outcome_line, refused, reply_text, said, words_text};
 
 use super::text::{put, put_name, put_number, put_said};
 use std::alloc::Global;
-use node_client::ClientRefusal;
+use sync_client::ClientRefusal;
 use sync_data::{Name, NoMemory};
-use node_messages::Message;
+use sync_messages::Message;
 
 /// The words of an outcome that bear no numbers.
 #[derive(Clone, Copy, Debug, PartialEq, Eq)]

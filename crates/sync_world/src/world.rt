@@ -1,23 +1,23 @@
 ghost use Rattle.std.specs.Prelude.{◌≡◌, ◌<◌, ◌++◌, length, List, map, None, Option, IfNone, IfOk, IfSome, OnOk};
-ghost use Rattle.node_model.specs.Bytes.{Name as ModelName};
-ghost use Rattle.node_model.specs.Reports.{node_line, report_of};
+ghost use Rattle.sync_model.specs.Bytes.{Name as ModelName};
+ghost use Rattle.sync_model.specs.Reports.{node_line, report_of};
 ghost use Rattle.sync_world.specs.Reports.{clients_text, report_text};
 ghost use Rattle.std.specs.List.{position};
 ghost use Rattle.sync_world.specs.Holding.{HoldsEach, named};
-ghost use Rattle.node_model.specs.Worlds as model;
-ghost use Rattle.node_instance.specs.Profile.{the_profile};
-ghost use Rattle.node_server.specs.Serving.{IsServerOf, IsStored};
+ghost use Rattle.sync_model.specs.Worlds as model;
+ghost use Rattle.sync_exchange.specs.Profile.{the_profile};
+ghost use Rattle.sync_server.specs.Serving.{IsServerOf, IsStored};
 
 use crate::hub::Hub;
 use crate::laws::worlds_read_back;
 use crate::node::Node;
 use crate::report::{put_client, put_server};
 use std::alloc::Global;
-use node_client::Client;
+use sync_client::Client;
 use sync_data::{Id, Name, NoMemory};
 use sync_disk::{Disk, MemoryDisk};
 use sync_edits::Event;
-use node_server::Server;
+use sync_server::Server;
 
 /// An exchange: a server and clients over disks in memory, all messages that were made, and the uuids that injected Binds
 /// named.

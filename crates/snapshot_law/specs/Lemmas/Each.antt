@@ -13,7 +13,7 @@ use Rattle.sync_base.specs.Effects.{ObjectName, Effect, NewTable, NewColumn, Cre
 use Rattle.sync_base.specs.Lemmas.Looks.{name_total, name_exact, object_total, object_exact}
 use Rattle.sync_base.specs.Lemmas.Steps.{some_is}
 use Rattle.sync_base.specs.States.{State, Table, Cell, Cells, IsState, column_in, cell_at, has}
-use Rattle.node_model.specs.Each.{Each, no_more, and_each}
+use Rattle.sync_model.specs.Each.{Each, no_more, and_each}
 use Rattle.snapshot_law.specs.Build.{joined, cell_edits, cell_effects, columns_of, edits_of, object_effects, new_tables, new_columns, new_objects, built_effects, built_list}
 use Rattle.snapshot_law.specs.Lemmas.Maps.{walk, joined_singles}
 

@@ -24,10 +24,12 @@ use Rattle.sync_codec.specs.Decoding.{instrs_in}
 use Rattle.sync_codec.specs.Valid.{AreInstrs}
 use Rattle.sync_codec.specs.Lemmas.Back.{read_back}
 use Rattle.sync_model.specs.Profile.{Lawful, IsNoHeavier}
-use Rattle.sync_exchange.specs.Whole.{is_whole}
 use Rattle.sync_exchange.specs.Profile.{weight, fits_changeset, as_read, unspell, the_profile}
-use Rattle.sync_exchange.specs.Lemmas.Whole.{IsWhole, whole_tells}
+use Rattle.sync_exchange.specs.Lemmas.Whole.{IsWhole}
+use Rattle.sync_exchange.specs.Lemmas.Weights.{light_whole, carried}
 use Rattle.sync_exchange.specs.Lemmas.Strings.{are_instrs, whole_each}
+use Rattle.sync_exchange.specs.Lemmas.Adapting.{lighter, same_form, same_tables}
+use Rattle.sync_exchange.specs.Lemmas.Parts.{lawful_parts}
 use Rattle.sync_exchange.specs.Lemmas.Left.{LeftWhole, meeting_keeps}
 
 left_true : (a b : Bool) → (a && b) ≡ true → a ≡ true
@@ -43,16 +45,6 @@ both_true true b e f = f
 both_true false b e f = e
 
 -- ---- weights
-
-light_if : (b : Bool) (n : ℕ) → (if b then n else 4194305) ≤ 4194304 → b ≡ true
-light_if true n h = refl
-light_if false n h = absurd (omega (arith, h))
-
-light_whole : (i : Instr) → weight i ≤ 4194304 → IsWhole i
-light_whole i h = (whole_tells i).yes (light_if (is_whole i) (payload i) h)
-
-carried : (i : Instr) → IsWhole i → weight i ≡ payload i
-carried i h = ap (λ b. if b then payload i else 4194305) ((whole_tells i).back h)
 
 no_heavier : (i : Instr) (o : Option Instr) → IsWhole i → LeftWhole o → CarriesAsMuch i o → IsNoHeavier the_profile i o
 no_heavier i None w l c = tt
@@ -149,7 +141,9 @@ real_lawful = record {
   two_sided = two_sided_by_code;
   kinds = λ later a b s sa sb fits e f. kinds_by_code later a b s sa sb e f;
   weighs = weighs;
+  adapts = λ s i. record { lighter = lighter s i; form = same_form s i; tables = λ t. same_tables t s i };
   spelled = spelled;
   read_small = λ bytes. small_of bytes (unspell bytes) (tested bytes (instrs_in bytes));
   spelling = λ bytes. spelled_of bytes (unspell bytes) (tested bytes (instrs_in bytes));
+  parts = lawful_parts;
 }

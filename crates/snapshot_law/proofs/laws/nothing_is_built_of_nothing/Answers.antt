@@ -1,5 +1,5 @@
 use Rattle.std.proofs.Common.{ap}
-use Rattle.node_model.specs.Cuts.{cut}
+use Rattle.sync_model.specs.Cuts.{cut}
 use Rattle.snapshot_law.specs.Lemmas.Runs.{built-no_state}
 use Rattle.snapshot_law.proofs.laws.nothing_is_built_of_nothing.Goals as goal
 

@@ -1,7 +1,7 @@
-use Rattle.node_model.specs.Clients.{client_of, subscribe}
-use Rattle.node_instance.specs.Profile.{the_profile}
-use Rattle.node_instance.specs.Seen.{client_bytes}
-use Rattle.node_client.specs.Refusals.{refusal_seen}
+use Rattle.sync_model.specs.Clients.{client_of, subscribe}
+use Rattle.sync_exchange.specs.Profile.{the_profile}
+use Rattle.sync_exchange.specs.Seen.{client_bytes}
+use Rattle.sync_client.specs.Refusals.{refusal_seen}
 use Rattle.sync_node.specs.Steps.{subscribe_words}
 use Rattle.sync_node.proofs.Nodes.{leaves_now, prefix_leaves, said_err, said_ok}
 use Rattle.sync_node.proofs.calls.subscribe.Goals as goal

@@ -1,5 +1,5 @@
 use Rattle.std.proofs.Common.{sym, subst}
-use Rattle.node_instance.specs.Seen.{client_bytes}
+use Rattle.sync_exchange.specs.Seen.{client_bytes}
 use Rattle.sync_node.specs.Holding.{ClientStands}
 use Rattle.sync_node.specs.Items.{lines_of}
 use Rattle.sync_node.specs.Runs.{NodeExits, runs}

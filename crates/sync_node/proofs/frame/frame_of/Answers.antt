@@ -1,6 +1,6 @@
 use Rattle.std.proofs.Common.{◌≡◌, ◌++◌, length, ap, sym, subst, ◌∙◌, arith}
 use Rattle.byteorder.specs.Endian.{big_bytes}
-use Rattle.node_messages.specs.Spelling.{message_spelling}
+use Rattle.sync_messages.specs.Spelling.{message_spelling}
 use Rattle.sync_node.specs.Frames.{framed}
 use Rattle.sync_node.proofs.Lengths.{message_back, message_short}
 use Rattle.sync_node.proofs.frame.frame_of.Goals as goal

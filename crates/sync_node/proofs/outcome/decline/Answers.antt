@@ -1,4 +1,4 @@
-use Rattle.node_client.specs.Refusals.{refusal_seen}
+use Rattle.sync_client.specs.Refusals.{refusal_seen}
 use Rattle.sync_node.proofs.Nodes.{declined_some, plain_seen}
 use Rattle.sync_node.proofs.outcome.decline.Goals as goal
 

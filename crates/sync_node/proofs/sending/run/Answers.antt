@@ -2,7 +2,7 @@ use Rattle.std.proofs.Common.{◌≡◌, sym, subst}
 use Rattle.sync_disk.specs.Disk.{LeavesOnly}
 use Rattle.sync_journal.specs.Records.{records_of}
 use Rattle.sync_journal.specs.Records.Reading.{Good}
-use Rattle.node_client.specs.Clients.{IsClientOf}
+use Rattle.sync_client.specs.Clients.{IsClientOf}
 use Rattle.sync_node.specs.Opening.{HoldsThose, client_file}
 use Rattle.sync_node.specs.Sending.{text_of}
 use Rattle.sync_node.proofs.Opened.{no_both, same_err, same_ok, tells_bad}

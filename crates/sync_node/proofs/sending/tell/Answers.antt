@@ -1,5 +1,5 @@
-use Rattle.node_model.specs.Clients.{client_of}
-use Rattle.node_instance.specs.Profile.{the_profile}
+use Rattle.sync_model.specs.Clients.{client_of}
+use Rattle.sync_exchange.specs.Profile.{the_profile}
 use Rattle.sync_node.specs.Sending.{step_of, text_of}
 use Rattle.sync_node.proofs.sending.tell.Goals as goal
 

@@ -1,5 +1,5 @@
 use Rattle.std.proofs.Common.{subst, map}
-use Rattle.node_instance.specs.Seen.{server_bytes}
+use Rattle.sync_exchange.specs.Seen.{server_bytes}
 use Rattle.sync_node.specs.Holding.{ServerStands}
 use Rattle.sync_node.specs.Items.{frames_of}
 use Rattle.sync_node.specs.Opening.{server_file}

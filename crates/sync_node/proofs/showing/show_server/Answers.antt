@@ -2,7 +2,7 @@ use Rattle.std.proofs.Common.{◌≡◌, sym, subst}
 use Rattle.sync_disk.specs.Disk.{LeavesOnly}
 use Rattle.sync_journal.specs.Records.{records_of}
 use Rattle.sync_journal.specs.Records.Reading.{Good}
-use Rattle.node_server.specs.Serving.{IsServerOf}
+use Rattle.sync_server.specs.Serving.{IsServerOf}
 use Rattle.sync_node.specs.Opening.{HoldsThose, server_file}
 use Rattle.sync_node.specs.Showing.{server_shown}
 use Rattle.sync_node.proofs.Opened.{no_both, same_err, same_ok, tells_bad}

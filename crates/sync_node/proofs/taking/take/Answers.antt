@@ -1,7 +1,7 @@
 use Rattle.std.proofs.Common.{◌≡◌, Some, ap, rules, sym, subst}
 use Rattle.sync_disk.specs.Disk.{Rose}
 use Rattle.sync_io.specs.declared.status.Status.TheVariants as statuses
-use Rattle.node_instance.specs.Seen.{client_bytes}
+use Rattle.sync_exchange.specs.Seen.{client_bytes}
 use Rattle.sync_node.specs.Runs.{runs}
 use Rattle.sync_world.specs.Messages.{message_read}
 use Rattle.sync_node.specs.Steps.{is_message, take_answer, take_step}

@@ -1,8 +1,8 @@
-use Rattle.node_model.specs.Parts.{serve_by}
-use Rattle.node_instance.specs.Profile.{the_profile}
-use Rattle.node_instance.specs.Seen.{message_seen, server_bytes}
-use Rattle.node_server.specs.Kept.{parts}
-use Rattle.node_server.specs.Serving.{kept_of}
+use Rattle.sync_model.specs.Parts.{serve_by}
+use Rattle.sync_exchange.specs.Profile.{the_profile}
+use Rattle.sync_exchange.specs.Seen.{message_seen, server_bytes}
+use Rattle.sync_server.specs.Kept.{parts}
+use Rattle.sync_server.specs.Serving.{kept_of}
 use Rattle.sync_node.proofs.Nodes.{leaves_now, prefix_leaves, replied_ok}
 use Rattle.sync_node.proofs.waiter.reply.Goals as goal
 

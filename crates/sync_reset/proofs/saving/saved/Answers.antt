@@ -1,6 +1,6 @@
 use Rattle.std.proofs.Common.{ap, ◌∙◌}
-use Rattle.node_model.specs.Resets.{saved}
-use Rattle.node_instance.specs.Profile.{the_profile}
+use Rattle.sync_model.specs.Resets.{saved}
+use Rattle.sync_exchange.specs.Profile.{the_profile}
 use Rattle.sync_reset.specs.Saved.{drops}
 use Rattle.sync_reset.proofs.Alike.{saved_alike}
 use Rattle.sync_reset.proofs.saving.saved.Goals as goal

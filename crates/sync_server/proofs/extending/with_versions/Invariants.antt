@@ -3,5 +3,5 @@ use Rattle.sync_recip.specs.Lists.{entry_of}
 use Rattle.sync_model.specs.Parts.{with_versions}
 use Rattle.sync_server.proofs.extending.with_versions.Given as goal
 
-abbrev pub invariant-loop-version : goal.invariant-loop-version
-invariant-loop-version l = l.made ≡ with_versions 0 (map entry_of (take l.version l.entries))
+abbrev pub invariant-loop-place : goal.invariant-loop-place
+invariant-loop-place l = l.made ≡ with_versions l.first (map entry_of (take l.place l.entries))

@@ -1,8 +1,8 @@
 use Rattle.std.proofs.Common.{[], ◌++◌, map, ap, ◌∙◌}
 use Rattle.std.specs.Prelude.{flat_map}
 use Rattle.std.specs.FinMap as fin
-use Rattle.node_model.specs.Cuts.{cut}
-use Rattle.node_instance.specs.Profile.{fits_changeset}
+use Rattle.sync_model.specs.Cuts.{cut}
+use Rattle.sync_exchange.specs.Profile.{fits_changeset}
 use Rattle.sync_maps.specs.Answers.{then_so}
 use Rattle.sync_snapshot.specs.Lists.{table_instrs}
 use Rattle.sync_snapshot.specs.Parts.{untimed, parts_with}

@@ -1,6 +1,6 @@
 use Rattle.std.proofs.Common.{sym, ap, ◌∙◌, subst}
-use Rattle.node_model.specs.Snapshots.{grown_as, grown_to, part_differs}
-use Rattle.node_instance.specs.Profile.{the_profile}
+use Rattle.sync_model.specs.Snapshots.{grown_as, grown_to, part_differs}
+use Rattle.sync_exchange.specs.Profile.{the_profile}
 use Rattle.sync_snapshot.specs.Grown.{lists_of, Names}
 use Rattle.sync_snapshot.proofs.Applied.{lists_untimed}
 use Rattle.sync_snapshot.proofs.growing.grown.Goals as goal

@@ -2,7 +2,7 @@ use Rattle.std.proofs.Common.{◌≤◌, Option, sym, subst}
 use Rattle.sync_data.specs.Payload.{payload}
 use Rattle.sync_data.specs.declared.value.Value.{Value}
 use Rattle.sync_data.specs.declared.instr.Instr.TheVariants as instrs
-use Rattle.node_instance.specs.Profile.{weight}
+use Rattle.sync_exchange.specs.Profile.{weight}
 use Rattle.sync_snapshot.proofs.Held.{bind_light}
 use Rattle.sync_snapshot.proofs.whole.binding_is_held.Goals as goal
 

@@ -1,6 +1,6 @@
 use Rattle.std.proofs.Common.{◌≤◌, sym, subst}
 use Rattle.sync_data.specs.Payload.{payload}
-use Rattle.node_instance.specs.Profile.{weight}
+use Rattle.sync_exchange.specs.Profile.{weight}
 use Rattle.sync_snapshot.proofs.Held.{table_light, column_light, object_light, update_light, insert_light, include_light}
 use Rattle.sync_snapshot.proofs.whole.is_light.Goals as goal
 

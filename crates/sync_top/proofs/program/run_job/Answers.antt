@@ -2,7 +2,7 @@ use Rattle.std.proofs.Common.{[], Option, None, Some}
 use Rattle.std.specs.Option.{IfSome}
 use Rattle.sync_io.specs.Reading.{Reading}
 use Rattle.sync_io.specs.Readers.{readings}
-use Rattle.node_model.specs.Worlds.{empty_world}
+use Rattle.sync_model.specs.Worlds.{empty_world}
 use Rattle.sync_top.proofs.Asked.{replay_no_bad, written_no_bad}
 use Rattle.sync_top.proofs.Synced.{Laws, first_synced, left_synced}
 use Rattle.sync_top.proofs.Validity.{complete}

@@ -1,7 +1,7 @@
 use Rattle.std.proofs.Common.{map, ap, ◌∙◌}
 use Rattle.sync_codec.specs.Spelling.{spelling}
 use Rattle.snapshot_law.specs.Build.{build}
-use Rattle.node_instance.specs.Profile.{fits_changeset}
+use Rattle.sync_exchange.specs.Profile.{fits_changeset}
 use Rattle.sync_trim.proofs.States.{spelled_parts}
 use Rattle.sync_trim.proofs.bodies.part_bodies.Goals as goal
 

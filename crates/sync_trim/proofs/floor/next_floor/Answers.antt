@@ -1,6 +1,6 @@
 use Rattle.std.proofs.Common.{ℕ, ◌+◌, ◌<◌, ◌≤◌, drop, length, sym, subst, arith}
-use Rattle.node_server.specs.Kept.{parts}
-use Rattle.node_server.specs.Serving.{kept_of}
+use Rattle.sync_server.specs.Kept.{parts}
+use Rattle.sync_server.specs.Serving.{kept_of}
 use Rattle.sync_trim.proofs.Floors.{Lowered, lowered_first, lowered_more}
 use Rattle.sync_trim.proofs.Given.{ident_some, is_given}
 use Rattle.sync_trim.proofs.floor.next_floor.Goals as goal

@@ -1,5 +1,5 @@
-use Rattle.node_server.specs.Kept.{parts}
-use Rattle.node_server.specs.Serving.{kept_of}
+use Rattle.sync_server.specs.Kept.{parts}
+use Rattle.sync_server.specs.Serving.{kept_of}
 use Rattle.std.proofs.Common.{drop}
 use Rattle.sync_trim.proofs.Floors.{Lowered}
 use Rattle.sync_trim.proofs.floor.next_floor.Given as goal

@@ -1,12 +1,12 @@
 use Rattle.std.proofs.Common.{◌+◌, ◌-◌, ◌≤◌, ◌∷◌, ◌++◌, map, drop, sym, ap, ◌∙◌, arith}
 use Rattle.std.specs.Option.{option_map}
 use Rattle.sync_recip.specs.Lists.{entry_of}
-use Rattle.node_model.specs.Servers as model
-use Rattle.node_model.specs.Trimmed.{entry_records}
-use Rattle.node_instance.specs.Profile.{the_profile}
-use Rattle.node_instance.specs.Seen.{server_seen}
-use Rattle.node_server.specs.Kept.{parts}
-use Rattle.node_server.specs.Serving.{kept_of}
+use Rattle.sync_model.specs.Servers as model
+use Rattle.sync_model.specs.Trimmed.{entry_records}
+use Rattle.sync_exchange.specs.Profile.{the_profile}
+use Rattle.sync_exchange.specs.Seen.{server_seen}
+use Rattle.sync_server.specs.Kept.{parts}
+use Rattle.sync_server.specs.Serving.{kept_of}
 use Rattle.sync_trim.proofs.Pieces.{no_more, one_more}
 use Rattle.sync_trim.proofs.Versions.{item_none, item_some, no_bases, no_entries}
 use Rattle.sync_trim.proofs.history.put_entries.Goals as goal

@@ -1,9 +1,9 @@
 use Rattle.std.proofs.Common.{◌≡◌, ◌++◌, ◌-◌, map, drop}
-use Rattle.node_model.specs.Trimmed.{entry_records}
-use Rattle.node_instance.specs.Profile.{the_profile}
-use Rattle.node_instance.specs.Seen.{server_seen}
-use Rattle.node_server.specs.Kept.{parts}
-use Rattle.node_server.specs.Serving.{kept_of}
+use Rattle.sync_model.specs.Trimmed.{entry_records}
+use Rattle.sync_exchange.specs.Profile.{the_profile}
+use Rattle.sync_exchange.specs.Seen.{server_seen}
+use Rattle.sync_server.specs.Kept.{parts}
+use Rattle.sync_server.specs.Serving.{kept_of}
 use Rattle.sync_trim.proofs.history.put_entries.Given as goal
 
 -- the entries so far, and those that are left

@@ -1,9 +1,9 @@
 use Rattle.std.proofs.Common.{◌+◌, ◌∷◌, ◌++◌, map, drop, sym, ap, ◌∙◌}
 use Rattle.std.specs.Option.{option_map}
-use Rattle.node_model.specs.Servers as model
-use Rattle.node_instance.specs.Seen.{server_seen}
-use Rattle.node_server.specs.Kept.{parts}
-use Rattle.node_server.specs.Serving.{kept_of}
+use Rattle.sync_model.specs.Servers as model
+use Rattle.sync_exchange.specs.Seen.{server_seen}
+use Rattle.sync_server.specs.Kept.{parts}
+use Rattle.sync_server.specs.Serving.{kept_of}
 use Rattle.sync_trim.proofs.Given.{is_read}
 use Rattle.sync_trim.proofs.Pieces.{one_more}
 use Rattle.sync_trim.proofs.idents.put_clients.Goals as goal

@@ -1,11 +1,11 @@
 use Rattle.std.proofs.Common.{◌+◌, ◌-◌, ◌<◌, ◌++◌, [], length, map, drop, sym, ap, ◌∙◌, add-one, append_assoc, arith}
 use Rattle.std.specs.Prelude.{if◌then◌else◌, max}
-use Rattle.node_model.specs.Trimmed.{crossed_of, crossed_records}
-use Rattle.node_model.specs.Trims.{is_live, pairs_from}
-use Rattle.node_instance.specs.Profile.{the_profile}
-use Rattle.node_instance.specs.Seen.{server_seen}
-use Rattle.node_server.specs.Kept.{parts}
-use Rattle.node_server.specs.Serving.{kept_of}
+use Rattle.sync_model.specs.Trimmed.{crossed_of, crossed_records}
+use Rattle.sync_model.specs.Trims.{is_live, pairs_from}
+use Rattle.sync_exchange.specs.Profile.{the_profile}
+use Rattle.sync_exchange.specs.Seen.{server_seen}
+use Rattle.sync_server.specs.Kept.{parts}
+use Rattle.sync_server.specs.Serving.{kept_of}
 use Rattle.sync_trim.proofs.Given.{ident_some, is_given}
 use Rattle.sync_trim.proofs.past.put_past.Goals as goal
 

@@ -1,13 +1,13 @@
 use Rattle.std.proofs.Common.{ℕ, ◌+◌, ◌++◌, List, map, drop, sym, ap, ◌∙◌, append_assoc}
 use Rattle.std.specs.Prelude.{slice_get}
 use Rattle.sync_recip.specs.Lists.{entry_of}
-use Rattle.node_model.specs.Servers as model
-use Rattle.node_model.specs.Trimmed.{crossed_record}
-use Rattle.node_instance.specs.Profile.{the_profile}
-use Rattle.node_instance.specs.Seen.{server_seen}
-use Rattle.node_server.specs.Kept.{parts}
-use Rattle.node_server.specs.Readers.{item_from}
-use Rattle.node_server.specs.Serving.{kept_of}
+use Rattle.sync_model.specs.Servers as model
+use Rattle.sync_model.specs.Trimmed.{crossed_record}
+use Rattle.sync_exchange.specs.Profile.{the_profile}
+use Rattle.sync_exchange.specs.Seen.{server_seen}
+use Rattle.sync_server.specs.Kept.{parts}
+use Rattle.sync_server.specs.Readers.{item_from}
+use Rattle.sync_server.specs.Serving.{kept_of}
 use Rattle.sync_trim.proofs.Crossed.{Pair, crossed, crossed_left, got_none, got_some, passed}
 use Rattle.sync_trim.proofs.Pieces.{at_some, none_next, get_at}
 use Rattle.sync_trim.proofs.past.put_past_of.Goals as goal

@@ -1,6 +1,6 @@
 use Rattle.std.proofs.Common.{◌≡◌, ◌++◌, map}
-use Rattle.node_model.specs.Clients as model
-use Rattle.node_instance.specs.Seen.{client_seen}
+use Rattle.sync_model.specs.Clients as model
+use Rattle.sync_exchange.specs.Seen.{client_seen}
 use Rattle.sync_trim.proofs.starting.put_parts.Given as goal
 
 -- the parts so far, and those that are left

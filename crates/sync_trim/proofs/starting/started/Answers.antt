@@ -1,11 +1,11 @@
 use Rattle.std.proofs.Common.{[], ◌∷◌, ◌++◌, map, ap, ◌∙◌}
 use Rattle.sync_codec.specs.Spelling.{spelling}
 use Rattle.snapshot_law.specs.Build.{build}
-use Rattle.node_model.specs.Clients as clients
-use Rattle.node_instance.specs.Profile.{fits_changeset}
-use Rattle.node_instance.specs.Seen.{client_seen}
-use Rattle.node_server.specs.Kept.{parts}
-use Rattle.node_server.specs.Serving.{kept_of}
+use Rattle.sync_model.specs.Clients as clients
+use Rattle.sync_exchange.specs.Profile.{fits_changeset}
+use Rattle.sync_exchange.specs.Seen.{client_seen}
+use Rattle.sync_server.specs.Kept.{parts}
+use Rattle.sync_server.specs.Serving.{kept_of}
 use Rattle.sync_trim.proofs.Pieces.{put_one}
 use Rattle.sync_trim.proofs.Whole.{starts}
 use Rattle.sync_trim.proofs.starting.started.Goals as goal

@@ -1,10 +1,10 @@
 use Rattle.std.proofs.Common.{map, ap, ◌∙◌}
 use Rattle.sync_codec.specs.Spelling.{spelling}
 use Rattle.snapshot_law.specs.Build.{build}
-use Rattle.node_instance.specs.Profile.{fits_changeset}
-use Rattle.node_instance.specs.Seen.{server_seen}
-use Rattle.node_server.specs.Kept.{parts}
-use Rattle.node_server.specs.Serving.{kept_of}
+use Rattle.sync_exchange.specs.Profile.{fits_changeset}
+use Rattle.sync_exchange.specs.Seen.{server_seen}
+use Rattle.sync_server.specs.Kept.{parts}
+use Rattle.sync_server.specs.Serving.{kept_of}
 use Rattle.sync_trim.proofs.Pieces.{put_one}
 use Rattle.sync_trim.proofs.Whole.{trims}
 use Rattle.sync_trim.proofs.trimming.trimmed.Goals as goal

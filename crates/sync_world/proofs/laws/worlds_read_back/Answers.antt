@@ -1,9 +1,9 @@
 use Rattle.std.proofs.Common.{◌≡◌, ℕ, true, Result, Ok, sym, ◌∙◌, ap}
 use Rattle.sync_base.specs.States.{State}
 use Rattle.sync_data.specs.declared.instr.Instr.{Instr}
-use Rattle.node_model.specs.Parts.{Parts, after_parts, no_parts, parts_open, serve_by}
-use Rattle.node_instance.specs.Profile.{the_profile}
-use Rattle.node_instance.specs.Seen.{client_bytes, read_client}
+use Rattle.sync_model.specs.Parts.{Parts, after_parts, no_parts, parts_open, serve_by}
+use Rattle.sync_exchange.specs.Profile.{the_profile}
+use Rattle.sync_exchange.specs.Seen.{client_bytes, read_client}
 use Rattle.sync_world.proofs.Back.{clients_back, servers_back}
 use Rattle.sync_world.proofs.laws.worlds_read_back.Goals as goal
 

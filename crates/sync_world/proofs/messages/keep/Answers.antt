@@ -1,7 +1,7 @@
 use Rattle.std.proofs.Common.{ℕ, [], ◌∷◌, ◌++◌, Vec, Global, length, refl, sym, ◌∙◌, ap, subst, arith, length-append}
 use Rattle.std.proofs.lemmas.List.{length-map, map-append}
 use Rattle.sync_journal.specs.Records.{lists}
-use Rattle.node_instance.specs.Seen.{message_seen}
+use Rattle.sync_exchange.specs.Seen.{message_seen}
 use Rattle.sync_world.specs.Messages.{AreSpelled, IsSpelled}
 use Rattle.sync_world.proofs.Spelled.{same_many, spelled_more}
 use Rattle.sync_world.proofs.messages.keep.Goals as goal

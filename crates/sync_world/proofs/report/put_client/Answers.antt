@@ -1,7 +1,7 @@
 use Rattle.std.proofs.Common.{◌≡◌, OnOk, length, subst}
 use Rattle.std.specs.Prelude.{codes}
-use Rattle.node_model.specs.Clients.{client_of}
-use Rattle.node_instance.specs.Profile.{the_profile}
+use Rattle.sync_model.specs.Clients.{client_of}
+use Rattle.sync_exchange.specs.Profile.{the_profile}
 use Rattle.sync_world.specs.Reports.{standing_text}
 use Rattle.sync_world.specs.Words.{name_text}
 use Rattle.sync_world.proofs.Pieces.{three_put}

@@ -1,7 +1,7 @@
 use Rattle.std.proofs.Common.{◌++◌, ◌-◌, sym, ap, ◌∙◌, arith}
 use Rattle.sync_recip.specs.Lists.{entry_of}
-use Rattle.node_server.specs.Kept.{parts}
-use Rattle.node_server.specs.Serving.{kept_of}
+use Rattle.sync_server.specs.Kept.{parts}
+use Rattle.sync_server.specs.Serving.{kept_of}
 use Rattle.sync_world.specs.Reports.{entries_text}
 use Rattle.sync_world.proofs.Entries.{item_is, no_gap, one_put}
 use Rattle.sync_world.proofs.report.put_entries.Goals as goal

@@ -1,8 +1,8 @@
 use Rattle.std.proofs.Common.{◌≡◌, ◌++◌, List, Option, drop, map}
-use Rattle.node_model.specs.Bytes.{Name}
-use Rattle.node_model.specs.Reports.{node_line}
-use Rattle.node_model.specs.Worlds.{Node, Stop}
-use Rattle.node_instance.specs.Profile.{the_profile}
+use Rattle.sync_model.specs.Bytes.{Name}
+use Rattle.sync_model.specs.Reports.{node_line}
+use Rattle.sync_model.specs.Worlds.{Node, Stop}
+use Rattle.sync_exchange.specs.Profile.{the_profile}
 use Rattle.sync_world.specs.Holding.{HoldsEach}
 use Rattle.sync_world.specs.Reports.{clients_text}
 use Rattle.sync_world.proofs.world.put_clients.Given as goal

@@ -21,7 +21,7 @@ returns-in-Err-clause-fault g c = plain_fault c.refused.result c.in-Err.refusal 
 pub returns-clause-step : goal.returns-clause-step
 returns-clause-step g c = λ records before.
     commit_says records c.args.self.now.replica c.make.new.self c.append_made.new.self c.args.ms c.args.edits.items c.in-Ok.made c.append_made.result before.kept (c.is_none.ensures ∙ ap not c.if-is_none.false)
-    (c.in-Ok.ensures.step before.kept.made before.kept.count) c.in-Ok.ensures.number c.append_made.ensures.number c.append_made.ensures.replica c.append_made.ensures.stays_open c.append_made.ensures.refused
+    (c.in-Ok.ensures.step before.kept.past before.kept.count) c.in-Ok.ensures.number c.append_made.ensures.number c.append_made.ensures.replica c.append_made.ensures.stays_open c.append_made.ensures.refused
 
 pub returns-in-Err-clause-any_moment : goal.returns-in-Err-clause-any_moment
 returns-in-Err-clause-any_moment g c = λ records before stored.
@@ -35,4 +35,4 @@ pub returns-clause-any_moment : goal.returns-clause-any_moment
 returns-clause-any_moment g c = λ records before stored.
     let D = g.D.Disk in
     leaves_one D.content D.images D.moment D.images_since (commit the_profile (client_of the_profile records) c.args.ms c.args.edits.items) (ClientRecord.Made c.in-Ok.made.number c.args.ms c.in-Ok.made.body.items) c.in-Ok.made.number records c.args.self.now c.append_made.new.self
-    (commit_is records c.args.self.now.replica c.make.new.self c.args.ms c.args.edits.items c.in-Ok.made before.kept (c.is_none.ensures ∙ ap not c.if-is_none.false) (c.in-Ok.ensures.step before.kept.made before.kept.count)) c.append_made.ensures.any_moment stored
+    (commit_is records c.args.self.now.replica c.make.new.self c.args.ms c.args.edits.items c.in-Ok.made before.kept (c.is_none.ensures ∙ ap not c.if-is_none.false) (c.in-Ok.ensures.step before.kept.past before.kept.count)) c.append_made.ensures.any_moment stored

@@ -19,7 +19,7 @@ returns-in-Err-clause-step g c = λ records before.
     let given : ◌≡◌ {A = Sent} (record { origin = c.origin.result; number = c.number.result; ms = c.ms.result; body = c.body.result.now }) e = λ i. record { origin = c.origin.ensures.value i; number = c.number.ensures.value i; ms = c.ms.ensures i; body = c.body.ensures.value i } in
     subst (λ w. IfSeen (refusal_seen w) (SentRefused records c.refused.new.self e)) (sym c.refused.ensures.same)
     (subst (λ x. IfSeen (refusal_seen c.in-Err.refusal) (SentRefused records c.refused.new.self x)) given
-    (sent_refused records c.args.self.now c.refused.new.self c.take_entry.new.self (record { origin = c.origin.result; number = c.number.result; ms = c.ms.result; body = c.body.result.now }) c.in-Err.refusal before (c.in-Err.ensures.step before.kept.made (lists_of records c.args.self.now.replica before.kept)) c.refused.ensures.unchanged c.take_entry.ensures.count))
+    (sent_refused records c.args.self.now c.refused.new.self c.take_entry.new.self (record { origin = c.origin.result; number = c.number.result; ms = c.ms.result; body = c.body.result.now }) c.in-Err.refusal before (c.in-Err.ensures.step before.kept.past (lists_of records c.args.self.now.replica before.kept)) c.refused.ensures.unchanged c.take_entry.ensures.count))
 
 pub returns-clause-step : goal.returns-clause-step
 returns-clause-step g c = λ records before.
@@ -27,7 +27,7 @@ returns-clause-step g c = λ records before.
     let given : ◌≡◌ {A = Sent} (record { origin = c.origin.result; number = c.number.result; ms = c.ms.result; body = c.body.result.now }) e = λ i. record { origin = c.origin.ensures.value i; number = c.number.ensures.value i; ms = c.ms.ensures i; body = c.body.ensures.value i } in
     sent_says records c.args.self.now.replica c.take_entry.new.self c.append_took.new.self e c.append_took.result before.kept
     (record { room = c.requires.room; named = c.requires.named; origin = subst (λ n. 1 ≤ n) c.origin.ensures.value c.origin.ensures.made_by; number = subst (λ n. 1 ≤ n) c.number.ensures.value c.number.ensures.numbered; origin_small = subst (λ n. n ≤ 4294967295) c.origin.ensures.value c.take_entry.ensures.origin; number_small = subst (λ n. n ≤ 4294967295) c.number.ensures.value c.take_entry.ensures.number })
-    (subst (TakesIt (seen before.kept.made c.args.self.now.replica) (seen before.kept.made c.take_entry.new.self)) given (c.in-Ok.ensures.step before.kept.made (lists_of records c.args.self.now.replica before.kept)))
+    (subst (TakesIt (seen before.kept.past c.args.self.now.replica) (seen before.kept.past c.take_entry.new.self)) given (c.in-Ok.ensures.step before.kept.past (lists_of records c.args.self.now.replica before.kept)))
     c.take_entry.ensures.count c.append_took.ensures.replica c.append_took.ensures.stays_open c.append_took.ensures.refused
 
 pub returns-in-Err-clause-strokes : goal.returns-in-Err-clause-strokes
@@ -43,7 +43,7 @@ returns-clause-any_moment g c = λ records before stored.
     let D = g.D.Disk in
     let e : Sent = sent_seen c.args.sent.now in
     let given : ◌≡◌ {A = Sent} (record { origin = c.origin.result; number = c.number.result; ms = c.ms.result; body = c.body.result.now }) e = λ i. record { origin = c.origin.ensures.value i; number = c.number.ensures.value i; ms = c.ms.ensures i; body = c.body.ensures.value i } in
-    let takes = subst (TakesIt (seen before.kept.made c.args.self.now.replica) (seen before.kept.made c.take_entry.new.self)) given (c.in-Ok.ensures.step before.kept.made (lists_of records c.args.self.now.replica before.kept)) in
+    let takes = subst (TakesIt (seen before.kept.past c.args.self.now.replica) (seen before.kept.past c.take_entry.new.self)) given (c.in-Ok.ensures.step before.kept.past (lists_of records c.args.self.now.replica before.kept)) in
     leaves_one D.content D.images D.moment D.images_since (take_entries the_profile (client_of the_profile records) (e ∷ [])) (took e) _ records c.args.self.now c.append_took.new.self
     (entry_taken records e (fine_of records c.args.self.now.replica e None before.kept takes.fine)) c.append_took.ensures.any_moment stored
 
@@ -52,6 +52,6 @@ returns-clause-strokes g c = λ records before stored.
     let D = g.D.Disk in
     let e : Sent = sent_seen c.args.sent.now in
     let given : ◌≡◌ {A = Sent} (record { origin = c.origin.result; number = c.number.result; ms = c.ms.result; body = c.body.result.now }) e = λ i. record { origin = c.origin.ensures.value i; number = c.number.ensures.value i; ms = c.ms.ensures i; body = c.body.ensures.value i } in
-    let takes = subst (TakesIt (seen before.kept.made c.args.self.now.replica) (seen before.kept.made c.take_entry.new.self)) given (c.in-Ok.ensures.step before.kept.made (lists_of records c.args.self.now.replica before.kept)) in
+    let takes = subst (TakesIt (seen before.kept.past c.args.self.now.replica) (seen before.kept.past c.take_entry.new.self)) given (c.in-Ok.ensures.step before.kept.past (lists_of records c.args.self.now.replica before.kept)) in
     one_asked D.strokes (take_entries the_profile (client_of the_profile records) (e ∷ [])) (took e) _ c.args.self.now c.append_took.new.self c.append_took.result
     (entry_taken records e (fine_of records c.args.self.now.replica e None before.kept takes.fine)) (c.append_took.ensures.strokes stored.settled.file stored.settled.told)

@@ -1,6 +1,6 @@
 use Rattle.std.proofs.Common.{IfOk, sym, subst}
 use Rattle.std.specs.Option.{option_map}
-use Rattle.node_instance.specs.Seen.{client_bytes}
+use Rattle.sync_exchange.specs.Seen.{client_bytes}
 use Rattle.sync_node.specs.Holding.{ClientStands, client_keeps}
 use Rattle.sync_node.specs.Runs.{AnswersSo, LeavesSome, records_in}
 use Rattle.sync_node.specs.Steps.{edit_step, line_answer}

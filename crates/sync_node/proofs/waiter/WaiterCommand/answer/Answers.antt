@@ -1,14 +1,14 @@
 use Rattle.std.proofs.Common.{IfOk, sym, ap, subst}
 use Rattle.std.specs.Option.{option_map}
-use Rattle.node_model.specs.Parts.{serve_by}
-use Rattle.node_instance.specs.Profile.{the_profile}
-use Rattle.node_instance.specs.Seen.{message_seen, server_bytes}
+use Rattle.sync_model.specs.Parts.{serve_by}
+use Rattle.sync_exchange.specs.Profile.{the_profile}
+use Rattle.sync_exchange.specs.Seen.{message_seen, server_bytes}
 use Rattle.sync_node.specs.Holding.{ServerStands, server_keeps}
 use Rattle.sync_node.specs.Runs.{AnswersSo, LeavesSome, records_in}
 use Rattle.sync_node.specs.Steps.{kept_or, replied, serve_step}
 use Rattle.sync_world.specs.Messages.{message_read}
-use Rattle.node_server.specs.Kept.{parts}
-use Rattle.node_server.specs.Serving.{kept_of}
+use Rattle.sync_server.specs.Kept.{parts}
+use Rattle.sync_server.specs.Serving.{kept_of}
 use Rattle.sync_node.proofs.Exits.{leaves_old}
 use Rattle.sync_node.proofs.waiter.WaiterCommand.answer.Goals as goal
 

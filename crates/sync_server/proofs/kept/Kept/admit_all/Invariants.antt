@@ -4,4 +4,4 @@ use Rattle.sync_server.proofs.Reading.{ReadSoFar}
 use Rattle.sync_server.proofs.kept.Kept.admit_all.Given as goal
 
 abbrev pub invariant-loop-place : goal.invariant-loop-place
-invariant-loop-place l = ReadSoFar (lists l.files) l.place (lists (drop l.place l.files)) l.self
+invariant-loop-place l = ReadSoFar (lists (drop l.first l.files)) l.first l.place (lists (drop l.place l.files)) l.fn.self l.self

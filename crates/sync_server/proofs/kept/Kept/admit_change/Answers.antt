@@ -9,18 +9,18 @@ use Rattle.sync_server.proofs.Admitting.{change_refused, change_says, change_ski
 use Rattle.sync_server.proofs.kept.Kept.admit_change.Goals as goal
 
 pub returns-in-None : goal.returns-in-None
-returns-in-None c = λ records k. change_unknown records c.args.self.now c.args.origin (change_of c.args.head c.args.body.now) k (sym c.in-None.ensures.given)
+returns-in-None c = change_unknown c.args.self.now c.args.origin (change_of c.args.head c.args.body.now) (sym c.in-None.ensures.given)
 
 pub returns-then-head-count : goal.returns-then-head-count
-returns-then-head-count c = λ records k. change_skips records c.args.self.now c.args.origin c.in-Some.given.now (change_of c.args.head c.args.body.now) k (sym c.in-Some.ensures.given) (λ e. c.if-head-count.true (omega (arith, e, c.count-count.ensures)))
+returns-then-head-count c = change_skips c.args.self.now c.args.origin c.in-Some.given.now (change_of c.args.head c.args.body.now) (sym c.in-Some.ensures.given) (λ e. c.if-head-count.true (omega (arith, e, c.count-count.ensures)))
 
 pub returns-in-Ok : goal.returns-in-Ok
-returns-in-Ok c = λ records k. change_says records c.args.self.now c.merge_body.new.self c.args.origin c.in-Some.given.now (change_of c.args.head c.args.body.now) c.in-Ok.form k (sym c.in-Some.ensures.given) (omega (arith, c.if-head-count.false, c.count-count.ensures))
+returns-in-Ok c = change_says c.args.self.now c.merge_body.new.self c.args.origin c.in-Some.given.now (change_of c.args.head c.args.body.now) c.in-Ok.form (sym c.in-Some.ensures.given) (omega (arith, c.if-head-count.false, c.count-count.ensures))
     (c.in-Ok.ensures.merged c.in-Some.given.now (sym c.in-Some.ensures.given)) c.in-Ok.ensures.form
 
 pub returns-in-Err-Refused : goal.returns-in-Err-Refused
-returns-in-Err-Refused c = λ records k.
+returns-in-Err-Refused c =
     let h = change_of c.args.head c.args.body.now in
     let g = c.in-Some.given.now in
-    change_refused records c.args.self.now c.args.origin g h (refusal_seen c.in-Err-Refused.field-0-0) k (sym c.in-Some.ensures.given) (omega (arith, c.if-head-count.false, c.count-count.ensures))
+    change_refused c.args.self.now c.args.origin g h (refusal_seen c.in-Err-Refused.field-0-0) (sym c.in-Some.ensures.given)
     (subst (λ (e : ChangeRefusal). Merges (Err e) (merge_by the_profile (parts c.args.self.now) c.args.origin g h) c.args.origin h (parts c.args.self.now) (parts c.merge_body.new.self)) c.in-Err-Refused.field-0-is (c.in-Err-Refused.ensures.merged g (sym c.in-Some.ensures.given))).0

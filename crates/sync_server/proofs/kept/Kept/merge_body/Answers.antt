@@ -2,7 +2,7 @@ use Rattle.std.proofs.Common.{◌≡◌, true, length, refl, sym, ap, ◌∙◌,
 use Rattle.sync_exchange.specs.Profile.{the_profile, fits_changeset}
 use Rattle.sync_model.specs.Parts.{merge_by}
 use Rattle.sync_server.specs.Kept.{parts}
-use Rattle.sync_server.specs.History.{HistoryParts}
+use Rattle.sync_server.specs.History.{HistoryParts, len_of}
 use Rattle.sync_server.specs.Merging.{change_of}
 use Rattle.sync_server.proofs.Adding.{idents_length}
 use Rattle.sync_server.proofs.Steps.{next_of}
@@ -23,4 +23,4 @@ integrate-requires-clause-given c =
 pub returns-in-Ok-integrate-clause-given : goal.returns-in-Ok-integrate-clause-given
 returns-in-Ok-integrate-clause-given c =
     let old = c.args.self.now.history in
-    ap (λ (h : HistoryParts). length h.idents) (c.in-Ok-integrate.ensures c.requires.fresh.given c.requires.fresh.is_given) ∙ idents_length c.args.ident c.args.head.base _ (length old.entries) _ 1 old.idents
+    ap (λ (h : HistoryParts). length h.idents) (c.in-Ok-integrate.ensures c.requires.fresh.given c.requires.fresh.is_given) ∙ idents_length c.args.ident c.args.head.base _ (len_of old) _ 1 old.idents

@@ -1,9 +1,10 @@
-use Rattle.std.proofs.Common.{◌≡◌, ◌<◌, None, length, sym, ap, ◌∙◌, subst, arith}
+use Rattle.std.proofs.Common.{◌≡◌, ◌<◌, None, sym, ap, ◌∙◌, subst, arith}
 use Rattle.sync_model.specs.Profile.{needs}
 use Rattle.sync_exchange.specs.Profile.{the_profile}
 use Rattle.sync_data.specs.declared.instr.Instr.{Instr}
 use Rattle.sync_model.specs.Parts.{Given}
 use Rattle.sync_server.specs.Kept.{parts}
+use Rattle.sync_server.specs.History.{len_of}
 use Rattle.sync_server.specs.Merging.{change_of, numbers_broken}
 use Rattle.sync_server.proofs.Keeps.{the_same}
 use Rattle.sync_server.proofs.Steps.{ready, not_ready}
@@ -19,9 +20,9 @@ returns-in-Ok-carry-clause-prepared c = λ g is.
     let same : found ≡ g = the_same (c.in-Some.ensures.given ∙ is) in
     let own : c.requires.fresh.given ≡ g = the_same (sym c.requires.fresh.is_given ∙ is) in
     let above = subst (λ (d : Given Instr). d.count < h.number) own c.requires.fresh.above in
-    let numbers = subst (λ n. numbers_broken n found h.number h.base ≡ None) c.len.ensures (sym c.in-Ok.ensures) in
+    let numbers = subst (λ m. numbers_broken kept.len m found h.number h.base ≡ None) c.floor.ensures (subst (λ n. numbers_broken n c.floor.result found h.number h.base ≡ None) c.len.ensures (sym c.in-Ok.ensures)) in
     let second = c.needs_second-second.ensures ∙ ap (λ l. needs the_profile l) c.instrs.ensures.listed in
-    ready kept c.args.ident found g h v same numbers c.in-Ok-read.ensures carried c.needs_second-second.result (c.in-Ok-carry.ensures h.number) second (length c.args.self.now.history.entries) c.in-Some.ensures.others above (omega (arith, c.len.ensures, c.len.type_inv))
+    ready kept c.args.ident found g h v same numbers c.in-Ok-read.ensures carried c.needs_second-second.result (c.in-Ok-carry.ensures h.number) second (len_of c.args.self.now.history) c.in-Some.ensures.others above (omega (arith, c.len.ensures, c.len.type_inv))
 
 pub returns-in-Err-carry-clause-prepared : goal.returns-in-Err-carry-clause-prepared
 returns-in-Err-carry-clause-prepared c = λ g is.
@@ -30,5 +31,5 @@ returns-in-Err-carry-clause-prepared c = λ g is.
     let found = c.in-Some.given.now in
     let v = c.in-Ok-read.changes in
     let same : found ≡ g = the_same (c.in-Some.ensures.given ∙ is) in
-    let numbers = subst (λ n. numbers_broken n found h.number h.base ≡ None) c.len.ensures (sym c.in-Ok.ensures) in
+    let numbers = subst (λ m. numbers_broken kept.len m found h.number h.base ≡ None) c.floor.ensures (subst (λ n. numbers_broken n c.floor.result found h.number h.base ≡ None) c.len.ensures (sym c.in-Ok.ensures)) in
     not_ready kept c.args.ident found g h v same numbers c.in-Ok-read.ensures c.in-Err-carry.refusal (c.in-Err-carry.ensures h.number)

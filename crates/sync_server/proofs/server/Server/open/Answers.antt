@@ -1,11 +1,16 @@
-use Rattle.std.proofs.Common.{◌≡◌, sym, subst, ◌∙◌, ap}
+use Rattle.std.proofs.Common.{◌≡◌, sym, subst, ◌∙◌, ap, inr}
 use Rattle.sync_disk.specs.Disk.{LeavesOnly}
 use Rattle.sync_journal.specs.Records.{records_of}
 use Rattle.sync_journal.specs.Records.Reading.{Good}
 use Rattle.sync_journal.specs.Stands.{disk_of}
 use Rattle.sync_server.proofs.BadFiles.{both_err, is_long}
 use Rattle.sync_server.proofs.Keeps.{at_ok, at_err}
+use Rattle.sync_journal.specs.Records.{lists}
 use Rattle.sync_server.proofs.server.Server.open.Goals as goal
+
+pub returns-in-Ok-clause-bad : goal.returns-in-Ok-clause-bad
+returns-in-Ok-clause-bad g c = λ b told.
+    at_err c.read_from.result _ _ c.read_from.ensures.bad (λ e bad place is. inr (record { file = lists c.in-Ok.files.items; holds = c.in-Ok.ensures.records b told; bad = bad place is }))
 
 pub returns-in-Ok-clause-any_moment : goal.returns-in-Ok-clause-any_moment
 returns-in-Ok-clause-any_moment g c = λ records b told same.

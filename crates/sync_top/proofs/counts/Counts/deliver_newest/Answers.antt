@@ -1,6 +1,6 @@
 use Rattle.std.proofs.Common.{◌++◌, [], ◌∷◌, ℕ, subst}
 use Rattle.std.specs.Result.{OnOk}
-use Rattle.node_model.specs.Worlds.{Event}
+use Rattle.sync_model.specs.Worlds.{Event}
 use Rattle.sync_top.specs.Counting.{Goes}
 use Rattle.sync_top.proofs.counts.Counts.deliver_newest.Goals as goal
 

@@ -1,6 +1,6 @@
 use Rattle.std.proofs.Common.{List, ℕ, subst, arith}
 use Rattle.sync_gen.specs.Clients.{name_of}
-use Rattle.node_model.specs.Worlds.{empty_world, server_name}
+use Rattle.sync_model.specs.Worlds.{empty_world, server_name}
 use Rattle.sync_world.specs.Events.{event_seen}
 use Rattle.sync_top.specs.Counting.{Goes}
 use Rattle.sync_top.specs.Generated.{newest_to, world_by}

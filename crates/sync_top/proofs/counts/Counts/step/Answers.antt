@@ -1,5 +1,5 @@
 use Rattle.std.proofs.Common.{◌∙◌}
-use Rattle.node_model.specs.Worlds.{empty_world}
+use Rattle.sync_model.specs.Worlds.{empty_world}
 use Rattle.sync_world.specs.Events.{event_seen}
 use Rattle.sync_top.specs.Generated.{world_by}
 use Rattle.sync_top.proofs.Playing.{stepped}

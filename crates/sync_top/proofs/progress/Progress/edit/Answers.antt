@@ -1,6 +1,6 @@
 use Rattle.std.proofs.Common.{List, ℕ, ap, arith, sym, subst, ◌∙◌}
 use Rattle.sync_gen.specs.Edits.{edit_of}
-use Rattle.node_model.specs.Worlds.{empty_world}
+use Rattle.sync_model.specs.Worlds.{empty_world}
 use Rattle.sync_top.specs.declared.counts.Counts.{Counts}
 use Rattle.sync_top.specs.Counting.{Goes}
 use Rattle.sync_top.specs.Generated.{objects_of, world_by}

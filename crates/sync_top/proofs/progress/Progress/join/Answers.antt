@@ -1,5 +1,5 @@
 use Rattle.std.proofs.Common.{refl, arith}
-use Rattle.node_model.specs.Worlds.{Event}
+use Rattle.sync_model.specs.Worlds.{Event}
 use Rattle.sync_top.proofs.Playing.{one_longer, sent_by}
 use Rattle.sync_top.proofs.Plays.{join_plays}
 use Rattle.sync_top.proofs.Steps.{on_ok}

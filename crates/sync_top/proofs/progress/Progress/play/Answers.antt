@@ -1,6 +1,6 @@
 use Rattle.std.proofs.Common.{sym, subst}
 use Rattle.std.specs.Result.{OnOk}
-use Rattle.node_model.specs.Worlds.{empty_world}
+use Rattle.sync_model.specs.Worlds.{empty_world}
 use Rattle.sync_top.specs.declared.plan.Move.{Move}
 use Rattle.sync_top.specs.Generated.{move_events, world_by}
 use Rattle.sync_top.specs.Playing.{Plays}

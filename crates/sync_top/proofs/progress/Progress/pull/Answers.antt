@@ -1,5 +1,5 @@
 use Rattle.std.proofs.Common.{refl, arith}
-use Rattle.node_model.specs.Worlds.{Event}
+use Rattle.sync_model.specs.Worlds.{Event}
 use Rattle.sync_top.proofs.Plays.{one_plays}
 use Rattle.sync_top.proofs.Steps.{on_ok}
 use Rattle.sync_top.proofs.progress.Progress.pull.Goals as goal

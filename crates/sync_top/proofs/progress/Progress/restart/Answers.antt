@@ -1,5 +1,5 @@
 use Rattle.std.proofs.Common.{List, ℕ, [], ◌∷◌, ◌++◌, refl, arith, subst}
-use Rattle.node_model.specs.Worlds.{Event}
+use Rattle.sync_model.specs.Worlds.{Event}
 use Rattle.sync_top.specs.Counting.{Goes}
 use Rattle.sync_top.proofs.Steps.{on_ok}
 use Rattle.sync_top.proofs.progress.Progress.restart.Goals as goal

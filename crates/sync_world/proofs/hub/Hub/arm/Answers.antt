@@ -1,5 +1,5 @@
 use Rattle.std.proofs.Common.{map}
-use Rattle.node_instance.specs.Seen.{server_bytes}
+use Rattle.sync_exchange.specs.Seen.{server_bytes}
 use Rattle.sync_world.proofs.Arming.{armed_server, server_kept}
 use Rattle.sync_world.proofs.hub.Hub.arm.Goals as goal
 

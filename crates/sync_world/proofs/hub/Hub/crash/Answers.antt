@@ -6,7 +6,7 @@ use Rattle.sync_disk.specs.contracts.memory.MemoryDiskDisk.TheImpl.{ghosts}
 use Rattle.sync_disk.specs.declared.memory.MemoryDisk.{MemoryDisk}
 use Rattle.sync_journal.specs.Records.{records_of}
 use Rattle.sync_journal.specs.Records.Reading.{Good}
-use Rattle.node_instance.specs.Seen.{server_bytes}
+use Rattle.sync_exchange.specs.Seen.{server_bytes}
 use Rattle.sync_world.proofs.Arming.{opened_server}
 use Rattle.sync_world.proofs.hub.Hub.crash.Goals as goal
 

@@ -1,5 +1,5 @@
 use Rattle.std.proofs.Common.{map, refl}
-use Rattle.node_instance.specs.Seen.{server_bytes}
+use Rattle.sync_exchange.specs.Seen.{server_bytes}
 use Rattle.sync_world.proofs.Arming.{opened_server, server_kept}
 use Rattle.sync_world.proofs.hub.Hub.disarm.Goals as goal
 

@@ -1,5 +1,5 @@
 use Rattle.std.proofs.Common.{[], refl}
-use Rattle.node_model.specs.Each.{no_more}
+use Rattle.sync_model.specs.Each.{no_more}
 use Rattle.sync_world.specs.Nodes.{ServerReadsBack}
 use Rattle.sync_world.proofs.Arming.{opened_server}
 use Rattle.sync_world.proofs.Opening.{no_records}

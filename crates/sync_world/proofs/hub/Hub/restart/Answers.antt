@@ -2,7 +2,7 @@ use Rattle.std.proofs.Common.{◌≡◌, Option, Some, None, sym, ◌∙◌, ap,
 use Rattle.std.specs.Option.{option_map}
 use Rattle.sync_disk.specs.contracts.memory.MemoryDiskDisk.TheImpl.{ghosts}
 use Rattle.sync_disk.specs.declared.memory.MemoryDisk.{MemoryDisk}
-use Rattle.node_model.specs.Worlds.{Stop}
+use Rattle.sync_model.specs.Worlds.{Stop}
 use Rattle.sync_world.specs.Nodes.{HoldsServer, stop_seen}
 use Rattle.sync_world.proofs.Arming.{opened_server}
 use Rattle.sync_world.proofs.hub.Hub.restart.Goals as goal

@@ -2,14 +2,14 @@ use Rattle.std.proofs.Common.{◌≡◌, List, Option, Some, None, Ok, Err, ◌+
 use Rattle.sync_disk.specs.Origin.{Origin}
 use Rattle.sync_disk.specs.contracts.memory.MemoryDiskDisk.TheImpl.{ghosts}
 use Rattle.sync_journal.specs.Stands.{disk_of}
-use Rattle.node_model.specs.Servers as model
-use Rattle.node_instance.specs.Profile.{the_profile}
-use Rattle.node_instance.specs.Seen.{message_seen, server_bytes}
-use Rattle.node_messages.specs.declared.message.Message.{Message}
-use Rattle.node_model.specs.Parts.{serve_by}
-use Rattle.node_server.specs.Kept.{parts}
-use Rattle.node_server.specs.Serving.{Asked, IsServerOf, IsStored, journal_of, kept_of}
-use Rattle.node_server.specs.declared.refusal.ServerRefusal.{ServerRefusal}
+use Rattle.sync_model.specs.Servers as model
+use Rattle.sync_exchange.specs.Profile.{the_profile}
+use Rattle.sync_exchange.specs.Seen.{message_seen, server_bytes}
+use Rattle.sync_messages.specs.declared.message.Message.{Message}
+use Rattle.sync_model.specs.Parts.{serve_by}
+use Rattle.sync_server.specs.Kept.{parts}
+use Rattle.sync_server.specs.Serving.{Asked, IsServerOf, IsStored, journal_of, kept_of}
+use Rattle.sync_server.specs.declared.refusal.ServerRefusal.{ServerRefusal}
 use Rattle.sync_world.specs.Nodes.{ServerStandReads}
 use Rattle.sync_world.specs.Serves.{ServeDone}
 use Rattle.sync_world.proofs.Stops.{StopsTell, cuts, goes}

@@ -1,5 +1,5 @@
 use Rattle.std.proofs.Common.{map}
-use Rattle.node_instance.specs.Seen.{client_bytes}
+use Rattle.sync_exchange.specs.Seen.{client_bytes}
 use Rattle.sync_world.proofs.Arming.{armed_client, client_kept}
 use Rattle.sync_world.proofs.node.Node.arm.Goals as goal
 

@@ -6,7 +6,7 @@ use Rattle.sync_disk.specs.contracts.memory.MemoryDiskDisk.TheImpl.{ghosts}
 use Rattle.sync_disk.specs.declared.memory.MemoryDisk.{MemoryDisk}
 use Rattle.sync_journal.specs.Records.{records_of}
 use Rattle.sync_journal.specs.Records.Reading.{Good}
-use Rattle.node_instance.specs.Seen.{client_bytes}
+use Rattle.sync_exchange.specs.Seen.{client_bytes}
 use Rattle.sync_world.proofs.Arming.{opened_client}
 use Rattle.sync_world.proofs.node.Node.crash.Goals as goal
 

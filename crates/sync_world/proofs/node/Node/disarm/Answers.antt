@@ -1,5 +1,5 @@
 use Rattle.std.proofs.Common.{map, refl}
-use Rattle.node_instance.specs.Seen.{client_bytes}
+use Rattle.sync_exchange.specs.Seen.{client_bytes}
 use Rattle.sync_world.proofs.Arming.{client_kept, opened_client}
 use Rattle.sync_world.proofs.node.Node.disarm.Goals as goal
 

@@ -1,8 +1,8 @@
 use Rattle.std.proofs.Common.{List, Option, Err, ◌++◌, sym, ◌∙◌, subst}
 use Rattle.sync_disk.specs.contracts.memory.MemoryDiskDisk.TheImpl.{ghosts}
-use Rattle.node_model.specs.Clients.{ClientRecord, ClientRefusal}
-use Rattle.node_client.specs.Clients.{Did, IsStored}
-use Rattle.node_client.specs.Refusals.{IfSeen}
+use Rattle.sync_model.specs.Clients.{ClientRecord, ClientRefusal}
+use Rattle.sync_client.specs.Clients.{Did, IsStored}
+use Rattle.sync_client.specs.Refusals.{IfSeen}
 use Rattle.sync_world.specs.Calls.{CallEnds}
 use Rattle.sync_world.specs.declared.node.Called.TheVariants as called
 use Rattle.sync_world.proofs.Calls.{seen_else}

@@ -2,7 +2,7 @@ use Rattle.std.proofs.Common.{◌≡◌, Option, Some, None, sym, ◌∙◌, ap,
 use Rattle.std.specs.Option.{option_map}
 use Rattle.sync_disk.specs.contracts.memory.MemoryDiskDisk.TheImpl.{ghosts}
 use Rattle.sync_disk.specs.declared.memory.MemoryDisk.{MemoryDisk}
-use Rattle.node_model.specs.Worlds.{Stop}
+use Rattle.sync_model.specs.Worlds.{Stop}
 use Rattle.sync_world.specs.Nodes.{HoldsClient, stop_seen}
 use Rattle.sync_world.proofs.Arming.{opened_client}
 use Rattle.sync_world.proofs.node.Node.restart.Goals as goal

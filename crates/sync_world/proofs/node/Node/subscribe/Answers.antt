@@ -1,6 +1,6 @@
-use Rattle.node_model.specs.Clients as model
-use Rattle.node_model.specs.Worlds.{stopped}
-use Rattle.node_instance.specs.Profile.{the_profile}
+use Rattle.sync_model.specs.Clients as model
+use Rattle.sync_model.specs.Worlds.{stopped}
+use Rattle.sync_exchange.specs.Profile.{the_profile}
 use Rattle.sync_disk.specs.contracts.memory.MemoryDiskDisk.TheImpl.{ghosts}
 use Rattle.sync_world.proofs.Stops.{StopsTell}
 use Rattle.sync_world.proofs.Calls.{after_call}

@@ -1,9 +1,9 @@
 use Rattle.std.proofs.Common.{Bool, if◌then◌else◌, Some, refl, sym, ◌∙◌, subst}
 use Rattle.std.specs.Vec.{with_item}
-use Rattle.node_model.specs.Worlds.{Armed, IsReached, NoNode, Stop, Stops, arm, has_name, says}
-use Rattle.node_model.proofs.Bytes.{bytes_same}
-use Rattle.node_model.proofs.Lists.{seek_found}
-use Rattle.node_instance.specs.Profile.{the_profile}
+use Rattle.sync_model.specs.Worlds.{Armed, IsReached, NoNode, Stop, Stops, arm, has_name, says}
+use Rattle.sync_model.proofs.Bytes.{bytes_same}
+use Rattle.sync_model.proofs.Lists.{seek_found}
+use Rattle.sync_exchange.specs.Profile.{the_profile}
 use Rattle.sync_world.specs.Events.{leaves_seen}
 use Rattle.sync_world.specs.Holding.{Happens, HoldsNode}
 use Rattle.sync_world.specs.declared.world.World.{World}

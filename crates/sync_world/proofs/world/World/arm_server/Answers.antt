@@ -1,5 +1,5 @@
 use Rattle.std.proofs.Common.{Some, refl}
-use Rattle.node_model.specs.Worlds.{Armed, Stops, arm, server_name}
+use Rattle.sync_model.specs.Worlds.{Armed, Stops, arm, server_name}
 use Rattle.sync_world.specs.Events.{leaves_seen}
 use Rattle.sync_world.specs.Nodes.{stop_seen}
 use Rattle.sync_world.specs.declared.world.World.{World}

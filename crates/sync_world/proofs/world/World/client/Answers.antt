@@ -1,5 +1,5 @@
-use Rattle.node_model.specs.Worlds.{has_name}
-use Rattle.node_model.proofs.Lists.{seek_found}
+use Rattle.sync_model.specs.Worlds.{has_name}
+use Rattle.sync_model.proofs.Lists.{seek_found}
 use Rattle.sync_world.proofs.Moves.{held_at}
 use Rattle.sync_world.proofs.world.World.client.Goals as goal
 

@@ -1,12 +1,12 @@
 use Rattle.std.proofs.Common.{◌≡◌, Bool, Option, if◌then◌else◌, refl, sym, ◌∙◌, ap, subst}
 use Rattle.std.specs.Vec.{with_item}
 use Rattle.sync_journal.specs.Records.{lists}
-use Rattle.node_messages.specs.declared.message.Message.{Message as CodeMessage}
-use Rattle.node_model.specs.Clients.{take as take_message}
-use Rattle.node_model.specs.Worlds.{Delivers, IsReached, NoNode, Outcome, Took, client_calls, delivers, has_name, is_node, message_at, says, server_called, took_words}
-use Rattle.node_model.proofs.Lists.{seek_found}
-use Rattle.node_instance.specs.Profile.{the_profile}
-use Rattle.node_instance.specs.Seen.{message_seen}
+use Rattle.sync_messages.specs.declared.message.Message.{Message as CodeMessage}
+use Rattle.sync_model.specs.Clients.{take as take_message}
+use Rattle.sync_model.specs.Worlds.{Delivers, IsReached, NoNode, Outcome, Took, client_calls, delivers, has_name, is_node, message_at, says, server_called, took_words}
+use Rattle.sync_model.proofs.Lists.{seek_found}
+use Rattle.sync_exchange.specs.Profile.{the_profile}
+use Rattle.sync_exchange.specs.Seen.{message_seen}
 use Rattle.sync_world.specs.Holding.{Happens}
 use Rattle.sync_world.specs.Messages.{AreSpelled, IsIt, numbered}
 use Rattle.sync_world.specs.declared.world.World.{World}

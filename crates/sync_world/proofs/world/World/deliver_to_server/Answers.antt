@@ -1,9 +1,9 @@
 use Rattle.std.proofs.Common.{Option, sym, ◌∙◌, subst}
 use Rattle.sync_journal.specs.Records.{lists}
-use Rattle.node_messages.specs.declared.message.Message.{Message as CodeMessage}
-use Rattle.node_model.specs.Messages.{Message}
-use Rattle.node_model.specs.Worlds.{Delivers, IsReached, delivers, server_name}
-use Rattle.node_instance.specs.Profile.{the_profile}
+use Rattle.sync_messages.specs.declared.message.Message.{Message as CodeMessage}
+use Rattle.sync_model.specs.Messages.{Message}
+use Rattle.sync_model.specs.Worlds.{Delivers, IsReached, delivers, server_name}
+use Rattle.sync_exchange.specs.Profile.{the_profile}
 use Rattle.sync_world.specs.Holding.{Happens}
 use Rattle.sync_world.specs.Messages.{AreSpelled, IsIt, numbered}
 use Rattle.sync_world.proofs.Spelled.{message_numbered}

@@ -1,8 +1,8 @@
 use Rattle.std.proofs.Common.{refl, ◌∙◌, subst, arith}
-use Rattle.node_model.specs.Clients.{commit}
-use Rattle.node_model.specs.Worlds.{Edits, Made, client_calls, has_name, made_words}
-use Rattle.node_model.proofs.Lists.{seek_found}
-use Rattle.node_instance.specs.Profile.{the_profile}
+use Rattle.sync_model.specs.Clients.{commit}
+use Rattle.sync_model.specs.Worlds.{Edits, Made, client_calls, has_name, made_words}
+use Rattle.sync_model.proofs.Lists.{seek_found}
+use Rattle.sync_exchange.specs.Profile.{the_profile}
 use Rattle.sync_world.specs.Holding.{Happens}
 use Rattle.sync_world.proofs.Fits.{commit_fits}
 use Rattle.sync_world.proofs.Happening.{call_happens}

@@ -1,6 +1,6 @@
 use Rattle.std.proofs.Common.{◌∙◌, ap}
 use Rattle.std.specs.List.{list_any}
-use Rattle.node_model.specs.Worlds.{id_is}
+use Rattle.sync_model.specs.Worlds.{id_is}
 use Rattle.sync_world.specs.Holding.{id_of}
 use Rattle.sync_world.proofs.Ids.{id_among}
 use Rattle.sync_world.proofs.world.World.has_id.Goals as goal

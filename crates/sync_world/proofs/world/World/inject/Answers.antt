@@ -1,11 +1,11 @@
 use Rattle.std.proofs.Common.{Bool, Option, if◌then◌else◌, sym, ◌∙◌, ap, subst}
-use Rattle.node_messages.specs.declared.message.Message.{Message as CodeMessage}
-use Rattle.node_model.specs.Files.{server_opens}
-use Rattle.node_model.specs.Messages.{Message}
-use Rattle.node_model.specs.Servers.{no_server}
-use Rattle.node_model.specs.Worlds.{Injects, IsReached, OwnIdent, injects, named_by, says, server_called}
-use Rattle.node_instance.specs.Profile.{the_profile}
-use Rattle.node_instance.specs.Seen.{message_seen}
+use Rattle.sync_messages.specs.declared.message.Message.{Message as CodeMessage}
+use Rattle.sync_model.specs.Files.{server_opens}
+use Rattle.sync_model.specs.Messages.{Message}
+use Rattle.sync_model.specs.Servers.{no_server}
+use Rattle.sync_model.specs.Worlds.{Injects, IsReached, OwnIdent, injects, named_by, says, server_called}
+use Rattle.sync_exchange.specs.Profile.{the_profile}
+use Rattle.sync_exchange.specs.Seen.{message_seen}
 use Rattle.sync_world.specs.Holding.{Happens}
 use Rattle.sync_world.specs.Messages.{IsIt, message_read}
 use Rattle.sync_world.proofs.Serving.{named_server}

@@ -2,14 +2,14 @@ use Rattle.std.proofs.Common.{List, map, ◌∙◌, ap}
 use Rattle.std.specs.List.{list_any}
 use Rattle.sync_base.specs.States.{State}
 use Rattle.sync_data.specs.declared.instr.Instr.{Instr}
-use Rattle.node_model.specs.Bytes.{Uuid}
-use Rattle.node_model.specs.Clients.{client_of}
-use Rattle.node_model.specs.Parts.{Parts}
-use Rattle.node_model.specs.Servers.{server_of}
-use Rattle.node_model.specs.Worlds.{Node, ident_is, is_there, seek}
-use Rattle.node_instance.specs.Profile.{the_profile}
-use Rattle.node_server.specs.Kept.{parts}
-use Rattle.node_server.specs.Serving.{kept_of}
+use Rattle.sync_model.specs.Bytes.{Uuid}
+use Rattle.sync_model.specs.Clients.{client_of}
+use Rattle.sync_model.specs.Parts.{Parts}
+use Rattle.sync_model.specs.Servers.{server_of}
+use Rattle.sync_model.specs.Worlds.{Node, ident_is, is_there, seek}
+use Rattle.sync_exchange.specs.Profile.{the_profile}
+use Rattle.sync_server.specs.Kept.{parts}
+use Rattle.sync_server.specs.Serving.{kept_of}
 use Rattle.sync_world.specs.Holding.{given_ids, id_of}
 use Rattle.sync_world.proofs.Ids.{any_is_there, any_of_each, uuids_back}
 use Rattle.sync_world.proofs.world.World.is_own.Goals as goal

@@ -1,11 +1,11 @@
 use Rattle.std.proofs.Common.{◌≡◌, Bool, false, ◌||◌, if◌then◌else◌, [], ◌∷◌, ◌++◌, Option, map, sym, ◌∙◌, ap, subst}
 use Rattle.std.proofs.lemmas.List.{map-append}
 use Rattle.std.specs.Prelude.{bytes_eq}
-use Rattle.node_model.specs.Clients.{Born}
-use Rattle.node_model.specs.Each.{no_more, and_each}
-use Rattle.node_model.specs.Worlds.{IsReached, Joined, Joins, NameTaken, Node, Outcome, Stop, UuidTaken, has_id, is_node, is_there, joins, says, seek}
-use Rattle.node_model.proofs.Limits.{each_append}
-use Rattle.node_instance.specs.Profile.{the_profile}
+use Rattle.sync_model.specs.Clients.{Born}
+use Rattle.sync_model.specs.Each.{no_more, and_each}
+use Rattle.sync_model.specs.Worlds.{IsReached, Joined, Joins, NameTaken, Node, Outcome, Stop, UuidTaken, has_id, is_node, is_there, joins, says, seek}
+use Rattle.sync_model.proofs.Limits.{each_append}
+use Rattle.sync_exchange.specs.Profile.{the_profile}
 use Rattle.sync_world.specs.Holding.{AreNames, Holds, HoldsEach}
 use Rattle.sync_world.specs.Nodes.{HoldsClient}
 use Rattle.sync_world.specs.Words.{words_text}

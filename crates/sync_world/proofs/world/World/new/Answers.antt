@@ -1,7 +1,7 @@
 use Rattle.std.proofs.Common.{[], refl, sym, subst}
 use Rattle.sync_journal.specs.Records.{lists}
-use Rattle.node_model.specs.Each.{no_more}
-use Rattle.node_model.specs.Worlds.{empty_world}
+use Rattle.sync_model.specs.Each.{no_more}
+use Rattle.sync_model.specs.Worlds.{empty_world}
 use Rattle.sync_world.specs.Holding.{HoldsEach}
 use Rattle.sync_world.specs.Messages.{AreSpelled}
 use Rattle.sync_world.proofs.world.World.new.Goals as goal

@@ -1,7 +1,7 @@
 use Rattle.std.proofs.Common.{Bool, if◌then◌else◌, refl, sym, ◌∙◌, subst}
 use Rattle.std.specs.Vec.{with_item}
-use Rattle.node_model.specs.Worlds.{NoNode, Opened, has_name, says}
-use Rattle.node_model.proofs.Lists.{seek_found}
+use Rattle.sync_model.specs.Worlds.{NoNode, Opened, has_name, says}
+use Rattle.sync_model.proofs.Lists.{seek_found}
 use Rattle.sync_world.specs.Holding.{Happens, HoldsNode}
 use Rattle.sync_world.specs.declared.world.World.{World}
 use Rattle.sync_world.proofs.Happening.{again, is_one, said_all}

@@ -1,9 +1,9 @@
 use Rattle.std.proofs.Common.{ℕ, Option, refl, subst}
-use Rattle.node_messages.specs.declared.message.Message.{Message}
-use Rattle.node_model.specs.Servers.{serve, server_of}
-use Rattle.node_model.specs.Worlds.{Replied, server_name, stopped}
-use Rattle.node_instance.specs.Profile.{the_profile}
-use Rattle.node_instance.specs.Seen.{message_seen}
+use Rattle.sync_messages.specs.declared.message.Message.{Message}
+use Rattle.sync_model.specs.Servers.{serve, server_of}
+use Rattle.sync_model.specs.Worlds.{Replied, server_name, stopped}
+use Rattle.sync_exchange.specs.Profile.{the_profile}
+use Rattle.sync_exchange.specs.Seen.{message_seen}
 use Rattle.sync_world.specs.Holding.{IsText}
 use Rattle.sync_world.specs.Serves.{ServeDone}
 use Rattle.sync_world.proofs.Fits.{message_fits, serve_fits}

@@ -1,7 +1,7 @@
 use Rattle.std.proofs.Common.{refl, ◌∙◌}
-use Rattle.node_model.specs.Clients.{subscribe}
-use Rattle.node_model.specs.Worlds.{Subscribes, has_name, subscribe_words}
-use Rattle.node_model.proofs.Lists.{seek_found}
+use Rattle.sync_model.specs.Clients.{subscribe}
+use Rattle.sync_model.specs.Worlds.{Subscribes, has_name, subscribe_words}
+use Rattle.sync_model.proofs.Lists.{seek_found}
 use Rattle.sync_world.specs.Holding.{subscribe_said}
 use Rattle.sync_world.proofs.Fits.{subscribe_fits}
 use Rattle.sync_world.proofs.Happening.{call_happens}

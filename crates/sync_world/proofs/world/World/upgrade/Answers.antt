@@ -1,7 +1,7 @@
 use Rattle.std.proofs.Common.{refl, ◌∙◌}
-use Rattle.node_model.specs.Clients.{upgrade}
-use Rattle.node_model.specs.Worlds.{Upgrades, has_name, upgrade_words}
-use Rattle.node_model.proofs.Lists.{seek_found}
+use Rattle.sync_model.specs.Clients.{upgrade}
+use Rattle.sync_model.specs.Worlds.{Upgrades, has_name, upgrade_words}
+use Rattle.sync_model.proofs.Lists.{seek_found}
 use Rattle.sync_world.specs.Holding.{upgrade_said}
 use Rattle.sync_world.proofs.Fits.{upgrade_fits}
 use Rattle.sync_world.proofs.Happening.{call_happens}

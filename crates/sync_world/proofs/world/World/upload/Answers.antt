@@ -1,9 +1,9 @@
 use Rattle.std.proofs.Common.{refl, ◌∙◌}
-use Rattle.node_model.specs.Clients.{upload, client_of}
-use Rattle.node_model.specs.Worlds.{Uploads, has_name, message_words}
-use Rattle.node_model.proofs.Lists.{seek_found}
-use Rattle.node_instance.specs.Profile.{the_profile}
-use Rattle.node_model.specs.Worlds.{IsReached}
+use Rattle.sync_model.specs.Clients.{upload, client_of}
+use Rattle.sync_model.specs.Worlds.{Uploads, has_name, message_words}
+use Rattle.sync_model.proofs.Lists.{seek_found}
+use Rattle.sync_exchange.specs.Profile.{the_profile}
+use Rattle.sync_model.specs.Worlds.{IsReached}
 use Rattle.sync_world.specs.Holding.{Happens}
 use Rattle.sync_world.proofs.Happening.{called_one, one_called}
 use Rattle.sync_world.proofs.Messaging.{upload_quiet, sends}

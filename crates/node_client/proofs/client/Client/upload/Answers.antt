@@ -1,9 +1,0 @@
-use Rattle.std.proofs.Common.{subst}
-use Rattle.node_model.specs.Clients.{ClientStep}
-use Rattle.node_model.specs.Messages.{Message}
-use Rattle.node_client.specs.Sending.{Sends}
-use Rattle.node_client.proofs.Uploads.{upload_all}
-use Rattle.node_client.proofs.client.Client.upload.Goals as goal
-
-pub returns-clause-step : goal.returns-clause-step
-returns-clause-step g c = λ records before. subst (λ (did : ClientStep Message). Sends did c.upload_from.result) (upload_all records c.args.self.now.replica before.kept) (c.upload_from.ensures.step records before)

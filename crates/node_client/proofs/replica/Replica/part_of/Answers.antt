@@ -1,5 +1,0 @@
-use Rattle.node_client.proofs.Runs.{no_part}
-use Rattle.node_client.proofs.replica.Replica.part_of.Goals as goal
-
-pub returns-else-tag-eq-PART : goal.returns-else-tag-eq-PART
-returns-else-tag-eq-PART c = no_part c.args.bytes.now c.if-tag-eq-PART.false

@@ -1,4 +1,0 @@
-pub mod Formats
-pub mod Messages
-pub mod Loops
-pub mod Wholes

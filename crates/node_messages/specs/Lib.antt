@@ -1,4 +1,0 @@
-pub mod Parts
-pub mod Spelling
-pub mod Reading
-pub mod Whole

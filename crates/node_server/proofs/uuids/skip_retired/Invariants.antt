@@ -1,6 +1,0 @@
-use Rattle.node_model.specs.Fronts.{retired_is}
-use Rattle.node_server.proofs.Walking.{PassedSoFar}
-use Rattle.node_server.proofs.uuids.skip_retired.Given as goal
-
-abbrev pub invariant-loop-place : goal.invariant-loop-place
-invariant-loop-place l = PassedSoFar retired_is l.records l.first l.place
