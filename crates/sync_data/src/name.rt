@@ -61,6 +61,14 @@ impl Name {
         str::from_utf8(&self.buf[..self.len]).unwrap()
     }
 
+    /// How many bytes the name has: 1 to 63.
+    pub fn len(&self) -> usize
+        ensures value { result ≡ length self.now }
+        ensures size { (0 < length self.now) × (length self.now ≤ 63) }
+    {
+        self.buf[..self.len].len()
+    }
+
     /// The bytes of the name's text.
     fn bytes(&self) -> &[u8]
         ensures { result.now ≡ self.now }

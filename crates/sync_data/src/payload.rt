@@ -27,7 +27,7 @@ impl Value {
         match self {
             Value::Text(text) => text.text().len() as u64,
             Value::Bytes(bytes) => bytes.bytes().len() as u64,
-            Value::Link { table, key } => (table.text().len() as u64).saturating_add(key.payload()),
+            Value::Link { table, key } => (table.len() as u64).saturating_add(key.payload()),
             _ => 0,
         }
     }
@@ -39,7 +39,7 @@ impl Kind {
         ensures small { result ≤ 63 }
     {
         match self {
-            Kind::Link(table) => table.text().len() as u64,
+            Kind::Link(table) => table.len() as u64,
             _ => 0,
         }
     }
@@ -50,8 +50,8 @@ impl CellName {
         ensures value { result ≡ cell_payload self.now }
         ensures small { result ≤ 381 }
     {
-        let table = self.table.text().len() as u64;
-        let column = self.column.text().len() as u64;
+        let table = self.table.len() as u64;
+        let column = self.column.len() as u64;
         table + self.key.payload() + column
     }
 }
@@ -71,14 +71,14 @@ impl Instr {
         ensures { result ≡ capped (payload self.now) }
     {
         match self {
-            Instr::AddTable(i) => i.table.text().len() as u64,
+            Instr::AddTable(i) => i.table.len() as u64,
             Instr::AddColumn(i) => {
-                let table = i.table.text().len() as u64;
-                let column = i.column.text().len() as u64;
+                let table = i.table.len() as u64;
+                let column = i.column.len() as u64;
                 table + column + i.def.kind.payload()
             }
-            Instr::CreateObject(i) => i.table.text().len() as u64 + i.key.payload(),
-            Instr::EraseObject(i) => i.table.text().len() as u64 + i.key.payload(),
+            Instr::CreateObject(i) => i.table.len() as u64 + i.key.payload(),
+            Instr::EraseObject(i) => i.table.len() as u64 + i.key.payload(),
             Instr::Update(i) => i.cell.payload().saturating_add(i.value.payload()),
             Instr::AddInteger(i) => i.cell.payload(),
             Instr::ListUpdate(i) => i.cell.payload().saturating_add(i.value.payload()),
