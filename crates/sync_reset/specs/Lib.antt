@@ -1,3 +1,2 @@
 pub mod Saved
 pub mod Parts
-pub mod Heirs

@@ -16,10 +16,10 @@ use Rattle.sync_client.specs.Refusals.{refusal_seen}
 use Rattle.sync_client.specs.declared.client.Client.{Client}
 use Rattle.sync_client.specs.declared.refusal.ClientRefusal.{ClientRefusal as CodeRefusal}
 use Rattle.sync_client.specs.declared.refusal.ClientRefusal.TheVariants as codes
-use Rattle.sync_reset.specs.declared.answer.Heir.{Heir}
-use Rattle.sync_reset.specs.declared.answer.Heir.TheVariants as heirs
-use Rattle.sync_reset.specs.declared.refusal.ResetRefusal.{ResetRefusal as CodeReset}
-use Rattle.sync_reset.specs.declared.refusal.ResetRefusal.TheVariants as resets
+use Rattle.sync_heir.specs.declared.answer.Heir.{Heir}
+use Rattle.sync_heir.specs.declared.answer.Heir.TheVariants as heirs
+use Rattle.sync_heir.specs.declared.refusal.ResetRefusal.{ResetRefusal as CodeReset}
+use Rattle.sync_heir.specs.declared.refusal.ResetRefusal.TheVariants as resets
 use Rattle.sync_reset.specs.Saved.{drops}
 
 -- ---- the answers of the code as those of the model; the model has no want of memory
