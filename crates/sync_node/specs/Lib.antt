@@ -1,10 +1,13 @@
 pub mod FrameItems
 pub mod Frames
+pub mod Heirs
 pub mod Holding
 pub mod Items
 pub mod Lent
+pub mod NotingRuns
 pub mod Opening
 pub mod Readers
+pub mod Recovering
 pub mod Runs
 pub mod Saying
 pub mod Sending

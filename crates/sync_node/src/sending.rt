@@ -10,7 +10,7 @@ ghost use Rattle.sync_exchange.specs.Profile.{the_profile};
 ghost use Rattle.sync_client.specs.Clients.{IsClientOf, journal_of};
 ghost use Rattle.sync_client.specs.Sending.{Sends};
 ghost use Rattle.sync_node.specs.Opening.{HoldsThose, client_file};
-ghost use Rattle.sync_node.specs.Sending.{asked, frames_of, sent, step_of, text_of};
+ghost use Rattle.sync_node.specs.Sending.{asked, frames_of, retire_for, sent, step_of, text_of};
 ghost use Rattle.sync_node.specs.Texts.{IsDoneOrNoMemory, IsMade, IsTellStatus, IsTextStatus, TellsBad, Writes};
 
 use crate::frame::frame_of;
@@ -19,18 +19,22 @@ use crate::opening::{Ended, open_client};
 use crate::text::write_text;
 use std::alloc::Global;
 use sync_client::{Client, ClientRefusal};
-use sync_data::NoMemory;
+use sync_data::{Ident, NoMemory};
 use sync_disk::Disk;
 use sync_io::{Sink, Status};
-use sync_messages::Message;
+use sync_messages::{Message, Retire};
 
 /// What a client is to write.
 #[derive(Clone, Copy, Debug, PartialEq, Eq)]
-enum Errand {
+pub(crate) enum Errand {
     /// What the server has to know of it: that it asks for an ident, or what is unsent.
     Send,
     /// Its question for the history.
     Ask,
+    /// That an ident is to be retired for it.
+    Retire { ident: Ident },
+    /// What is unsent above a number.
+    Rescue { after: u32 },
 }
 
 /// The message of an errand, or why the client makes none.
@@ -46,6 +50,19 @@ fn message_for<D: Disk>(client: &Client<D>, errand: Errand) -> Result<Message, C
             }
         }
         Errand::Ask => client.ask(),
+        Errand::Retire { ident } => retire_for(client.ident(), ident),
+        Errand::Rescue { after } => client.upload_from(after),
+    }
+}
+
+/// The message that asks that an ident is retired for a client with this one; none where either is 0.
+fn retire_for(by: Ident, ident: Ident) -> Result<Message, ClientRefusal>
+    ensures { Sends (retire_for by ident) result }
+{
+    if by == 0 || ident == 0 {
+        Err(ClientRefusal::NotNamed)
+    } else {
+        Ok(Message::Retire(Retire::new(ident, by)))
     }
 }
 
@@ -84,7 +101,12 @@ fn tell<K: Sink, D: Disk>(
 }
 
 /// Opens the client of a disk, writes what it has to say, and hands the disk back.
-fn run<K: Sink, D: Disk>(alloc: Global, sink: &mut K, disk: D, errand: Errand) -> Ended<D>
+pub(crate) fn run<K: Sink, D: Disk>(
+    alloc: Global,
+    sink: &mut K,
+    disk: D,
+    errand: Errand,
+) -> Ended<D>
     ensures writes { Told (D.content disk) (λ b. (records : List ClientRecord) → client_file b ≡ Ok records → Writes result.status (text_of errand records) (K.taken sink.old) (K.taken sink.new)) }
     ensures bad_file { Told (D.content disk) (λ b. (place : ℕ) → result.status ≡ Status.BadFile place → client_file b ≡ Err place) }
     ensures bad_place { Told (D.content disk) (λ b. (place : ℕ) → client_file b ≡ Err place → TellsBad place result.status) }
