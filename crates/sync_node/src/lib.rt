@@ -17,6 +17,8 @@ mod reader;
 mod recoverer;
 mod recovering;
 mod recovery;
+#[cfg(test)]
+mod reset_tests;
 mod resetting;
 mod run;
 mod sending;
