@@ -54,10 +54,36 @@ pub fn heir<D: Disk>(
     ensures told { Told (D.content (disk_of (journal_of client.old))) (λ b. (c : List ℕ) × (D.content (disk_of (journal_of client.new)) ≡ Some c)) }
 {
     heirs_save_once::<Instrs>();
+    inherit(alloc, client, retired, change)
+}
+
+/// The same.
+fn inherit<D: Disk>(
+    alloc: Global,
+    client: &mut Client<D>,
+    retired: &Retired,
+    change: &Change,
+) -> Result<Heir, ResetRefusal>
+    ensures step { (records : List ClientRecord) → IsClientOf records client.old → HeirSays (heir_step records retired.now change.now) records client.new result }
+    ensures stored { (records : List ClientRecord) → IsClientOf records client.old → IsStored D.content D.images records client.old → HeirStores D.content D.images (heir_step records retired.now change.now) records client.new result }
+    ensures any_moment { (records : List ClientRecord) → IsClientOf records client.old → IsStored D.content D.images records client.old
+        → LeavesOnly D.moment D.images_since (disk_of (journal_of client.old)) (disk_of (journal_of client.new)) (StandsForPrefix (map client_bytes records) (map client_bytes (heir_step records retired.now change.now).records)) }
+    ensures strokes { (records : List ClientRecord) → IsClientOf records client.old → IsStored D.content D.images records client.old → HeirAsked D.strokes (heir_step records retired.now change.now) client.old client.new result }
+    ensures named { 1 ≤ retired.now.by }
+    ensures closed { IsErrOf result (ResetRefusal.Client ClientRefusal.Closed) ↔ (is_closed client.old ≡ true) }
+    ensures shut { IsErrOf result (ResetRefusal.Client ClientRefusal.Closed) → client.new ≡ client.old }
+    ensures closes { IsErrOf result (ResetRefusal.Client ClientRefusal.DiskFault) ⊎ IsErrOf result (ResetRefusal.Client ClientRefusal.NoMemory) → is_closed client.new ≡ true }
+    ensures unchanged { IsErrOf result ResetRefusal.NoMemory → client.new ≡ client.old }
+    ensures later { D.faults (disk_of (journal_of client.old)) ≤ D.faults (disk_of (journal_of client.new)) }
+    ensures fault { IsErrOf result (ResetRefusal.Client ClientRefusal.DiskFault) → Rose (D.faults (disk_of (journal_of client.old))) (D.faults (disk_of (journal_of client.new))) }
+    ensures origin { D.origin (disk_of (journal_of client.new)) ≡ D.origin (disk_of (journal_of client.old)) }
+    ensures told { Told (D.content (disk_of (journal_of client.old))) (λ b. (c : List ℕ) × (D.content (disk_of (journal_of client.new)) ≡ Some c)) }
+{
+    let by = retired.by();
     if is_shut(client) {
         return Err(ResetRefusal::Client(ClientRefusal::Closed));
     }
-    if retired.by() != client.ident() {
+    if by != client.ident() {
         return Err(ResetRefusal::NotMine);
     }
     let got = change.number();
