@@ -1,0 +1,19 @@
+-- The answer of a check, for which memory may be wanting.
+use Rattle.std.specs.Prelude.{◌≡◌, ◌<◌, ℕ, Option, None, Some, Result, Ok, Err}
+use Rattle.sync_base.specs.declared.answers.Break.{Break}
+use Rattle.sync_app.specs.declared.refusal.Refusal.{Refusal}
+use Rattle.sync_app.specs.declared.refusal.Refusal.TheVariants as refusals
+
+abbrev pub Finds : Result (Unit {0}) Refusal → Option Break → Type 0
+Finds (Ok u) found = found ≡ None
+Finds (Err (refusals.Break b)) found = found ≡ Some b
+Finds (Err refusals.NoMemory) found = Unit {0}
+Finds (Err why) found = ⊥
+
+-- the length of a list is answered, which is small enough; or the break is found
+abbrev pub Measures : Result ℕ Refusal → ℕ → Option Break → Type 0
+Measures (Ok n) len found = (n ≡ len) × (found ≡ None)
+Measures (Err (refusals.Break b)) len found = found ≡ Some b
+Measures (Err refusals.ListFull) len found = 4294967295 < len
+Measures (Err refusals.NoMemory) len found = Unit {0}
+Measures (Err why) len found = ⊥

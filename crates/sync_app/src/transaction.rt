@@ -1,0 +1,114 @@
+ghost use Rattle.std.specs.Prelude.{◌≡◌, [], None};
+ghost use Rattle.std.specs.Option.{option_copied};
+ghost use Rattle.sync_base.specs.Checks.{first_failed};
+ghost use Rattle.sync_base.specs.Effects.{path_of};
+ghost use Rattle.sync_store.specs.Asking.{change_checks, has_size};
+ghost use Rattle.sync_app.specs.Drafts.{IsDraft, Puts, length_of, objects_of};
+ghost use Rattle.sync_app.specs.Finding.{Measures};
+ghost use Rattle.sync_app.specs.Wants.{is_wanted, takes};
+
+use super::refusal::Refusal;
+use super::sketch::{Sketch, cell_key};
+use super::wanted::Wanted;
+use std::alloc::Global;
+use std::marker::Model;
+use sync_base::{CellName, Instr, MOST_INSTRS, MOST_PAYLOAD, NoMemory, Value};
+use sync_store::Store;
+
+/// Instructions that act one after the other on objects, built one by one. The objects stay as they are: whoever lets a
+/// transaction go has changed nothing.
+#[derive(Drop)]
+pub struct Transaction<'a> {
+    sketch: Sketch<'a>,
+    instrs: Vec<Instr>,
+    payload: u64,
+}
+
+impl<'a> Model for Transaction<'a> {
+    ghost use Rattle.sync_app.specs.Drafts.{Draft};
+    ghost use Rattle.sync_app.specs.Keeping.{Keeps};
+
+    ghost Value = { Draft };
+
+    ghost view = { λ a. record { base = a.sketch.objects.now; instrs = a.instrs.items } };
+
+    ghost invariant = { λ a. Keeps a.sketch a.instrs.items a.payload };
+}
+
+impl<'a> Transaction<'a> {
+    /// A transaction without instructions. It takes no memory.
+    pub fn new(alloc: Global, objects: &'a Store) -> Transaction<'a>
+        ensures { result ≡ record { base = objects.now; instrs = [] } }
+    {
+        objects.keeps_its_limits();
+        Transaction {
+            sketch: Sketch::new(alloc, objects),
+            instrs: Vec::new(alloc),
+            payload: 0,
+        }
+    }
+
+    /// The instructions so far.
+    pub fn instrs(&self) -> &[Instr]
+        ensures listed { result.now ≡ self.now.instrs }
+        ensures draft { IsDraft self.now }
+    {
+        self.instrs.as_slice()
+    }
+
+    /// The instructions, to be committed. It takes no memory.
+    pub fn finish(self) -> Vec<Instr>
+        ensures listed { result.items ≡ self.instrs }
+        ensures draft { IsDraft self }
+    {
+        self.instrs
+    }
+
+    /// Adds an instruction, where it acts after those before it.
+    pub fn put(&mut self, instr: Instr) -> Result<(), Refusal>
+        ensures { Puts result instr self.old self.new }
+    {
+        match self.sketch.check(&instr) {
+            Ok(()) => {}
+            Err(refusal) => return Err(refusal),
+        }
+        let payload = self.payload.saturating_add(instr.payload());
+        let count = self.instrs.len();
+        if payload > MOST_PAYLOAD || count as u64 >= MOST_INSTRS {
+            return Err(Refusal::TooLarge);
+        }
+        let Ok(note) = self.sketch.note_of(&instr, count) else {
+            return Err(Refusal::NoMemory);
+        };
+        if self.instrs.push(instr).is_err() {
+            return Err(Refusal::NoMemory);
+        }
+        match self.sketch.take(note) {
+            Ok(()) => {
+                self.payload = payload;
+                Ok(())
+            }
+            Err(NoMemory) => {
+                let _ = self.instrs.pop();
+                Err(Refusal::NoMemory)
+            }
+        }
+    }
+
+    /// How many elements the list of a cell has with the transaction so far, where its column holds lists of such values.
+    pub(crate) fn list_length(&self, cell: &CellName, value: Option<&Value>) -> Result<u32, Refusal>
+        ensures { Measures result (length_of self.now cell.now) (first_failed (change_checks (objects_of self.now) (path_of cell.now) (is_wanted Wanted.List) (takes (objects_of self.now).tables (option_copied value.entry)) (has_size None))) }
+    {
+        match self.sketch.check_change(cell, Wanted::List, value, None) {
+            Ok(()) => {}
+            Err(refusal) => return Err(refusal),
+        }
+        let Ok(cell) = cell_key(cell) else {
+            return Err(Refusal::NoMemory);
+        };
+        match u32::try_from(self.sketch.size(&cell)) {
+            Ok(length) => Ok(length),
+            Err(_) => Err(Refusal::ListFull),
+        }
+    }
+}
