@@ -1,4 +1,5 @@
 pub mod Checking
+pub mod Codes
 pub mod Drafts
 pub mod Finding
 pub mod Keeping

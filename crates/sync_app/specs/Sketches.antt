@@ -26,27 +26,33 @@ tables_in k = unwrap_or k.schema (base_of k).tables
 abbrev pub standing_in : Sketch → ObjectName → Option Standing
 standing_in k o = tree.get object_cmp k.standings o
 
+abbrev pub stands_by : Bool → Option Standing → Bool
+stands_by b x = option_map_or (λ (y : Standing). y.stands) x b
+
 abbrev pub stands_in : Sketch → ObjectName → Bool
-stands_in k o = option_map_or (λ (x : Standing). x.stands) (standing_in k o) (has (base_of k) o)
+stands_in k o = stands_by (has (base_of k) o) (standing_in k o)
 
 -- since which instruction an object has its cells, 0 where from before all
-abbrev pub life_in : Sketch → ObjectName → ℕ
-life_in k o = option_map_or (λ (x : Standing). x.life) (standing_in k o) 0
+abbrev pub life_by : Option Standing → ℕ
+life_by x = option_map_or (λ (y : Standing). y.life) x 0
 
--- in the beginning of that life
-abbrev pub first_size : Sketch → CellPath → ℕ → ℕ
-first_size k p life = if life == 0 then size_at (base_of k) p else 0
+abbrev pub life_in : Sketch → ObjectName → ℕ
+life_in k o = life_by (standing_in k o)
+
+-- the length of a list in the beginning of that life
+abbrev pub first_size : State → CellPath → ℕ → ℕ
+first_size s p life = if life == 0 then size_at s p else 0
 
 abbrev pub length_in : Sketch → CellPath → Option Length
 length_in k p = tree.get path_cmp k.lengths p
 
 -- a length that was noted counts in its life
-abbrev pub size_by : Sketch → CellPath → ℕ → Option Length → ℕ
-size_by k p life None = first_size k p life
-size_by k p life (Some e) = if e.life == life then e.len else first_size k p life
+abbrev pub size_by : State → CellPath → ℕ → Option Length → ℕ
+size_by s p life None = first_size s p life
+size_by s p life (Some e) = if e.life == life then e.len else first_size s p life
 
 abbrev pub size_in : Sketch → CellPath → ℕ
-size_in k p = size_by k p (life_in k p.0) (length_in k p)
+size_in k p = size_by (base_of k) p (life_in k p.0) (length_in k p)
 
 -- it shows a state that so many instructions have made
 pub record IsSketchOf (k : Sketch) (s : State) (n : ℕ) : Type 0 where

@@ -108,7 +108,7 @@ impl<'a> Sketch<'a> {
 
     /// How many elements the list had in the beginning of that life.
     fn first_size(&self, cell: &CellKey, life: usize) -> usize
-        ensures { result ≡ first_size self.now cell.now life }
+        ensures { result ≡ first_size (base_of self.now) cell.now life }
     {
         if life != 0 {
             return 0;

@@ -25,10 +25,14 @@ pub struct Transaction<'a> {
 }
 
 impl<'a> Model for Transaction<'a> {
+    ghost use Rattle.std.specs.Coded.{codes};
+    ghost use Rattle.sync_app.specs.Codes.{coded_draft};
     ghost use Rattle.sync_app.specs.Drafts.{Draft};
     ghost use Rattle.sync_app.specs.Keeping.{Keeps};
 
     ghost Value = { Draft };
+
+    ghost coded = { coded_draft (Prim.hlevel codes) };
 
     ghost view = { λ a. record { base = a.sketch.objects.now; instrs = a.instrs.items } };
 
@@ -58,8 +62,8 @@ impl<'a> Transaction<'a> {
 
     /// The instructions, to be committed. It takes no memory.
     pub fn finish(self) -> Vec<Instr>
-        ensures listed { result.items ≡ self.instrs }
-        ensures draft { IsDraft self }
+        ensures listed { result.items ≡ self.entry.instrs }
+        ensures draft { IsDraft self.entry }
     {
         self.instrs
     }

@@ -1,0 +1,3 @@
+mod Drafting
+mod Following
+mod Resizing

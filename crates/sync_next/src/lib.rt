@@ -1,0 +1,6 @@
+//! What a client sends next.
+#![tactic(auto)]
+
+mod next;
+
+pub use next::next_message;
