@@ -1,12 +1,13 @@
 -- A sketch follows the instructions that act.
-use Rattle.std.proofs.Common.{◌≡◌, ℕ, zero, suc, ◌+◌, ◌<◌, ◌≤◌, Bool, true, false, cond, not, ◌&&◌, ◌||◌, List, Option, None, Some, is_some, refl, sym, ◌∙◌, ap, subst, arith, ◌==◌}
+use Rattle.std.proofs.Common.{◌≡◌, ℕ, suc, ◌+◌, ◌-◌, ◌<◌, ◌≤◌, Bool, true, false, cond, not, ◌&&◌, ◌||◌, List, Option, None, Some, is_some, refl, sym, ◌∙◌, ap, subst, arith, ◌==◌}
 use Rattle.std.specs.BTreeMap as tree
 use Rattle.std.specs.Option.{option_map_or}
 use Rattle.std.specs.Ordering.{eq_by_cmp}
 use Rattle.std.specs.Cmp.{eq_by_cmp_equiv}
-use Rattle.std.proofs.lemmas.Bool.{ne_eqb}
+use Rattle.std.specs.FinMap as map
+use Rattle.std.proofs.lemmas.Bool.{eq-eqb, ne_eqb}
 use Rattle.sync_data.specs.declared.instr.Instr.{Instr}
-use Rattle.sync_base.specs.After.{after, objects_after, tables_after}
+use Rattle.sync_base.specs.After.{after, new_cells, tables_after}
 use Rattle.sync_base.specs.Checks.{act, break_of}
 use Rattle.sync_base.specs.Effects.{ObjectName, CellPath, Edit, Effect, Set, Add, Replace, Insert, Remove, Include, Exclude, Bind, Empty, NewTable, NewColumn, Create, Erase, Change, effect_of, is_effect}
 use Rattle.sync_base.specs.Lemmas.Looks.{has-after, object_exact, object_total, path_exact, path_total}
@@ -89,7 +90,7 @@ reborn old new s t n o b k ok base tables lengths standing same_tables new_has n
         | true ↦ omega arith
         | false ↦ (let h = k.lives q in omega (h, arith))
       ] in
-      omega (f, g);
+      omega (f, g, arith);
   noted = λ p e f. let g = k.noted p e (sym (lengths p) ∙ f) in omega (g, arith);
 }
 
@@ -98,8 +99,7 @@ some_is : {A : Type 0} {x y : A} → Some x ≡ Some y → x ≡ y
 some_is e = cc
 
 itself : (n : ℕ) → (n == n) ≡ true
-itself zero = refl
-itself (suc n) = itself n
+itself n = eq-eqb n n refl
 
 pub relong : (old new : Sketch) (s t : State) (n : ℕ) (p : CellPath) (len : ℕ) → IsSketchOf old s n → IsState t
     → base_of new ≡ base_of old → tables_in new ≡ tables_in old → ((o : ObjectName) → standing_in new o ≡ standing_in old o)
@@ -156,7 +156,7 @@ born_size s o q b h =
     ] refl
 
 stays_as_it_is : (s : State) (o : ObjectName) → has s o ≡ true → after s (Create o) ≡ s
-stays_as_it_is s o h = λ i. record { tables = s.tables; objects = cond (h i) s.objects (objects_after (Create o) s) }
+stays_as_it_is s o h = λ i. record { tables = s.tables; objects = cond (h i) s.objects (map.insert s.objects o (new_cells (map.get s.tables o.0))) }
 
 same_length : (s : State) (p q : CellPath) → cond (eq_by_cmp path_cmp q p) (size_at s p) (size_at s q) ≡ size_at s q
 same_length s p q =

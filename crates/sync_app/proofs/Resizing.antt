@@ -48,11 +48,11 @@ size_edited (Replace s v) (Many xs) h p q = length-set xs s.place v
 size_edited (Replace s v) (Members xs) h p q = refl
 size_edited (Replace s v) (Dict m) h p q = refl
 size_edited (Insert s v) (One w) h p q = cc
-size_edited (Insert s v) (Many xs) h p q = let e = eqb-true s.prior (length xs) p in let l = length-insert xs s.place v (omega (e, q)) in omega (e, l)
+size_edited (Insert s v) (Many xs) h p q = let e = eqb-true s.prior (length xs) p in let l = length-insert xs s.place v (omega (e, q, arith)) in omega (e, l, arith)
 size_edited (Insert s v) (Members xs) h p q = cc
 size_edited (Insert s v) (Dict m) h p q = cc
 size_edited (Remove s) (One w) h p q = cc
-size_edited (Remove s) (Many xs) h p q = let e = eqb-true s.prior (length xs) p in let l = length-remove xs s.place (omega (e, q)) in omega (e, l, arith)
+size_edited (Remove s) (Many xs) h p q = let e = eqb-true s.prior (length xs) p in let l = length-remove xs s.place (omega (e, q, arith)) in omega (e, l, arith)
 size_edited (Remove s) (Members xs) h p q = cc
 size_edited (Remove s) (Dict m) h p q = cc
 size_edited (Include v) (One w) h p q = refl
@@ -126,12 +126,12 @@ or_default : (x : Option Cell) (col : Column) → size (unwrap_or x (default_of 
 or_default None col = default_empty col.shape col
 or_default (Some x) col = refl
 
+then_some : {X Y : Type 0} (g : X → Option Y) (x : Option X) → is_some (option_and_then g x) ≡ true → is_some x ≡ true
+then_some g None h = cc
+then_some g (Some x) h = refl
+
 cell_has : (s : State) (o : ObjectName) (c : List ℕ) → is_some (cell_at s o c) ≡ true → has s o ≡ true
-cell_has s o c h = of (map.get s.objects o) h
-  where
-    of : {X Y : Type 0} {g : X → Option Y} (x : Option X) → is_some (option_and_then g x) ≡ true → is_some x ≡ true
-    of None h = cc
-    of (Some x) h = refl
+cell_has s o c h = then_some (λ m. map.get m c) (map.get s.objects o) h
 
 pub none_here : (s : State) (o : ObjectName) (c : List ℕ) → has s o ≡ false → size_at s (o, c) ≡ 0
 none_here s o c h = ap (λ x. option_map_or size (option_and_then (λ m. map.get m c) x) 0) (none_is (map.get s.objects o) h)

@@ -47,7 +47,10 @@ impl Sketch<'_> {
                 Ok(Note::Object(object, Standing { stands, life }))
             }
             Instr::ListInsert(i) => self.note_size(&i.cell, i.spot.prior() as usize + 1),
-            Instr::ListErase(i) => self.note_size(&i.cell, i.spot.prior() as usize - 1),
+            Instr::ListErase(i) => {
+                let len = i.spot.prior().saturating_sub(1);
+                self.note_size(&i.cell, len as usize)
+            }
             Instr::Clear(i) => self.note_size(&i.cell, 0),
             _ => Ok(Note::Nothing),
         }

@@ -1,7 +1,8 @@
-ghost use Rattle.std.specs.Prelude.{◌≡◌, [], None};
+ghost use Rattle.std.specs.Prelude.{◌≡◌, ◌+◌, [], None, true};
 ghost use Rattle.std.specs.Option.{option_copied};
 ghost use Rattle.sync_base.specs.Checks.{first_failed};
-ghost use Rattle.sync_base.specs.Effects.{path_of};
+ghost use Rattle.sync_base.specs.Effects.{effect_of, is_effect, path_of};
+ghost use Rattle.sync_data.specs.Payload.{capped, payload};
 ghost use Rattle.sync_store.specs.Asking.{change_checks, has_size};
 ghost use Rattle.sync_app.specs.Drafts.{IsDraft, Puts, length_of, objects_of};
 ghost use Rattle.sync_app.specs.Finding.{Measures};
@@ -76,7 +77,8 @@ impl<'a> Transaction<'a> {
             Ok(()) => {}
             Err(refusal) => return Err(refusal),
         }
-        let payload = self.payload.saturating_add(instr.payload());
+        is_placed(&instr);
+        let payload = weight_with(self.payload, &instr);
         let count = self.instrs.len();
         if payload > MOST_PAYLOAD || count as u64 >= MOST_INSTRS {
             return Err(Refusal::TooLarge);
@@ -114,5 +116,24 @@ impl<'a> Transaction<'a> {
             Ok(length) => Ok(length),
             Err(_) => Err(Refusal::ListFull),
         }
+    }
+}
+
+/// The bytes that instructions carry, with one more.
+fn weight_with(weight: u64, instr: &Instr) -> u64
+    ensures { result ≡ capped (weight + payload instr.now) }
+{
+    weight.saturating_add(instr.payload())
+}
+
+/// The place of every instruction lies in the list of which it has the length.
+fn is_placed(instr: &Instr) -> bool
+    ensures { is_effect (effect_of instr.now) ≡ true }
+{
+    match instr {
+        Instr::ListUpdate(i) => i.spot.place() < i.spot.prior(),
+        Instr::ListInsert(i) => i.spot.place() <= i.spot.prior(),
+        Instr::ListErase(i) => i.spot.place() < i.spot.prior(),
+        _ => true,
     }
 }
