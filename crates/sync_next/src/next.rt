@@ -1,6 +1,7 @@
 ghost use Rattle.std.specs.Prelude.{◌≡◌, ◌↔◌, List, true, IsErrOf};
 ghost use Rattle.sync_exchange.specs.Profile.{the_profile};
 ghost use Rattle.sync_model.specs.Clients as model;
+ghost use Rattle.sync_client.specs.Clients.{IsClientOf, is_closed};
 ghost use Rattle.sync_client.specs.Sending.{Sends};
 ghost use Rattle.sync_exchange.specs.Seen.{message_seen};
 ghost use Rattle.sync_next.specs.Nexts.{bears_none, next_message};
@@ -13,7 +14,6 @@ use sync_messages::Message;
 /// `sent`, up to which it has sent them since it began to; and where there is none, the question for the history. Errors:
 /// Closed, NotBorn, NoMemory; none changes anything.
 pub fn next_message<D: Disk>(client: &Client<D>, sent: u32) -> Result<Message, ClientRefusal>
-    ghost use Rattle.sync_client.specs.Clients.{IsClientOf, is_closed};
     ensures step { (records : List model.ClientRecord) → IsClientOf records client.now → Sends (next_message (model.client_of the_profile records) sent) result }
     ensures closed { IsErrOf result ClientRefusal.Closed ↔ (is_closed client.now ≡ true) }
 {

@@ -1,0 +1,8 @@
+use Rattle.sync_exchange.specs.Profile.{the_profile}
+use Rattle.sync_model.specs.Clients.{client_of, commit}
+use Rattle.sync_next.proofs.Acting.{never, no_break}
+use Rattle.sync_next.proofs.committing.commit.Goals as goal
+
+pub returns-clause-never_breaks : goal.returns-clause-never_breaks
+returns-clause-never_breaks c = λ records after is acts.
+    never (commit the_profile (client_of the_profile records) c.args.ms c.args.edits.items) records c.commit.new.client c.commit.result (c.commit.ensures.step records is) (no_break (client_of the_profile records) c.args.ms c.args.edits.items after acts)
