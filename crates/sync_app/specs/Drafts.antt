@@ -1,10 +1,10 @@
 -- A transaction: the objects before it, and instructions that act on them one after the other.
-use Rattle.std.specs.Prelude.{◌≡◌, ◌<◌, ℕ, Bool, false, List, [], ◌∷◌, ◌++◌, None, Some, Result, Ok, Err}
+use Rattle.std.specs.Prelude.{◌≡◌, ◌<◌, ℕ, Bool, true, false, List, [], ◌∷◌, ◌++◌, None, Some, Result, Ok, Err}
 use Rattle.sync_data.specs.declared.instr.CellName.{CellName}
 use Rattle.sync_data.specs.declared.instr.Instr.{Instr}
-use Rattle.sync_data.specs.Payload.{IsSmall}
+use Rattle.sync_data.specs.Payload.{IsSmall, payload_all}
 use Rattle.sync_base.specs.Checks.{act, act_all, break_of}
-use Rattle.sync_base.specs.Effects.{effect_of, path_of}
+use Rattle.sync_base.specs.Effects.{effect_of, is_effect, path_of}
 use Rattle.sync_base.specs.States.{State}
 use Rattle.sync_store.specs.Applying.{after_all}
 use Rattle.sync_app.specs.declared.refusal.Refusal.{Refusal}
@@ -39,6 +39,11 @@ Puts (Err (refusals.Break b)) i old new = (break_of (objects_of old) (effect_of 
 Puts (Err refusals.TooLarge) i old new = ¬ IsSmall (old.instrs ++ i ∷ []) × (new ≡ old)
 Puts (Err refusals.NoMemory) i old new = new ≡ old
 Puts (Err why) i old new = ⊥
+
+-- one more acts and fits in, and so much do they carry then; or it is refused
+abbrev pub Weighs : Result ℕ Refusal → Instr → Draft → Type 0
+Weighs (Ok n) i d = (is_effect (effect_of i) ≡ true) × (break_of (objects_of d) (effect_of i) ≡ None) × IsSmall (d.instrs ++ i ∷ []) × (n ≡ payload_all (d.instrs ++ i ∷ []))
+Weighs (Err why) i d = Puts (Err why) i d d
 
 -- the same of an instruction for a place in a list of that length: the place may lie outside, or the list be too long
 abbrev pub PutsAt : Result (Unit {0}) Refusal → Bool → ℕ → ℕ → Instr → Draft → Draft → Type 0

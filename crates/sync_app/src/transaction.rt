@@ -1,11 +1,12 @@
-ghost use Rattle.std.specs.Prelude.{◌≡◌, ◌+◌, [], None, true};
+ghost use Rattle.std.specs.Prelude.{◌≡◌, ◌+◌, ◌<◌, ◌++◌, ◌∷◌, [], None, true, length, OnOk, OnErr};
 ghost use Rattle.std.specs.Option.{option_copied};
 ghost use Rattle.sync_base.specs.Checks.{first_failed};
 ghost use Rattle.sync_base.specs.Effects.{effect_of, is_effect, path_of};
 ghost use Rattle.sync_data.specs.Payload.{capped, payload};
 ghost use Rattle.sync_store.specs.Asking.{change_checks, has_size};
-ghost use Rattle.sync_app.specs.Drafts.{IsDraft, Puts, length_of, objects_of};
+ghost use Rattle.sync_app.specs.Drafts.{IsDraft, Puts, Weighs, length_of, objects_of};
 ghost use Rattle.sync_app.specs.Finding.{Measures};
+ghost use Rattle.sync_app.specs.Sketches.{ShowsSame, Takes, note_of};
 ghost use Rattle.sync_app.specs.Wants.{is_wanted, takes};
 
 use super::refusal::Refusal;
@@ -73,32 +74,36 @@ impl<'a> Transaction<'a> {
     pub fn put(&mut self, instr: Instr) -> Result<(), Refusal>
         ensures { Puts result instr self.old self.new }
     {
-        match self.sketch.check(&instr) {
-            Ok(()) => {}
+        let payload = match self.weigh(&instr) {
+            Ok(payload) => payload,
             Err(refusal) => return Err(refusal),
-        }
-        is_placed(&instr);
-        let payload = weight_with(self.payload, &instr);
-        let count = self.instrs.len();
-        if payload > MOST_PAYLOAD || count as u64 >= MOST_INSTRS {
-            return Err(Refusal::TooLarge);
-        }
-        let Ok(note) = self.sketch.note_of(&instr, count) else {
-            return Err(Refusal::NoMemory);
         };
-        if self.instrs.push(instr).is_err() {
-            return Err(Refusal::NoMemory);
-        }
-        match self.sketch.take(note) {
+        match append(&mut self.sketch, &mut self.instrs, instr) {
             Ok(()) => {
                 self.payload = payload;
                 Ok(())
             }
-            Err(NoMemory) => {
-                let _ = self.instrs.pop();
-                Err(Refusal::NoMemory)
-            }
+            Err(_) => Err(Refusal::NoMemory),
         }
+    }
+
+    /// The bytes that the instructions carry with one more, which acts after them and is not too much.
+    fn weigh(&self, instr: &Instr) -> Result<u64, Refusal>
+        ensures { Weighs result instr.now self.now }
+    {
+        match self.sketch.check(instr) {
+            Ok(()) => {}
+            Err(refusal) => return Err(refusal),
+        }
+        is_placed(instr);
+        let payload = weight_with(self.payload, instr);
+        if payload > MOST_PAYLOAD {
+            return Err(Refusal::TooLarge);
+        }
+        if self.instrs.len() as u64 >= MOST_INSTRS {
+            return Err(Refusal::TooLarge);
+        }
+        Ok(payload)
     }
 
     /// How many elements the list of a cell has with the transaction so far, where its column holds lists of such values.
@@ -117,6 +122,26 @@ impl<'a> Transaction<'a> {
             Err(_) => Err(Refusal::ListFull),
         }
     }
+}
+
+/// Adds an instruction and what it changes, or, where memory is wanting, nothing.
+fn append(sketch: &mut Sketch<'_>, instrs: &mut Vec<Instr>, instr: Instr) -> Result<(), NoMemory>
+    requires { length instrs.old.items < 65536 }
+    ensures added { OnOk result (instrs.new.items ≡ instrs.old.items ++ instr ∷ []) }
+    ensures taken { OnOk result (Takes (note_of sketch.old (length instrs.old.items) (effect_of instr)) sketch.old sketch.new) }
+    ensures unchanged { OnErr result ((instrs.new.items ≡ instrs.old.items) × ShowsSame sketch.old sketch.new) }
+{
+    let Ok(note) = sketch.note_of(&instr, instrs.len()) else {
+        return Err(NoMemory);
+    };
+    if instrs.push(instr).is_err() {
+        return Err(NoMemory);
+    }
+    if sketch.take(note).is_err() {
+        let _ = instrs.pop();
+        return Err(NoMemory);
+    }
+    Ok(())
 }
 
 /// The bytes that instructions carry, with one more.
