@@ -19,7 +19,7 @@ use Rattle.sync_base.specs.Lemmas.Runs.{act_or_break}
 use Rattle.sync_store.specs.Applying.{after_all}
 use Rattle.sync_store.specs.Asking.{change_checks, has_size}
 use Rattle.sync_app.specs.Checking.{break_in, cell_checks}
-use Rattle.sync_app.specs.Drafts.{Draft, IsDraft, Puts, and_instr, objects_of}
+use Rattle.sync_app.specs.Drafts.{Draft, IsDraft, Puts, Weighs, and_instr, objects_of}
 use Rattle.sync_app.specs.Finding.{Finds, Measures}
 use Rattle.sync_app.specs.Keeping.{Keeps}
 use Rattle.sync_app.specs.Sizes.{size_at}
@@ -159,6 +159,15 @@ within n h = omega (h, arith)
 
 pub beyond : (n : ℕ) → 4194304 < capped n → 4194304 < n
 beyond n h = omega (h, arith)
+
+-- one more acts and fits in
+pub weighed : (k : Sketch) (is : List Instr) (w : ℕ) → Keeps k is w → (i : Instr) {u : Unit {0}} {r : Result (Unit {0}) Refusal} → Finds r (break_in k (effect_of i)) → r ≡ Ok u → is_effect (effect_of i) ≡ true
+    → (n : ℕ) → n ≡ capped (w + payload i) → n ≤ 4194304 → length is < 65536 → {d : Draft} → draft k is ≡ d → Weighs (Ok n) i d
+weighed k is w so i found e placed n heavy light few view =
+    let whole : n ≡ w + payload i = heavy ∙ within (w + payload i) (subst (λ m. m ≤ 4194304) heavy light) in
+    let all : n ≡ payload_all is + payload i = whole ∙ ap (λ m. m + payload i) so.payload_is in
+    subst (λ d. Weighs (Ok n) i d) view
+    (placed, fine_so k is w so i found e, small_more is i few (subst (λ m. m ≤ 4194304) all light), all ∙ sym (weighs_more is i))
 
 -- ---- a list is measured
 is_true : (x : Option Cell) → is_some x ≡ true → true ≡ option_map_or (λ (y : Cell). true) x false

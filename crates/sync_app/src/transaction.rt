@@ -134,14 +134,26 @@ fn append(sketch: &mut Sketch<'_>, instrs: &mut Vec<Instr>, instr: Instr) -> Res
     let Ok(note) = sketch.note_of(&instr, instrs.len()) else {
         return Err(NoMemory);
     };
-    if instrs.push(instr).is_err() {
+    if push_last(instrs, instr).is_err() {
         return Err(NoMemory);
     }
-    if sketch.take(note).is_err() {
-        let _ = instrs.pop();
-        return Err(NoMemory);
+    match sketch.take(note) {
+        Ok(()) => Ok(()),
+        Err(_) => {
+            let _ = instrs.pop();
+            Err(NoMemory)
+        }
     }
-    Ok(())
+}
+
+fn push_last(instrs: &mut Vec<Instr>, instr: Instr) -> Result<(), NoMemory>
+    ensures added { OnOk result (instrs.new.items ≡ instrs.old.items ++ instr ∷ []) }
+    ensures unchanged { OnErr result (instrs.new.items ≡ instrs.old.items) }
+{
+    match instrs.push(instr) {
+        Ok(()) => Ok(()),
+        Err(_) => Err(NoMemory),
+    }
 }
 
 /// The bytes that instructions carry, with one more.
