@@ -1,3 +1,4 @@
 mod Drafting
 mod Following
+mod Placing
 mod Resizing
