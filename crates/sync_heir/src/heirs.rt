@@ -57,7 +57,7 @@ pub fn heir<D: Disk>(
     inherit(alloc, client, retired, change)
 }
 
-/// The same.
+/// What `heir` does. It stands apart so that `heir` can say of its answer, by the law on recoveries, which causes come.
 fn inherit<D: Disk>(
     alloc: Global,
     client: &mut Client<D>,
