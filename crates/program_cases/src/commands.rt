@@ -10,7 +10,7 @@ use std::fs;
 /// Whether the command adds records, and so writes an answer for each of its items.
 fn adds(step: &Step) -> bool {
     let commands = step.commands.as_str();
-    ["edit", "take", "serve"]
+    ["edit", "take", "serve", "recover"]
         .iter()
         .any(|word| commands.starts_with(*word))
 }

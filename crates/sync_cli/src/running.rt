@@ -75,12 +75,14 @@ fn run_over_memory<I: Read + Drop, O: Write + Drop>(
 /// Whether a command may add records to its file.
 fn writes(command: FileCommand) -> bool {
     match command {
-        FileCommand::Edit | FileCommand::Take | FileCommand::Serve => true,
+        FileCommand::Edit | FileCommand::Take | FileCommand::Serve | FileCommand::Recover => true,
         FileCommand::Send
         | FileCommand::Ask
         | FileCommand::Show
         | FileCommand::Retire { ident: _ }
-        | FileCommand::Rescue { after: _ } => false,
+        | FileCommand::Rescue { after: _ }
+        | FileCommand::Trim
+        | FileCommand::Start { id: _ } => false,
     }
 }
 

@@ -9,8 +9,8 @@ use Rattle.sync_io.specs.declared.status.Status.TheVariants as statuses
 use Rattle.sync_journal.specs.Records.{records_of}
 use Rattle.sync_journal.specs.Records.Reading.{Good}
 use Rattle.sync_node.specs.Items.{Items, Over, Next, EndsReading}
-use Rattle.sync_node.specs.Runs.{AllSay, Answer, AnswersSo, EndsAt, Exits, ExitsTold, LeavesSome, Left, Run, WroteAtLeast, added, answered, ended, is_fault, onto, records_in, run_from, runs, texts}
-use Rattle.sync_node.proofs.Runs.{added_append, added_none, follows_cut, follows_end, follows_fault, follows_onto, follows_part, run_says, runs_item, texts_append, wrote_behind, wrote_none, wrote_within}
+use Rattle.sync_node.specs.Runs.{AllTold, Answer, AnswersSo, EndsAt, Exits, ExitsTold, IsTold, LeavesSome, Left, Run, StandsSo, WroteAtLeast, added, answered, ended, is_fault, noting_runs, onto, records_in, run_from, texts}
+use Rattle.sync_node.proofs.Runs.{added_append, added_none, answered_says, follows_cut, follows_end, follows_fault, follows_onto, follows_part, run_says, runs_item, texts_append, wrote_behind, wrote_none, wrote_within}
 
 -- a number is at most another, or so much more
 within_or_past : (n m : ℕ) → (n ≤ m) ⊎ ((k : ℕ) × (n ≡ m + k))
@@ -18,10 +18,14 @@ within_or_past n zero = inr (n, omega arith)
 within_or_past zero (suc m) = inl (omega arith)
 within_or_past (suc n) (suc m) = elim (within_or_past n m) [ inl le ↦ inl (omega (arith, le)) | inr past ↦ inr (past.0, omega (arith, past.1)) ]
 
+-- a command that has these records has them whatever it noted
+pub whatever_noted : {C N R : Type 0} (Stands : C → N → List R → Type 0) (command : C) (notes : N) (meant : Option (Answer R)) (records : List R) (text : List ℕ) → AnswersSo meant records text (Stands command notes) → AnswersSo meant records text (StandsSo Stands command)
+whatever_noted Stands command notes meant records text did = record { answer = did.answer; is = did.is; text_is = did.text_is; stands = (notes, did.stands) }
+
 module _ {R : Type 0} (bytes_of : R → List ℕ) where
   -- ---- an image at the end of a run
   -- nothing was written
-  pub left_some : (records : List R) (run : Run R) (sink : Option (List ℕ)) (image : List ℕ) → AllSay run.answers → LeavesSome bytes_of records (added run.answers) image → Left bytes_of records run sink sink image
+  pub left_some : (records : List R) (run : Run R) (sink : Option (List ℕ)) (image : List ℕ) → AllTold run.answers → LeavesSome bytes_of records (added run.answers) image → Left bytes_of records run sink sink image
   left_some records run sink image says leaves = record {
     leaves = leaves;
     holds = λ n wrote. let none : length (added (take n run.answers)) ≤ 0 = added_none n run.answers says (wrote_none (length (texts (take n run.answers))) sink wrote) in omega (arith, none);
@@ -47,7 +51,7 @@ module _ {R : Type 0} (bytes_of : R → List ℕ) where
     reads = reads ∙ ap (λ rs. Good (map bytes_of (records ++ rs))) (sym (take-append_seam first others));
   }
 
-  leaves_behind : (records first others : List R) (image : List ℕ) (leaves : LeavesSome bytes_of (records ++ first) others image) → LeavesSome bytes_of records (first ++ others) image
+  pub leaves_behind : (records first others : List R) (image : List ℕ) (leaves : LeavesSome bytes_of (records ++ first) others image) → LeavesSome bytes_of records (first ++ others) image
   leaves_behind records first others image leaves = record {
     count = length first + leaves.count;
     within = omega (arith, leaves.within, length-append first others);
@@ -92,7 +96,7 @@ module _ {R : Type 0} (bytes_of : R → List ℕ) where
       }
 
   -- a part of an answer was written, whose records stand
-  pub left_part : (answer : Answer R) (records : List R) (run : Run R) (old new : Option (List ℕ)) (image : List ℕ) → AllSay run.answers → TookSome answer.text old new → records_of image ≡ Good (map bytes_of (records ++ answer.records))
+  pub left_part : (answer : Answer R) (records : List R) (run : Run R) (old new : Option (List ℕ)) (image : List ℕ) → AllTold run.answers → TookSome answer.text old new → records_of image ≡ Good (map bytes_of (records ++ answer.records))
       → Left bytes_of records (onto (answer ∷ []) run) old new image
   unfolding leaves_all
   left_part answer records run old new image says took reads = record {
@@ -126,7 +130,7 @@ module _ {R : Type 0} (bytes_of : R → List ℕ) where
     }
 
     -- a fault before anything was done
-    pub exits_fault : (status : Status) (run : Run R) (sink : Option (List ℕ)) → is_fault status ≡ true → AllSay run.answers → ((image : List ℕ) → images image → LeavesSome bytes_of records (added run.answers) image) → Exits bytes_of Stands images records run status sink sink
+    pub exits_fault : (status : Status) (run : Run R) (sink : Option (List ℕ)) → is_fault status ≡ true → AllTold run.answers → ((image : List ℕ) → images image → LeavesSome bytes_of records (added run.answers) image) → Exits bytes_of Stands images records run status sink sink
     exits_fault status run sink fault says leaves = record {
       follows = follows_fault status run sink fault;
       left = λ image is. left_some records run sink image says (leaves image is);
@@ -168,15 +172,11 @@ module _ {R : Type 0} (bytes_of : R → List ℕ) where
     leaves_answered number None rest image leaves = leaves
     leaves_answered number (Some answer) rest image leaves = leaves_onto records answer.records (added (rest answer.records).answers) image leaves
 
-    says_answered : (number : ℕ) (meant : Option (Answer R)) (rest : List R → Run R) → ((answer : Answer R) → meant ≡ Some answer → 0 < length answer.text) → ((new : List R) → AllSay (rest new).answers) → AllSay (answered number meant rest).answers
-    says_answered number None rest says others = tt
-    says_answered number (Some answer) rest says others = (let p : 1 ≤ length answer.text = omega (arith, says answer refl) in p, others answer.records)
-
     -- the disk failed, or memory ran out
-    pub ends_fault : (number : ℕ) (meant : Option (Answer R)) (status : Status) (sink : Option (List ℕ)) → is_fault status ≡ true → ((answer : Answer R) → meant ≡ Some answer → 0 < length answer.text)
+    pub ends_fault : (number : ℕ) (meant : Option (Answer R)) (status : Status) (sink : Option (List ℕ)) → is_fault status ≡ true → ((answer : Answer R) → meant ≡ Some answer → IsTold answer)
         → ((image : List ℕ) → images image → LeavesSome bytes_of records (records_in meant) image) → EndsAt bytes_of Stands images records number meant status sink sink
     ends_fault number meant status sink fault says leaves rest others =
-        exits_fault status (answered number meant rest) sink fault (says_answered number meant rest says others) (λ image is. leaves_answered number meant rest image (leaves image is))
+        exits_fault status (answered number meant rest) sink fault (answered_says number meant rest says others) (λ image is. leaves_answered number meant rest image (leaves image is))
 
     -- the answer wasn't written whole
     pub ends_part : (number : ℕ) (meant : Option (Answer R)) (text : List ℕ) (status : Status) (old new : Option (List ℕ)) → is_fault status ≡ true → AnswersSo meant records text Stands → TookSome text old new
@@ -192,19 +192,20 @@ module _ {R : Type 0} (bytes_of : R → List ℕ) where
         })
 
     -- ---- in the loop
-    module _ (step : List R → ℕ → List ℕ → Option (Answer R)) (says : (rs : List R) (number : ℕ) (item : List ℕ) (answer : Answer R) → step rs number item ≡ Some answer → 0 < length answer.text) where
+    module _ {N : Type 0} (step : N → List R → ℕ → List ℕ → Option (Answer R)) (noted : N → List R → List ℕ → N) (notes : N)
+        (says : (ns : N) (rs : List R) (number : ℕ) (item : List ℕ) (answer : Answer R) → step ns rs number item ≡ Some answer → IsTold answer) where
       -- a reader refuses the next item
       pub exits_reading : (status : Status) (ahead : Option Items) (sink : Option (List ℕ)) → EndsReading status ahead → Stands records → ((image : List ℕ) → images image → records_of image ≡ Good (map bytes_of records))
-          → ExitsTold bytes_of Stands images records (runs step records ahead) status sink sink
+          → ExitsTold bytes_of Stands images records (noting_runs step noted notes records ahead) status sink sink
       exits_reading status None sink ends stands kept = tt
       exits_reading (statuses.BadInput number) (Some items) sink ends stands kept =
-          subst (λ i. Exits bytes_of Stands images records (run_from step records i) (statuses.BadInput number) sink sink) (sym ends) (exits_end (statuses.BadInput number) sink refl stands kept)
+          subst (λ i. Exits bytes_of Stands images records (run_from step noted notes records i) (statuses.BadInput number) sink sink) (sym ends) (exits_end (statuses.BadInput number) sink refl stands kept)
       exits_reading statuses.InputTooLong (Some items) sink ends stands kept =
-          subst (λ i. Exits bytes_of Stands images records (run_from step records i) statuses.InputTooLong sink sink) (sym ends) (exits_end statuses.InputTooLong sink refl stands kept)
+          subst (λ i. Exits bytes_of Stands images records (run_from step noted notes records i) statuses.InputTooLong sink sink) (sym ends) (exits_end statuses.InputTooLong sink refl stands kept)
       exits_reading statuses.ReadFault (Some items) sink ends stands kept =
-          exits_fault statuses.ReadFault (run_from step records items) sink refl (run_says step says records items) (λ image is. leaves_old records (added (run_from step records items).answers) image (kept image is))
+          exits_fault statuses.ReadFault (run_from step noted notes records items) sink refl (run_says step noted says notes records items) (λ image is. leaves_old records (added (run_from step noted notes records items).answers) image (kept image is))
       exits_reading statuses.NoMemory (Some items) sink ends stands kept =
-          exits_fault statuses.NoMemory (run_from step records items) sink refl (run_says step says records items) (λ image is. leaves_old records (added (run_from step records items).answers) image (kept image is))
+          exits_fault statuses.NoMemory (run_from step noted notes records items) sink refl (run_says step noted says notes records items) (λ image is. leaves_old records (added (run_from step noted notes records items).answers) image (kept image is))
       exits_reading statuses.Done (Some items) sink ends stands kept = absurd ends
       exits_reading statuses.BadWords (Some items) sink ends stands kept = absurd ends
       exits_reading statuses.WriteFault (Some items) sink ends stands kept = absurd ends
@@ -213,7 +214,7 @@ module _ {R : Type 0} (bytes_of : R → List ℕ) where
 
       -- memory ran out before the first item
       pub exits_first : (ahead : Option Items) (sink : Option (List ℕ)) → Stands records → ((image : List ℕ) → images image → records_of image ≡ Good (map bytes_of records))
-          → ExitsTold bytes_of Stands images records (runs step records ahead) statuses.NoMemory sink sink
+          → ExitsTold bytes_of Stands images records (noting_runs step noted notes records ahead) statuses.NoMemory sink sink
       exits_first ahead sink stands kept = exits_reading statuses.NoMemory ahead sink (no_reading ahead) stands kept
         where
           no_reading : (ahead : Option Items) → EndsReading statuses.NoMemory ahead
@@ -221,17 +222,17 @@ module _ {R : Type 0} (bytes_of : R → List ℕ) where
 
       -- the input ends
       pub exits_over : (ahead : Option Items) (sink : Option (List ℕ)) → (Rattle.std.specs.Prelude.IfSome ahead (λ items. items ≡ Over)) → Stands records → ((image : List ℕ) → images image → records_of image ≡ Good (map bytes_of records))
-          → ExitsTold bytes_of Stands images records (runs step records ahead) statuses.Done sink sink
+          → ExitsTold bytes_of Stands images records (noting_runs step noted notes records ahead) statuses.Done sink sink
       exits_over None sink over stands kept = tt
       exits_over (Some items) sink over stands kept =
-          subst (λ i. Exits bytes_of Stands images records (run_from step records i) statuses.Done sink sink) (sym over) (exits_end statuses.Done sink refl stands kept)
+          subst (λ i. Exits bytes_of Stands images records (run_from step noted notes records i) statuses.Done sink sink) (sym over) (exits_end statuses.Done sink refl stands kept)
 
       -- a run that ends at an item
-      pub exits_item : (number : ℕ) (item : List ℕ) (status : Status) (ahead rest : Option Items) (old new : Option (List ℕ)) → ahead ≡ option_map (Next number item) rest → EndsAt bytes_of Stands images records number (step records number item) status old new
-          → ExitsTold bytes_of Stands images records (runs step records ahead) status old new
+      pub exits_item : (number : ℕ) (item : List ℕ) (status : Status) (ahead rest : Option Items) (old new : Option (List ℕ)) → ahead ≡ option_map (Next number item) rest → EndsAt bytes_of Stands images records number (step notes records number item) status old new
+          → ExitsTold bytes_of Stands images records (noting_runs step noted notes records ahead) status old new
       exits_item number item status ahead rest old new e ends =
-          subst (λ m. ExitsTold bytes_of Stands images records m status old new) (sym (runs_item step records number item ahead rest e)) (told rest)
+          subst (λ m. ExitsTold bytes_of Stands images records m status old new) (sym (runs_item step noted notes records number item ahead rest e)) (told rest)
         where
-          told : (r : Option Items) → ExitsTold bytes_of Stands images records (option_map (λ rest. answered number (step records number item) (λ more. run_from step (records ++ more) rest)) r) status old new
+          told : (r : Option Items) → ExitsTold bytes_of Stands images records (option_map (λ rest. answered number (step notes records number item) (λ more. run_from step noted (noted notes records item) (records ++ more) rest)) r) status old new
           told None = tt
-          told (Some r) = ends (λ more. run_from step (records ++ more) r) (λ more. run_says step says (records ++ more) r)
+          told (Some r) = ends (λ more. run_from step noted (noted notes records item) (records ++ more) r) (λ more. run_says step noted says (noted notes records item) (records ++ more) r)

@@ -4,6 +4,7 @@ pub mod Items
 pub mod Runs
 pub mod Exits
 pub mod Nodes
+pub mod Recoverers
 pub mod Opened
 pub mod Shown
 pub mod Telling

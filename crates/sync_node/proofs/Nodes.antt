@@ -30,7 +30,7 @@ use Rattle.sync_node.specs.Frames.{frame}
 use Rattle.sync_node.specs.Holding.{ClientStands, ServerStands}
 use Rattle.sync_node.specs.Items.{Items, Over, Bad, Limit, Next}
 use Rattle.sync_node.specs.Opening.{IsOpenStatus}
-use Rattle.sync_node.specs.Runs.{Answer, AnswersSo, DiskHolds, ExitsTold, FollowsTold, Follows, IsNodeStatus, IsRunStatus, LeavesSome, Left, NodeExits, Run, added, answered, is_fault, run_from, runs}
+use Rattle.sync_node.specs.Runs.{Answer, AnswersSo, DiskHolds, ExitsTold, FollowsTold, Follows, IsNodeStatus, IsRunStatus, IsTold, LeavesSome, Left, NodeExits, Run, added, answered, is_fault, noting_runs, run_from}
 use Rattle.sync_node.specs.Steps.{AreAll, Declined, IsValid, answer_words, replied, said}
 use Rattle.sync_node.specs.Texts.{IsDoneOrNoMemory}
 use Rattle.sync_node.specs.declared.command.ItemEnd.{ItemEnd}
@@ -141,16 +141,16 @@ module _ {D R : Type 0} (content : D → Option (List ℕ)) (images : D → List
   }
 
   -- it wasn't
-  module _ (step : List R → ℕ → List ℕ → Option (Answer R)) (says : (rs : List R) (number : ℕ) (item : List ℕ) (answer : Answer R) → step rs number item ≡ Some answer → 0 < length answer.text) where
+  module _ {N : Type 0} (step : N → List R → ℕ → List ℕ → Option (Answer R)) (noted : N → List R → List ℕ → N) (notes : N) (says : (ns : N) (rs : List R) (number : ℕ) (item : List ℕ) (answer : Answer R) → step ns rs number item ≡ Some answer → IsTold answer) where
     pub unopened_exits : (first last : D) (records : List R) (ahead : Option Items) (status : Status) (sink : Option (List ℕ)) → is_fault status ≡ true
         → (((image : List ℕ) → images first image → records_of image ≡ Good (map bytes_of records)) → (image : List ℕ) → images last image → records_of image ≡ Good (map bytes_of records))
-        → NodeExits content images bytes_of first records (runs step records ahead) status last sink sink
+        → NodeExits content images bytes_of first records (noting_runs step noted notes records ahead) status last sink sink
     unopened_exits first last records None status sink fault kept = record { follows = tt; stored = λ fine. tt; left = λ before. tt }
     unopened_exits first last records (Some items) status sink fault kept = record {
-      follows = follows_fault status (run_from step records items) sink fault;
+      follows = follows_fault status (run_from step noted notes records items) sink fault;
       stored = λ fine. absurd (let e : true ≡ false = sym fault ∙ fine in cc);
       left = λ before image is.
-          left_some bytes_of records (run_from step records items) sink image (run_says step says records items) (leaves_old bytes_of records (added (run_from step records items).answers) image (kept before image is));
+          left_some bytes_of records (run_from step noted notes records items) sink image (run_says step noted says notes records items) (leaves_old bytes_of records (added (run_from step noted notes records items).answers) image (kept before image is));
     }
 
 -- ---- over a disk that was lent
@@ -220,12 +220,14 @@ goes_on : {R : Type 0} (number : ℕ) (meant : Option (Answer R)) (rest : List R
 goes_on number None rest goes done = absurd goes
 goes_on number (Some answer) rest goes done = done answer.records
 
-module _ {R : Type 0} (step : List R → ℕ → List ℕ → Option (Answer R)) (is_one : List ℕ → Bool) (goes : (records : List R) (number : ℕ) (item : List ℕ) → is_one item ≡ true → Goes (step records number item)) where
-  valid_done : (records : List R) (items : Items) → AreAll is_one items → (run_from step records items).status ≡ statuses.Done
-  valid_done records Over all = refl
-  valid_done records (Bad number) all = absurd all
-  valid_done records Limit all = absurd all
-  valid_done records (Next number item rest) all = goes_on number (step records number item) (λ new. run_from step (records ++ new) rest) (goes records number item all.0) (λ new. valid_done (records ++ new) rest all.1)
+module _ {N R : Type 0} (step : N → List R → ℕ → List ℕ → Option (Answer R)) (noted : N → List R → List ℕ → N) (is_one : List ℕ → Bool)
+    (goes : (notes : N) (records : List R) (number : ℕ) (item : List ℕ) → is_one item ≡ true → Goes (step notes records number item)) where
+  valid_done : (notes : N) (records : List R) (items : Items) → AreAll is_one items → (run_from step noted notes records items).status ≡ statuses.Done
+  valid_done notes records Over all = refl
+  valid_done notes records (Bad number) all = absurd all
+  valid_done notes records Limit all = absurd all
+  valid_done notes records (Next number item rest) all =
+      goes_on number (step notes records number item) (λ new. run_from step noted (noted notes records item) (records ++ new) rest) (goes notes records number item all.0) (λ new. valid_done (noted notes records item) (records ++ new) rest all.1)
 
   done_or : (status : Status) (run : Run R) (old new : Option (List ℕ)) → Follows status run old new → run.status ≡ statuses.Done → IsNodeStatus status
       → (status ≡ statuses.ReadFault → ⊥) → (status ≡ statuses.WriteFault → ⊥) → (status ≡ statuses.DiskFault → ⊥) → ((place : ℕ) → status ≡ statuses.BadFile place → ⊥) → IsDoneOrNoMemory status
@@ -239,7 +241,7 @@ module _ {R : Type 0} (step : List R → ℕ → List ℕ → Option (Answer R))
   done_or (statuses.BadFile place) run old new follows meant only read write disk bad = absurd (bad place refl)
   done_or statuses.InputTooLong run old new follows meant only read write disk bad = let e = follows.0 ∙ meant in cc
 
-  pub complete : (status : Status) (records : List R) (ahead : Option Items) (old new : Option (List ℕ)) → FollowsTold status (runs step records ahead) old new → IsValid is_one ahead → IsNodeStatus status
+  pub complete : (status : Status) (notes : N) (records : List R) (ahead : Option Items) (old new : Option (List ℕ)) → FollowsTold status (noting_runs step noted notes records ahead) old new → IsValid is_one ahead → IsNodeStatus status
       → (status ≡ statuses.ReadFault → ⊥) → (status ≡ statuses.WriteFault → ⊥) → (status ≡ statuses.DiskFault → ⊥) → ((place : ℕ) → status ≡ statuses.BadFile place → ⊥) → IsDoneOrNoMemory status
-  complete status records None old new follows valid only read write disk bad = absurd valid
-  complete status records (Some items) old new follows valid only read write disk bad = done_or status (run_from step records items) old new follows (valid_done records items valid) only read write disk bad
+  complete status notes records None old new follows valid only read write disk bad = absurd valid
+  complete status notes records (Some items) old new follows valid only read write disk bad = done_or status (run_from step noted notes records items) old new follows (valid_done notes records items valid) only read write disk bad

@@ -1,5 +1,5 @@
 -- How the parts of a run make the whole: what is written, and what is added.
-use Rattle.std.proofs.Common.{◌≡◌, ℕ, zero, suc, ◌+◌, ◌<◌, ◌≤◌, true, false, List, [], ◌∷◌, ◌++◌, length, take, min, Option, None, Some, refl, sym, ap, subst, ◌∙◌, append_assoc, append-nil, arith, length-append}
+use Rattle.std.proofs.Common.{◌≡◌, ℕ, zero, suc, ◌+◌, ◌<◌, ◌≤◌, true, false, List, [], ◌∷◌, ◌++◌, length, take, min, Option, None, Some, inl, inr, refl, sym, ap, subst, ◌∙◌, append_assoc, append-nil, arith, length-append}
 use Rattle.std.proofs.lemmas.List.{take_min, take-append-le, length-take-le}
 use Rattle.std.proofs.Math.Seq.{take-append-add, take-length}
 use Rattle.std.specs.Bool.{MatchBool}
@@ -11,7 +11,7 @@ use Rattle.sync_io.specs.declared.sink.SinkRefusal.{SinkRefusal}
 use Rattle.sync_io.specs.declared.sink.SinkRefusal.TheVariants as sinks
 use Rattle.sync_node.specs.Texts.{write_status}
 use Rattle.sync_node.specs.Items.{Items, Over, Bad, Limit, Next}
-use Rattle.sync_node.specs.Runs.{AllSay, Answer, Follows, Run, WroteAtLeast, added, answered, ended, is_fault, onto, run_from, runs, texts}
+use Rattle.sync_node.specs.Runs.{AllTold, Answer, Follows, IsTold, Run, WroteAtLeast, added, answered, ended, is_fault, noting_runs, onto, run_from, texts}
 
 -- ---- sinks
 pub took_none : (sink : Option (List ℕ)) → Took [] sink sink
@@ -58,13 +58,17 @@ module _ {R : Type 0} where
   added_append (x ∷ xs) ys = ap (λ t. x.records ++ t) (added_append xs ys) ∙ sym (append_assoc x.records (added xs) (added ys))
 
   -- where nothing was said, nothing was added
-  pub added_none : (n : ℕ) (answers : List (Answer R)) → AllSay answers → length (texts (take n answers)) ≤ 0 → length (added (take n answers)) ≤ 0
+  pub added_none : (n : ℕ) (answers : List (Answer R)) → AllTold answers → length (texts (take n answers)) ≤ 0 → length (added (take n answers)) ≤ 0
   added_none zero answers says short = omega arith
   added_none (suc n) [] says short = omega arith
   added_none (suc n) (a ∷ answers) says short =
       let long : length (a.text ++ texts (take n answers)) ≡ length a.text + length (texts (take n answers)) = length-append a.text (texts (take n answers)) in
-      let none : 1 ≤ 0 = omega (arith, long, short, says.0) in
-      absurd (omega (arith, none))
+      elim says.0 [
+        | inl few ↦
+            let rest : length (added (take n answers)) ≤ 0 = added_none n answers says.1 (omega (arith, long, short)) in
+            omega (arith, few, rest, length-append a.records (added (take n answers)))
+        | inr one ↦ let none : 1 ≤ 0 = omega (arith, long, short, one) in absurd (omega (arith, none))
+      ]
 
   pub onto_onto : (xs ys : List (Answer R)) (run : Run R) → onto xs (onto ys run) ≡ onto (xs ++ ys) run
   onto_onto xs ys run = λ i. record { answers = sym (append_assoc xs ys run.answers) i; status = run.status }
@@ -73,29 +77,9 @@ module _ {R : Type 0} where
   onto_twice xs ys None = refl
   onto_twice xs ys (Some run) = ap Some (onto_onto xs ys run)
 
-  answered_says : (number : ℕ) (meant : Option (Answer R)) (rest : List R → Run R) → ((answer : Answer R) → meant ≡ Some answer → 0 < length answer.text) → ((new : List R) → AllSay (rest new).answers) → AllSay (answered number meant rest).answers
+  pub answered_says : (number : ℕ) (meant : Option (Answer R)) (rest : List R → Run R) → ((answer : Answer R) → meant ≡ Some answer → IsTold answer) → ((new : List R) → AllTold (rest new).answers) → AllTold (answered number meant rest).answers
   answered_says number None rest says others = tt
-  answered_says number (Some answer) rest says others = (let p : 1 ≤ length answer.text = omega (arith, says answer refl) in p, others answer.records)
-
-  module _ (step : List R → ℕ → List ℕ → Option (Answer R)) (says : (records : List R) (number : ℕ) (item : List ℕ) (answer : Answer R) → step records number item ≡ Some answer → 0 < length answer.text) where
-    -- no answer of a run is empty
-    pub run_says : (records : List R) (items : Items) → AllSay (run_from step records items).answers
-    run_says records Over = tt
-    run_says records (Bad number) = tt
-    run_says records Limit = tt
-    run_says records (Next number item rest) = answered_says number (step records number item) (λ new. run_from step (records ++ new) rest) (says records number item) (λ new. run_says (records ++ new) rest)
-
-  -- a run at an item
-  pub runs_item : (step : List R → ℕ → List ℕ → Option (Answer R)) (records : List R) (number : ℕ) (item : List ℕ) (old new : Option Items) → old ≡ option_map (Next number item) new
-      → runs step records old ≡ option_map (λ rest. answered number (step records number item) (λ more. run_from step (records ++ more) rest)) new
-  runs_item step records number item old None e = ap (runs step records) e
-  runs_item step records number item old (Some rest) e = ap (runs step records) e
-
-  -- the answer of an item goes behind those so far
-  pub runs_answered : (step : List R → ℕ → List ℕ → Option (Answer R)) (records : List R) (number : ℕ) (item : List ℕ) (old new : Option Items) (answer : Answer R) → old ≡ option_map (Next number item) new → step records number item ≡ Some answer
-      → runs step records old ≡ option_map (onto (answer ∷ [])) (runs step (records ++ answer.records) new)
-  runs_answered step records number item old None answer e is = ap (runs step records) e
-  runs_answered step records number item old (Some rest) answer e is = ap (runs step records) e ∙ ap (λ a. Some (answered number a (λ more. run_from step (records ++ more) rest))) is
+  answered_says number (Some answer) rest says others = (says answer refl, others answer.records)
 
   -- ---- one answer more
   texts_one : (answers : List (Answer R)) (answer : Answer R) → texts (answers ++ answer ∷ []) ≡ texts answers ++ answer.text
@@ -107,14 +91,6 @@ module _ {R : Type 0} where
   pub added_one : (records : List R) (answers : List (Answer R)) (answer : Answer R) → (records ++ added answers) ++ answer.records ≡ records ++ added (answers ++ answer ∷ [])
   added_one records answers answer =
       append_assoc records (added answers) answer.records ∙ ap (λ rs. records ++ (added answers ++ rs)) (sym (append-nil answer.records)) ∙ ap (λ rs. records ++ rs) (sym (added_append answers (answer ∷ [])))
-
-  pub runs_one : (step : List R → ℕ → List ℕ → Option (Answer R)) (records : List R) (answers : List (Answer R)) (meant : Option (Run R)) (number : ℕ) (item : List ℕ) (old new : Option Items) (answer : Answer R)
-      → meant ≡ option_map (onto answers) (runs step (records ++ added answers) old) → old ≡ option_map (Next number item) new → step (records ++ added answers) number item ≡ Some answer
-      → meant ≡ option_map (onto (answers ++ answer ∷ [])) (runs step (records ++ added (answers ++ answer ∷ [])) new)
-  runs_one step records answers meant number item old new answer so_far read is =
-      so_far ∙ ap (option_map (onto answers)) (runs_answered step (records ++ added answers) number item old new answer read is)
-      ∙ onto_twice answers (answer ∷ []) (runs step ((records ++ added answers) ++ answer.records) new)
-      ∙ ap (λ rs. option_map (onto (answers ++ answer ∷ [])) (runs step rs new)) (added_one records answers answer)
 
   -- ---- what follows of it
   -- nothing was written
@@ -153,6 +129,43 @@ module _ {R : Type 0} where
   follows_cut status fault run old mid new is same follows =
       subst (λ n. Follows fault run old n) (sym same)
       (subst (λ b. MatchBool b (TookSome (texts run.answers) old mid) ((fault ≡ run.status) × Took (texts run.answers) old mid)) (sym is) (follows_some status run old mid follows))
+
+-- ---- a run of a command that keeps notes
+module _ {N R : Type 0} (step : N → List R → ℕ → List ℕ → Option (Answer R)) (noted : N → List R → List ℕ → N) where
+  -- no answer of a run is empty but those that add no record
+  pub run_says : ((notes : N) (records : List R) (number : ℕ) (item : List ℕ) (answer : Answer R) → step notes records number item ≡ Some answer → IsTold answer) → (notes : N) (records : List R) (items : Items) → AllTold (run_from step noted notes records items).answers
+  run_says says notes records Over = tt
+  run_says says notes records (Bad number) = tt
+  run_says says notes records Limit = tt
+  run_says says notes records (Next number item rest) = answered_says number (step notes records number item) (λ new. run_from step noted (noted notes records item) (records ++ new) rest) (says notes records number item) (λ new. run_says says (noted notes records item) (records ++ new) rest)
+
+  -- a run at an item
+  pub runs_item : (notes : N) (records : List R) (number : ℕ) (item : List ℕ) (old new : Option Items) → old ≡ option_map (Next number item) new
+      → noting_runs step noted notes records old ≡ option_map (λ rest. answered number (step notes records number item) (λ more. run_from step noted (noted notes records item) (records ++ more) rest)) new
+  runs_item notes records number item old None e = ap (noting_runs step noted notes records) e
+  runs_item notes records number item old (Some rest) e = ap (noting_runs step noted notes records) e
+
+  -- the answer of an item goes behind those so far
+  pub runs_answered : (notes : N) (records : List R) (number : ℕ) (item : List ℕ) (old new : Option Items) (answer : Answer R) → old ≡ option_map (Next number item) new → step notes records number item ≡ Some answer
+      → noting_runs step noted notes records old ≡ option_map (onto (answer ∷ [])) (noting_runs step noted (noted notes records item) (records ++ answer.records) new)
+  runs_answered notes records number item old None answer e is = ap (noting_runs step noted notes records) e
+  runs_answered notes records number item old (Some rest) answer e is = ap (noting_runs step noted notes records) e ∙ ap (λ a. Some (answered number a (λ more. run_from step noted (noted notes records item) (records ++ more) rest))) is
+
+  pub nothing_yet : (notes : N) (records : List R) (items : Option Items) → noting_runs step noted notes records items ≡ option_map (onto []) (noting_runs step noted notes (records ++ []) items)
+  nothing_yet notes records items = ap (λ rs. noting_runs step noted notes rs items) (sym (append-nil records)) ∙ sym (onto_none (noting_runs step noted notes (records ++ []) items))
+    where
+      onto_none : (o : Option (Run R)) → option_map (onto []) o ≡ o
+      onto_none None = refl
+      onto_none (Some run) = refl
+
+  pub runs_one : (notes : N) (records : List R) (answers : List (Answer R)) (meant : Option (Run R)) (number : ℕ) (item : List ℕ) (old new : Option Items) (answer : Answer R)
+      → meant ≡ option_map (onto answers) (noting_runs step noted notes (records ++ added answers) old) → old ≡ option_map (Next number item) new → step notes (records ++ added answers) number item ≡ Some answer
+      → meant ≡ option_map (onto (answers ++ answer ∷ [])) (noting_runs step noted (noted notes (records ++ added answers) item) (records ++ added (answers ++ answer ∷ [])) new)
+  runs_one notes records answers meant number item old new answer so_far read is =
+      let after = noted notes (records ++ added answers) item in
+      so_far ∙ ap (option_map (onto answers)) (runs_answered notes (records ++ added answers) number item old new answer read is)
+      ∙ onto_twice answers (answer ∷ []) (noting_runs step noted after ((records ++ added answers) ++ answer.records) new)
+      ∙ ap (λ rs. option_map (onto (answers ++ answer ∷ [])) (noting_runs step noted after rs new)) (added_one records answers answer)
 
 -- nothing was left to be written
 pub follows_end : (R : Type 0) (status : Status) (sink : Option (List ℕ)) → is_fault status ≡ false → Follows {R = R} status (ended status) sink sink

@@ -1,13 +1,16 @@
 pub mod FrameItems
 pub mod Frames
+pub mod Heirs
 pub mod Holding
 pub mod Items
 pub mod Lent
 pub mod Opening
 pub mod Readers
+pub mod Recovering
 pub mod Runs
 pub mod Saying
 pub mod Sending
+pub mod ServerTexts
 pub mod Showing
 pub mod Steps
 pub mod Texts

@@ -1,5 +1,5 @@
 -- A run of a command over the items of an input: what is written, which records are added, and how the run ends.
-use Rattle.std.specs.Prelude.{◌≡◌, ℕ, ◌+◌, ◌≤◌, Bool, true, false, List, [], ◌∷◌, ◌++◌, length, take, map, Option, None, Some, IfSome}
+use Rattle.std.specs.Prelude.{◌≡◌, ℕ, ◌+◌, ◌≤◌, ◌⊎◌, ⊤, Bool, true, false, List, [], ◌∷◌, ◌++◌, length, take, map, Option, None, Some, IfSome}
 use Rattle.std.specs.Bool.{MatchBool}
 use Rattle.std.specs.Option.{option_map}
 use Rattle.sync_disk.specs.Disk.{Only}
@@ -45,17 +45,28 @@ module _ {R : Type 0} where
   answered number None rest = ended (statuses.BadInput number)
   answered number (Some answer) rest = onto (answer ∷ []) (rest answer.records)
 
-module _ {R : Type 0} (step : List R → ℕ → List ℕ → Option (Answer R)) where
-  -- a node of these records answers the items in their order
-  abbrev pub run_from : List R → Items → Run R
-  run_from records Over = ended statuses.Done
-  run_from records (Bad number) = ended (statuses.BadInput number)
-  run_from records Limit = ended statuses.InputTooLong
-  run_from records (Next number item rest) = answered number (step records number item) (λ new. run_from (records ++ new) rest)
+module _ {N R : Type 0} (step : N → List R → ℕ → List ℕ → Option (Answer R)) (noted : N → List R → List ℕ → N) where
+  -- a node of these records, with these notes of the items before, answers the items in their order
+  abbrev pub run_from : N → List R → Items → Run R
+  run_from notes records Over = ended statuses.Done
+  run_from notes records (Bad number) = ended (statuses.BadInput number)
+  run_from notes records Limit = ended statuses.InputTooLong
+  run_from notes records (Next number item rest) = answered number (step notes records number item) (λ new. run_from (noted notes records item) (records ++ new) rest)
 
   -- of a source that tells its bytes
-  abbrev pub runs : List R → Option Items → Option (Run R)
-  runs records items = option_map (run_from records) items
+  abbrev pub noting_runs : N → List R → Option Items → Option (Run R)
+  noting_runs notes records items = option_map (run_from notes records) items
+
+-- of a command that keeps no notes
+abbrev pub no_notes : {R : Type 0} → ⊤ → List R → List ℕ → ⊤
+no_notes notes records item = tt
+
+abbrev pub runs : {R : Type 0} → (List R → ℕ → List ℕ → Option (Answer R)) → List R → Option Items → Option (Run R)
+runs step records items = noting_runs (λ notes. step) no_notes tt records items
+
+-- a command has these records, whatever it noted
+abbrev pub StandsSo : {C N R : Type 0} → (C → N → List R → Type 0) → C → List R → Type 0
+StandsSo {N = N} Stands command records = (notes : N) × Stands command notes records
 
 -- ---- what a run that may be cut short does of it
 -- a fault, or want of memory
@@ -113,15 +124,18 @@ module _ {R : Type 0} where
     pub took : Took answer.text old new
     pub stands : Stands (records ++ answer.records)
 
-  -- no answer is empty
-  abbrev pub AllSay : List (Answer R) → Type 0
-  AllSay [] = Unit {0}
-  AllSay (a ∷ answers) = (1 ≤ length a.text) × AllSay answers
+  -- an answer that says nothing adds no record
+  abbrev pub IsTold : Answer R → Type 0
+  IsTold a = (length a.records ≤ 0) ⊎ (1 ≤ length a.text)
+
+  abbrev pub AllTold : List (Answer R) → Type 0
+  AllTold [] = Unit {0}
+  AllTold (a ∷ answers) = IsTold a × AllTold answers
 
   -- the run ends at an item, whatever follows
   abbrev pub EndsAt : (R → List ℕ) → (List R → Type 0) → (List ℕ → Type 0) → List R → ℕ → Option (Answer R) → Status → Option (List ℕ) → Option (List ℕ) → Type 0
   EndsAt bytes_of Stands images records number meant status old new =
-      (rest : List R → Run R) → ((new : List R) → AllSay (rest new).answers) → Exits bytes_of Stands images records (answered number meant rest) status old new
+      (rest : List R → Run R) → ((new : List R) → AllTold (rest new).answers) → Exits bytes_of Stands images records (answered number meant rest) status old new
 
 -- an item that is read ends a run by its own fault, that of a write or of the disk, or want of memory
 abbrev pub IsItemStatus : Status → Type 0

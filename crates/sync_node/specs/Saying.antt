@@ -1,6 +1,6 @@
--- No answer of a node is empty.
+-- No answer of a node is empty but one that adds no record.
 use Rattle.std.specs.Prelude.{◌≡◌, ℕ, ◌<◌, List, ◌∷◌, ◌++◌, codes, decimal, length, Option, None, Some}
-use Rattle.std.proofs.Common.{ap, arith, length-append}
+use Rattle.std.proofs.Common.{inr, ap, arith, length-append}
 use Rattle.std.specs.Option.{option_map}
 use Rattle.byteorder.specs.Endian.{big_bytes}
 use Rattle.sync_model.specs.Clients.{ClientRecord}
@@ -12,7 +12,7 @@ use Rattle.sync_edits.specs.declared.event.NodeLine.TheVariants as node_lines
 use Rattle.sync_world.specs.Messages.{message_read}
 use Rattle.sync_world.specs.Words.{outcome_line}
 use Rattle.sync_node.specs.Frames.{frame, framed}
-use Rattle.sync_node.specs.Runs.{Answer}
+use Rattle.sync_node.specs.Runs.{Answer, IsTold}
 use Rattle.sync_node.specs.Steps.{edit_step, line_answer, serve_step, take_answer, take_step}
 
 line_says : (number : ℕ) (words : List ℕ) → 0 < length (outcome_line number words)
@@ -22,10 +22,10 @@ abbrev text_length : {R : Type 0} → Option (Answer R) → ℕ
 text_length None = 0
 text_length (Some a) = length a.text
 
--- what isn't empty at any choice isn't empty
-mapped_says : {X R : Type 0} (f : X → Answer R) (x : Option X) (answer : Answer R) → ((y : X) → 0 < length (f y).text) → option_map f x ≡ Some answer → 0 < length answer.text
+-- what isn't empty at any choice is told
+mapped_says : {X R : Type 0} (f : X → Answer R) (x : Option X) (answer : Answer R) → ((y : X) → 0 < length (f y).text) → option_map f x ≡ Some answer → IsTold answer
 mapped_says f None answer says is = cc
-mapped_says f (Some y) answer says is = let same : length (f y).text ≡ length answer.text = ap text_length is in omega (arith, same, says y)
+mapped_says f (Some y) answer says is = let same : length (f y).text ≡ length answer.text = ap text_length is in inr (omega (arith, same, says y))
 
 node_line_says : (records : List ClientRecord) (number : ℕ) (line : NodeLine) → 0 < length (line_answer records number line).text
 node_line_says records number (node_lines.Born id) = line_says number _
@@ -33,10 +33,10 @@ node_line_says records number (node_lines.Commit ms edits) = line_says number _
 node_line_says records number node_lines.Upgrade = line_says number _
 node_line_says records number (node_lines.Subscribe tables) = line_says number _
 
-pub edit_says : (records : List ClientRecord) (number : ℕ) (item : List ℕ) (answer : Answer ClientRecord) → edit_step records number item ≡ Some answer → 0 < length answer.text
+pub edit_says : (records : List ClientRecord) (number : ℕ) (item : List ℕ) (answer : Answer ClientRecord) → edit_step records number item ≡ Some answer → IsTold answer
 edit_says records number item answer is = mapped_says (line_answer records number) (node_form_of_line item) answer (node_line_says records number) is
 
-pub take_says : (records : List ClientRecord) (number : ℕ) (item : List ℕ) (answer : Answer ClientRecord) → take_step records number item ≡ Some answer → 0 < length answer.text
+pub take_says : (records : List ClientRecord) (number : ℕ) (item : List ℕ) (answer : Answer ClientRecord) → take_step records number item ≡ Some answer → IsTold answer
 take_says records number item answer is = mapped_says (take_answer records number) (message_read item) answer (λ m. line_says number _) is
 
 framed_says : (tag : ℕ) (rest : List ℕ) → 0 < length (framed (tag ∷ rest))
@@ -55,5 +55,5 @@ frame_says (Message.Retire ident by) = framed_says 9 _
 frame_says (Message.Retired ident by number) = framed_says 10 _
 frame_says (Message.AskTables ident cursor settled second tables) = framed_says 11 _
 
-pub serve_says : (records : List ServerRecord) (number : ℕ) (item : List ℕ) (answer : Answer ServerRecord) → serve_step records number item ≡ Some answer → 0 < length answer.text
+pub serve_says : (records : List ServerRecord) (number : ℕ) (item : List ℕ) (answer : Answer ServerRecord) → serve_step records number item ≡ Some answer → IsTold answer
 serve_says records number item answer is = mapped_says _ (message_read item) answer (λ m. frame_says _) is

@@ -7,8 +7,9 @@ use Rattle.sync_model.specs.Servers.{ServerRecord}
 use Rattle.sync_exchange.specs.Profile.{the_profile}
 use Rattle.sync_exchange.specs.Seen.{read_client}
 use Rattle.sync_node.specs.Opening.{client_in, server_in}
-use Rattle.sync_node.specs.Steps.{kept_by}
-use Rattle.sync_world.specs.Reports.{kept_text, standing_text}
+use Rattle.sync_node.specs.ServerTexts.{text_of}
+use Rattle.sync_node.specs.declared.server_text.ServerText.TheVariants as texts
+use Rattle.sync_world.specs.Reports.{standing_text}
 
 -- ---- whose file it is
 abbrev pub is_birth : Option ClientRecord → Bool
@@ -53,7 +54,7 @@ abbrev pub client_shown : List ClientRecord → List ℕ
 client_shown records = codes "client" ++ standing_text (client_of the_profile records).ident (client_of the_profile records).cursor (length (client_of the_profile records).unsent) (client_of the_profile records).objects
 
 abbrev pub server_shown : List ServerRecord → List ℕ
-server_shown records = kept_text (kept_by records)
+server_shown records = text_of texts.Report records
 
 abbrev pub shown : NodeRecords → List ℕ
 shown (OfClient records) = client_shown records

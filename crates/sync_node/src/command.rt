@@ -1,9 +1,9 @@
-ghost use Rattle.std.specs.Prelude.{◌≡◌, ℕ, ◌<◌, ◌≤◌, List, ◌++◌, length, map, Option, Some, None, Err, IfOk};
+ghost use Rattle.std.specs.Prelude.{◌≡◌, ℕ, ◌≤◌, List, ◌++◌, map, Option, Some, None, Err, IfOk};
 ghost use Rattle.sync_disk.specs.Disk.{Rose};
 ghost use Rattle.sync_disk.specs.Origin.{Origin};
 ghost use Rattle.sync_journal.specs.Records.{records_of};
 ghost use Rattle.sync_journal.specs.Records.Reading.{Good};
-ghost use Rattle.sync_node.specs.Runs.{Answer, AnswersSo, LeavesSome, records_in};
+ghost use Rattle.sync_node.specs.Runs.{Answer, AnswersSo, IsTold, LeavesSome, records_in};
 ghost use Rattle.sync_node.specs.declared.command.ItemEnd.{ItemEnd};
 
 /// Why a run ends at an item.
@@ -25,12 +25,18 @@ pub trait Command {
     /// The bytes of one.
     ghost bytes_of: { Record → List ℕ };
 
+    /// What is kept of the items before.
+    ghost Notes: { Type 0 };
+
+    /// What is kept behind an item, where these notes and records stood before it.
+    ghost noted: { Notes → List Record → List ℕ → Notes };
+
     /// What answers the item of this number where the node has these records, or None where the item is none of the
     /// command's.
-    ghost step: { List Record → ℕ → List ℕ → Option (Answer Record) };
+    ghost step: { Notes → List Record → ℕ → List ℕ → Option (Answer Record) };
 
-    /// The node has these records, and its disk holds them.
-    ghost Stands: { Self → List Record → Type 0 };
+    /// These notes are kept, the node has these records, and its disk holds them.
+    ghost Stands: { Self → Notes → List Record → Type 0 };
 
     /// What a crash at this moment may leave of the disk.
     ghost images: { Self → List ℕ → Type 0 };
@@ -44,24 +50,24 @@ pub trait Command {
     /// Answers the item of this number. What it answers is on the disk.
     fn answer(&mut self, number: u32, item: &[u8]) -> Result<Vec<u8>, ItemEnd>
         // The answer is the step's, and the disk holds the step's records too.
-        ensures done { (records : List Record) → Stands self.old records
-            → IfOk result (λ text. AnswersSo (step records number item.now) records text.items (Stands self.new)) }
+        ensures done { (notes : Notes) (records : List Record) → Stands self.old notes records
+            → IfOk result (λ text. AnswersSo (step notes records number item.now) records text.items (Stands self.new (noted notes records item.now))) }
         // An item that is none of the command's changes nothing.
-        ensures bad { (records : List Record) → Stands self.old records → result ≡ Err ItemEnd.BadItem
-            → (step records number item.now ≡ None) × Stands self.new records }
+        ensures bad { (notes : Notes) (records : List Record) → Stands self.old notes records → result ≡ Err ItemEnd.BadItem
+            → (step notes records number item.now ≡ None) × Stands self.new notes records }
         // Whatever is answered, a crash leaves the old records and some of the step's, from the first on.
-        ensures leaves { (records : List Record) → Stands self.old records → (image : List ℕ) → images self.new image
-            → LeavesSome bytes_of records (records_in (step records number item.now)) image }
+        ensures leaves { (notes : Notes) (records : List Record) → Stands self.old notes records → (image : List ℕ) → images self.new image
+            → LeavesSome bytes_of records (records_in (step notes records number item.now)) image }
         ensures same { origin self.new ≡ origin self.old }
         // A fault is the disk's.
         ensures later { faults self.old ≤ faults self.new }
         ensures cause { result ≡ Err ItemEnd.DiskFault → Rose (faults self.old) (faults self.new) };
 
     /// A crash leaves the records that the disk holds.
-    ghost keeps: { (command : Self) (records : List Record) (image : List ℕ) → Stands command records → images command image
+    ghost keeps: { (command : Self) (notes : Notes) (records : List Record) (image : List ℕ) → Stands command notes records → images command image
         → records_of image ≡ Good (map bytes_of records) };
 
-    /// No answer is empty.
-    ghost says: { (records : List Record) (number : ℕ) (item : List ℕ) (answer : Answer Record) → step records number item ≡ Some answer
-        → 0 < length answer.text };
+    /// An answer that says nothing adds no record.
+    ghost says: { (notes : Notes) (records : List Record) (number : ℕ) (item : List ℕ) (answer : Answer Record) → step notes records number item ≡ Some answer
+        → IsTold answer };
 }

@@ -1,5 +1,5 @@
 // A client over a file as the commands that feed it.
-ghost use Rattle.std.specs.Prelude.{◌≡◌, ◌<◌, ◌≤◌, ℕ, List, ◌++◌, length, map, None, Some, Err, IfOk};
+ghost use Rattle.std.specs.Prelude.{◌≡◌, ◌≤◌, ℕ, List, ◌++◌, ⊤, map, None, Some, Err, IfOk};
 ghost use Rattle.sync_disk.specs.Disk.{Rose};
 ghost use Rattle.sync_journal.specs.Records.{records_of};
 ghost use Rattle.sync_journal.specs.Records.Reading.{Good};
@@ -30,6 +30,7 @@ impl<D: Disk> Command for Editor<D> {
     ghost use Rattle.sync_model.specs.Clients.{ClientRecord};
     ghost use Rattle.sync_exchange.specs.Seen.{client_bytes};
     ghost use Rattle.sync_node.specs.Holding.{ClientStands, client_faults, client_images, client_keeps, client_origin};
+    ghost use Rattle.sync_node.specs.Runs.{no_notes};
     ghost use Rattle.sync_node.specs.Saying.{edit_says};
     ghost use Rattle.sync_node.specs.Steps.{edit_step};
 
@@ -37,9 +38,13 @@ impl<D: Disk> Command for Editor<D> {
 
     ghost bytes_of = { client_bytes };
 
-    ghost step = { edit_step };
+    ghost Notes = { ⊤ };
 
-    ghost Stands = { λ editor records. ClientStands records editor.client };
+    ghost noted = { no_notes };
+
+    ghost step = { λ notes. edit_step };
+
+    ghost Stands = { λ editor notes records. ClientStands records editor.client };
 
     ghost images = { λ editor. client_images editor.client };
 
@@ -47,9 +52,9 @@ impl<D: Disk> Command for Editor<D> {
 
     ghost origin = { λ editor. client_origin editor.client };
 
-    ghost keeps = { λ editor records image stands is. client_keeps editor.client records image stands is };
+    ghost keeps = { λ editor notes records image stands is. client_keeps editor.client records image stands is };
 
-    ghost says = { edit_says };
+    ghost says = { λ notes. edit_says };
 
     fn answer(&mut self, number: u32, item: &[u8]) -> Result<Vec<u8>, ItemEnd> {
         match node_line_of(self.alloc, item) {
@@ -64,6 +69,7 @@ impl<D: Disk> Command for Taker<D> {
     ghost use Rattle.sync_model.specs.Clients.{ClientRecord};
     ghost use Rattle.sync_exchange.specs.Seen.{client_bytes};
     ghost use Rattle.sync_node.specs.Holding.{ClientStands, client_faults, client_images, client_keeps, client_origin};
+    ghost use Rattle.sync_node.specs.Runs.{no_notes};
     ghost use Rattle.sync_node.specs.Saying.{take_says};
     ghost use Rattle.sync_node.specs.Steps.{take_step};
 
@@ -71,9 +77,13 @@ impl<D: Disk> Command for Taker<D> {
 
     ghost bytes_of = { client_bytes };
 
-    ghost step = { take_step };
+    ghost Notes = { ⊤ };
 
-    ghost Stands = { λ taker records. ClientStands records taker.client };
+    ghost noted = { no_notes };
+
+    ghost step = { λ notes. take_step };
+
+    ghost Stands = { λ taker notes records. ClientStands records taker.client };
 
     ghost images = { λ taker. client_images taker.client };
 
@@ -81,9 +91,9 @@ impl<D: Disk> Command for Taker<D> {
 
     ghost origin = { λ taker. client_origin taker.client };
 
-    ghost keeps = { λ taker records image stands is. client_keeps taker.client records image stands is };
+    ghost keeps = { λ taker notes records image stands is. client_keeps taker.client records image stands is };
 
-    ghost says = { take_says };
+    ghost says = { λ notes. take_says };
 
     fn answer(&mut self, number: u32, item: &[u8]) -> Result<Vec<u8>, ItemEnd> {
         match message_of(self.alloc, item) {

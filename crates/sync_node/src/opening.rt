@@ -1,4 +1,4 @@
-ghost use Rattle.std.specs.Prelude.{◌≡◌, ◌≤◌, ℕ, List, IfOk, IfErr, Some, Err};
+ghost use Rattle.std.specs.Prelude.{◌≡◌, ◌≤◌, ℕ, List, IfOk, IfErr, Some, Err, false};
 ghost use Rattle.sync_disk.specs.Disk.{LeavesOnly, Rose, Told};
 ghost use Rattle.sync_journal.specs.Records.{records_of};
 ghost use Rattle.sync_journal.specs.Records.Reading.{Good};
@@ -68,6 +68,7 @@ pub fn open_client<D: Disk>(alloc: Global, disk: D) -> Result<Client<D>, Ended<D
 pub fn open_server<D: Disk>(alloc: Global, disk: D) -> Result<Server<D>, Ended<D>>
     // The server of the records for which the content stands, or the place at which it is no journal of a server.
     ensures opened { Told (D.content disk) (λ b. IfOk result (OpenedServer D.content D.images b)) }
+    ensures open_ { IfOk result (λ server. servers.is_closed server ≡ false) }
     ensures bad_file { Told (D.content disk) (λ b. IfErr result (λ e. (place : ℕ) → e.status ≡ Status.BadFile place → server_file b ≡ Err place)) }
     ensures kept { Told (D.content disk) (λ b. IfErr result (λ e. (place : ℕ) → e.status ≡ Status.BadFile place → D.content e.disk ≡ Some b)) }
     ensures only { IfErr result (λ e. IsOpenStatus e.status) }

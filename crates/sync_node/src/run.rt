@@ -2,7 +2,7 @@ ghost use Rattle.std.specs.Prelude.{◌≡◌, ℕ, ◌≤◌, List, Err, IfErr,
 ghost use Rattle.sync_disk.specs.Disk.{Rose};
 ghost use Rattle.sync_io.specs.Faults.{HasRisen};
 ghost use Rattle.sync_node.specs.Items.{frames_of, lines_of};
-ghost use Rattle.sync_node.specs.Runs.{Answered, EndsAt, ExitsTold, IsItemStatus, IsRunStatus, runs};
+ghost use Rattle.sync_node.specs.Runs.{Answered, EndsAt, ExitsTold, IsItemStatus, IsRunStatus, StandsSo, noting_runs};
 
 use super::command::{Command, ItemEnd};
 use super::frames::Frames;
@@ -19,10 +19,10 @@ fn answer_item<K: Sink, C: Command>(
     command: &mut C,
     item: &Item,
 ) -> Result<(), Status>
-    ensures ok { (records : List C.Record) → C.Stands command.old records
-        → OnOk result (Answered (C.step records item.now.number item.now.bytes.items) records (C.Stands command.new) (K.taken sink.old) (K.taken sink.new)) }
-    ensures err { (records : List C.Record) → C.Stands command.old records
-        → IfErr result (λ status. EndsAt C.bytes_of (C.Stands command.new) (C.images command.new) records item.now.number (C.step records item.now.number item.now.bytes.items) status (K.taken sink.old) (K.taken sink.new)) }
+    ensures ok { (notes : C.Notes) (records : List C.Record) → C.Stands command.old notes records
+        → OnOk result (Answered (C.step notes records item.now.number item.now.bytes.items) records (C.Stands command.new (C.noted notes records item.now.bytes.items)) (K.taken sink.old) (K.taken sink.new)) }
+    ensures err { (notes : C.Notes) (records : List C.Record) → C.Stands command.old notes records
+        → IfErr result (λ status. EndsAt C.bytes_of (StandsSo C.Stands command.new) (C.images command.new) records item.now.number (C.step notes records item.now.number item.now.bytes.items) status (K.taken sink.old) (K.taken sink.new)) }
     ensures sink_faults { K.faults sink.old ≤ K.faults sink.new }
     ensures disk_faults { C.faults command.old ≤ C.faults command.new }
     ensures same { C.origin command.new ≡ C.origin command.old }
@@ -50,8 +50,8 @@ fn answer_items<S: Source, K: Sink, I: ItemReader, C: Command>(
     command: &mut C,
 ) -> Status
     requires { I.ready items.old }
-    ensures exits { (records : List C.Record) → C.Stands command.old records
-        → ExitsTold C.bytes_of (C.Stands command.new) (C.images command.new) records (runs C.step records (I.ahead items.old (S.left source.old))) result (K.taken sink.old) (K.taken sink.new) }
+    ensures exits { (notes : C.Notes) (records : List C.Record) → C.Stands command.old notes records
+        → ExitsTold C.bytes_of (StandsSo C.Stands command.new) (C.images command.new) records (noting_runs C.step C.noted notes records (I.ahead items.old (S.left source.old))) result (K.taken sink.old) (K.taken sink.new) }
     ensures source_faults { S.faults source.old ≤ S.faults source.new }
     ensures sink_faults { K.faults sink.old ≤ K.faults sink.new }
     ensures disk_faults { C.faults command.old ≤ C.faults command.new }
@@ -83,8 +83,8 @@ pub fn run_items<S: Source, K: Sink, I: ItemReader, C: Command>(
     command: &mut C,
 ) -> Status
     requires { I.ready items.old }
-    ensures exits { (records : List C.Record) → C.Stands command.old records
-        → ExitsTold C.bytes_of (C.Stands command.new) (C.images command.new) records (runs C.step records (I.ahead items.old (S.left source.old))) result (K.taken sink.old) (K.taken sink.new) }
+    ensures exits { (notes : C.Notes) (records : List C.Record) → C.Stands command.old notes records
+        → ExitsTold C.bytes_of (StandsSo C.Stands command.new) (C.images command.new) records (noting_runs C.step C.noted notes records (I.ahead items.old (S.left source.old))) result (K.taken sink.old) (K.taken sink.new) }
     ensures source_faults { S.faults source.old ≤ S.faults source.new }
     ensures sink_faults { K.faults sink.old ≤ K.faults sink.new }
     ensures disk_faults { C.faults command.old ≤ C.faults command.new }
@@ -108,8 +108,8 @@ pub(crate) fn run_lines<S: Source, K: Sink, C: Command>(
     sink: &mut K,
     command: &mut C,
 ) -> Status
-    ensures exits { (records : List C.Record) → C.Stands command.old records
-        → ExitsTold C.bytes_of (C.Stands command.new) (C.images command.new) records (runs C.step records (lines_of (S.left source.old))) result (K.taken sink.old) (K.taken sink.new) }
+    ensures exits { (notes : C.Notes) (records : List C.Record) → C.Stands command.old notes records
+        → ExitsTold C.bytes_of (StandsSo C.Stands command.new) (C.images command.new) records (noting_runs C.step C.noted notes records (lines_of (S.left source.old))) result (K.taken sink.old) (K.taken sink.new) }
     ensures source_faults { S.faults source.old ≤ S.faults source.new }
     ensures sink_faults { K.faults sink.old ≤ K.faults sink.new }
     ensures disk_faults { C.faults command.old ≤ C.faults command.new }
@@ -132,8 +132,8 @@ pub(crate) fn run_frames<S: Source, K: Sink, C: Command>(
     sink: &mut K,
     command: &mut C,
 ) -> Status
-    ensures exits { (records : List C.Record) → C.Stands command.old records
-        → ExitsTold C.bytes_of (C.Stands command.new) (C.images command.new) records (runs C.step records (frames_of (S.left source.old))) result (K.taken sink.old) (K.taken sink.new) }
+    ensures exits { (notes : C.Notes) (records : List C.Record) → C.Stands command.old notes records
+        → ExitsTold C.bytes_of (StandsSo C.Stands command.new) (C.images command.new) records (noting_runs C.step C.noted notes records (frames_of (S.left source.old))) result (K.taken sink.old) (K.taken sink.new) }
     ensures source_faults { S.faults source.old ≤ S.faults source.new }
     ensures sink_faults { K.faults sink.old ≤ K.faults sink.new }
     ensures disk_faults { C.faults command.old ≤ C.faults command.new }

@@ -8,14 +8,14 @@ ghost use Rattle.sync_model.specs.Clients as clients;
 ghost use Rattle.sync_model.specs.Servers as servers;
 ghost use Rattle.sync_exchange.specs.Seen.{client_seen, read_client};
 ghost use Rattle.sync_client.specs.Clients.{IsClientOf, journal_of as client_journal};
-ghost use Rattle.sync_server.specs.Serving.{IsServerOf, journal_of as server_journal};
 ghost use Rattle.sync_node.specs.Opening.{HoldsThose, IsOpenStatus, client_file, server_file};
 ghost use Rattle.sync_node.specs.Showing.{NodeRecords, client_shown, is_client_file, node_file, server_shown, shown, starts_born, is_birth};
 ghost use Rattle.sync_node.specs.Showing.NodeRecords.{OfClient, OfServer};
 ghost use Rattle.sync_node.specs.Texts.{IsDoneOrNoMemory, IsMade, IsTellStatus, IsTextStatus, TellsBad, Writes};
 
 use crate::lent::Lent;
-use crate::opening::{Ended, open_client, open_server, unopened};
+use crate::opening::{Ended, open_client, unopened};
+use crate::server_text::{ServerText, write_of_server};
 use crate::text::write_text;
 use std::alloc::Global;
 use sync_client::Client;
@@ -24,8 +24,7 @@ use sync_disk::Disk;
 use sync_io::{Sink, Status};
 use sync_journal::Journal;
 use sync_records::{ClientRecord, RecordRefusal};
-use sync_server::Server;
-use sync_world::{put, put_server, put_standing};
+use sync_world::{put, put_standing};
 
 /// The disk of a node's file, and whether it is a client's.
 #[derive(Drop)]
@@ -108,15 +107,6 @@ fn client_text<D: Disk>(alloc: Global, client: &Client<D>) -> Result<Vec<u8>, No
     Ok(out)
 }
 
-/// The server's part of the report.
-fn server_text<D: Disk>(alloc: Global, server: &Server<D>) -> Result<Vec<u8>, NoMemory>
-    ensures { (records : List servers.ServerRecord) → IsServerOf records server.now → IfOk result (λ text. text.items ≡ server_shown records) }
-{
-    let mut out = Vec::new(alloc);
-    put_server(alloc, &mut out, server)?;
-    Ok(out)
-}
-
 /// Shows a client, and hands its disk back.
 fn tell_client<K: Sink, D: Disk>(alloc: Global, sink: &mut K, client: Client<D>) -> Ended<D>
     ensures writes { (records : List clients.ClientRecord) → IsClientOf records client → Writes result.status (client_shown records) (K.taken sink.old) (K.taken sink.new) }
@@ -130,22 +120,6 @@ fn tell_client<K: Sink, D: Disk>(alloc: Global, sink: &mut K, client: Client<D>)
     Ended {
         status,
         disk: client.into_disk(),
-    }
-}
-
-/// Shows a server, and hands its disk back.
-fn tell_server<K: Sink, D: Disk>(alloc: Global, sink: &mut K, server: Server<D>) -> Ended<D>
-    ensures writes { (records : List servers.ServerRecord) → IsServerOf records server → Writes result.status (server_shown records) (K.taken sink.old) (K.taken sink.new) }
-    ensures disk { result.disk ≡ disk_of (server_journal server) }
-    ensures faults { K.faults sink.old ≤ K.faults sink.new }
-    ensures cause { result.status ≡ Status.WriteFault → HasRisen (K.faults sink.old) (K.faults sink.new) }
-    ensures only { IsTextStatus result.status }
-{
-    let text = server_text(alloc, &server);
-    let status = write_text(sink, text);
-    Ended {
-        status,
-        disk: server.into_disk(),
     }
 }
 
@@ -173,30 +147,6 @@ fn show_client<K: Sink, D: Disk>(alloc: Global, sink: &mut K, disk: D) -> Ended<
     }
 }
 
-/// Shows the server of a disk, and hands the disk back.
-fn show_server<K: Sink, D: Disk>(alloc: Global, sink: &mut K, disk: D) -> Ended<D>
-    ensures writes { Told (D.content disk) (λ b. (records : List servers.ServerRecord) → server_file b ≡ Ok records → Writes result.status (server_shown records) (K.taken sink.old) (K.taken sink.new)) }
-    ensures bad_file { Told (D.content disk) (λ b. (place : ℕ) → result.status ≡ Status.BadFile place → server_file b ≡ Err place) }
-    ensures bad_place { Told (D.content disk) (λ b. (place : ℕ) → server_file b ≡ Err place → TellsBad place result.status) }
-    ensures bad_unwritten { Told (D.content disk) (λ b. (place : ℕ) → server_file b ≡ Err place → K.taken sink.new ≡ K.taken sink.old) }
-    ensures bad_kept { Told (D.content disk) (λ b. (place : ℕ) → result.status ≡ Status.BadFile place → D.content result.disk ≡ Some b) }
-    ensures bad_untouched { (place : ℕ) → result.status ≡ Status.BadFile place → sink.new ≡ sink.old }
-    ensures kept { Told (D.content disk) (λ b. IsMade result.status → HoldsThose D.content D.images b result.disk) }
-    ensures any_moment { (records : List (List ℕ)) → Told (D.content disk) (λ b. ((c : List ℕ) → D.images disk c → records_of c ≡ Good records)
-        → LeavesOnly D.moment D.images_since disk result.disk (λ c. records_of c ≡ Good records)) }
-    ensures origin { D.origin result.disk ≡ D.origin disk }
-    ensures disk_faults { D.faults disk ≤ D.faults result.disk }
-    ensures sink_faults { K.faults sink.old ≤ K.faults sink.new }
-    ensures disk_cause { result.status ≡ Status.DiskFault → Rose (D.faults disk) (D.faults result.disk) }
-    ensures write_cause { result.status ≡ Status.WriteFault → HasRisen (K.faults sink.old) (K.faults sink.new) }
-    ensures only { IsTellStatus result.status }
-{
-    match open_server(alloc, disk) {
-        Ok(server) => tell_server(alloc, sink, server),
-        Err(ended) => ended,
-    }
-}
-
 /// Shows the node of a disk, whose file it is being known, and hands the disk back.
 fn show_sorted<K: Sink, D: Disk>(alloc: Global, sink: &mut K, sorted: Sorted<D>) -> Ended<D>
     ensures writes { Told (D.content sorted.disk) (λ b. sorted.is_client ≡ is_client_file b → (records : NodeRecords) → node_file b ≡ Ok records → Writes result.status (shown records) (K.taken sink.old) (K.taken sink.new)) }
@@ -218,7 +168,7 @@ fn show_sorted<K: Sink, D: Disk>(alloc: Global, sink: &mut K, sorted: Sorted<D>)
     if sorted.is_client {
         show_client(alloc, sink, sorted.disk)
     } else {
-        show_server(alloc, sink, sorted.disk)
+        write_of_server(alloc, sink, sorted.disk, ServerText::Report)
     }
 }
 

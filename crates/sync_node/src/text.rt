@@ -1,4 +1,4 @@
-ghost use Rattle.std.specs.Prelude.{◌≡◌, ◌≤◌, ℕ, List, IfOk, OnErr};
+ghost use Rattle.std.specs.Prelude.{◌≡◌, ◌≤◌, ℕ, List, IfErr, IfOk, OnErr};
 ghost use Rattle.sync_io.specs.Faults.{HasRisen};
 ghost use Rattle.sync_node.specs.Texts.{IsTextStatus, Writes, write_status};
 
@@ -19,6 +19,7 @@ pub fn write_status(refusal: SinkRefusal) -> Status
 /// Writes a text, if there was the memory to make it.
 fn write_made<K: Sink>(sink: &mut K, made: Result<Vec<u8>, NoMemory>) -> Status
     ensures writes { (text : List ℕ) → IfOk made (λ bytes. bytes.items ≡ text) → Writes result text (K.taken sink.old) (K.taken sink.new) }
+    ensures made { IfErr made (λ e. result ≡ Status.Done → ⊥) }
     ensures faults { K.faults sink.old ≤ K.faults sink.new }
     ensures cause { result ≡ Status.WriteFault → HasRisen (K.faults sink.old) (K.faults sink.new) }
     ensures only { IsTextStatus result }
@@ -36,6 +37,7 @@ fn write_made<K: Sink>(sink: &mut K, made: Result<Vec<u8>, NoMemory>) -> Status
 /// The same, and flushes the sink.
 pub(crate) fn write_text<K: Sink>(sink: &mut K, made: Result<Vec<u8>, NoMemory>) -> Status
     ensures writes { (text : List ℕ) → IfOk made (λ bytes. bytes.items ≡ text) → Writes result text (K.taken sink.old) (K.taken sink.new) }
+    ensures made { IfErr made (λ e. result ≡ Status.Done → ⊥) }
     ensures faults { K.faults sink.old ≤ K.faults sink.new }
     ensures cause { result ≡ Status.WriteFault → HasRisen (K.faults sink.old) (K.faults sink.new) }
     ensures only { IsTextStatus result }

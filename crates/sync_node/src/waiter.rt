@@ -1,5 +1,5 @@
 // A server over a file as the command that feeds it.
-ghost use Rattle.std.specs.Prelude.{◌≡◌, ◌<◌, ◌≤◌, ℕ, List, ◌++◌, length, map, None, Some, Err, IfOk};
+ghost use Rattle.std.specs.Prelude.{◌≡◌, ◌≤◌, ℕ, List, ◌++◌, ⊤, map, None, Some, Err, IfOk};
 ghost use Rattle.sync_disk.specs.Disk.{Rose};
 ghost use Rattle.sync_journal.specs.Records.{records_of};
 ghost use Rattle.sync_journal.specs.Records.Reading.{Good};
@@ -58,6 +58,7 @@ impl<D: Disk> Command for Waiter<D> {
     ghost use Rattle.sync_model.specs.Servers.{ServerRecord};
     ghost use Rattle.sync_exchange.specs.Seen.{server_bytes};
     ghost use Rattle.sync_node.specs.Holding.{ServerStands, server_faults, server_images, server_keeps, server_origin};
+    ghost use Rattle.sync_node.specs.Runs.{no_notes};
     ghost use Rattle.sync_node.specs.Saying.{serve_says};
     ghost use Rattle.sync_node.specs.Steps.{serve_step};
 
@@ -65,9 +66,13 @@ impl<D: Disk> Command for Waiter<D> {
 
     ghost bytes_of = { server_bytes };
 
-    ghost step = { serve_step };
+    ghost Notes = { ⊤ };
 
-    ghost Stands = { λ waiter records. ServerStands records waiter.server };
+    ghost noted = { no_notes };
+
+    ghost step = { λ notes. serve_step };
+
+    ghost Stands = { λ waiter notes records. ServerStands records waiter.server };
 
     ghost images = { λ waiter. server_images waiter.server };
 
@@ -75,9 +80,9 @@ impl<D: Disk> Command for Waiter<D> {
 
     ghost origin = { λ waiter. server_origin waiter.server };
 
-    ghost keeps = { λ waiter records image stands is. server_keeps waiter.server records image stands is };
+    ghost keeps = { λ waiter notes records image stands is. server_keeps waiter.server records image stands is };
 
-    ghost says = { serve_says };
+    ghost says = { λ notes. serve_says };
 
     fn answer(&mut self, _number: u32, item: &[u8]) -> Result<Vec<u8>, ItemEnd> {
         match message_of(self.alloc, item) {

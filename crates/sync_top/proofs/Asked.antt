@@ -24,7 +24,7 @@ module _ (o : Option Job) (words : List (List ℕ)) (exact : (job : Job) → (o 
 
   -- the number of a command over a file is one that it takes
   pub has_number : (job : Job) → o ≡ Some job → (command : FileCommand) → job ≡ jobs.File command → IsFileCommand command
-  has_number job is command same = (subst (λ j. AsksFor j words) same (is_asked job is)).2
+  has_number job is command same = (subst (λ j. AsksFor j words) same (is_asked job is)).4
 
   -- a generated exchange has few turns
   pub few_turns : (job : Job) → o ≡ Some job → (seed count : ℕ) → job ≡ jobs.Generate seed count → count ≤ most_turns
@@ -39,6 +39,9 @@ no_file_bad_words commands.Serve is = is
 no_file_bad_words commands.Show is = is
 no_file_bad_words (commands.Retire ident) is = is
 no_file_bad_words (commands.Rescue after) is = is
+no_file_bad_words commands.Recover is = is
+no_file_bad_words commands.Trim is = is
+no_file_bad_words (commands.Start id) is = is
 
 no_bad_words : (job : Job) → IsJobStatus job statuses.BadWords → ⊥
 no_bad_words jobs.Replay is = is

@@ -9,11 +9,12 @@ use Rattle.std.proofs.lemmas.Bool.Decides.{nat_tests}
 use Rattle.std.proofs.lemmas.Slice.Eq.{bytes_eq-Decides}
 use Rattle.std.specs.Int.{IsInRange}
 use Rattle.std.specs.Str.{bytes_eq}
+use Rattle.uuid.specs.Text.{parsed}
 use Rattle.sync_top.specs.declared.job.Job.{Job}
 use Rattle.sync_top.specs.declared.job.Job.TheVariants as jobs
 use Rattle.sync_top.specs.declared.job.FileCommand.{FileCommand}
 use Rattle.sync_top.specs.declared.job.FileCommand.TheVariants as commands
-use Rattle.sync_top.specs.Jobs.{AsksFor, IsExchange, IsFileCommand, IsFileJob, IsNumber, IsNumberedJob, IsPlain, IsShortNumber, command_word, is_padded, more_words}
+use Rattle.sync_top.specs.Jobs.{AreMore, AsksFor, IsExchange, IsFileCommand, IsFileJob, IsNumber, IsNumberedJob, IsPlain, IsShortNumber, IsStart, command_word, is_padded}
 
 own : IsNumeralModel (AllDigits 10) (digits_value 10)
 own = numerals_by_value (AllDigits 10) tells_digits
@@ -78,8 +79,8 @@ pub is_text : (r : Bool) (xs ys : List ℕ) → r ≡ bytes_eq xs ys → r ≡ t
 is_text r xs ys e t = (bytes_eq-Decides xs ys).0 (sym e ∙ t)
 
 -- ---- commands over a file
--- one that takes no number, and has no word after the file
-plain_more : (command : FileCommand) → IsPlain command → more_words command ≡ []
+-- one that takes no more words
+plain_more : (command : FileCommand) → IsPlain command → AreMore command []
 plain_more commands.Edit is = refl
 plain_more commands.Send is = refl
 plain_more commands.Ask is = refl
@@ -88,6 +89,9 @@ plain_more commands.Serve is = refl
 plain_more commands.Show is = refl
 plain_more (commands.Retire ident) is = absurd is
 plain_more (commands.Rescue after) is = absurd is
+plain_more commands.Recover is = refl
+plain_more commands.Trim is = refl
+plain_more (commands.Start id) is = absurd is
 
 plain_command : (command : FileCommand) → IsPlain command → IsFileCommand command
 plain_command commands.Edit is = tt
@@ -98,8 +102,11 @@ plain_command commands.Serve is = tt
 plain_command commands.Show is = tt
 plain_command (commands.Retire ident) is = absurd is
 plain_command (commands.Rescue after) is = absurd is
+plain_command commands.Recover is = tt
+plain_command commands.Trim is = tt
+plain_command (commands.Start id) is = absurd is
 
-none_plain : (command : FileCommand) → more_words command ≡ [] → IsPlain command
+none_plain : (command : FileCommand) → AreMore command [] → IsPlain command
 none_plain commands.Edit is = tt
 none_plain commands.Send is = tt
 none_plain commands.Ask is = tt
@@ -108,6 +115,9 @@ none_plain commands.Serve is = tt
 none_plain commands.Show is = tt
 none_plain (commands.Retire ident) is = cc
 none_plain (commands.Rescue after) is = cc
+none_plain commands.Recover is = tt
+none_plain commands.Trim is = tt
+none_plain (commands.Start id) is = let none = is.1 in cc
 
 -- no command over a file has the word of an exchange
 not_gen : (command : FileCommand) → codes "gen" ≡ command_word command → ⊥
@@ -119,6 +129,9 @@ not_gen commands.Serve is = cc
 not_gen commands.Show is = cc
 not_gen (commands.Retire ident) is = cc
 not_gen (commands.Rescue after) is = cc
+not_gen commands.Recover is = cc
+not_gen commands.Trim is = cc
+not_gen (commands.Start id) is = cc
 
 -- what three words ask for, and nothing else
 abbrev pub AreJob : Option Job → List ℕ → List ℕ → List ℕ → Type 0
@@ -128,6 +141,24 @@ pub gen_job : (word second third : List ℕ) (o : Option Job) → word ≡ codes
 gen_job word second third o is exact jobs.Replay = (λ some. (exact jobs.Replay).0 some, λ none. absurd none)
 gen_job word second third o is exact (jobs.Generate seed count) = (λ some. (is, (exact (jobs.Generate seed count)).0 some), λ asks. (exact (jobs.Generate seed count)).1 asks.1)
 gen_job word second third o is exact (jobs.File command) = (λ some. absurd ((exact (jobs.File command)).0 some), λ asks. absurd (not_gen command (sym is ∙ asks.0)))
+
+pub start_job : (word second third : List ℕ) (o : Option Job) → word ≡ codes "start" → ((job : Job) → (o ≡ Some job → IsStart job third) × (IsStart job third → o ≡ Some job)) → AreJob o word second third
+start_job word second third o is exact jobs.Replay = (λ some. absurd ((exact jobs.Replay).0 some), λ none. absurd none)
+start_job word second third o is exact (jobs.Generate seed count) = (λ some. absurd ((exact (jobs.Generate seed count)).0 some), λ asks. let e = sym is ∙ asks.0 in cc)
+start_job word second third o is exact (jobs.File (commands.Start id)) = (
+  λ some. (is, (third, refl, (exact (jobs.File (commands.Start id))).0 some), tt),
+  λ asks. let more = asks.1 in let same : more.0 ≡ third = cc in (exact (jobs.File (commands.Start id))).1 (subst (λ w. parsed w ≡ Some id) same more.2),
+)
+start_job word second third o is exact (jobs.File commands.Edit) = (λ some. absurd ((exact (jobs.File commands.Edit)).0 some), λ asks. let e = sym is ∙ asks.0 in cc)
+start_job word second third o is exact (jobs.File commands.Send) = (λ some. absurd ((exact (jobs.File commands.Send)).0 some), λ asks. let e = sym is ∙ asks.0 in cc)
+start_job word second third o is exact (jobs.File commands.Ask) = (λ some. absurd ((exact (jobs.File commands.Ask)).0 some), λ asks. let e = sym is ∙ asks.0 in cc)
+start_job word second third o is exact (jobs.File commands.Take) = (λ some. absurd ((exact (jobs.File commands.Take)).0 some), λ asks. let e = sym is ∙ asks.0 in cc)
+start_job word second third o is exact (jobs.File commands.Serve) = (λ some. absurd ((exact (jobs.File commands.Serve)).0 some), λ asks. let e = sym is ∙ asks.0 in cc)
+start_job word second third o is exact (jobs.File commands.Show) = (λ some. absurd ((exact (jobs.File commands.Show)).0 some), λ asks. let e = sym is ∙ asks.0 in cc)
+start_job word second third o is exact (jobs.File (commands.Retire ident)) = (λ some. absurd ((exact (jobs.File (commands.Retire ident))).0 some), λ asks. let e = sym is ∙ asks.0 in cc)
+start_job word second third o is exact (jobs.File (commands.Rescue after)) = (λ some. absurd ((exact (jobs.File (commands.Rescue after))).0 some), λ asks. let e = sym is ∙ asks.0 in cc)
+start_job word second third o is exact (jobs.File commands.Recover) = (λ some. absurd ((exact (jobs.File commands.Recover)).0 some), λ asks. let e = sym is ∙ asks.0 in cc)
+start_job word second third o is exact (jobs.File commands.Trim) = (λ some. absurd ((exact (jobs.File commands.Trim)).0 some), λ asks. let e = sym is ∙ asks.0 in cc)
 
 -- ---- all words
 -- one word
@@ -142,8 +173,8 @@ pub two_words : (words : List (List ℕ)) (word file : List ℕ) (o : Option Job
 two_words words word file o are exact jobs.Replay = (λ some. absurd ((exact jobs.Replay).0 some), λ e. absurd (omega (arith, ap length (sym are ∙ e))))
 two_words words word file o are exact (jobs.Generate seed count) = (λ some. absurd ((exact (jobs.Generate seed count)).0 some), λ e. absurd (omega (arith, ap length (sym are ∙ e.0))))
 two_words words word file o are exact (jobs.File command) = (
-  λ some. let got = (exact (jobs.File command)).0 some in (file, let none = plain_more command got.0 in let word_is = got.1 in cc, plain_command command got.0),
-  λ asked. let same = sym are ∙ asked.1 in (exact (jobs.File command)).1 (none_plain command cc, cc),
+  λ some. let got = (exact (jobs.File command)).0 some in (file, [], let word_is = got.1 in cc, plain_more command got.0, plain_command command got.0),
+  λ asked. let same = sym are ∙ asked.2 in let none : asked.1 ≡ [] = cc in (exact (jobs.File command)).1 (none_plain command (subst (AreMore command) none asked.3), cc),
 )
 
 -- three words
@@ -152,8 +183,8 @@ pub three_words : (words : List (List ℕ)) (word second third : List ℕ) (o : 
 three_words words word second third o are exact jobs.Replay =
     (λ some. absurd ((exact jobs.Replay).0 some), λ e. absurd (omega (arith, ap length (sym are ∙ e))))
 three_words words word second third o are exact (jobs.File command) = (
-  λ some. let got = (exact (jobs.File command)).0 some in (second, let word_is = got.0 in let more = got.1 in cc, got.2),
-  λ asked. let same = sym are ∙ asked.1 in (exact (jobs.File command)).1 (cc, cc, asked.2),
+  λ some. let got = (exact (jobs.File command)).0 some in (second, third ∷ [], let word_is = got.0 in cc, got.1, got.2),
+  λ asked. let same = sym are ∙ asked.2 in let one : asked.1 ≡ third ∷ [] = cc in (exact (jobs.File command)).1 (cc, subst (AreMore command) one asked.3, asked.4),
 )
 three_words words word second third o are exact (jobs.Generate s n) = (
   λ some. let got = (exact (jobs.Generate s n)).0 some in (let is = got.0 in let first = got.1.0.0 in let last = got.1.1.0 in cc, got.1.0.1, got.1.2),

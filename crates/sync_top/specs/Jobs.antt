@@ -1,5 +1,6 @@
 -- The words of a command line, and what they ask for.
-use Rattle.std.specs.Prelude.{◌≡◌, ◌<◌, ◌≤◌, ◌^◌, ℕ, Bool, false, not, ◌==◌, ◌&&◌, ◌||◌, List, [], ◌∷◌, codes, decimal, length}
+use Rattle.std.specs.Prelude.{◌≡◌, ◌<◌, ◌≤◌, ◌^◌, ℕ, Bool, false, not, ◌==◌, ◌&&◌, ◌||◌, List, [], ◌∷◌, codes, decimal, length, Some}
+use Rattle.uuid.specs.Text.{parsed}
 use Rattle.sync_top.specs.declared.job.Job.{Job}
 use Rattle.sync_top.specs.declared.job.Job.TheVariants as jobs
 use Rattle.sync_top.specs.declared.job.FileCommand.{FileCommand}
@@ -32,23 +33,28 @@ command_word commands.Serve = codes "serve"
 command_word commands.Show = codes "show"
 command_word (commands.Retire ident) = codes "retire"
 command_word (commands.Rescue after) = codes "rescue"
+command_word commands.Recover = codes "recover"
+command_word commands.Trim = codes "trim"
+command_word (commands.Start id) = codes "start"
 
--- the words after the file: a number, where the command takes one
-abbrev pub more_words : FileCommand → List (List ℕ)
-more_words commands.Edit = []
-more_words commands.Send = []
-more_words commands.Ask = []
-more_words commands.Take = []
-more_words commands.Serve = []
-more_words commands.Show = []
-more_words (commands.Retire ident) = decimal ident ∷ []
-more_words (commands.Rescue after) = decimal after ∷ []
+-- the words after the file: a number or a uuid, where the command takes one
+abbrev pub AreMore : FileCommand → List (List ℕ) → Type 0
+AreMore (commands.Retire ident) more = more ≡ decimal ident ∷ []
+AreMore (commands.Rescue after) more = more ≡ decimal after ∷ []
+AreMore (commands.Start id) more = (word : List ℕ) × (more ≡ word ∷ []) × (parsed word ≡ Some id)
+AreMore command more = more ≡ []
 
--- the command takes no number
+-- the command takes no more words
 abbrev pub IsPlain : FileCommand → Type 0
 IsPlain (commands.Retire ident) = ⊥
 IsPlain (commands.Rescue after) = ⊥
+IsPlain (commands.Start id) = ⊥
 IsPlain command = Unit {0}
+
+-- the start of a client, by the text of its uuid
+abbrev pub IsStart : Job → List ℕ → Type 0
+IsStart (jobs.File (commands.Start id)) word = parsed word ≡ Some id
+IsStart job word = ⊥
 
 -- a number has 32 bits, and an ident is at least 1
 abbrev pub IsFileCommand : FileCommand → Type 0
@@ -62,17 +68,17 @@ IsFileJob jobs.Replay word = ⊥
 IsFileJob (jobs.Generate seed count) word = ⊥
 IsFileJob (jobs.File command) word = IsPlain command × (word ≡ command_word command)
 
--- three words: an exchange, or a command over a file with its number
+-- three words: an exchange, or a command over a file with its number or uuid
 abbrev pub IsNumberedJob : Job → List ℕ → List ℕ → List ℕ → Type 0
 IsNumberedJob jobs.Replay word second third = ⊥
 IsNumberedJob (jobs.Generate seed count) word second third = (word ≡ codes "gen") × IsExchange (jobs.Generate seed count) second third
-IsNumberedJob (jobs.File command) word second third = (word ≡ command_word command) × (third ∷ [] ≡ more_words command) × IsFileCommand command
+IsNumberedJob (jobs.File command) word second third = (word ≡ command_word command) × AreMore command (third ∷ []) × IsFileCommand command
 
 -- all words of a command
 abbrev pub AsksFor : Job → List (List ℕ) → Type 0
 AsksFor jobs.Replay words = words ≡ codes "replay" ∷ []
 AsksFor (jobs.Generate seed count) words = (words ≡ codes "gen" ∷ decimal seed ∷ decimal count ∷ []) × (seed < 2 ^ 64) × (count ≤ most_turns)
-AsksFor (jobs.File command) words = (file : List ℕ) × (words ≡ command_word command ∷ file ∷ more_words command) × IsFileCommand command
+AsksFor (jobs.File command) words = (file : List ℕ) × (more : List (List ℕ)) × (words ≡ command_word command ∷ file ∷ more) × AreMore command more × IsFileCommand command
 
 -- a sign, or a zero before other digits, comes first
 abbrev pub is_padded : List ℕ → Bool

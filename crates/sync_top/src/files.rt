@@ -9,7 +9,7 @@ use super::job::FileCommand;
 use std::alloc::Global;
 use sync_disk::Disk;
 use sync_io::{Sink, Source, Status};
-use sync_node::{Errand, edit, serve, show, take, tell};
+use sync_node::{Errand, ServerText, edit, recover, serve, show, take, tell, tell_of_server};
 
 /// Runs a command over the file of a node (docs/FORMATS.md, "Commands").
 pub(crate) fn run_file<S: Source, K: Sink, D: Disk>(
@@ -44,5 +44,10 @@ pub(crate) fn run_file<S: Source, K: Sink, D: Disk>(
         FileCommand::Show => show(alloc, sink, disk),
         FileCommand::Retire { ident } => tell(alloc, sink, disk, Errand::Retire { ident }),
         FileCommand::Rescue { after } => tell(alloc, sink, disk, Errand::Rescue { after }),
+        FileCommand::Recover => recover(alloc, source, sink, disk),
+        FileCommand::Trim => tell_of_server(alloc, sink, disk, ServerText::Trimmed),
+        FileCommand::Start { id } => {
+            tell_of_server(alloc, sink, disk, ServerText::Started { id })
+        }
     }
 }

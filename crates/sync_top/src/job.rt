@@ -1,5 +1,8 @@
 ghost use Rattle.std.specs.Prelude.{◌≡◌, ◌↔◌, ℕ, IfSome, IfNone, Some, map, string_bytes};
-ghost use Rattle.sync_top.specs.Jobs.{AsksFor, IsExchange, IsFileJob, IsNumber, IsNumberedJob, IsPlain, IsShortNumber, command_word, is_padded};
+ghost use Rattle.sync_top.specs.Jobs.{AsksFor, IsExchange, IsFileJob, IsNumber, IsNumberedJob, IsPlain, IsShortNumber, IsStart, command_word, is_padded};
+
+use sync_data::Id;
+use uuid::Uuid;
 
 /// The most turns of a generated exchange.
 pub const MOST_TURNS: u32 = 100_000;
@@ -23,6 +26,12 @@ pub enum FileCommand {
     Retire { ident: u32 },
     /// A client writes what is unsent, from the number after this one on.
     Rescue { after: u32 },
+    /// A client takes frames of clients that it takes over from.
+    Recover,
+    /// A server writes the file that may stand in place of its own.
+    Trim,
+    /// A server writes the file of a new client of this uuid, which begins with the server's objects.
+    Start { id: Id },
 }
 
 /// What a command line asks for (docs/FORMATS.md, "Commands").
@@ -32,7 +41,7 @@ pub enum Job {
     Replay,
     /// An exchange of so many turns is generated.
     Generate { seed: u64, count: u32 },
-    /// A command over the file that the second word names; the third, where there is one, is its number.
+    /// A command over the file that the second word names; the third, where there is one, is its number or uuid.
     File { command: FileCommand },
 }
 
@@ -71,7 +80,7 @@ fn generate_of(seed: &str, count: &str) -> Option<Job>
     })
 }
 
-/// The command over a file that a word names, of those that take no number.
+/// The command over a file that a word names, of those that take no more words.
 fn file_command_of(word: &str) -> Option<FileCommand>
     ensures some { IfSome result (λ command. IsPlain command × (word.now ≡ command_word command)) }
     ensures none { IfNone result ((command : FileCommand) → IsPlain command → word.now ≡ command_word command → ⊥) }
@@ -83,6 +92,8 @@ fn file_command_of(word: &str) -> Option<FileCommand>
         "take" => Some(FileCommand::Take),
         "serve" => Some(FileCommand::Serve),
         "show" => Some(FileCommand::Show),
+        "recover" => Some(FileCommand::Recover),
+        "trim" => Some(FileCommand::Trim),
         _ => None,
     }
 }
@@ -108,12 +119,27 @@ fn short_number_of(word: &str) -> Option<u32>
     Some(number as u32)
 }
 
-/// The command over a file that a word and a number are, or the exchange that is generated of a seed and a number of turns.
+/// The start of a client of the uuid that a word is, in any form that the crate `uuid` reads.
+fn start_of(word: &str) -> Option<Job>
+    ensures { (job : Job) → (result ≡ Some job) ↔ IsStart job word.now }
+{
+    match Uuid::parse_str(word) {
+        Ok(uuid) => {
+            let id = uuid.into_bytes();
+            let command = FileCommand::Start { id };
+            Some(Job::File { command })
+        }
+        Err(_) => None,
+    }
+}
+
+/// The command over a file that a word and a number or a uuid are, or the exchange that is generated of a seed and a number of turns.
 fn numbered_job_of(word: &str, second: &str, third: &str) -> Option<Job>
     ensures { (job : Job) → (result ≡ Some job) ↔ IsNumberedJob job word.now second.now third.now }
 {
     match word {
         "gen" => generate_of(second, third),
+        "start" => start_of(third),
         "retire" => {
             let ident = short_number_of(third)?;
             if ident == 0 {

@@ -5,3 +5,4 @@ mod Crossed
 mod Floors
 mod States
 mod Whole
+mod Spelled

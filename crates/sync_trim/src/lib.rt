@@ -3,6 +3,7 @@
 #![tactic(auto)]
 
 mod bodies;
+mod files;
 mod floor;
 mod history;
 mod idents;
@@ -13,5 +14,6 @@ mod starting;
 mod tests;
 mod trimming;
 
+pub use files::{started_file, trimmed_file};
 pub use starting::started;
 pub use trimming::trimmed;

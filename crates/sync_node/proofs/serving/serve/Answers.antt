@@ -2,7 +2,7 @@ use Rattle.std.proofs.Common.{◌≡◌, Some, ap, rules, sym, subst}
 use Rattle.sync_disk.specs.Disk.{Rose}
 use Rattle.sync_io.specs.declared.status.Status.TheVariants as statuses
 use Rattle.sync_exchange.specs.Seen.{server_bytes}
-use Rattle.sync_node.specs.Runs.{runs}
+use Rattle.sync_node.specs.Runs.{no_notes, runs}
 use Rattle.sync_world.specs.Messages.{message_read}
 use Rattle.sync_node.specs.Steps.{is_message, serve_step}
 use Rattle.sync_node.specs.Items.{frames_of}
@@ -16,7 +16,7 @@ returns-clause-complete g c = λ b told records file valid no_read no_write no_d
     let ran = c.serve_disk in
     let here = subst (λ d. g.D.Disk.content d ≡ Some b) (sym c.of.ensures.same) told in
     let cause : ran.result.status ≡ statuses.DiskFault → Rose (g.D.Disk.faults c.args.disk.now) (g.D.Disk.faults c.disk-1.given.0) = search rules in
-    complete serve_step is_message (λ records number item e. some_goes _ (message_read item) e) ran.result.status records (frames_of (g.S.Source.left c.args.source.now)) (g.K.Sink.taken c.args.sink.now) (g.K.Sink.taken ran.new.sink)
+    complete (λ notes. serve_step) no_notes is_message (λ notes records number item e. some_goes _ (message_read item) e) ran.result.status tt records (frames_of (g.S.Source.left c.args.source.now)) (g.K.Sink.taken c.args.sink.now) (g.K.Sink.taken ran.new.sink)
     (ran.ensures.exits b here records file).follows valid ran.ensures.only
     (λ is. no_read (ran.ensures.read_cause is)) (λ is. no_write (ran.ensures.write_cause is)) (λ is. no_disk (cause is))
     (λ place is. no_both (server_file b) records place file (ran.ensures.bad_file b here place is))

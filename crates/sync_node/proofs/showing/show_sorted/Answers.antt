@@ -21,13 +21,13 @@ returns-then-sorted-clause-bad_unwritten g c = λ b told same place bad. c.show_
 pub returns-else-sorted-clause-writes : goal.returns-else-sorted-clause-writes
 returns-else-sorted-clause-writes g c = λ b told same records file.
     let f = server_ok b (sym same ∙ c.if-sorted.false) records file in
-    subst (λ r. Writes c.show_server.result.status (shown r) (g.K.Sink.taken c.args.sink.now) (g.K.Sink.taken c.show_server.new.sink)) (sym f.2) (c.show_server.ensures.writes b told f.0 f.1)
+    subst (λ r. Writes c.write_of_server.result.status (shown r) (g.K.Sink.taken c.args.sink.now) (g.K.Sink.taken c.write_of_server.new.sink)) (sym f.2) (c.write_of_server.ensures.writes b told f.0 f.1)
 
 pub returns-else-sorted-clause-bad_file : goal.returns-else-sorted-clause-bad_file
-returns-else-sorted-clause-bad_file g c = λ b told same place is. bad_of_server b (sym same ∙ c.if-sorted.false) place (c.show_server.ensures.bad_file b told place is)
+returns-else-sorted-clause-bad_file g c = λ b told same place is. bad_of_server b (sym same ∙ c.if-sorted.false) place (c.write_of_server.ensures.bad_file b told place is)
 
 pub returns-else-sorted-clause-bad_place : goal.returns-else-sorted-clause-bad_place
-returns-else-sorted-clause-bad_place g c = λ b told same place bad. c.show_server.ensures.bad_place b told place (server_bad b (sym same ∙ c.if-sorted.false) place bad)
+returns-else-sorted-clause-bad_place g c = λ b told same place bad. c.write_of_server.ensures.bad_place b told place (server_bad b (sym same ∙ c.if-sorted.false) place bad)
 
 pub returns-else-sorted-clause-bad_unwritten : goal.returns-else-sorted-clause-bad_unwritten
-returns-else-sorted-clause-bad_unwritten g c = λ b told same place bad. c.show_server.ensures.bad_unwritten b told place (server_bad b (sym same ∙ c.if-sorted.false) place bad)
+returns-else-sorted-clause-bad_unwritten g c = λ b told same place bad. c.write_of_server.ensures.bad_unwritten b told place (server_bad b (sym same ∙ c.if-sorted.false) place bad)

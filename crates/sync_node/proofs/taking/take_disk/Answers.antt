@@ -3,6 +3,7 @@ use Rattle.sync_exchange.specs.Seen.{client_bytes}
 use Rattle.sync_node.specs.Holding.{ClientStands}
 use Rattle.sync_node.specs.Items.{frames_of}
 use Rattle.sync_node.specs.Opening.{client_file}
+use Rattle.sync_node.specs.Runs.{no_notes}
 use Rattle.sync_node.specs.Saying.{take_says}
 use Rattle.sync_node.specs.Steps.{take_step}
 use Rattle.sync_node.proofs.Nodes.{leaves_now, open_fault, open_no_read, open_node, run_no_bad, run_node, unopened_exits}
@@ -20,7 +21,7 @@ pub returns-in-Err-clause-exits : goal.returns-in-Err-clause-exits
 returns-in-Err-clause-exits g c = λ b told records file.
     let ended = c.in-Err.ended in
     let fault = open_fault ended.status c.in-Err.ensures.only (λ place is. no_both (client_file b) records place file (c.in-Err.ensures.bad_file b told place is)) in
-    unopened_exits g.D.Disk.content g.D.Disk.images client_bytes take_step take_says c.args.disk ended.disk records (frames_of (g.S.Source.left c.args.source.now)) ended.status (g.K.Sink.taken c.args.sink.now) fault
+    unopened_exits g.D.Disk.content g.D.Disk.images client_bytes (λ notes. take_step) no_notes tt (λ notes. take_says) c.args.disk ended.disk records (frames_of (g.S.Source.left c.args.source.now)) ended.status (g.K.Sink.taken c.args.sink.now) fault
     (λ before image is. leaves_now g.D.Disk.moment g.D.Disk.images g.D.Disk.images_since g.met.D.Disk.counts_now c.args.disk ended.disk _ (c.in-Err.ensures.any_moment_err (map client_bytes records) b told before) image is)
 
 pub returns-in-Ok-clause-bad_place : goal.returns-in-Ok-clause-bad_place

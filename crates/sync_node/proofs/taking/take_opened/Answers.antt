@@ -1,3 +1,4 @@
+use Rattle.std.specs.Bool.{⊤}
 use Rattle.std.proofs.Common.{sym, subst}
 use Rattle.sync_exchange.specs.Seen.{client_bytes}
 use Rattle.sync_node.specs.Holding.{ClientStands}
@@ -14,5 +15,5 @@ returns-clause-exits g c = λ records first stands.
     let new = g.K.Sink.taken ran.new.sink in
     let meant = runs take_step records (frames_of (g.S.Source.left c.args.source.now)) in
     subst (λ d. NodeExits g.D.Disk.content g.D.Disk.images client_bytes first records meant ran.result d old new) (sym c.into_disk.ensures)
-    (opened_exits g.D.Disk.content g.D.Disk.images client_bytes first ran.new.command.client.journal.disk records meant ran.result old new (λ rs. ClientStands rs ran.new.command.client) (λ rs st. client_disk rs ran.new.command.client st)
-    (ran.ensures.exits records stands))
+    (opened_exits g.D.Disk.content g.D.Disk.images client_bytes first ran.new.command.client.journal.disk records meant ran.result old new (λ rs. ⊤ × ClientStands rs ran.new.command.client) (λ rs st. client_disk rs ran.new.command.client st.1)
+    (ran.ensures.exits tt records stands))

@@ -8,17 +8,17 @@ use Rattle.sync_node.proofs.Exits.{leaves_old}
 use Rattle.sync_node.proofs.editor.EditorCommand.answer.Goals as goal
 
 pub returns-in-Ok-clause-done : goal.returns-in-Ok-clause-done
-returns-in-Ok-clause-done g c = λ records stands.
+returns-in-Ok-clause-done g c = λ notes records stands.
     subst (λ o. IfOk c.take_line.result (λ text. AnswersSo (option_map (line_answer records c.args.number) o) records text.items (λ rs. ClientStands rs c.take_line.new.client)))
     (sym c.in-Ok.ensures) (c.take_line.ensures.done records stands)
 
 pub returns-in-Ok-clause-leaves : goal.returns-in-Ok-clause-leaves
-returns-in-Ok-clause-leaves g c = λ records stands image is.
+returns-in-Ok-clause-leaves g c = λ notes records stands image is.
     subst (λ o. LeavesSome client_bytes records (records_in (option_map (line_answer records c.args.number) o)) image)
     (sym c.in-Ok.ensures) (c.take_line.ensures.leaves records stands image is)
 
 pub returns-in-Err-BadLine-clause-leaves : goal.returns-in-Err-BadLine-clause-leaves
-returns-in-Err-BadLine-clause-leaves g c = λ records stands image is. leaves_old client_bytes records (records_in (edit_step records c.args.number c.args.item.now)) image (client_keeps c.args.self.now.client records image stands is)
+returns-in-Err-BadLine-clause-leaves g c = λ notes records stands image is. leaves_old client_bytes records (records_in (edit_step records c.args.number c.args.item.now)) image (client_keeps c.args.self.now.client records image stands is)
 
 pub returns-in-Err-NoMemory-clause-leaves : goal.returns-in-Err-NoMemory-clause-leaves
-returns-in-Err-NoMemory-clause-leaves g c = λ records stands image is. leaves_old client_bytes records (records_in (edit_step records c.args.number c.args.item.now)) image (client_keeps c.args.self.now.client records image stands is)
+returns-in-Err-NoMemory-clause-leaves g c = λ notes records stands image is. leaves_old client_bytes records (records_in (edit_step records c.args.number c.args.item.now)) image (client_keeps c.args.self.now.client records image stands is)
