@@ -1,10 +1,10 @@
 -- How a client recovers the changes of old clients: the parts of its answers.
-use Rattle.std.proofs.Common.{◌≡◌, ℕ, Bool, true, false, not, ◌==◌, if◌then◌else◌, List, [], ◌∷◌, ◌++◌, length, drop, get_or, map, ◌+◌, ◌<◌, ◌≤◌, Vec, Global, Option, None, Some, Result, Ok, Err, IfOk, IfErr, refl, ap, sym, subst, ◌∙◌, append_assoc, append-nil, arith}
-use Rattle.std.specs.List.{AllByRecursion, flat_map}
+use Rattle.std.proofs.Common.{◌≡◌, ℕ, true, false, ◌==◌, if◌then◌else◌, List, [], ◌∷◌, ◌++◌, length, drop, get_or, map, ◌+◌, ◌<◌, ◌≤◌, Vec, Global, Option, None, Some, Result, Ok, Err, IfOk, refl, ap, sym, subst, ◌∙◌, append_assoc, append-nil, arith}
+use Rattle.std.specs.List.{flat_map}
 use Rattle.sync_disk.specs.declared.disk.Disk.{Ghosts}
 use Rattle.sync_client.specs.declared.client.Client.{Client}
 use Rattle.sync_messages.specs.Parts.{ChangeParts, RetiredParts}
-use Rattle.sync_model.specs.Clients.{Client as Model, ClientRecord, Made, Step, after_record, after_records, client_of, no_client}
+use Rattle.sync_model.specs.Clients.{Client as Model, ClientRecord, Step, after_records, client_of, no_client}
 use Rattle.sync_model.specs.Messages.{Change, Message}
 use Rattle.sync_model.specs.Resets.{HeirAnswer, HeirStep, Recovered, RecoveryLine, Handled, IsHeir, NoRetired, Refuses, ResetRefusal, handled, heir, recover_changes, recover_frame, recover_upload, says_only}
 use Rattle.sync_model.proofs.Heirs.{HeirDid, heir_did, made, quiet}
@@ -150,6 +150,7 @@ module _ {D : Type 0} {G : Ghosts D} (number count : ℕ) (all : List Change) wh
     where
       lines_more : (lines : List RecoveryLine) (line : RecoveryLine) → flat_map (recovery_line number) (lines ++ line ∷ []) ≡ flat_map (recovery_line number) lines ++ recovery_line number line
       lines_more lines line = flat_map-append (recovery_line number) lines (line ∷ []) ∙ ap (λ t. flat_map (recovery_line number) lines ++ t) (append-nil (recovery_line number line))
+
       behind_more : (xs ys : List ClientRecord) (lines : List RecoveryLine) (line : RecoveryLine) (did : Step ClientRecord (List RecoveryLine))
           → behind xs lines (record { records = ys ++ did.records; answer = line ∷ did.answer }) ≡ behind (xs ++ ys) (lines ++ line ∷ []) did
       behind_more xs ys lines line did = λ i. record { records = sym (append_assoc xs ys did.records) i; answer = sym (append_assoc lines (line ∷ []) did.answer) i }

@@ -11,15 +11,15 @@ use Rattle.sync_client.specs.declared.client.Client.{Client}
 use Rattle.sync_messages.specs.Parts.{RetiredParts}
 use Rattle.sync_model.specs.Clients.{Client as Model, ClientRecord, Step, after_records, client_of}
 use Rattle.sync_model.specs.Messages.{Change, Message}
-use Rattle.sync_model.specs.Resets.{HeirStep, HeirAnswer, Integrated, Known, SavedAs, ResetRefusal, Recovered, RecoveryLine, IsHeir, Handled, Refuses, NoRetired, count_known, handled, heir, recover_changes, recover_frame, recover_upload, says_only}
+use Rattle.sync_model.specs.Resets.{HeirStep, HeirAnswer, Integrated, Known, SavedAs, ResetRefusal, RecoveryLine, IsHeir, Handled, Refuses, NoRetired, count_known, handled, heir, recover_changes, recover_frame, recover_upload, says_only}
 use Rattle.sync_exchange.specs.Profile.{the_profile}
 use Rattle.sync_exchange.specs.Seen.{message_seen}
 use Rattle.sync_messages.specs.declared.message.Message.{Message as CodeMessage}
 use Rattle.sync_node.specs.declared.command.ItemEnd.{ItemEnd}
 use Rattle.sync_world.specs.Messages.{message_read}
-use Rattle.sync_world.specs.Words.{outcome_line, refused, said}
+use Rattle.sync_world.specs.Words.{outcome_line, said}
 use Rattle.sync_node.specs.Holding.{ClientStands}
-use Rattle.sync_node.specs.Recovering.{Counts, dropped_lines, heir_lines, recover_step, recovered, recovery_line, reset_text}
+use Rattle.sync_node.specs.Recovering.{Counts, dropped_lines, heir_lines, recover_step, recovered, recovery_line}
 use Rattle.sync_node.specs.Runs.{Answer, AnswersSo, IsTold}
 
 -- ---- Retired messages that came, the latest first

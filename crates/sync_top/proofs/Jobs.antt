@@ -9,12 +9,12 @@ use Rattle.std.proofs.lemmas.Bool.Decides.{nat_tests}
 use Rattle.std.proofs.lemmas.Slice.Eq.{bytes_eq-Decides}
 use Rattle.std.specs.Int.{IsInRange}
 use Rattle.std.specs.Str.{bytes_eq}
-use Rattle.uuid.specs.Text.{parsed}
+use Rattle.uuid.specs.Text.{parsed as uuid_of}
 use Rattle.sync_top.specs.declared.job.Job.{Job}
 use Rattle.sync_top.specs.declared.job.Job.TheVariants as jobs
 use Rattle.sync_top.specs.declared.job.FileCommand.{FileCommand}
 use Rattle.sync_top.specs.declared.job.FileCommand.TheVariants as commands
-use Rattle.sync_top.specs.Jobs.{AreMore, AsksFor, IsExchange, IsFileCommand, IsFileJob, IsNumber, IsNumberedJob, IsPlain, IsShortNumber, IsStart, command_word, is_padded}
+use Rattle.sync_top.specs.Jobs.{AreMore, AsksFor, IsExchange, IsFileCommand, IsFileJob, IsNumber, IsNumberedJob, IsPlain, IsStart, command_word, is_padded}
 
 own : IsNumeralModel (AllDigits 10) (digits_value 10)
 own = numerals_by_value (AllDigits 10) tells_digits
@@ -147,7 +147,7 @@ start_job word second third o is exact jobs.Replay = (λ some. absurd ((exact jo
 start_job word second third o is exact (jobs.Generate seed count) = (λ some. absurd ((exact (jobs.Generate seed count)).0 some), λ asks. let e = sym is ∙ asks.0 in cc)
 start_job word second third o is exact (jobs.File (commands.Start id)) = (
   λ some. (is, (third, refl, (exact (jobs.File (commands.Start id))).0 some), tt),
-  λ asks. let more = asks.1 in let same : more.0 ≡ third = cc in (exact (jobs.File (commands.Start id))).1 (subst (λ w. parsed w ≡ Some id) same more.2),
+  λ asks. let more = asks.1 in let same : more.0 ≡ third = cc in (exact (jobs.File (commands.Start id))).1 (subst (λ w. uuid_of w ≡ Some id) same more.2),
 )
 start_job word second third o is exact (jobs.File commands.Edit) = (λ some. absurd ((exact (jobs.File commands.Edit)).0 some), λ asks. let e = sym is ∙ asks.0 in cc)
 start_job word second third o is exact (jobs.File commands.Send) = (λ some. absurd ((exact (jobs.File commands.Send)).0 some), λ asks. let e = sym is ∙ asks.0 in cc)
@@ -160,11 +160,47 @@ start_job word second third o is exact (jobs.File (commands.Rescue after)) = (λ
 start_job word second third o is exact (jobs.File commands.Recover) = (λ some. absurd ((exact (jobs.File commands.Recover)).0 some), λ asks. let e = sym is ∙ asks.0 in cc)
 start_job word second third o is exact (jobs.File commands.Trim) = (λ some. absurd ((exact (jobs.File commands.Trim)).0 some), λ asks. let e = sym is ∙ asks.0 in cc)
 
+-- at most one word stands behind the file
+more_short : (command : FileCommand) (more : List (List ℕ)) → AreMore command more → length more ≤ 1
+more_short (commands.Retire ident) more are = omega (arith, ap length are)
+more_short (commands.Rescue after) more are = omega (arith, ap length are)
+more_short (commands.Start id) more are = omega (arith, ap length are.1)
+more_short commands.Edit more are = omega (arith, ap length are)
+more_short commands.Send more are = omega (arith, ap length are)
+more_short commands.Ask more are = omega (arith, ap length are)
+more_short commands.Take more are = omega (arith, ap length are)
+more_short commands.Serve more are = omega (arith, ap length are)
+more_short commands.Show more are = omega (arith, ap length are)
+more_short commands.Recover more are = omega (arith, ap length are)
+more_short commands.Trim more are = omega (arith, ap length are)
+
+-- more words ask for nothing
+pub none_long : (words : List (List ℕ)) → 4 ≤ length words → (job : Job) → (◌≡◌ {A = Option Job} None (Some job) → AsksFor job words) × (AsksFor job words → ◌≡◌ {A = Option Job} None (Some job))
+none_long words long jobs.Replay = (λ some. cc, λ e. absurd (omega (arith, long, ap length e)))
+none_long words long (jobs.Generate seed count) = (λ some. cc, λ e. absurd (omega (arith, long, ap length e.0)))
+none_long words long (jobs.File command) = (λ some. cc, λ e. absurd (let short = more_short command e.1 e.3 in omega (arith, long, short, ap length e.2)))
+
+-- a word that is no uuid starts no client
+pub none_start : (word : List ℕ) → ((id : _) → uuid_of word ≡ Some id → ⊥) → (job : Job) → (◌≡◌ {A = Option Job} None (Some job) → IsStart job word) × (IsStart job word → ◌≡◌ {A = Option Job} None (Some job))
+none_start word none jobs.Replay = (λ some. cc, λ is. absurd is)
+none_start word none (jobs.Generate seed count) = (λ some. cc, λ is. absurd is)
+none_start word none (jobs.File (commands.Start id)) = (λ some. cc, λ is. absurd (none id is))
+none_start word none (jobs.File commands.Edit) = (λ some. cc, λ is. absurd is)
+none_start word none (jobs.File commands.Send) = (λ some. cc, λ is. absurd is)
+none_start word none (jobs.File commands.Ask) = (λ some. cc, λ is. absurd is)
+none_start word none (jobs.File commands.Take) = (λ some. cc, λ is. absurd is)
+none_start word none (jobs.File commands.Serve) = (λ some. cc, λ is. absurd is)
+none_start word none (jobs.File commands.Show) = (λ some. cc, λ is. absurd is)
+none_start word none (jobs.File (commands.Retire ident)) = (λ some. cc, λ is. absurd is)
+none_start word none (jobs.File (commands.Rescue after)) = (λ some. cc, λ is. absurd is)
+none_start word none (jobs.File commands.Recover) = (λ some. cc, λ is. absurd is)
+none_start word none (jobs.File commands.Trim) = (λ some. cc, λ is. absurd is)
+
 -- ---- all words
 -- one word
 pub one_word : (words : List (List ℕ)) (word : List ℕ) → words ≡ word ∷ [] → word ≡ codes "replay" → (job : Job) → (Some jobs.Replay ≡ Some job → AsksFor job words) × (AsksFor job words → Some jobs.Replay ≡ Some job)
 one_word words word are is jobs.Replay = (λ e. are ∙ ap (λ w. w ∷ []) is, λ e. refl)
-one_word words word are is (jobs.File command) = (λ e. cc, λ e. absurd (omega (arith, ap length (sym are ∙ e.1))))
+one_word words word are is (jobs.File command) = (λ e. cc, λ e. absurd (omega (arith, ap length (sym are ∙ e.2))))
 one_word words word are is (jobs.Generate seed count) = (λ e. cc, λ e. absurd (omega (arith, ap length (sym are ∙ e.0))))
 
 -- two words

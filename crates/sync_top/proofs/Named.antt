@@ -1,12 +1,12 @@
 -- Each event of an exchange is refused by a named rule alone.
-use Rattle.std.proofs.Common.{◌≡◌, ◌≤◌, ◌<◌, ◌⊎◌, ⊎_elim, ℕ, zero, suc, Bool, true, false, not, ◌&&◌, ◌||◌, if◌then◌else◌, nat_lt, List, [], ◌∷◌, ◌++◌, length, Option, None, Some, Result, Ok, Err, refl, sym, ap, subst, ◌∙◌, arith}
+use Rattle.std.proofs.Common.{◌≡◌, ◌≤◌, ⊎_elim, ℕ, zero, suc, Bool, true, false, not, ◌&&◌, ◌||◌, if◌then◌else◌, nat_lt, List, [], ◌∷◌, ◌++◌, length, Option, None, Some, Result, Ok, Err, refl, subst, arith}
 use Rattle.std.specs.Prelude.{⊤, bytes_eq, ◌==◌, ◌-◌, map}
 use Rattle.sync_data.specs.declared.instr.Instr.{Instr}
 use Rattle.sync_base.specs.States.{IsState}
 use Rattle.sync_exchange.specs.Profile.{the_profile}
 use Rattle.sync_theory.specs.Changesets.{Changeset}
 use Rattle.sync_model.specs.Bytes.{Name, Uuid, Tables}
-use Rattle.sync_model.specs.Profile.{Profile, IsNamedKind, all_admitted, apply_all, first_need, first_outside, is_small, needs, restricted}
+use Rattle.sync_model.specs.Profile.{Profile, all_admitted, apply_all, first_need, first_outside, is_small, needs, restricted}
 use Rattle.sync_model.specs.Log.{IsFair, MayDecline, MayRefuse, WorldFacts}
 use Rattle.sync_model.specs.Messages.{Message, Bind, Ident, Upload, Ask, Download, Refused, Stored, Ask2, Retire, Retired, AskTables}
 use Rattle.sync_model.specs.Clients as clients

@@ -1,6 +1,6 @@
 -- What is told of events, as the model has them: how many messages there are afterwards, and the number of a reply.
 use Rattle.std.proofs.Common.{◌≡◌, ◌+◌, ℕ, suc, Bool, true, false, List, [], ◌∷◌, ◌++◌, length, length-append, Option, None, Some, Result, Ok, Err, refl, sym, ap, ◌∙◌, add-zero, if◌then◌else◌, bytes_eq}
-use Rattle.sync_model.specs.Bytes.{Name, Uuid}
+use Rattle.sync_model.specs.Bytes.{Name}
 use Rattle.sync_model.specs.Messages.{Message}
 use Rattle.sync_model.specs.Clients.{Client, ClientRecord, ClientRefusal, ClientStep, client_of, commit, upgrade, subscribe, bind, upload, ask, take as take_message}
 use Rattle.sync_model.specs.Profile.{Profile}

@@ -1,10 +1,10 @@
 -- By which rules an event of an exchange may be refused.
 use Rattle.std.specs.Prelude.{◌≡◌, ℕ, Option, None, Some}
 use Rattle.sync_data.specs.declared.instr.Instr.{Instr}
-use Rattle.sync_model.specs.Clients.{ClientRefusal, NotBorn, AlreadyBorn, NotNamed, TooLarge, NumbersFull, OldForm, NotSubscribed, Break, NotMine, IdentDiffers, Gap, BadBody, OldEntry, Mismatch, Forked, NotApplicable, WasRefused, Subscribed, TooLate}
+use Rattle.sync_model.specs.Clients.{ClientRefusal, NotNamed, TooLarge, NumbersFull, OldForm, NotSubscribed, Break, Subscribed, TooLate}
 use Rattle.sync_model.specs.Log.{IsFair, MayDecline}
-use Rattle.sync_model.specs.Messages.{Message, Bind, Ident, Upload, Ask, Download, Refused, Stored, Ask2, Retire, AskTables}
-use Rattle.sync_model.specs.Worlds.{World, Event, Joins, Edits, Binds, Uploads, Asks, Upgrades, Subscribes, Delivers, Restarts, Stops, Injects, Words, Declined, Replied, message_at}
+use Rattle.sync_model.specs.Messages.{Message, Bind, Upload, Ask, Refused, Ask2, Retire, AskTables}
+use Rattle.sync_model.specs.Worlds.{World, Event, Edits, Uploads, Asks, Subscribes, Delivers, Injects, Words, Declined, Replied, message_at}
 
 -- a transaction: its size, the numbers, the form of the file, the first instruction of another table than the client's, and
 -- the first that doesn't act

@@ -87,11 +87,7 @@ pub fn trimmed_file<D: Disk>(alloc: Global, server: &Server<D>) -> Result<Vec<u8
 
 /// The bytes of the file of a client that begins with the objects of a server: a journal of the records that `started`
 /// answers.
-pub fn started_file<D: Disk>(
-    alloc: Global,
-    server: &Server<D>,
-    id: Id,
-) -> Result<Vec<u8>, NoMemory>
+pub fn started_file<D: Disk>(alloc: Global, server: &Server<D>, id: Id) -> Result<Vec<u8>, NoMemory>
     requires open_ { is_closed server.now ≡ false }
     ensures file { IfOk result (λ bytes. IsFile (map client_bytes (started the_profile id (parts (kept_of server.now)).second (parts (kept_of server.now)).len (parts (kept_of server.now)).objects)) bytes.items) }
 {

@@ -1,5 +1,5 @@
-use Rattle.std.proofs.Common.{◌+◌, ◌∷◌, ◌++◌, List, map, drop, refl, sym, ap, subst, ◌∙◌, arith, true, false}
-use Rattle.sync_model.specs.Clients.{ClientRecord, client_of}
+use Rattle.std.proofs.Common.{◌+◌, ◌∷◌, ◌++◌, map, drop, refl, sym, ap, subst, ◌∙◌, arith, true, false}
+use Rattle.sync_model.specs.Clients.{client_of}
 use Rattle.sync_model.specs.Resets.{HeirStep, heir, recover_changes}
 use Rattle.sync_exchange.specs.Profile.{the_profile}
 use Rattle.sync_exchange.specs.Seen.{change_seen, client_bytes}

@@ -4,7 +4,7 @@ use Rattle.sync_journal.specs.Records.{records_of}
 use Rattle.sync_journal.specs.Records.Reading.{Good}
 use Rattle.sync_server.specs.Serving.{IsServerOf}
 use Rattle.sync_node.specs.Opening.{HoldsThose, server_file}
-use Rattle.sync_node.specs.ServerTexts.{StandsFor, text_of}
+use Rattle.sync_node.specs.ServerTexts.{text_of}
 use Rattle.sync_node.proofs.Opened.{no_both, same_err, same_ok, tells_bad}
 use Rattle.sync_node.proofs.Opened.{server_holds}
 use Rattle.sync_node.proofs.Telling.{open_no_write, open_tells, open_undone, open_unmade, text_no_bad, text_no_fault, text_tells, writes_none}

@@ -1,5 +1,6 @@
-use Rattle.std.proofs.Common.{codes, map, string_bytes}
-use Rattle.sync_top.proofs.Jobs.{one_item, two_items, three_items, is_text, one_word, two_words, three_words}
+use Rattle.std.proofs.Common.{Global, arith, codes, map, string_bytes}
+use Rattle.std.proofs.lemmas.List.{length-map}
+use Rattle.sync_top.proofs.Jobs.{one_item, two_items, three_items, is_text, one_word, two_words, three_words, none_long}
 use Rattle.sync_top.proofs.job.job_of.Goals as goal
 
 pub returns-in-len1 : goal.returns-in-len1
@@ -20,3 +21,6 @@ returns-in-len3 c =
     let words = three_items string_bytes c.args.words.now c.word-item-then-words-lt4.result c.second-item.result c.third-item.result word.result.now second.result.now third.result.now c.in-len3.len_at_least c.in-len3.len_below
     c.word-item-then-words-lt4.is c.second-item.is c.third-item.is word.ensures.value second.ensures.value third.ensures.value in
     three_words (map string_bytes c.args.words.now) word.result.now second.result.now third.result.now c.numbered_job_of.result words c.numbered_job_of.ensures
+
+pub returns-in_default-3 : goal.returns-in_default-3
+returns-in_default-3 c = none_long (map string_bytes c.args.words.now) (omega (arith, c.in_default.len_at_least, length-map c.args.words.now (string_bytes {Z = Global})))

@@ -1,4 +1,4 @@
-use Rattle.std.proofs.Common.{ℕ, ap, ◌∙◌}
+use Rattle.std.proofs.Common.{ap, ◌∙◌}
 use Rattle.sync_base.specs.States.{State}
 use Rattle.sync_data.specs.declared.instr.Instr.{Instr}
 use Rattle.sync_model.specs.Parts.{Parts}

@@ -1,4 +1,4 @@
-use Rattle.std.proofs.Common.{◌≡◌, sym, refl, ◌∙◌}
+use Rattle.std.proofs.Common.{sym, refl, ◌∙◌}
 use Rattle.sync_model.specs.Clients.{client_of}
 use Rattle.sync_model.specs.Messages.{Message}
 use Rattle.sync_model.specs.Resets.{Refuses, ResetRefusal, recover_frame}

@@ -1,5 +1,4 @@
-use Rattle.std.proofs.Common.{◌≡◌, Some, None, List, map, ap, subst, sym, ◌∙◌, refl, IfOk}
-use Rattle.sync_messages.specs.Parts.{RetiredParts}
+use Rattle.std.proofs.Common.{◌≡◌, Some, None, map, ap, subst, sym, ◌∙◌, refl, IfOk}
 use Rattle.sync_model.specs.Clients.{client_of}
 use Rattle.sync_model.specs.Resets.{count_known, recover_changes, recover_upload}
 use Rattle.sync_exchange.specs.Profile.{the_profile}
