@@ -1,0 +1,10 @@
+pub mod Checking
+pub mod Codes
+pub mod Drafts
+pub mod Finding
+pub mod Keeping
+pub mod Notes
+pub mod Placing
+pub mod Sizes
+pub mod Sketches
+pub mod Wants
