@@ -1,30 +1,22 @@
 -- A transaction with an instruction more.
-use Rattle.std.proofs.Common.{◌≡◌, ℕ, suc, ◌+◌, ◌-◌, ◌^◌, ◌<◌, ◌≤◌, Bool, true, false, cond, not, List, [], ◌∷◌, ◌++◌, length, Option, None, Some, is_some, Result, Ok, Err, refl, sym, ◌∙◌, ap, subst, arith}
-use Rattle.std.specs.Option.{option_and_then, option_map_or}
-use Rattle.std.specs.FinMap as map
+use Rattle.std.proofs.Common.{◌≡◌, ℕ, ◌+◌, ◌<◌, ◌≤◌, true, List, [], ◌∷◌, ◌++◌, length, Option, None, Some, Result, Ok, Err, refl, sym, ◌∙◌, ap, subst, arith}
+use Rattle.std.specs.Option.{option_and_then}
 use Rattle.std.proofs.lemmas.List.Sums.{sum_by-append}
 use Rattle.std.proofs.lemmas.List.{length-append}
-use Rattle.sync_data.specs.declared.column.Column.{Column}
-use Rattle.sync_data.specs.declared.column.Shape.{Shape}
 use Rattle.sync_data.specs.declared.instr.Instr.{Instr}
-use Rattle.sync_data.specs.declared.value.Value.{Value}
 use Rattle.sync_data.specs.Payload.{IsSmall, payload, payload_all, capped}
 use Rattle.sync_base.specs.After.{after}
-use Rattle.sync_base.specs.Checks.{act, act_all, break_of, checks, column_check, edit_fits, first_failed, has_shape, is_prior, object_checks, size, unbroken}
-use Rattle.sync_base.specs.Effects.{CellPath, Edit, Effect, Set, Add, Replace, Insert, Remove, Include, Exclude, Bind, Empty, NewTable, NewColumn, Create, Erase, Change, effect_of, is_effect}
-use Rattle.sync_base.specs.States.{State, Cell, IsState, cell_at, column_in, has, has_target, is_sound_column, shape_rank}
+use Rattle.sync_base.specs.Checks.{act, act_all, break_of, unbroken}
+use Rattle.sync_base.specs.Effects.{effect_of, is_effect}
+use Rattle.sync_base.specs.States.{State}
 use Rattle.sync_base.specs.declared.answers.Break.{Break}
-use Rattle.sync_base.specs.declared.answers.Break.TheVariants as breaks
 use Rattle.sync_base.specs.Lemmas.Runs.{act_or_break}
 use Rattle.sync_store.specs.Applying.{after_all}
-use Rattle.sync_store.specs.Asking.{change_checks, has_size, takes}
-use Rattle.sync_app.specs.Checking.{break_in, cell_checks}
+use Rattle.sync_app.specs.Checking.{break_in}
 use Rattle.sync_app.specs.Drafts.{Draft, IsDraft, Puts, Weighs, and_instr, objects_of}
 use Rattle.sync_app.specs.Finding.{Finds}
 use Rattle.sync_app.specs.Keeping.{Keeps}
-use Rattle.sync_app.specs.Sizes.{size_at}
-use Rattle.sync_app.specs.Sketches.{IsSketchOf, ShowsSame, Takes, base_of, note_of, size_in, tables_in}
-use Rattle.sync_app.specs.Wants.{is_length, prior_of}
+use Rattle.sync_app.specs.Sketches.{IsSketchOf, ShowsSame, Takes, base_of, note_of}
 use Rattle.sync_app.specs.Notes.{Note}
 use Rattle.sync_app.specs.Notes as notes
 use Rattle.sync_app.specs.declared.refusal.Refusal.{Refusal}
@@ -37,9 +29,9 @@ use Rattle.sync_app.proofs.Following.{followed, same_sketch}
 act_all-append : (is js : List Instr) (s : State) → act_all (is ++ js) s ≡ option_and_then (act_all js) (act_all is s)
 act_all-append [] js s = refl
 act_all-append (i ∷ is) js s = elim (act i s) as (λ x. option_and_then (act_all (is ++ js)) x ≡ option_and_then (act_all js) (option_and_then (act_all is) x)) [
-    | None ↦ refl
-    | Some t ↦ act_all-append is js t
-  ]
+  | None ↦ refl
+  | Some t ↦ act_all-append is js t
+]
 
 pub after_one : (is : List Instr) (i : Instr) (s : State) → after_all (is ++ i ∷ []) s ≡ after (after_all is s) (effect_of i)
 after_one [] i s = refl

@@ -1,15 +1,14 @@
 -- A sketch follows the instructions that act.
-use Rattle.std.proofs.Common.{◌≡◌, ℕ, suc, ◌+◌, ◌-◌, ◌<◌, ◌≤◌, Bool, true, false, cond, not, ◌&&◌, ◌||◌, List, Option, None, Some, is_some, refl, sym, ◌∙◌, ap, subst, arith, ◌==◌}
+use Rattle.std.proofs.Common.{◌≡◌, ℕ, ◌+◌, ◌-◌, ◌≤◌, Bool, true, false, cond, not, ◌&&◌, ◌||◌, Option, None, Some, refl, sym, ◌∙◌, ap, subst, arith, ◌==◌}
 use Rattle.std.specs.BTreeMap as tree
-use Rattle.std.specs.Option.{option_map_or}
 use Rattle.std.specs.Ordering.{eq_by_cmp}
 use Rattle.std.specs.Cmp.{eq_by_cmp_equiv}
 use Rattle.std.specs.FinMap as map
 use Rattle.std.proofs.lemmas.Bool.{eq-eqb, ne_eqb}
 use Rattle.sync_data.specs.declared.instr.Instr.{Instr}
 use Rattle.sync_base.specs.After.{after, new_cells, tables_after}
-use Rattle.sync_base.specs.Checks.{act, break_of}
-use Rattle.sync_base.specs.Effects.{ObjectName, CellPath, Edit, Effect, Set, Add, Replace, Insert, Remove, Include, Exclude, Bind, Empty, NewTable, NewColumn, Create, Erase, Change, effect_of, is_effect}
+use Rattle.sync_base.specs.Checks.{act}
+use Rattle.sync_base.specs.Effects.{ObjectName, CellPath, Edit, Effect, Set, Add, Replace, Insert, Remove, Include, Exclude, Bind, Empty, NewTable, NewColumn, Create, Erase, Change, effect_of}
 use Rattle.sync_base.specs.Lemmas.Looks.{has-after, object_exact, object_total, path_exact, path_total}
 use Rattle.sync_base.specs.Lemmas.Maps.{tied_is}
 use Rattle.sync_base.specs.Lemmas.Places.{acted}
@@ -17,14 +16,13 @@ use Rattle.sync_base.specs.Lemmas.Shaped.{IsEdit, IsEffect}
 use Rattle.sync_base.specs.Lemmas.Steps.{Found, FoundCell, found}
 use Rattle.sync_base.specs.Lemmas.Whole.{keeps_state, shaped_of}
 use Rattle.sync_base.specs.Merged.{path_cmp}
-use Rattle.sync_base.specs.States.{State, IsState, Tables, has, object_cmp}
+use Rattle.sync_base.specs.States.{State, IsState, has, object_cmp}
 use Rattle.sync_app.specs.Sizes.{size_at}
 use Rattle.sync_app.specs.declared.sketch.Sketch.{Sketch}
-use Rattle.sync_app.specs.declared.sketch.Standing.{Standing}
 use Rattle.sync_app.specs.declared.sketch.Length.{Length}
 use Rattle.sync_app.specs.Notes.{Note}
 use Rattle.sync_app.specs.Notes as notes
-use Rattle.sync_app.specs.Sketches.{IsSketchOf, ShowsSame, Takes, base_of, first_size, length_in, life_by, life_in, note_of, size_by, size_in, standing_in, stands_by, stands_in, tables_in}
+use Rattle.sync_app.specs.Sketches.{IsSketchOf, ShowsSame, Takes, base_of, first_size, length_in, life_by, life_in, note_of, size_by, standing_in, stands_by, stands_in, tables_in}
 use Rattle.sync_app.proofs.Resizing.{none_here, resized, size_changed, size_stays}
 
 -- ---- what two sketches that show the same are sketches of

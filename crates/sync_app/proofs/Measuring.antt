@@ -1,5 +1,5 @@
 -- What a list measures by a sketch.
-use Rattle.std.proofs.Common.{◌≡◌, ℕ, true, List, length, Option, None, Some, Result, Ok, Err, sym, ◌∙◌, ap, subst}
+use Rattle.std.proofs.Common.{◌≡◌, ℕ, true, List, length, Option, None, Result, Ok, Err, sym, ◌∙◌, ap, subst}
 use Rattle.sync_data.specs.declared.instr.CellName.{CellName}
 use Rattle.sync_data.specs.declared.instr.Instr.{Instr}
 use Rattle.sync_data.specs.declared.value.Value.{Value}

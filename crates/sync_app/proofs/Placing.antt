@@ -1,5 +1,5 @@
 -- What a call for a place in a list answers: its instruction bears the length that the list has.
-use Rattle.std.proofs.Common.{◌≡◌, ℕ, ◌<◌, Bool, true, false, ◌==◌, ◌∷◌, ◌++◌, [], Option, None, Some, is_some, Result, Ok, Err, refl, sym, ◌∙◌, ap, subst}
+use Rattle.std.proofs.Common.{◌≡◌, ℕ, Bool, true, false, ◌==◌, ◌∷◌, ◌++◌, [], Option, None, Some, is_some, Result, Ok, Err, refl, sym, ◌∙◌, ap, subst}
 use Rattle.std.specs.Option.{option_map_or}
 use Rattle.std.proofs.lemmas.Bool.{eq-eqb}
 use Rattle.sync_data.specs.declared.column.Column.{Column}

@@ -1,21 +1,18 @@
 -- How long a list is after an instruction.
-use Rattle.std.proofs.Common.{◌≡◌, ℕ, ◌+◌, ◌-◌, ◌<◌, ◌≤◌, Bool, true, false, cond, not, ◌&&◌, ◌||◌, List, [], length, Option, None, Some, is_some, refl, sym, ◌∙◌, ap, subst, arith, ◌==◌}
-use Rattle.std.specs.Prelude.{slice_set}
-use Rattle.std.specs.List.{insert, remove}
+use Rattle.std.proofs.Common.{◌≡◌, ℕ, ◌+◌, ◌-◌, Bool, true, false, cond, List, length, Option, None, Some, is_some, refl, sym, ◌∙◌, ap, arith}
 use Rattle.std.specs.Option.{option_map, option_map_or, option_and_then, unwrap_or}
 use Rattle.std.specs.Ordering.{eq_by_cmp}
 use Rattle.std.specs.FinMap as map
 use Rattle.std.proofs.lemmas.Bool.{eqb-true}
 use Rattle.std.proofs.lemmas.List.{length-set}
 use Rattle.std.proofs.lemmas.List.Edits.{length-insert, length-remove}
-use Rattle.sync_data.specs.declared.value.Value.{Value}
 use Rattle.sync_data.specs.declared.column.Column.{Column}
 use Rattle.sync_data.specs.declared.column.Shape.{Shape}
 use Rattle.sync_data.specs.declared.column.Shape.TheVariants as shapes
 use Rattle.sync_base.specs.After.{after, default_by, default_of, edited}
 use Rattle.sync_base.specs.Checks.{column_check, has_shape, is_prior, size}
 use Rattle.sync_base.specs.Effects.{ObjectName, CellPath, Edit, Effect, Set, Add, Replace, Insert, Remove, Include, Exclude, Bind, Empty, NewTable, NewColumn, Create, Erase, Change}
-use Rattle.sync_base.specs.Lemmas.Cells.{CellAfter, got_edited, map_itself, none_is, touched}
+use Rattle.sync_base.specs.Lemmas.Cells.{got_edited, map_itself, none_is, touched}
 use Rattle.sync_base.specs.Lemmas.Looks.{path_exact}
 use Rattle.sync_base.specs.Lemmas.Maps.{tied_is}
 use Rattle.sync_base.specs.Lemmas.Shaped.{IsEdit, IsShaped}

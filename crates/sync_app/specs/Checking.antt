@@ -7,7 +7,7 @@ use Rattle.sync_base.specs.declared.answers.Break.{Break}
 use Rattle.sync_base.specs.declared.answers.Break.TheVariants as breaks
 use Rattle.sync_base.specs.Checks.{object_checks, column_check, first_failed, has_shape, edit_fits}
 use Rattle.sync_base.specs.Effects.{ObjectName, CellPath, Effect, NewTable, NewColumn, Create, Erase, Change}
-use Rattle.sync_base.specs.States.{Tables, column_in, shape_rank, is_sound_column, has_target}
+use Rattle.sync_base.specs.States.{column_in, shape_rank, is_sound_column, has_target}
 use Rattle.sync_app.specs.declared.sketch.Sketch.{Sketch}
 use Rattle.sync_app.specs.Wants.{is_length, prior_of}
 use Rattle.sync_app.specs.Sketches.{tables_in, stands_in, size_in}

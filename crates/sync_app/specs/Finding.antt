@@ -1,5 +1,5 @@
 -- The answer of a check, for which memory may be wanting.
-use Rattle.std.specs.Prelude.{◌≡◌, ◌<◌, ℕ, Option, None, Some, Result, Ok, Err}
+use Rattle.std.specs.Prelude.{◌≡◌, Option, None, Some, Result, Ok, Err}
 use Rattle.sync_base.specs.declared.answers.Break.{Break}
 use Rattle.sync_app.specs.declared.refusal.Refusal.{Refusal}
 use Rattle.sync_app.specs.declared.refusal.Refusal.TheVariants as refusals

@@ -1,6 +1,6 @@
 -- What instructions change of objects, as far as it decides whether a further one acts: the tables, which objects stand, and
 -- how long lists are.
-use Rattle.std.specs.Prelude.{◌≡◌, ◌≤◌, ◌==◌, ◌+◌, ◌-◌, ℕ, suc, Bool, true, false, cond, if◌then◌else◌, Option, None, Some}
+use Rattle.std.specs.Prelude.{◌≡◌, ◌≤◌, ◌==◌, ◌+◌, ◌-◌, ℕ, Bool, true, false, cond, if◌then◌else◌, Option, None, Some}
 use Rattle.std.specs.Option.{option_map_or, unwrap_or}
 use Rattle.std.specs.BTreeMap as tree
 use Rattle.sync_base.specs.After.{tables_after}

@@ -11,12 +11,7 @@ use sync_base::{Between, CellName, Inside, Value};
 
 impl Transaction<'_> {
     /// The gap of a list before that place, for a value that its column takes.
-    pub(crate) fn gap(
-        &self,
-        cell: &CellName,
-        place: u32,
-        value: &Value,
-    ) -> Result<Between, Refusal>
+    pub(crate) fn gap(&self, cell: &CellName, place: u32, value: &Value) -> Result<Between, Refusal>
         ensures { let n = length_of self.now cell.now in Places result (nat_le place n) place n (list_break self.now cell.now (Some value.now)) }
     {
         let length = match self.list_length(cell, Some(value)) {

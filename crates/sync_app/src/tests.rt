@@ -1,51 +1,192 @@
 use super::*;
 use std::alloc::Global;
 use std::test::Fail;
-use sync_base::{Break, CellName, Column, Key, KeyKind, Kind, Name, Shape, Value};
+use sync_base::{
+    Break, CellName, Changeset, Column, Instr, Key, KeyKind, KeyText, Kind, Name, Shape, Value,
+};
 use sync_store::Store;
 
-fn list_cell() -> Result<CellName, Fail> {
+/// A call for note 1: on the list `tags`, the counter `count`, the set `marks` or the dictionary `ages`.
+enum Call {
+    AddTable,
+    AddColumn(&'static str, Shape),
+    Create,
+    Erase,
+    Set(i64),
+    Add(i64),
+    Insert(u32, i64),
+    Push(i64),
+    Replace(u32, i64),
+    Remove(u32),
+    Include(i64),
+    Exclude(i64),
+    Bind(&'static str, i64),
+    Unbind(&'static str),
+    ClearList,
+    ClearCount,
+}
+
+/// Calls one after the other, and why those aren't taken that aren't.
+const CALLS: [(Call, Result<(), Refusal>); 31] = [
+    (Call::Create, Err(Refusal::Break(Break::NoTable))),
+    (Call::AddTable, Ok(())),
+    (Call::AddTable, Err(Refusal::Break(Break::TableExists))),
+    (Call::AddColumn("tags", Shape::List), Ok(())),
+    (Call::AddColumn("count", Shape::One), Ok(())),
+    (Call::AddColumn("marks", Shape::Set), Ok(())),
+    (Call::AddColumn("ages", Shape::Dict), Ok(())),
+    (Call::Push(1), Err(Refusal::Break(Break::NoObject))),
+    (Call::Create, Ok(())),
+    (Call::Push(1), Ok(())),
+    (Call::Push(3), Ok(())),
+    (Call::Insert(1, 2), Ok(())),
+    (
+        Call::Insert(4, 9),
+        Err(Refusal::OutOfRange {
+            place: 4,
+            length: 3,
+        }),
+    ),
+    (
+        Call::Remove(3),
+        Err(Refusal::OutOfRange {
+            place: 3,
+            length: 3,
+        }),
+    ),
+    (Call::Replace(2, 5), Ok(())),
+    (Call::Remove(0), Ok(())),
+    (
+        Call::Remove(2),
+        Err(Refusal::OutOfRange {
+            place: 2,
+            length: 2,
+        }),
+    ),
+    (Call::Erase, Ok(())),
+    (Call::Erase, Err(Refusal::Break(Break::NoObject))),
+    (Call::Create, Ok(())),
+    (
+        Call::Replace(0, 1),
+        Err(Refusal::OutOfRange {
+            place: 0,
+            length: 0,
+        }),
+    ),
+    (Call::Push(4), Ok(())),
+    (Call::ClearList, Ok(())),
+    (
+        Call::Remove(0),
+        Err(Refusal::OutOfRange {
+            place: 0,
+            length: 0,
+        }),
+    ),
+    (Call::Set(5), Ok(())),
+    (Call::Add(2), Ok(())),
+    (Call::ClearCount, Err(Refusal::Break(Break::WrongShape))),
+    (Call::Include(1), Ok(())),
+    (Call::Exclude(1), Ok(())),
+    (Call::Bind("ann", 41), Ok(())),
+    (Call::Unbind("bob"), Ok(())),
+];
+
+/// How many of the calls are taken.
+const TAKEN: usize = 21;
+
+fn cell(column: &str) -> Result<CellName, Fail> {
     Ok(CellName {
         table: Name::new("notes")?,
         key: Key::Int(1),
-        column: Name::new("tags")?,
+        column: Name::new(column)?,
     })
 }
 
-fn tags() -> Column {
+fn numbers(shape: Shape) -> Column {
     Column {
         kind: Kind::Int,
         nullable: false,
-        shape: Shape::List,
+        shape,
     }
 }
 
+/// What a call for the note itself answers.
+fn answer_of_note(edits: &mut Transaction<'_>, call: &Call) -> Result<Result<(), Refusal>, Fail> {
+    let notes = Name::new("notes")?;
+    match call {
+        Call::AddTable => Ok(edits.add_table(notes, KeyKind::Int)),
+        Call::AddColumn(column, shape) => {
+            Ok(edits.add_column(notes, Name::new(column)?, numbers(*shape)))
+        }
+        Call::Create => Ok(edits.create(notes, Key::Int(1))),
+        _ => Ok(edits.erase(notes, Key::Int(1))),
+    }
+}
+
+/// What a call for its list answers.
+fn answer_of_list(edits: &mut Transaction<'_>, call: &Call) -> Result<Result<(), Refusal>, Fail> {
+    let tags = cell("tags")?;
+    match call {
+        Call::Insert(place, value) => Ok(edits.insert(tags, *place, Value::Int(*value))),
+        Call::Push(value) => Ok(edits.push(tags, Value::Int(*value))),
+        Call::Replace(place, value) => Ok(edits.replace(tags, *place, Value::Int(*value))),
+        Call::Remove(place) => Ok(edits.remove(tags, *place)),
+        _ => Ok(edits.clear(tags)),
+    }
+}
+
+/// What a call for another of its cells answers.
+fn answer_of_cell(
+    alloc: Global,
+    edits: &mut Transaction<'_>,
+    call: &Call,
+) -> Result<Result<(), Refusal>, Fail> {
+    match call {
+        Call::Set(value) => Ok(edits.set(cell("count")?, Value::Int(*value))),
+        Call::Add(amount) => Ok(edits.add(cell("count")?, *amount)),
+        Call::Include(value) => Ok(edits.include(cell("marks")?, Value::Int(*value))),
+        Call::Exclude(value) => Ok(edits.exclude(cell("marks")?, Value::Int(*value))),
+        Call::Bind(at, value) => {
+            let at = KeyText::new(alloc, at)?;
+            Ok(edits.bind(cell("ages")?, at, Value::Int(*value)))
+        }
+        Call::Unbind(at) => Ok(edits.unbind(cell("ages")?, KeyText::new(alloc, at)?)),
+        _ => Ok(edits.clear(cell("count")?)),
+    }
+}
+
+fn answer(
+    alloc: Global,
+    edits: &mut Transaction<'_>,
+    call: &Call,
+) -> Result<Result<(), Refusal>, Fail> {
+    match call {
+        Call::AddTable | Call::AddColumn(..) | Call::Create | Call::Erase => {
+            answer_of_note(edits, call)
+        }
+        Call::Insert(..) | Call::Push(_) | Call::Replace(..) | Call::Remove(_) | Call::ClearList =>
+            answer_of_list(edits, call),
+        _ => answer_of_cell(alloc, edits, call),
+    }
+}
+
+/// The instructions of the calls that are taken.
+fn taken(alloc: Global, objects: &Store) -> Result<Vec<Instr>, Fail> {
+    let mut edits = Transaction::new(alloc, objects);
+    for (call, wanted) in CALLS.iter() {
+        if answer(alloc, &mut edits, call)? != *wanted {
+            return Err("a call answers something else".into());
+        }
+    }
+    Ok(edits.finish())
+}
+
 #[test]
-fn a_length_is_that_with_the_transaction_so_far(rt: HostRuntime) -> Result<(), Fail> {
+fn calls_see_the_transaction_so_far(rt: HostRuntime) -> Result<(), Fail> {
     let alloc = rt.alloc();
-    let store = Store::new(alloc)?;
-    let mut edits = Transaction::new(alloc, &store);
-    assert!(rt; edits.add_table(Name::new("notes")?, KeyKind::Int).is_ok());
-    assert!(rt;
-        edits
-            .add_column(Name::new("notes")?, Name::new("tags")?, tags())
-            .is_ok()
-    );
-    assert!(rt; edits.create(Name::new("notes")?, Key::Int(1)).is_ok());
-    assert!(rt; edits.push(list_cell()?, Value::Int(1)).is_ok());
-    assert!(rt; edits.push(list_cell()?, Value::Int(3)).is_ok());
-    assert!(rt; edits.insert(list_cell()?, 1, Value::Int(2)).is_ok());
-    assert_eq!(rt;
-        edits.remove(list_cell()?, 3),
-        Err(Refusal::OutOfRange {
-            place: 3,
-            length: 3
-        })
-    );
-    assert_eq!(rt;
-        edits.add(list_cell()?, 3),
-        Err(Refusal::Break(Break::WrongShape))
-    );
-    assert_eq!(rt; edits.finish().len(), 6);
+    let mut store = Store::new(alloc)?;
+    let instrs = taken(alloc, &store)?;
+    assert_eq!(rt; instrs.len(), TAKEN);
+    assert!(rt; store.apply_all(&Changeset::checked(0, instrs)?).is_ok());
     Ok(())
 }

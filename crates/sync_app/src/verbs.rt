@@ -6,8 +6,8 @@ use super::slots::let_go;
 use super::transaction::Transaction;
 use sync_base::{
     AddColumn, AddInteger, AddTable, CellName, Clear, Column, CreateObject, DictUpdate,
-    EraseObject, Instr, Key, KeyKind, KeyText, ListErase, ListInsert, ListUpdate, Name,
-    SetErase, SetInsert, Update, Value,
+    EraseObject, Instr, Key, KeyKind, KeyText, ListErase, ListInsert, ListUpdate, Name, SetErase,
+    SetInsert, Update, Value,
 };
 
 impl Transaction<'_> {
