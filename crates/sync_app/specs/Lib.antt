@@ -5,6 +5,7 @@ pub mod Finding
 pub mod Keeping
 pub mod Notes
 pub mod Placing
+pub mod Reading
 pub mod Sizes
 pub mod Sketches
 pub mod Wants
