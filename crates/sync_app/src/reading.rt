@@ -9,17 +9,22 @@ use std::collections::{BTreeMap, BTreeSet};
 use sync_base::{CellName, KeyText, Value as Held};
 use sync_cells::{Cell, Content};
 use sync_store::Store;
+use thiserror::Error;
 
 /// Why a cell isn't read.
-#[derive(Clone, Copy, Debug, PartialEq, Eq)]
+#[derive(Clone, Copy, Debug, PartialEq, Eq, Error)]
 pub enum Unread {
     /// There is no such table.
+    #[error("there is no such table")]
     NoTable,
     /// The table has no object with that key.
+    #[error("the table has no object with that key")]
     NoObject,
     /// The table has no such column.
+    #[error("the table has no such column")]
     NoColumn,
     /// The cell holds something else: one value, a list, a set or a dictionary.
+    #[error("the cell is of another shape")]
     WrongShape,
 }
 
@@ -83,7 +88,10 @@ pub fn set_of<'a>(objects: &'a Store, cell: &CellName) -> Result<&'a BTreeSet<He
 }
 
 /// The bindings of a dictionary, in the order of their text keys. It takes no memory.
-pub fn dict_of<'a>(objects: &'a Store, cell: &CellName) -> Result<&'a BTreeMap<KeyText, Held>, Unread>
+pub fn dict_of<'a>(
+    objects: &'a Store,
+    cell: &CellName,
+) -> Result<&'a BTreeMap<KeyText, Held>, Unread>
     ensures dict { IfOk result (λ bindings. found bindings_in objects.now (path_of cell.now) ≡ Ok (map.from_entries bindings.now.entries)) }
     ensures refused { IfErr result (λ why. found bindings_in objects.now (path_of cell.now) ≡ Err why) }
 {

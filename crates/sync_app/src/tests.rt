@@ -94,6 +94,15 @@ const CALLS: [(Call, Result<(), Refusal>); 31] = [
 /// How many of the calls are taken.
 const TAKEN: usize = 21;
 
+/// What is read of the note once they have acted.
+const READ: [(&str, Option<usize>); 5] = [
+    ("count", Some(7)),
+    ("tags", Some(0)),
+    ("marks", Some(0)),
+    ("ages", Some(1)),
+    ("none", None),
+];
+
 fn cell(column: &str) -> Result<CellName, Fail> {
     Ok(CellName {
         table: Name::new("notes")?,
@@ -181,6 +190,33 @@ fn taken(alloc: Global, objects: &Store) -> Result<Vec<Instr>, Fail> {
     Ok(edits.finish())
 }
 
+/// The number in a column of note 1, or how many elements, members or bindings there are.
+fn read(objects: &Store, column: &str) -> Result<Option<usize>, Fail> {
+    let cell = cell(column)?;
+    if let Ok(Value::Int(number)) = value_of(objects, &cell) {
+        return Ok(usize::try_from(*number).ok());
+    }
+    if let Ok(list) = list_of(objects, &cell) {
+        return Ok(Some(list.len()));
+    }
+    if let Ok(members) = set_of(objects, &cell) {
+        return Ok(Some(members.len()));
+    }
+    match dict_of(objects, &cell) {
+        Ok(bindings) => Ok(Some(bindings.len())),
+        Err(_) => Ok(None),
+    }
+}
+
+fn is_read(objects: &Store) -> Result<bool, Fail> {
+    for (column, wanted) in READ.iter() {
+        if read(objects, column)? != *wanted {
+            return Ok(false);
+        }
+    }
+    Ok(true)
+}
+
 #[test]
 fn calls_see_the_transaction_so_far(rt: HostRuntime) -> Result<(), Fail> {
     let alloc = rt.alloc();
@@ -188,5 +224,28 @@ fn calls_see_the_transaction_so_far(rt: HostRuntime) -> Result<(), Fail> {
     let instrs = taken(alloc, &store)?;
     assert_eq!(rt; instrs.len(), TAKEN);
     assert!(rt; store.apply_all(&Changeset::checked(0, instrs)?).is_ok());
+    assert!(rt; is_read(&store)?);
+    Ok(())
+}
+
+#[test]
+fn refusals_have_words(rt: HostRuntime) -> Result<(), Fail> {
+    let alloc = rt.alloc();
+    let broken = format!(in alloc; "{}", Refusal::Break(Break::NoObject))?;
+    let outside = format!(in alloc;
+        "{}",
+        Refusal::OutOfRange {
+            place: 3,
+            length: 2
+        }
+    )?;
+    assert_eq!(rt;
+        broken.as_str(),
+        "it doesn't act on the objects with the transaction so far: NoObject"
+    );
+    assert_eq!(rt;
+        outside.as_str(),
+        "place 3 lies outside the list, whose length is 2"
+    );
     Ok(())
 }
