@@ -1,10 +1,8 @@
 -- Lists of instructions that leave a part of a state as it is: as they cross others, and as they act.
-use Rattle.std.proofs.Common.{◌≡◌, ℕ, Bool, true, false, List, [], ◌∷◌, ◌++◌, Option, None, Some, Result, Ok, Err, refl, sym, ◌∙◌, ap}
-use Rattle.std.specs.Prelude.{IfOk, IfSome, map}
+use Rattle.std.proofs.Common.{◌≡◌, ℕ, Bool, List, [], ◌∷◌, ◌++◌, Option, None, Some, Result, Ok, Err, refl, sym, ◌∙◌}
+use Rattle.std.specs.Prelude.{IfOk, IfSome}
 use Rattle.sync_data.specs.declared.instr.Instr.{Instr}
-use Rattle.sync_base.specs.Checks.{act}
-use Rattle.sync_base.specs.Effects.{effect_of}
-use Rattle.sync_base.specs.Footprints.{Part, TableAt, ColumnAt, ObjectAt, CellAt, SameAt, changes}
+use Rattle.sync_base.specs.Footprints.{Part, TableAt, ColumnAt, ObjectAt, CellAt, SameAt}
 use Rattle.sync_base.specs.Lemmas.Reads.{framed}
 use Rattle.sync_base.specs.States.{State}
 use Rattle.sync_exchange.specs.Profile.{the_profile}

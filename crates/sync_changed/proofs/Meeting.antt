@@ -1,25 +1,23 @@
 -- What is left of an instruction may change the same place.
-use Rattle.std.specs.Prelude.{◌≡◌, Bool, true, false, cond, ◌&&◌, ◌==◌, Option, None, Some, Result, Ok, Err, IfOk, refl}
+use Rattle.std.specs.Prelude.{◌≡◌, Bool, true, false, cond, ◌&&◌, ◌==◌, Option, None, Some, Ok, Err, IfOk, refl}
 use Rattle.std.specs.Option.{option_map}
 use Rattle.std.specs.Ordering.{eq_by_cmp}
 use Rattle.std.proofs.Common.{sym, ◌∙◌, ap, subst}
 use Rattle.sync_data.specs.Orders.{name_cmp}
 use Rattle.sync_data.specs.declared.instr.Instr.{Instr}
 use Rattle.sync_base.specs.declared.answers.Mismatch.{Mismatch}
-use Rattle.sync_base.specs.declared.answers.Outcome.{Outcome}
-use Rattle.sync_base.specs.Effects.{ObjectName, CellPath, Edit, Effect, NewTable, NewColumn, Create, Erase, Change, effect_of, instr_of}
+use Rattle.sync_base.specs.Effects.{CellPath, Edit, Effect, NewTable, NewColumn, Create, Erase, Change, effect_of, instr_of}
 use Rattle.sync_base.specs.Footprints.{Part, TableAt, ColumnAt, ObjectAt, CellAt, changes}
 use Rattle.sync_base.specs.Lemmas.Apart.{changes_there, changes_apart}
 use Rattle.sync_base.specs.Lemmas.Looks.{path_exact}
 use Rattle.sync_base.specs.Lemmas.Maps.{tied_is}
-use Rattle.sync_base.specs.Lemmas.Whole.{instr-effect, effect-instr}
+use Rattle.sync_base.specs.Lemmas.Whole.{effect-instr}
 use Rattle.sync_base.specs.Merged.{path_cmp, same_column}
-use Rattle.sync_base.specs.Rules.{Answer, rule, rule_of_edits, kept, neither, only_right, only_left, lifted, placed, outcome_of, meeting}
+use Rattle.sync_base.specs.Rules.{Answer, rule, rule_of_edits, kept, neither, only_right, only_left, lifted, placed, outcome_of}
 use Rattle.sync_base.specs.States.{object_cmp, key_rank_of}
 use Rattle.sync_law.specs.Coded.{coded, meet_by_code}
-use Rattle.sync_law.specs.Instrs.{as_pair, meet}
+use Rattle.sync_law.specs.Instrs.{as_pair}
 use Rattle.sync_changed.specs.declared.place.Place.{Place}
-use Rattle.sync_changed.specs.declared.place.Place.TheVariants as places
 use Rattle.sync_changed.specs.Places.{covers, place_of}
 
 -- an instruction changes what its place covers

@@ -7,7 +7,7 @@ use Rattle.sync_base.specs.Footprints.{Part, SameAt}
 use Rattle.sync_base.specs.States.{State}
 use Rattle.sync_exchange.specs.Lemmas.Lawful.{real_lawful}
 use Rattle.sync_exchange.specs.Profile.{the_profile}
-use Rattle.sync_model.specs.Clients.{Client, ClientRecord, ClientRefusal, ClientStep, Born, Named, Made, Took, Form, Subset, Part as PartRecord, Floor, after_record, after_records, carried_to, changeset_of, client_of, commit, commit_applied, commit_born, crossed, entry_refusal, if_born, no_client, ok_list, NotSubscribed, NumbersFull, OldForm, TooLarge, refuse, take, take_born, take_entries, take_ident, take_one, takes_entry, took}
+use Rattle.sync_model.specs.Clients.{Client, ClientRecord, ClientRefusal, ClientStep, Born, Named, Made, Took, Form, Subset, Part as PartRecord, Floor, after_record, after_records, changeset_of, client_of, commit, commit_applied, commit_born, crossed, entry_refusal, if_born, no_client, ok_list, NotSubscribed, NumbersFull, OldForm, TooLarge, refuse, take, take_born, take_entries, take_ident, take_one, took}
 use Rattle.sync_model.specs.Messages.{Message, Sent, Bind, Ident, Upload, Ask, Download, Refused, Stored, Ask2, Retire, Retired, AskTables}
 use Rattle.sync_model.specs.Profile.{Stuck, all_admitted, apply_all, cross_changesets, first_need, first_outside, is_small, needs}
 use Rattle.sync_model.proofs.Own.{after_append}
