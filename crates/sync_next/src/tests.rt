@@ -5,10 +5,13 @@ use sync_app::Transaction;
 use sync_client::Client;
 use sync_data::{KeyKind, Name};
 use sync_disk::MemoryDisk;
-use sync_messages::{Given, Message};
+use sync_messages::{Given, Message, message_of};
 
 /// The client's uuid.
 const ID: [u8; 16] = [7; 16];
+
+/// A Download for client 9 of an entry of another, which adds table "q".
+const ADD_Q: &[u8] = &[5, 9, 0, 1, 1, 1, 7, 8, 1, 1, 1, 0x71, 1, 1, 0, 0];
 
 /// What happens to a client.
 enum Step {
@@ -16,6 +19,7 @@ enum Step {
     Born,
     Named,
     Commits(&'static str),
+    Takes(&'static [u8]),
 }
 
 /// A kind of message.
@@ -28,7 +32,7 @@ enum Sent {
 }
 
 /// What happens, up to which number changesets are sent, and what the client sends next.
-const CASES: [(Step, u32, Option<(Sent, u32)>); 8] = [
+const CASES: [(Step, u32, Option<(Sent, u32)>); 9] = [
     (Step::Nothing, 0, None),
     (Step::Born, 0, Some((Sent::Bind, 0))),
     (Step::Commits("notes"), 0, Some((Sent::Bind, 0))),
@@ -37,6 +41,7 @@ const CASES: [(Step, u32, Option<(Sent, u32)>); 8] = [
     (Step::Commits("tags"), 1, Some((Sent::Upload, 2))),
     (Step::Nothing, 2, Some((Sent::Ask, 2))),
     (Step::Nothing, 0, Some((Sent::Upload, 2))),
+    (Step::Takes(ADD_Q), 2, Some((Sent::Ask, 2))),
 ];
 
 /// Whether the client commits a transaction that adds a table.
@@ -52,6 +57,17 @@ fn commits(alloc: Global, client: &mut Client<MemoryDisk>, table: &str) -> bool 
     commit(client, 5, instrs).is_ok()
 }
 
+/// Whether the client takes that message of one entry, and one place is told.
+fn takes_one(alloc: Global, client: &mut Client<MemoryDisk>, bytes: &[u8]) -> bool {
+    let Ok(message) = message_of(alloc, bytes) else {
+        return false;
+    };
+    match take(alloc, client, message) {
+        Ok(taken) => taken.answer == Ok(1) && taken.places.len() == 1,
+        Err(_) => false,
+    }
+}
+
 /// Whether the step is taken.
 fn takes(alloc: Global, client: &mut Client<MemoryDisk>, step: &Step) -> bool {
     match step {
@@ -59,6 +75,7 @@ fn takes(alloc: Global, client: &mut Client<MemoryDisk>, step: &Step) -> bool {
         Step::Born => client.born(ID).is_ok(),
         Step::Named => client.take(Message::Ident(Given::new(ID, 9))).is_ok(),
         Step::Commits(table) => commits(alloc, client, table),
+        Step::Takes(bytes) => takes_one(alloc, client, bytes),
     }
 }
 
