@@ -1,0 +1,6 @@
+mod Drafting
+mod Finding
+mod Following
+mod Measuring
+mod Placing
+mod Resizing

@@ -1,0 +1,11 @@
+pub mod Checking
+pub mod Codes
+pub mod Drafts
+pub mod Finding
+pub mod Keeping
+pub mod Notes
+pub mod Placing
+pub mod Reading
+pub mod Sizes
+pub mod Sketches
+pub mod Wants

@@ -1,0 +1,5 @@
+use Rattle.sync_changed.proofs.Taking.{edits_tell}
+use Rattle.sync_changed.proofs.edits.changed_by_edits.Goals as goal
+
+pub returns-clause-told : goal.returns-clause-told
+returns-clause-told c = edits_tell (λ places. places.items) c.args.edits.now c.places_of.result c.places_of.ensures

@@ -1,0 +1,91 @@
+use super::*;
+use std::alloc::Global;
+use std::test::Fail;
+use sync_codec::decode;
+use sync_messages::message_of;
+
+/// Table t with keys of integers, columns n, m, s, l, u and k, and object 1.
+const EDITS: &[u8] = &[
+    1, 7, 1, 116, 1, 110, 1, 109, 1, 115, 1, 108, 1, 117, 1, 107, 8, 1, 0, 0, 2, 0, 1, 1, 0, 0, 2,
+    0, 2, 1, 1, 0, 2, 0, 3, 3, 1, 0, 2, 0, 4, 3, 0, 1, 2, 0, 5, 1, 0, 2, 2, 0, 6, 7, 1, 0, 0, 3, 0,
+    0, 2,
+];
+
+/// A Download for client 1 with two entries: a column age of table t, "x" in list l and 5 for n of objects 1 and 9; and a
+/// byte that spells nothing.
+const DOWNLOAD: &[u8] = &[
+    5, 1, 0, 2, 1, 1, 7, 36, 1, 4, 1, 116, 3, 97, 103, 101, 1, 108, 1, 110, 3, 2, 0, 1, 3, 0, 0, 8,
+    0, 0, 2, 2, 3, 3, 3, 1, 120, 5, 0, 0, 18, 3, 1, 10, 1, 2, 7, 1, 3,
+];
+
+/// Of each place its kind, and the name of its table, or of its column where it has one.
+const EDITED: [(Kind, &str); 8] = [
+    (Kind::Table, "t"),
+    (Kind::Column, "n"),
+    (Kind::Column, "m"),
+    (Kind::Column, "s"),
+    (Kind::Column, "l"),
+    (Kind::Column, "u"),
+    (Kind::Column, "k"),
+    (Kind::Object, "t"),
+];
+
+const DOWNLOADED: [(Kind, &str); 3] = [(Kind::Column, "age"), (Kind::Cell, "l"), (Kind::Cell, "n")];
+
+#[derive(Clone, Copy, PartialEq, Eq)]
+enum Kind {
+    Table,
+    Column,
+    Object,
+    Cell,
+}
+
+fn is(place: &Place, kind: Kind, name: &str) -> bool {
+    match place {
+        Place::Table(table) => kind == Kind::Table && table.text() == name,
+        Place::Column { column, .. } => kind == Kind::Column && column.text() == name,
+        Place::Object { table, .. } => kind == Kind::Object && table.text() == name,
+        Place::Cell(cell) => kind == Kind::Cell && cell.column.text() == name,
+    }
+}
+
+/// Whether these are the places.
+fn are(places: &[Place], wanted: &[(Kind, &str)]) -> bool {
+    if places.len() != wanted.len() {
+        return false;
+    }
+    for (place, (kind, name)) in places.iter().zip(wanted.iter()) {
+        if !is(place, *kind, name) {
+            return false;
+        }
+    }
+    true
+}
+
+fn edited(alloc: Global) -> Option<Vec<Place>> {
+    match decode(alloc, 7, EDITS) {
+        Ok(changes) => changed_by_edits(alloc, changes.instrs()).ok(),
+        Err(_) => None,
+    }
+}
+
+fn downloaded(alloc: Global) -> Option<Vec<Place>> {
+    match message_of(alloc, DOWNLOAD) {
+        Ok(message) => changed_by_message(alloc, &message).ok(),
+        Err(_) => None,
+    }
+}
+
+#[test]
+fn each_instruction_has_its_place(rt: HostRuntime) -> Result<(), Fail> {
+    let alloc = rt.alloc();
+    let Some(edited) = edited(alloc) else {
+        return Err("the transaction isn't read".into());
+    };
+    let Some(downloaded) = downloaded(alloc) else {
+        return Err("the message isn't read".into());
+    };
+    assert!(rt; are(&edited, &EDITED));
+    assert!(rt; are(&downloaded, &DOWNLOADED));
+    Ok(())
+}

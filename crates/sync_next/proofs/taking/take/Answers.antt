@@ -1,0 +1,10 @@
+use Rattle.sync_exchange.specs.Profile.{the_profile}
+use Rattle.sync_exchange.specs.Seen.{message_seen}
+use Rattle.sync_model.specs.Clients.{client_of, take}
+use Rattle.sync_next.proofs.Telling.{told_so}
+use Rattle.sync_next.proofs.taking.take.Goals as goal
+
+pub returns-clause-told : goal.returns-clause-told
+returns-clause-told g c = λ records after was now x untold.
+    told_so (take the_profile (client_of the_profile records) (message_seen c.args.message)) records after c.args.client.now c.take-answer.new.self c.take-answer.result c.objects.result.now x
+    (c.take-answer.ensures.step records was) was now c.take-answer.ensures.closed.0 c.take-answer.ensures.closes c.objects.ensures (c.in-Ok.ensures.told records x untold)

@@ -1,0 +1,12 @@
+//! A transaction that is committed, what a client sends next, and what a message changed.
+#![tactic(auto)]
+
+mod committing;
+mod next;
+mod taking;
+#[cfg(test)]
+mod tests;
+
+pub use committing::commit;
+pub use next::{Next, next_message};
+pub use taking::{Taken, take};
