@@ -11,6 +11,8 @@ mod opening;
 mod refusals;
 mod reply;
 mod server;
+#[cfg(test)]
+mod tests;
 mod verb;
 
 pub use host::Host;
