@@ -374,6 +374,9 @@ REALM_SYNC_API int realm_take(realm_node *node, const void *message, size_t len)
 /* All objects, a line of JSON each, behind those of tables and columns: docs/FORMATS.md, "Report and dump". */
 REALM_SYNC_API int realm_dump(realm_node *node) { return realm_ask_of(node, 'D', NULL, 0); }
 
+/* The line of one object, by a line that names it: {"table":"notes","key":1}. REALM_ABSENT where there is none. */
+REALM_SYNC_API int realm_object(realm_node *node, const char *name) { return realm_ask_of(node, 'O', name, strlen(name)); }
+
 /* Where it stands. */
 REALM_SYNC_API int realm_standing(realm_node *node, realm_place *out) {
     int status = realm_ask_of(node, 'I', NULL, 0);

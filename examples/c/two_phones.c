@@ -83,6 +83,13 @@ int main(int count, char **words) {
     print_objects("second phone, afterwards", &second);
     print_objects("server", &server);
 
+    /* One object is read by its table and key. */
+    size_t len;
+    expect(realm_object(&first, "{\"table\":\"notes\",\"key\":1}"), "object", &first);
+    const uint8_t *line = realm_bytes(&first, &len);
+    printf("note 1: %.*s", (int)len, (const char *)line);
+    if (realm_object(&first, "{\"table\":\"notes\",\"key\":2}") == REALM_ABSENT) printf("there is no note 2\n");
+
     realm_place place;
     expect(realm_standing(&first, &place), "standing", &first);
     printf("first phone: ident %u, cursor %u, last %u, unsent %u\n", place.ident, place.cursor, place.last, place.unsent);

@@ -26,6 +26,10 @@ class Busy(Exception):
     """Another open holds the file."""
 
 
+class Absent(Exception):
+    """There is no such object."""
+
+
 class BadFile(Exception):
     """The file is another one's, or damaged. `place` is where it is no journal of such a node."""
 
@@ -72,7 +76,7 @@ def _load():
     node, size, text, number = ctypes.POINTER(_Node), ctypes.c_size_t, ctypes.c_char_p, ctypes.c_uint32
     for name, arguments in {
         "open_client": [text], "open_server": [text], "born": [text], "upgrade": [], "line": [text, size],
-        "next": [], "bind": [], "upload": [number], "ask": [], "retire": [number], "take": [text, size], "dump": [],
+        "next": [], "bind": [], "upload": [number], "ask": [], "retire": [number], "take": [text, size], "dump": [], "object": [text],
         "standing": [ctypes.POINTER(Standing)], "close": [], "refusal": [], "bad_place": [], "number": [], "is_question": [],
     }.items():
         function = getattr(library, f"realm_{name}")
@@ -135,6 +139,8 @@ class _Open:
             raise BadFile(self._told("bad_place"))
         if status == BUSY:
             raise Busy
+        if status == ABSENT:
+            raise Absent
         if status == NO_MEMORY:
             raise MemoryError
         raise Failure("the disk failed")
@@ -156,6 +162,15 @@ class _Open:
     def objects(self, table=None):
         """The objects, each with its table, key and cells, in order."""
         return (line for line in self.lines() if "cells" in line and table in (None, line["table"]))
+
+    def object(self, table, key):
+        """The object of that key, with its table, key and cells, or None where there is none."""
+        name = json.dumps({"table": table, "key": key}, ensure_ascii=False).encode()
+        try:
+            self._call("object", name)
+        except Absent:
+            return None
+        return json.loads(self._bytes())
 
     def standing(self):
         """Where the node stands."""

@@ -53,4 +53,5 @@ with tempfile.TemporaryDirectory() as folder, Server() as server:
         third.sync(server.take)
         print("phone, afterwards:", list(phone.objects("notes")))
         print("equal:", list(phone.lines()) == list(third.lines()) == list(server.lines()))
+        print("note 1:", phone.object("notes", 1)["cells"], "note 2:", phone.object("notes", 2))
         print("unsent:", phone.standing().unsent)

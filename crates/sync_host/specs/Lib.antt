@@ -3,6 +3,7 @@ pub mod Refusals
 pub mod Replies
 pub mod Steps
 pub mod Opening
+pub mod Objects
 pub mod Hosting
 pub mod Nodes
 pub mod Hosts

@@ -6,6 +6,7 @@ ghost use Rattle.sync_exchange.specs.Profile.{the_profile};
 ghost use Rattle.sync_host.specs.Steps.{Answers, ClientStands, IfTold, SentSo, errand, message_read, number_in, retire_in, take_answer};
 
 use crate::answers::{dump, send};
+use crate::object::object;
 use crate::reply::Reply;
 use crate::verb::Verb;
 use crate::{client, server};
@@ -119,6 +120,7 @@ impl HostedClient {
             Verb::Line => client::line(alloc, &mut self.client, body),
             Verb::Take => self.take(alloc, body),
             Verb::Dump => dump(alloc, self.client.objects()),
+            Verb::Object => object(alloc, self.client.objects(), body),
             Verb::Standing => client::standing(&self.client),
             _ => self.errand(alloc, verb, body),
         }
@@ -135,6 +137,7 @@ impl HostedServer {
         match verb {
             Verb::Take => server::take(alloc, &mut self.server, body),
             Verb::Dump => dump(alloc, self.server.objects()),
+            Verb::Object => object(alloc, self.server.objects(), body),
             Verb::Standing => server::standing(&self.server),
             _ => Reply::BadRequest,
         }

@@ -7,6 +7,7 @@ mod client;
 mod host;
 mod hosted;
 mod node;
+mod object;
 mod opening;
 mod refusals;
 mod reply;
