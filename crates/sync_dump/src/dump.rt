@@ -2,12 +2,12 @@ ghost use Rattle.std.specs.Prelude.{◌≡◌, [], ◌++◌, IfOk};
 ghost use Rattle.std.specs.Option.{option_map_or};
 ghost use Rattle.std.specs.FinMap as map;
 ghost use Rattle.sync_base.specs.States.{column_in};
-ghost use Rattle.sync_dump.specs.Dump.{line, data_of_column, column_lines, object_lines, objects_in, table_lines, dump};
+ghost use Rattle.sync_dump.specs.Dump.{line, data_of_column, data_of_object, column_lines, object_lines, objects_in, table_lines, dump};
 ghost use Rattle.sync_dump.specs.Walks.{columns_in};
 
 use super::lines::{column_line, object_line, table_line};
 use std::alloc::{AllocError, Global};
-use sync_base::{Name, NoMemory};
+use sync_base::{Key, Name, NoMemory};
 use sync_store::Store;
 
 /// The dump of a store: for each table in the order of names its line, that of each of its columns in the order of
@@ -17,6 +17,21 @@ pub fn dump_lines(alloc: Global, store: &Store) -> Result<Vec<u8>, NoMemory>
 {
     match put_tables(alloc, Vec::new(alloc), store) {
         Ok(lines) => Ok(lines),
+        Err(_) => Err(NoMemory),
+    }
+}
+
+/// The line of one object, which stands.
+pub fn object_text(
+    alloc: Global,
+    store: &Store,
+    table: &Name,
+    key: &Key,
+) -> Result<Vec<u8>, NoMemory>
+    ensures { IfOk result (λ text. text.items ≡ line (data_of_object store.now (columns_in store.now.tables table.now) (table.now, key.now))) }
+{
+    match object_line(alloc, Vec::new(alloc), store, table, key) {
+        Ok(text) => Ok(text),
         Err(_) => Err(NoMemory),
     }
 }

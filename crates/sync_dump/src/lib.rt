@@ -8,4 +8,4 @@ mod lines;
 mod values;
 mod words;
 
-pub use dump::dump_lines;
+pub use dump::{dump_lines, object_text};

@@ -1,0 +1,11 @@
+//! A disk in memory that also puts each write and each sync into an outbox, for a host that does them on a file of its own.
+#![tactic(auto)]
+
+mod disk;
+mod outbox;
+mod shared;
+#[cfg(test)]
+mod tests;
+
+pub use disk::OutboxDisk;
+pub use shared::{Outbox, SharedDisk};

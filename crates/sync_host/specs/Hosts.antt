@@ -1,0 +1,33 @@
+-- A host's place.
+use Rattle.std.specs.Prelude.{◌≡◌, List, ℕ, true, [], ◌∷◌, length}
+use Rattle.sync_host.specs.Nodes.{Answered}
+use Rattle.sync_host.specs.Replies.{over, reply_bytes}
+use Rattle.sync_host.specs.Verbs.{Asks, is_new}
+use Rattle.sync_host.specs.declared.host.Host.{Host}
+use Rattle.sync_host.specs.declared.node.Node.{Node}
+use Rattle.sync_host.specs.declared.reply.Reply.{Reply}
+use Rattle.sync_host.specs.declared.verb.Verb.{Verb}
+
+abbrev pub node_of : Host → Node
+node_of host = host.node
+
+abbrev pub reply_of : Host → Reply
+reply_of host = host.reply
+
+-- the request for the last reply
+abbrev pub again : List ℕ
+again = 82 ∷ []
+
+-- the request for the outbox
+abbrev pub outbox : List ℕ
+outbox = 87 ∷ []
+
+-- a request was answered over a buffer
+pub record Turned (old : Host) (request before : List ℕ) (count : ℕ) (after : List ℕ) (new : Host) : Type 0 where
+  -- what it asks for is done, and its reply is kept
+  pub answered : (verb : Verb) (body : List ℕ) → Asks verb body request → is_new verb ≡ true → Answered verb body (node_of old) (reply_of new) (node_of new)
+  pub same : request ≡ again → new ≡ old
+  -- the reply that is kept is written over the buffer, as far as there is room, and its whole length is told
+  pub told : (request ≡ outbox → ⊥) → count ≡ length (reply_bytes (reply_of new))
+  pub written : (request ≡ outbox → ⊥) → after ≡ over (reply_bytes (reply_of new)) before
+  pub room : length after ≡ length before

@@ -1,0 +1,37 @@
+-- What a host's place answers, and what stands there afterwards.
+use Rattle.std.specs.Prelude.{◌≡◌, ℕ, List, true}
+use Rattle.sync_client.specs.Files as client_files
+use Rattle.sync_server.specs.Files as server_files
+use Rattle.sync_host.specs.Hosting.{ClientAnswers, ServerAnswers}
+use Rattle.sync_host.specs.Opening.{ClientOpens, ServerOpens}
+use Rattle.sync_host.specs.Verbs.{is_to_node}
+use Rattle.sync_host.specs.declared.hosted.HostedClient.{HostedClient}
+use Rattle.sync_host.specs.declared.hosted.HostedServer.{HostedServer}
+use Rattle.sync_host.specs.declared.node.Node.{Node}
+use Rattle.sync_host.specs.declared.node.Node.TheVariants as nodes
+use Rattle.sync_host.specs.declared.reply.Reply.{Reply}
+use Rattle.sync_host.specs.declared.reply.Reply.TheVariants as replies
+use Rattle.sync_host.specs.declared.verb.Verb.{Verb}
+use Rattle.sync_host.specs.declared.verb.Verb.TheVariants as verbs
+
+-- the same client answers, or the same server, or none
+pub record NodeAnswers (verb : Verb) (body : List ℕ) (old : Node) (reply : Reply) (new : Node) : Type 0 where
+  pub client : (h : HostedClient) → old ≡ nodes.Client h → (h' : HostedClient) × (new ≡ nodes.Client h') × ClientAnswers verb body h reply h'
+  pub server : (h : HostedServer) → old ≡ nodes.Server h → (h' : HostedServer) × (new ≡ nodes.Server h') × ServerAnswers verb body h reply h'
+  pub none : old ≡ nodes.None → (reply ≡ replies.Closed) × (new ≡ nodes.None)
+
+-- the client of the records for which the bytes stand
+abbrev pub OpensClient : List ℕ → Node → Type 0
+OpensClient bytes node = (h : HostedClient) × (node ≡ nodes.Client h) × ClientOpens bytes h.client
+
+abbrev pub OpensServer : List ℕ → Node → Type 0
+OpensServer bytes node = (h : HostedServer) × (node ≡ nodes.Server h) × ServerOpens bytes h.server
+
+-- a request goes to the node that is open, or changes which is
+pub record Answered (verb : Verb) (body : List ℕ) (old : Node) (reply : Reply) (new : Node) : Type 0 where
+  pub by_node : is_to_node verb ≡ true → NodeAnswers verb body old reply new
+  pub opens_client : verb ≡ verbs.OpenClient → reply ≡ replies.Done → OpensClient body new
+  pub bad_client : verb ≡ verbs.OpenClient → (place : ℕ) → reply ≡ replies.BadFile place → client_files.BadPlace body place
+  pub opens_server : verb ≡ verbs.OpenServer → reply ≡ replies.Done → OpensServer body new
+  pub bad_server : verb ≡ verbs.OpenServer → (place : ℕ) → reply ≡ replies.BadFile place → server_files.BadPlace body place
+  pub closes : verb ≡ verbs.Close → new ≡ nodes.None

@@ -1,0 +1,135 @@
+-- What a node's request is replied, and the records that it adds, by the records of the node.
+use Rattle.std.specs.Prelude.{◌≡◌, ◌⊎◌, ◌==◌, ◌&&◌, ℕ, List, [], ◌∷◌, ◌++◌, length, nat_lt, if◌then◌else◌, Option, None, Some, Result, Ok, Err}
+use Rattle.std.specs.Int.{w32, from_le_bytes}
+use Rattle.std.specs.Option.{option_map}
+use Rattle.sync_data.specs.declared.instr.Instr.{Instr}
+use Rattle.sync_base.specs.States.{State}
+use Rattle.sync_disk.specs.declared.disk.Disk.{Ghosts}
+use Rattle.sync_model.specs.Clients as clients
+use Rattle.sync_model.specs.Clients.{Client as ModelClient, ClientRecord, ClientRefusal, ClientStep, NotNamed, answers, ask, bind, client_of, last, refuse, upload_from}
+use Rattle.sync_model.specs.Messages.{Message, Retire}
+use Rattle.sync_model.specs.Parts.{Served}
+use Rattle.sync_model.specs.Servers.{ServerRecord}
+use Rattle.sync_exchange.specs.Profile.{the_profile}
+use Rattle.sync_exchange.specs.Seen.{message_seen}
+use Rattle.sync_messages.specs.Reading.{message_in}
+use Rattle.sync_messages.specs.Spelling.{message_spelling}
+use Rattle.sync_messages.specs.declared.message.Message.{Message as CodeMessage}
+use Rattle.sync_edits.specs.declared.event.NodeLine.{NodeLine}
+use Rattle.sync_edits.specs.declared.event.NodeLine.TheVariants as node_lines
+use Rattle.sync_client.specs.Clients as clients_code
+use Rattle.sync_client.specs.Clients.{IsClientOf}
+use Rattle.sync_client.specs.declared.client.Client.{Client}
+use Rattle.sync_server.specs.Serving as servers_code
+use Rattle.sync_server.specs.Serving.{IsServerOf}
+use Rattle.sync_server.specs.declared.server.Server.{Server}
+use Rattle.sync_host.specs.Refusals.{declined, declined_bytes}
+use Rattle.sync_host.specs.Replies.{reply_bytes, word}
+use Rattle.sync_host.specs.declared.reply.Reply.{Reply}
+use Rattle.sync_host.specs.declared.reply.Reply.TheVariants as replies
+use Rattle.sync_host.specs.declared.reply.Standing.{Standing}
+use Rattle.sync_host.specs.declared.verb.Verb.{Verb}
+use Rattle.sync_host.specs.declared.verb.Verb.TheVariants as verbs
+
+-- ---- what is said of a reply
+-- after a fault, after want of memory and of a node that isn't open nothing is
+abbrev pub IfTold : Reply → Type 0 → Type 0
+IfTold replies.Closed P = Unit {0}
+IfTold replies.NoMemory P = Unit {0}
+IfTold reply P = P
+
+-- ---- a client, by its records
+-- the reply of a call as bytes, and the records that it adds
+pub record Answer : Type 0 where
+  pub reply : List ℕ
+  pub records : List ClientRecord
+
+abbrev pub nothing : {A : Type 0} → A → List ℕ
+nothing a = []
+
+abbrev pub answer_bytes : {A : Type 0} → (A → List ℕ) → Result A ClientRefusal → List ℕ
+answer_bytes tell (Ok a) = 0 ∷ tell a
+answer_bytes tell (Err why) = 1 ∷ declined_bytes (declined why)
+
+abbrev pub said : {A : Type 0} → (A → List ℕ) → ClientStep A → Answer
+said tell did = record { reply = answer_bytes tell did.answer; records = did.records }
+
+-- a node line
+abbrev pub line_answer : List ClientRecord → NodeLine → Answer
+line_answer records (node_lines.Born id) = said nothing (clients.born (client_of the_profile records) id)
+line_answer records (node_lines.Commit ms edits) = said word (clients.commit the_profile (client_of the_profile records) ms edits)
+line_answer records node_lines.Upgrade = said nothing (clients.upgrade (client_of the_profile records))
+line_answer records (node_lines.Subscribe tables) = said nothing (clients.subscribe (client_of the_profile records) tables)
+
+-- a message; none where the bytes are none
+abbrev pub message_read : List ℕ → Option Message
+message_read bytes = option_map message_seen (message_in bytes)
+
+abbrev pub take_answer : List ClientRecord → Message → Answer
+take_answer records message = said word (clients.take the_profile (client_of the_profile records) message)
+
+-- the message to send next, where the server has said that it has the changes up to this number
+abbrev pub next : ℕ → ModelClient Instr State → ClientStep Message
+next stored c =
+    if c.ident == 0 then bind c
+    else if nat_lt stored (last c) && nat_lt 0 (length c.unsent) then upload_from the_profile c stored
+    else ask c
+
+-- a client with an ident gives another one up, whose changes it takes over
+abbrev pub retire : ℕ → ModelClient Instr State → ClientStep Message
+retire ident c = if c.ident == 0 then refuse NotNamed else answers (Retire ident c.ident)
+
+-- the number that four bytes are, the lowest first
+abbrev pub number_in : List ℕ → Option ℕ
+number_in bytes = if length bytes == 4 then Some (from_le_bytes w32 bytes) else None
+
+-- idents are counted from 1
+abbrev pub retire_in : Option ℕ → ModelClient Instr State → Option (ClientStep Message)
+retire_in None c = None
+retire_in (Some ident) c = if ident == 0 then None else Some (retire ident c)
+
+-- the message that a request asks for; none where it asks for none
+abbrev pub errand : Verb → List ℕ → ℕ → ModelClient Instr State → Option (ClientStep Message)
+errand verbs.Next body stored c = Some (next stored c)
+errand verbs.Bind body stored c = Some (bind c)
+errand verbs.Ask body stored c = Some (ask c)
+errand verbs.Upload body stored c = option_map (λ after. upload_from the_profile c after) (number_in body)
+errand verbs.Retire body stored c = retire_in (number_in body) c
+errand verb body stored c = None
+
+abbrev pub standing_of : ModelClient Instr State → Standing
+standing_of c = record { ident = c.ident; cursor = c.cursor; last = last c; unsent = length c.unsent }
+
+-- the message that a client makes, or why it makes none
+abbrev pub SentSo : Result Message ClientRefusal → Reply → Type 0
+SentSo (Ok message) reply = (sent : CodeMessage) × (message_seen sent ≡ message) × (reply_bytes reply ≡ 0 ∷ message_spelling sent)
+SentSo (Err why) reply = reply ≡ replies.Declined (declined why)
+
+-- a refusal that the model has; any other isn't told
+abbrev pub Declines : Option ClientRefusal → Reply → Type 0
+Declines None reply = (reply ≡ replies.Closed) ⊎ (reply ≡ replies.NoMemory)
+Declines (Some why) reply = reply ≡ replies.Declined (declined why)
+
+-- ---- what is left
+module _ {D : Type 0} {G : Ghosts D} where
+  -- an open client of these records, and its disk holds them
+  pub record ClientStands (records : List ClientRecord) (c : Client D G) : Type 0 where
+    pub client : IsClientOf records c
+    pub stored : clients_code.IsStored G.content G.images records c
+
+  pub record ServerStands (records : List ServerRecord) (s : Server D G) : Type 0 where
+    pub server : IsServerOf records s
+    pub stored : servers_code.IsStored G.content G.images records s
+
+  -- it was replied so and added the records; what is no request of this kind changes nothing
+  abbrev pub Answers : Option Answer → List ClientRecord → Reply → Client D G → Type 0
+  Answers None records reply c = (reply ≡ replies.BadRequest) × ClientStands records c
+  Answers (Some answer) records reply c = (reply_bytes reply ≡ answer.reply) × ClientStands (records ++ answer.records) c
+
+  -- a server's reply
+  abbrev pub Serves : Option (Served Instr State) → List ServerRecord → Reply → Server D G → Type 0
+  Serves None records reply s = (reply ≡ replies.BadRequest) × ServerStands records s
+  Serves (Some did) records reply s = ((sent : CodeMessage) × (message_seen sent ≡ did.answer) × (reply_bytes reply ≡ 0 ∷ message_spelling sent)) × ServerStands (records ++ did.records) s
+
+abbrev pub server_standing : ℕ → Standing
+server_standing len = record { ident = 0; cursor = len; last = 0; unsent = 0 }

@@ -1,0 +1,117 @@
+ghost use Rattle.std.specs.Prelude.{◌≡◌, ℕ, length};
+ghost use Rattle.sync_client.specs.Files as client_files;
+ghost use Rattle.sync_server.specs.Files as server_files;
+ghost use Rattle.sync_host.specs.declared.reply.Reply.TheVariants as replies;
+
+use crate::hosted::{HostedClient, HostedServer};
+use crate::opening::{open_client, open_server};
+use crate::reply::Reply;
+use crate::verb::Verb;
+use outbox_disk::Outbox;
+use std::alloc::Global;
+
+/// What stands in a host's place.
+#[derive(Drop)]
+pub(crate) enum Node {
+    None,
+    Client(HostedClient),
+    Server(HostedServer),
+}
+
+impl Node {
+    ghost use Rattle.sync_host.specs.Nodes.{Answered, NodeAnswers, OpensClient, OpensServer};
+
+    /// Opens the client of these bytes of a file, in place of what stood there.
+    fn open_client(&mut self, alloc: Global, file: &[u8]) -> Reply
+        ensures opened { result ≡ replies.Done → OpensClient file.now self.new }
+        ensures bad { (place : ℕ) → result ≡ replies.BadFile place → client_files.BadPlace file.now place }
+    {
+        *self = Node::None;
+        match open_client(alloc, file) {
+            Ok((client, outbox)) => {
+                *self = Node::Client(HostedClient {
+                    client,
+                    outbox,
+                    stored: 0,
+                });
+                Reply::Done
+            }
+            Err(reply) => reply,
+        }
+    }
+
+    /// Opens the server of these bytes of a file, in place of what stood there.
+    fn open_server(&mut self, alloc: Global, file: &[u8]) -> Reply
+        ensures opened { result ≡ replies.Done → OpensServer file.now self.new }
+        ensures bad { (place : ℕ) → result ≡ replies.BadFile place → server_files.BadPlace file.now place }
+    {
+        *self = Node::None;
+        match open_server(alloc, file) {
+            Ok((server, outbox)) => {
+                *self = Node::Server(HostedServer { server, outbox });
+                Reply::Done
+            }
+            Err(reply) => reply,
+        }
+    }
+
+    /// Asks the client or the server.
+    fn ask(&mut self, alloc: Global, verb: Verb, body: &[u8]) -> Reply
+        ensures { NodeAnswers verb body.now self.old result self.new }
+    {
+        match self {
+            Node::None => Reply::Closed,
+            Node::Client(hosted) => hosted.answer(alloc, verb, body),
+            Node::Server(hosted) => hosted.answer(alloc, verb, body),
+        }
+    }
+
+    fn outbox(&self) -> Option<&Outbox> {
+        match self {
+            Node::None => None,
+            Node::Client(hosted) => Some(&hosted.outbox),
+            Node::Server(hosted) => Some(&hosted.outbox),
+        }
+    }
+
+    /// Copies the outbox, and tells its length.
+    pub(crate) fn copy_outbox(&self, into: &mut [u8]) -> usize
+        ensures { length into.new ≡ length into.old }
+    {
+        match self.outbox() {
+            Some(outbox) => outbox.copy_to(into).unwrap_or(0),
+            None => 0,
+        }
+    }
+
+    /// Empties the outbox.
+    fn empty_outbox(&self) -> Reply {
+        match self.outbox() {
+            Some(outbox) => {
+                if outbox.empty() {
+                    Reply::Done
+                } else {
+                    Reply::Closed
+                }
+            }
+            None => Reply::Closed,
+        }
+    }
+
+    /// Answers a request.
+    pub(crate) fn answer(&mut self, alloc: Global, verb: Verb, body: &[u8]) -> Reply
+        ensures { Answered verb body.now self.old result self.new }
+    {
+        match verb {
+            Verb::OpenClient => self.open_client(alloc, body),
+            Verb::OpenServer => self.open_server(alloc, body),
+            Verb::Close => {
+                *self = Node::None;
+                Reply::Done
+            }
+            Verb::Done => self.empty_outbox(),
+            Verb::Again | Verb::Outbox => Reply::BadRequest,
+            _ => self.ask(alloc, verb, body),
+        }
+    }
+}

@@ -1,0 +1,45 @@
+//! A host's place as C sees it: a pointer, and one call on it. include/realm_sync.h has the calls by name over these two.
+#![tactic(auto)]
+
+ghost use Rattle.std.specs.Borrow.{full_share, sem};
+ghost use Rattle.std.specs.Ptr.{lies_at};
+ghost use Rattle.sync_host.specs.Hosts.{Turned};
+ghost use Rattle.sync_host.specs.contracts.host.Host.{the_row};
+
+use std::alloc::Global;
+use sync_host::Host;
+
+/// The address of a host's place that lives on.
+fn address(host: &mut Host) -> *mut u8 {
+    host as *mut Host as *mut u8
+}
+
+fn turn(host: &mut Host, request: &[u8], reply: &mut [u8]) -> usize
+    ensures { Turned host.old request.now reply.old result reply.new host.new }
+{
+    host.turn(request, reply)
+}
+
+/// Makes a place where no node is open: true where there was the memory. `out` gets its pointer.
+#[unsafe(no_mangle)]
+pub extern "C" fn realm_node_new(alloc: Global, out: &mut *mut u8) -> bool {
+    match Box::new(alloc, Host::new(alloc)) {
+        Ok(made) => {
+            *out = address(Box::leak(made));
+            true
+        }
+        Err(_) => false,
+    }
+}
+
+/// Hands a request to what stands in a place, and tells how long the reply is; as much of it as there is room for is written to
+/// `reply`.
+#[unsafe(no_mangle)]
+pub unsafe extern "C" fn realm_node_turn(at: *mut u8, request: &[u8], reply: &mut [u8]) -> usize
+    // What C owes: `at` is what `realm_node_new` gave, and no other call on it runs.
+    ghost host: { Host }
+    requires* { sem 𝓛 (lies_at the_row full_share at host) }
+    ensures* { ∃ₛ (λ (after : Host). sem 𝓛 (lies_at the_row full_share at after) ∗ ⌜ Turned host request.now reply.old result reply.new after ⌝) }
+{
+    turn(&mut *(at as *mut Host), request, reply)
+}

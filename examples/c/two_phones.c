@@ -1,0 +1,100 @@
+/* Two phones edit one note while they are offline, and sync with a server: over memory, or over the three files that it is given.
+ * Between the nodes pass bytes alone, which an application sends over its own network. */
+#include "realm_sync.h"
+
+/* Ends the program where a call didn't answer as it should. */
+static void expect(int status, const char *what, const realm_node *node) {
+    if (status == REALM_DONE) return;
+    realm_refused why = realm_refusal(node);
+    fprintf(stderr, "%s: status %d, %s (%u, %u, %u)\n", what, status, realm_text_of(why.number), why.first, why.second, why.third);
+    exit(1);
+}
+
+/* Hands the message that the client made to the server, and the reply to the client. */
+static void pass_message(realm_node *client, realm_node *server) {
+    size_t len;
+    const uint8_t *message = realm_bytes(client, &len);
+    expect(realm_take(server, message, len), "server", server);
+    const uint8_t *reply = realm_bytes(server, &len);
+    expect(realm_take(client, reply, len), "client", client);
+}
+
+/* Sends what the server lacks, and takes what the client lacks. */
+static void sync_with(realm_node *client, realm_node *server) {
+    bool is_last = false;
+    while (!is_last) {
+        expect(realm_next(client), "next message", client);
+        is_last = realm_is_question(client);
+        pass_message(client, server);
+    }
+}
+
+static void print_objects(const char *title, realm_node *node) {
+    size_t len;
+    expect(realm_dump(node), "objects", node);
+    const uint8_t *lines = realm_bytes(node, &len);
+    printf("%s:\n%.*s", title, (int)len, (const char *)lines);
+}
+
+static void new_phone(realm_node *phone, const char *path, const char *uuid) {
+    expect(realm_open_client(phone, path), "open", phone);
+    expect(realm_born(phone, uuid), "uuid", phone);
+    expect(realm_upgrade(phone), "upgrade", phone);
+}
+
+int main(int count, char **words) {
+    realm_node first, second, server;
+    new_phone(&first, count > 3 ? words[1] : NULL, "00000000-0000-4000-8000-000000000001");
+    new_phone(&second, count > 3 ? words[2] : NULL, "00000000-0000-4000-8000-000000000002");
+    expect(realm_open_server(&server, count > 3 ? words[3] : NULL), "open", &server);
+
+    /* The first phone makes the table and a note. Both get them. */
+    expect(realm_commit(&first, 1,
+                        "[{\"op\":\"AddTable\",\"table\":\"notes\",\"key\":\"Int\"},"
+                        "{\"op\":\"AddColumn\",\"table\":\"notes\",\"column\":\"text\",\"kind\":\"Text\",\"nullable\":false,\"shape\":\"One\"},"
+                        "{\"op\":\"AddColumn\",\"table\":\"notes\",\"column\":\"tags\",\"kind\":\"Text\",\"nullable\":false,\"shape\":\"Set\"},"
+                        "{\"op\":\"CreateObject\",\"table\":\"notes\",\"key\":1}]"),
+           "table", &first);
+    sync_with(&first, &server);
+    sync_with(&second, &server);
+
+    /* Offline, both edit it. */
+    expect(realm_commit(&first, 10,
+                        "[{\"op\":\"Update\",\"table\":\"notes\",\"key\":1,\"column\":\"text\",\"value\":\"buy bread\"},"
+                        "{\"op\":\"SetInsert\",\"table\":\"notes\",\"key\":1,\"column\":\"tags\",\"value\":\"shop\"}]"),
+           "edit", &first);
+    expect(realm_commit(&second, 11,
+                        "[{\"op\":\"Update\",\"table\":\"notes\",\"key\":1,\"column\":\"text\",\"value\":\"buy oat milk\"},"
+                        "{\"op\":\"SetInsert\",\"table\":\"notes\",\"key\":1,\"column\":\"tags\",\"value\":\"today\"}]"),
+           "edit", &second);
+    print_objects("first phone, offline", &first);
+    print_objects("second phone, offline", &second);
+
+    /* A transaction that can't be is refused, and changes nothing. */
+    if (realm_commit(&second, 12, "[{\"op\":\"CreateObject\",\"table\":\"none\",\"key\":1}]") == REALM_REFUSED) {
+        realm_refused why = realm_refusal(&second);
+        printf("refused: %s (%u, %u)\n", realm_text_of(why.number), why.first, why.second);
+    }
+
+    sync_with(&first, &server);
+    sync_with(&second, &server);
+    sync_with(&first, &server);
+    print_objects("first phone, afterwards", &first);
+    print_objects("second phone, afterwards", &second);
+    print_objects("server", &server);
+
+    /* One object is read by its table and key. */
+    size_t len;
+    expect(realm_object(&first, "{\"table\":\"notes\",\"key\":1}"), "object", &first);
+    const uint8_t *line = realm_bytes(&first, &len);
+    printf("note 1: %.*s", (int)len, (const char *)line);
+    if (realm_object(&first, "{\"table\":\"notes\",\"key\":2}") == REALM_ABSENT) printf("there is no note 2\n");
+
+    realm_place place;
+    expect(realm_standing(&first, &place), "standing", &first);
+    printf("first phone: ident %u, cursor %u, last %u, unsent %u\n", place.ident, place.cursor, place.last, place.unsent);
+    realm_close(&first);
+    realm_close(&second);
+    realm_close(&server);
+    return 0;
+}
