@@ -34,6 +34,7 @@ let_in b s shown gate c inside is same torn =
     let whole : shown ≡ f ++ 1 ∷ r = is ∙ put_byte s gate inside 1 in
     let size : length shown ≡ length s = ap length whole ∙ omega (arith, ap length (split s gate inside), length-append f (1 ∷ r), length-append f (g ∷ r)) in
     record {
+      inside = omega (arith, size, inside);
       front = ap (take gate) whole ∙ take_gate f r gate long 1 ∙ same;
       open_ = ap (λ (l : List ℕ). get_or l gate 0) whole ∙ get_gate f r gate long 1;
       torn = record {

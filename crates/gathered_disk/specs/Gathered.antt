@@ -1,5 +1,5 @@
 -- What a gathered disk shows, and what stands on the disk below it meanwhile.
-use Rattle.std.specs.Prelude.{◌≡◌, ◌⊎◌, ℕ, ◌+◌, ◌*◌, ◌^◌, Bool, true, false, List, [], ◌∷◌, take, get_or, Option, None, Some}
+use Rattle.std.specs.Prelude.{◌≡◌, ◌⊎◌, ℕ, ◌+◌, ◌*◌, ◌^◌, ◌<◌, Bool, true, false, List, [], ◌∷◌, length, take, get_or, Option, None, Some}
 use Rattle.sync_disk.specs.Disk.{Torn, put}
 use Rattle.sync_disk.specs.Strokes.{Stroke}
 use Rattle.sync_disk.specs.Images.{IsImage, SinceStroke, state}
@@ -14,6 +14,7 @@ gathered b gate behind true = put (put b (gate + 1) behind) gate (1 ∷ [])
 
 -- all that is shown stands there, but for its open gate, which may be any byte
 pub record IsLetIn (b : List ℕ) (gate : ℕ) (shown c : List ℕ) : Type 0 where
+  pub inside : gate < length shown
   pub front : take gate shown ≡ take gate b
   pub open_ : get_or shown gate 0 ≡ 1
   pub torn : Torn gate 1 shown c

@@ -78,6 +78,7 @@ impl<D: Disk> GatheredDisk<D> {
         // At `Ok` the disk below holds what was shown, and nothing else after a crash.
         ensures landed { Told (told_by self.old) (λ b. OnOk result (D.content (below self.new) ≡ Some b)) }
         ensures durable { Told (told_by self.old) (λ b. OnOk result (Only b (D.images (below self.new)))) }
+        ensures shows { OnOk result (told_by self.new ≡ told_by self.old) }
         ensures idle { OnOk result (pending self.new ≡ []) }
         ensures gate { OnOk result (gate_of self.new ≡ end) }
         ensures open { OnOk result (is_closed self.new ≡ false) }
