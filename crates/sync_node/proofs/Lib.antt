@@ -7,3 +7,4 @@ pub mod Nodes
 pub mod Opened
 pub mod Shown
 pub mod Telling
+pub mod Landed

@@ -11,3 +11,4 @@ pub mod Sending
 pub mod Showing
 pub mod Steps
 pub mod Texts
+pub mod Landed
