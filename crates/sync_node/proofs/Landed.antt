@@ -1,8 +1,9 @@
 -- What a landing leaves of a node, and what the calls before it left below.
-use Rattle.std.proofs.Common.{◌≡◌, ◌⊎◌, inl, inr, ℕ, ◌+◌, ◌<◌, ◌≤◌, false, List, [], ◌∷◌, ◌++◌, length, take, map, Option, Some, refl, sym, ◌∙◌, ap, subst, arith, take_all, length-append}
+use Rattle.std.proofs.Common.{◌≡◌, ◌⊎◌, inl, inr, ℕ, ◌+◌, ◌<◌, ◌≤◌, false, List, [], ◌∷◌, ◌++◌, length, take, map, Option, Some, None, Ok, refl, sym, ◌∙◌, ap, subst, arith, take_all, length-append}
 use Rattle.sync_disk.specs.Disk.{Only}
 use Rattle.sync_disk.specs.Origin.{Origin}
 use Rattle.sync_disk.specs.declared.disk.Disk.{Ghosts}
+use Rattle.sync_disk.specs.declared.leaves.Leaves.TheVariants.{Keep}
 use Rattle.gathered_disk.specs.declared.gathered.GatheredDisk.{GatheredDisk}
 use Rattle.gathered_disk.specs.Below.{below, gate_of, is_closed}
 use Rattle.gathered_disk.specs.Gathered.{origin_of}
@@ -11,27 +12,37 @@ use Rattle.sync_journal.specs.Journal.{IsSettled}
 use Rattle.sync_journal.specs.Landed.{HoldsBelow, IsLanded, Shows, StandsForEither}
 use Rattle.sync_journal.specs.Records.{IsJournal, magic, records_of}
 use Rattle.sync_journal.specs.Records.Reading.{Good}
-use Rattle.sync_journal.specs.Stands.{disk_of}
+use Rattle.sync_journal.specs.Stands.{Stands, disk_of}
 use Rattle.sync_journal.proofs.Landed.{landed_shows}
 use Rattle.sync_model.specs.Clients.{ClientRecord}
 use Rattle.sync_model.specs.Servers.{ServerRecord}
 use Rattle.sync_exchange.specs.Seen.{client_bytes, server_bytes}
 use Rattle.sync_client.specs.Clients as clients
 use Rattle.sync_client.specs.declared.client.Client.{Client}
+use Rattle.sync_client.specs.Keeping.{Keeps}
+use Rattle.sync_server.specs.Kept.{parts}
 use Rattle.sync_server.specs.Serving as servers
 use Rattle.sync_server.specs.declared.server.Server.{Server}
-use Rattle.sync_node.specs.Landed.{ClientLanded, ServerLanded, below_client, below_server}
+use Rattle.sync_node.specs.Holding.{ClientStands, ServerStands}
+use Rattle.sync_node.specs.Landed.{ClientLanded, ServerLanded, below_client, below_server, loan_in}
 use Rattle.sync_node.specs.Runs.{Answer, AnswersSo, DiskHolds, LeavesSome}
 use Rattle.sync_node.proofs.Exits.{leaves_old}
 
 -- ---- the disk below
+-- a file is longer than its front
+long : (records : List (List ℕ)) (end : ℕ) (file : List ℕ) → IsJournal records end file → 0 < length file
+long records end file j = omega (arith, ap length j.file_is, length-append magic (j.front ++ j.gate ∷ j.rest))
+
 module _ {D : Type 0} {G : Ghosts D} where
   abbrev origin_is : GatheredDisk D G → Origin
   origin_is g = origin_of g.closed (G.content g.disk) (G.origin g.disk).listed g.gate
 
-  -- a file is longer than its front
-  long : (records : List (List ℕ)) (end : ℕ) (file : List ℕ) → IsJournal records end file → 0 < length file
-  long records end file j = omega (arith, ap length j.file_is, length-append magic (j.front ++ j.gate ∷ j.rest))
+  -- its loan is the same
+  pub same_loan : (old new : GatheredDisk D G) → origin_is new ≡ origin_is old → loan_in (G.origin (below new)) ≡ loan_in (G.origin (below old))
+  same_loan old new same =
+      let is = ap (λ (o : Origin). o.listed) same in
+      let listed : (G.origin new.disk).listed ≡ (G.origin old.disk).listed = omega (arith, new.fits, old.fits, is) in
+      ap (λ (n : ℕ). record { start = []; stop = None; leaves = Keep; listed = n }) listed
 
   -- it holds what it held, whatever was gathered
   pub holds_still : (records : List (List ℕ)) (old new : GatheredDisk D G) → origin_is new ≡ origin_is old → is_closed old ≡ false → HoldsBelow records old → HoldsBelow records new
@@ -68,10 +79,7 @@ answers_then meant records text P Q then a = record { answer = a.answer; is = a.
 
 -- its records
 pub answer_stands : {R : Type 0} (answer : Answer R) (records : List R) (text : List ℕ) (P : List R → Type 0) → AnswersSo (Some answer) records text P → P (records ++ answer.records)
-answer_stands answer records text P a = subst (λ (x : Answer R). P (records ++ x.records)) same a.stands
-  where
-    same : a.answer ≡ answer
-    same = let e = a.is in cc
+answer_stands {R = R} answer records text P a = let e = a.is in let same : a.answer ≡ answer = cc in subst (λ (x : Answer R). P (records ++ x.records)) same a.stands
 
 -- ---- nodes
 module _ {D : Type 0} {G : Ghosts D} {H : Ghosts (GatheredDisk D G)} where
@@ -80,3 +88,34 @@ module _ {D : Type 0} {G : Ghosts D} {H : Ghosts (GatheredDisk D G)} where
 
   pub server_below : (records : List ServerRecord) (s : Server (GatheredDisk D G) H) → ServerLanded records s → DiskHolds G.content G.images server_bytes records (below_server s)
   server_below records s l = let h = l.landed.holds in record { file = h.file; told = h.told; reads = h.reads; durable = h.durable }
+
+-- a node that was opened, over a disk that gathers
+module _ {D : Type 0} {G : Ghosts D} {H : Ghosts (GatheredDisk D G)} where
+  pub client_landed : (records : List ClientRecord) (old : Client D G) (new : Client (GatheredDisk D G) H) → ClientStands records old → ((rs : List (List ℕ)) → Stands G.content G.images rs (clients.journal_of old) → IsLanded rs (clients.journal_of new))
+      → clients.replica_of new ≡ clients.replica_of old → clients.is_closed new ≡ clients.is_closed old → ClientLanded records new
+  client_landed records old new stands lands same still = record {
+    client = record { kept = subst (λ r. Keeps records r) (sym same) stands.client.kept; open_ = still ∙ stands.client.open_ };
+    landed = lands (map client_bytes records) stands.stored;
+  }
+
+  pub server_landed : (records : List ServerRecord) (old : Server D G) (new : Server (GatheredDisk D G) H) → ServerStands records old → ((rs : List (List ℕ)) → Stands G.content G.images rs (servers.journal_of old) → IsLanded rs (servers.journal_of new))
+      → servers.kept_of new ≡ servers.kept_of old → servers.is_closed new ≡ servers.is_closed old → ServerLanded records new
+  server_landed records old new stands lands same still = record {
+    server = record { gives = stands.server.gives ∙ ap (λ k. Ok (parts k)) (sym same); open_ = still ∙ stands.server.open_ };
+    landed = lands (map server_bytes records) stands.stored;
+  }
+
+  -- a node whose records land
+  pub client_lands : (records : List ClientRecord) (old new : Client (GatheredDisk D G) H) → clients.IsClientOf records old → clients.replica_of new ≡ clients.replica_of old → clients.is_closed new ≡ clients.is_closed old
+      → IsLanded (map client_bytes records) (clients.journal_of new) → ClientLanded records new
+  client_lands records old new is same still landed = record {
+    client = record { kept = subst (λ r. Keeps records r) (sym same) is.kept; open_ = still ∙ is.open_ };
+    landed = landed;
+  }
+
+  pub server_lands : (records : List ServerRecord) (old new : Server (GatheredDisk D G) H) → servers.IsServerOf records old → servers.kept_of new ≡ servers.kept_of old → servers.is_closed new ≡ servers.is_closed old
+      → IsLanded (map server_bytes records) (servers.journal_of new) → ServerLanded records new
+  server_lands records old new is same still landed = record {
+    server = record { gives = is.gives ∙ ap (λ k. Ok (parts k)) (sym same); open_ = still ∙ is.open_ };
+    landed = landed;
+  }

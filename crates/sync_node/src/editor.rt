@@ -17,17 +17,17 @@ use sync_messages::{MessageRefusal, message_of};
 #[derive(Drop)]
 pub(crate) struct Editor<D: Disk> {
     pub alloc: Global,
-    pub client: Client<GatheredDisk<D>>,
+    pub client: Client<D>,
 }
 
 /// A client over a file that takes messages. The records of a message land before it is answered.
 #[derive(Drop)]
 pub(crate) struct Taker<D: Disk> {
     pub alloc: Global,
-    pub client: Client<GatheredDisk<D>>,
+    pub client: Client<D>,
 }
 
-impl<D: Disk> Command for Editor<D> {
+impl<D: Disk> Command for Editor<GatheredDisk<D>> {
     ghost use Rattle.sync_model.specs.Clients.{ClientRecord};
     ghost use Rattle.sync_exchange.specs.Seen.{client_bytes};
     ghost use Rattle.sync_node.specs.Landed.{ClientLanded, client_loan, landed_client_faults, landed_client_images, landed_client_keeps};
@@ -61,7 +61,7 @@ impl<D: Disk> Command for Editor<D> {
     }
 }
 
-impl<D: Disk> Command for Taker<D> {
+impl<D: Disk> Command for Taker<GatheredDisk<D>> {
     ghost use Rattle.sync_model.specs.Clients.{ClientRecord};
     ghost use Rattle.sync_exchange.specs.Seen.{client_bytes};
     ghost use Rattle.sync_node.specs.Landed.{ClientLanded, client_loan, landed_client_faults, landed_client_images, landed_client_keeps};

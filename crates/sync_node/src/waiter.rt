@@ -27,7 +27,7 @@ use sync_server::{Server, ServerRefusal};
 #[derive(Drop)]
 pub(crate) struct Waiter<D: Disk> {
     pub alloc: Global,
-    pub server: Server<GatheredDisk<D>>,
+    pub server: Server<D>,
 }
 
 /// The server takes a message, and answers the frame of the reply.
@@ -56,7 +56,7 @@ pub(crate) fn reply<D: Disk>(
     }
 }
 
-impl<D: Disk> Command for Waiter<D> {
+impl<D: Disk> Command for Waiter<GatheredDisk<D>> {
     ghost use Rattle.sync_model.specs.Servers.{ServerRecord};
     ghost use Rattle.sync_exchange.specs.Seen.{server_bytes};
     ghost use Rattle.sync_node.specs.Landed.{ServerLanded, landed_server_faults, landed_server_images, landed_server_keeps, server_loan};

@@ -5,7 +5,7 @@ use Rattle.sync_node.specs.Landed.{ClientLanded, landed_client_keeps}
 use Rattle.sync_node.specs.Runs.{AnswersSo, LeavesSome, records_in}
 use Rattle.sync_node.specs.Steps.{take_answer, take_step}
 use Rattle.sync_node.proofs.Exits.{leaves_old}
-use Rattle.sync_node.proofs.editor.TakerCommand.answer.Goals as goal
+use Rattle.sync_node.proofs.editor.TakerGatheredDiskCommand.answer.Goals as goal
 
 pub returns-in-Ok-clause-done : goal.returns-in-Ok-clause-done
 returns-in-Ok-clause-done g c = λ records stands.

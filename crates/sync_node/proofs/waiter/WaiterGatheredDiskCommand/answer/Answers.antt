@@ -10,7 +10,7 @@ use Rattle.sync_world.specs.Messages.{message_read}
 use Rattle.sync_server.specs.Kept.{parts}
 use Rattle.sync_server.specs.Serving.{kept_of}
 use Rattle.sync_node.proofs.Exits.{leaves_old}
-use Rattle.sync_node.proofs.waiter.WaiterCommand.answer.Goals as goal
+use Rattle.sync_node.proofs.waiter.WaiterGatheredDiskCommand.answer.Goals as goal
 
 pub returns-in-Ok-clause-done : goal.returns-in-Ok-clause-done
 returns-in-Ok-clause-done g c = λ records stands.
