@@ -1,17 +1,19 @@
 #!/usr/bin/env python3
-"""Times the commands over files: commits per second of `edit`, and changes per second of `serve`.
+"""Times the commands over files: commits per second of `edit`, and changes per second of `serve` and `take`.
 
 usage: bench/files.py [--changes N] [--times T] [--folder FOLDER] [--program PATH]
 
-A client makes N transactions of one addition each (1,000 where it is left out, 4,096 at most), and a server takes them in one
-upload. Each is durable before it is answered, or before the next one is integrated: two writes and two syncs a record. The
-same run is timed over files in FOLDER (beside this script where it is left out), and over files in memory (/dev/shm), where a
-sync costs nothing: the difference is what the syncs cost. The line `bare` makes the same writes and syncs without the program.
-Each run is made T times (3 where it is left out), and the shortest time counts, less that of the same command without
-an input.
+A client makes N transactions of one addition each (1,000 where it is left out, 4,096 at most), a server takes them in one
+upload, and another client takes them in one download. What a message or a line adds is durable before it is answered: two
+writes and two syncs of the file for each. The same run is timed over files in FOLDER (beside this script where it is left
+out), and over files in memory (/dev/shm), where a sync costs nothing: the difference is what the syncs cost. The line `bare`
+makes two writes and two syncs for each change, without the program. Each run is made T times (3 where it is left out), and
+the shortest time counts, less that of the same command without an input. Where `strace` is there it counts the syncs of each
+command, those of opening the file among them.
 """
 import argparse
 import os
+import shutil
 import subprocess
 import sys
 import tempfile
@@ -51,21 +53,61 @@ def new_nodes(options, folder):
     return client, server
 
 
-def edit_and_serve(options, folder):
-    """The seconds of all commits, and those of the upload."""
+def counted(options, folder, command, path, given):
+    """How many syncs of files the command asks for, over a copy of the file."""
+    if shutil.which("strace") is None:
+        return None
+    copy, log = os.path.join(folder, "copy"), os.path.join(folder, "log")
+    shutil.copyfile(path, copy)
+    traced = ["strace", "-f", "-qq", "-e", "trace=fsync,fdatasync", "-o", log, options.program, command, copy]
+    done = subprocess.run(traced, input=given, stdout=subprocess.PIPE)
+    assert done.returncode == 0, (command, done.returncode)
+    with open(log) as lines:
+        count = sum("sync(" in line for line in lines)
+    os.remove(copy)
+    os.remove(log)
+    return count
+
+
+def new_reader(options, folder, server):
+    """Another client with an ident, that has taken nothing."""
+    path = os.path.join(folder, "reader")
+    if os.path.exists(path):
+        os.remove(path)
+    run(options, "edit", path, BIRTH.replace(b"1\"", b"2\""))
+    bind, _ = run(options, "send", path)
+    ident, _ = run(options, "serve", server, bind)
+    run(options, "take", path, ident)
+    return path
+
+
+def one_round(options, folder, count_syncs):
+    """The seconds of each command, the size of the server's file, and the number of syncs of each command."""
     client, server = new_nodes(options, folder)
+    reader = new_reader(options, folder, server)
     lines = b"".join(ADDITION % (10 + place) for place in range(options.changes - 1))
-    _, opening = run(options, "edit", client)
-    told, committing = run(options, "edit", client, lines)
+    seconds, syncs = {}, {}
+
+    def timed(command, path, given):
+        if count_syncs:
+            syncs[command] = counted(options, folder, command, path, given)
+        _, opening = run(options, command, path)
+        told, whole = run(options, command, path, given)
+        seconds[command] = max(whole - opening, 1e-9)
+        return told
+
+    told = timed("edit", client, lines)
     assert told.count(b" made ") == options.changes - 1
     upload, _ = run(options, "send", client)
-    _, starting = run(options, "serve", server)
-    reply, serving = run(options, "serve", server, upload)
+    reply = timed("serve", server, upload)
     assert len(reply) > 4 and reply[4] == 7, reply
     shown, _ = run(options, "show", server)
     assert shown.startswith(b"server %d\n" % options.changes)
-    size = os.path.getsize(server)
-    return max(committing - opening, 1e-9), max(serving - starting, 1e-9), size
+    ask, _ = run(options, "ask", reader)
+    download, _ = run(options, "serve", server, ask)
+    taken = timed("take", reader, download)
+    assert taken == b"1 took %d\n" % options.changes, taken
+    return seconds, os.path.getsize(server), syncs
 
 
 def bare(options, folder, size):
@@ -84,13 +126,14 @@ def bare(options, folder, size):
     return seconds
 
 
-def measured(options, where):
-    """The shortest seconds of commits, of an upload, and of the bare writes."""
+def measured(options, where, count_syncs):
+    """The shortest seconds of each command and of the bare writes, and the number of syncs."""
     with tempfile.TemporaryDirectory(dir=where) as folder:
-        rounds = [edit_and_serve(options, folder) for _ in range(options.times)]
-        size = rounds[0][2]
-        without = min(bare(options, folder, size) for _ in range(options.times))
-    return min(each[0] for each in rounds), min(each[1] for each in rounds), without
+        rounds = [one_round(options, folder, count_syncs and place == 0) for place in range(options.times)]
+        without = min(bare(options, folder, rounds[0][1]) for _ in range(options.times))
+    seconds = {name: min(each[0][name] for each in rounds) for name in ("edit", "serve", "take")}
+    seconds["bare"] = without
+    return seconds, rounds[0][2]
 
 
 def main():
@@ -106,14 +149,20 @@ def main():
         # the script beside README.md builds the program where it is missing or old
         subprocess.run([os.path.join(TOP, "realm_sync"), "gen", "1", "0"], stdout=subprocess.DEVNULL, check=True)
         options.program = BUILT
-    on_disk, in_memory = measured(options, options.folder), measured(options, MEMORY)
+    (on_disk, syncs), (in_memory, _) = measured(options, options.folder, True), measured(options, MEMORY, False)
+    syncs["bare"] = 2 * options.changes
     print(f"{options.changes} changes, the first of them the table")
     print("         on the disk               in memory                 the syncs")
-    print("         a second  us each         a second  us each         us each")
-    for name, disk, memory in zip(("edit", "serve", "bare"), on_disk, in_memory):
+    print("         a second  us each         a second  us each         us each   number")
+    for name in ("edit", "serve", "take", "bare"):
         count = options.changes - 1 if name == "edit" else options.changes
+        disk, memory = on_disk[name], in_memory[name]
         each = [1e6 * seconds / count for seconds in (disk, memory)]
-        print(f"{name:>6}  {count / disk:9.0f}  {each[0]:7.0f}  {count / memory:15.0f}  {each[1]:7.1f}  {each[0] - each[1]:14.0f}")
+        number = "-" if syncs[name] is None else syncs[name]
+        print(
+            f"{name:>6}  {count / disk:9.0f}  {each[0]:7.0f}  {count / memory:15.0f}  {each[1]:7.1f}"
+            f"  {each[0] - each[1]:14.0f}  {number:>7}"
+        )
 
 
 if __name__ == "__main__":

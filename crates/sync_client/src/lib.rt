@@ -5,6 +5,7 @@ mod beginning;
 mod client;
 mod entries;
 mod files;
+mod gathering;
 mod let_go;
 mod opening;
 mod refusal;

@@ -8,3 +8,4 @@ pub mod Recoverers
 pub mod Opened
 pub mod Shown
 pub mod Telling
+pub mod Landed

@@ -14,3 +14,4 @@ pub mod ServerTexts
 pub mod Showing
 pub mod Steps
 pub mod Texts
+pub mod Landed

@@ -8,6 +8,7 @@ mod editor;
 mod frame;
 mod frames;
 mod item;
+mod landing;
 mod lent;
 mod lines;
 mod opening;

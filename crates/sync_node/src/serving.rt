@@ -32,7 +32,7 @@ fn serve_opened<S: Source, K: Sink, D: Disk>(
 ) -> Ended<D>
     ensures exits { (records : List ServerRecord) (first : D) → ServerStands records server
         → NodeExits D.content D.images server_bytes first records (runs serve_step records (frames_of (S.left source.old))) result.status result.disk (K.taken sink.old) (K.taken sink.new) }
-    ensures origin { D.origin result.disk ≡ D.origin (disk_of (journal_of server)) }
+    ensures loan { (D.origin result.disk).listed ≡ (D.origin (disk_of (journal_of server))).listed }
     ensures source_faults { S.faults source.old ≤ S.faults source.new }
     ensures sink_faults { K.faults sink.old ≤ K.faults sink.new }
     ensures disk_faults { D.faults (disk_of (journal_of server)) ≤ D.faults result.disk }
@@ -41,11 +41,14 @@ fn serve_opened<S: Source, K: Sink, D: Disk>(
     ensures disk_cause { result.status ≡ Status.DiskFault → Rose (D.faults (disk_of (journal_of server))) (D.faults result.disk) }
     ensures only { IsRunStatus result.status }
 {
-    let mut waiter = Waiter { alloc, server };
+    let mut waiter = Waiter {
+        alloc,
+        server: server.gathered(),
+    };
     let status = run_frames(alloc, source, sink, &mut waiter);
     Ended {
         status,
-        disk: waiter.server.into_disk(),
+        disk: waiter.server.into_disk().into_disk(),
     }
 }
 
@@ -62,7 +65,7 @@ fn serve_disk<S: Source, K: Sink, D: Disk>(
     ensures bad_place { Told (D.content disk) (λ b. (place : ℕ) → server_file b ≡ Err place → TellsBad place result.status) }
     ensures bad_kept { Told (D.content disk) (λ b. (place : ℕ) → result.status ≡ Status.BadFile place → D.content result.disk ≡ Some b) }
     ensures bad_untouched { (place : ℕ) → result.status ≡ Status.BadFile place → (source.new ≡ source.old) × (sink.new ≡ sink.old) }
-    ensures origin { D.origin result.disk ≡ D.origin disk }
+    ensures loan { (D.origin result.disk).listed ≡ (D.origin disk).listed }
     ensures source_faults { S.faults source.old ≤ S.faults source.new }
     ensures sink_faults { K.faults sink.old ≤ K.faults sink.new }
     ensures disk_faults { D.faults disk ≤ D.faults result.disk }

@@ -15,13 +15,15 @@ ghost use Rattle.sync_node.specs.Steps.{replied};
 
 use super::command::{Command, ItemEnd};
 use super::frame::frame_of;
+use super::landing::reply_landed;
+use gathered_disk::GatheredDisk;
 use std::alloc::Global;
 use sync_data::NoMemory;
 use sync_disk::Disk;
 use sync_messages::{Message, MessageRefusal, message_of};
 use sync_server::{Server, ServerRefusal};
 
-/// A server over a file that takes messages.
+/// A server over a file that takes messages. The records of a message land before it is answered.
 #[derive(Drop)]
 pub(crate) struct Waiter<D: Disk> {
     pub alloc: Global,
@@ -29,7 +31,7 @@ pub(crate) struct Waiter<D: Disk> {
 }
 
 /// The server takes a message, and answers the frame of the reply.
-fn reply<D: Disk>(
+pub(crate) fn reply<D: Disk>(
     alloc: Global,
     server: &mut Server<D>,
     message: Message,
@@ -54,10 +56,10 @@ fn reply<D: Disk>(
     }
 }
 
-impl<D: Disk> Command for Waiter<D> {
+impl<D: Disk> Command for Waiter<GatheredDisk<D>> {
     ghost use Rattle.sync_model.specs.Servers.{ServerRecord};
     ghost use Rattle.sync_exchange.specs.Seen.{server_bytes};
-    ghost use Rattle.sync_node.specs.Holding.{ServerStands, server_faults, server_images, server_keeps, server_origin};
+    ghost use Rattle.sync_node.specs.Landed.{ServerLanded, landed_server_faults, landed_server_images, landed_server_keeps, server_loan};
     ghost use Rattle.sync_node.specs.Runs.{no_notes};
     ghost use Rattle.sync_node.specs.Saying.{serve_says};
     ghost use Rattle.sync_node.specs.Steps.{serve_step};
@@ -72,21 +74,21 @@ impl<D: Disk> Command for Waiter<D> {
 
     ghost step = { λ notes. serve_step };
 
-    ghost Stands = { λ waiter notes records. ServerStands records waiter.server };
+    ghost Stands = { λ waiter notes records. ServerLanded records waiter.server };
 
-    ghost images = { λ waiter. server_images waiter.server };
+    ghost images = { λ waiter. landed_server_images waiter.server };
 
-    ghost faults = { λ waiter. server_faults waiter.server };
+    ghost faults = { λ waiter. landed_server_faults waiter.server };
 
-    ghost origin = { λ waiter. server_origin waiter.server };
+    ghost origin = { λ waiter. server_loan waiter.server };
 
-    ghost keeps = { λ waiter notes records image stands is. server_keeps waiter.server records image stands is };
+    ghost keeps = { λ waiter notes records image stands is. landed_server_keeps waiter.server records image stands is };
 
     ghost says = { λ notes. serve_says };
 
     fn answer(&mut self, _number: u32, item: &[u8]) -> Result<Vec<u8>, ItemEnd> {
         match message_of(self.alloc, item) {
-            Ok(message) => reply(self.alloc, &mut self.server, message),
+            Ok(message) => reply_landed(self.alloc, &mut self.server, message),
             Err(MessageRefusal::BadMessage) => Err(ItemEnd::BadItem),
             Err(MessageRefusal::NoMemory) => Err(ItemEnd::NoMemory),
         }

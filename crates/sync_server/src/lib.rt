@@ -9,6 +9,7 @@ mod crossed;
 mod extending;
 mod files;
 mod front;
+mod gathering;
 mod given;
 mod history;
 mod kept;

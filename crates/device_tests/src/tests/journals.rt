@@ -1,6 +1,7 @@
 use super::disks::{disk_with, holds};
+use gathered_disk::GatheredDisk;
 use std::alloc::Global;
-use sync_disk::{Disk, Leaves, MemoryDisk};
+use sync_disk::{Disk, DiskRefusal, Leaves, MemoryDisk};
 use sync_journal::{Journal, JournalRefusal, OpenCause};
 
 /// The journal of a disk.
@@ -154,6 +155,66 @@ fn a_stop_at_each_stroke_of_an_append(rt: HostRuntime) {
         }
         assert!(rt; passes(rt.alloc(), leaves), "{leaves:?}");
     }
+}
+
+/// Three records that a journal gathers.
+fn gathers(journal: &mut Journal<GatheredDisk<MemoryDisk>>) -> bool {
+    append(journal, b"bc").is_ok() && append(journal, b"").is_ok() && append(journal, b"d").is_ok()
+}
+
+/// Whether the disk stops at that stroke of a landing of three records, and what must stand after the crash.
+fn stops_landing(alloc: Global, at: u32, leaves: Leaves) -> bool {
+    let Some(journal) = armed(alloc, at, leaves) else {
+        return false;
+    };
+    let mut journal = journal.gathered();
+    let is_met = gathers(&mut journal) && journal.land() == Err(DiskRefusal::Failed);
+    let mut disk = journal.into_disk().into_disk();
+    let is_met = is_met && disk.stopped();
+    disk.crash();
+    let is_kept = at >= 3 && leaves == Leaves::Keep;
+    let want: &[&[u8]] = if is_kept { &[b"a", b"bc", b"", b"d"] } else { &[b"a"] };
+    is_met && stands(alloc, disk, want)
+}
+
+/// Whether a landing doesn't meet a stop behind it, and a crash leaves all records.
+fn passes_landing(alloc: Global, leaves: Leaves) -> bool {
+    let Some(journal) = armed(alloc, 5, leaves) else {
+        return false;
+    };
+    let mut journal = journal.gathered();
+    let is_done = gathers(&mut journal) && journal.land().is_ok();
+    let mut disk = journal.into_disk().into_disk();
+    let is_done = is_done && !disk.stopped();
+    disk.crash();
+    is_done && stands(alloc, disk, &[b"a", b"bc", b"", b"d"])
+}
+
+#[test]
+fn a_stop_at_each_stroke_of_a_landing(rt: HostRuntime) {
+    for leaves in [Leaves::Drop, Leaves::Keep, Leaves::Torn] {
+        for at in 1..=4 {
+            assert!(rt; stops_landing(rt.alloc(), at, leaves), "at {at}, {leaves:?}");
+        }
+        assert!(rt; passes_landing(rt.alloc(), leaves), "{leaves:?}");
+    }
+}
+
+/// Whether a landing makes the file that an append makes, and nothing is there before.
+fn lands_in_the_file(alloc: Global) -> bool {
+    let Some(journal) = new_journal(alloc) else {
+        return false;
+    };
+    let mut journal = journal.gathered();
+    let is_landed = append(&mut journal, BORN).is_ok() && journal.land().is_ok();
+    // what isn't landed is lost
+    let is_landed = is_landed && append(&mut journal, b"a").is_ok();
+    is_landed && holds(alloc, &mut journal.into_disk().into_disk(), FILE)
+}
+
+#[test]
+fn a_landing_stands_in_the_file(rt: HostRuntime) {
+    assert!(rt; lands_in_the_file(rt.alloc()));
 }
 
 /// Whether an opening in which the call of that number fails is refused, or else isn't.

@@ -1,11 +1,13 @@
 use Rattle.std.specs.Bool.{⊤}
-use Rattle.std.proofs.Common.{sym, subst}
+use Rattle.std.proofs.Common.{sym, ◌∙◌, ap, subst}
+use Rattle.gathered_disk.specs.Below.{below}
 use Rattle.sync_exchange.specs.Seen.{client_bytes}
-use Rattle.sync_node.specs.Holding.{ClientStands}
 use Rattle.sync_node.specs.Items.{lines_of}
+use Rattle.sync_node.specs.Landed.{ClientLanded, below_client}
 use Rattle.sync_node.specs.Runs.{NodeExits, runs}
 use Rattle.sync_node.specs.Steps.{edit_step}
-use Rattle.sync_node.proofs.Nodes.{opened_exits, client_disk}
+use Rattle.sync_node.proofs.Landed.{client_below, client_landed}
+use Rattle.sync_node.proofs.Nodes.{opened_exits}
 use Rattle.sync_node.proofs.editing.edit_opened.Goals as goal
 
 pub returns-clause-exits : goal.returns-clause-exits
@@ -14,6 +16,8 @@ returns-clause-exits g c = λ records first stands.
     let old = g.K.Sink.taken c.args.sink.now in
     let new = g.K.Sink.taken ran.new.sink in
     let meant = runs edit_step records (lines_of (g.S.Source.left c.args.source.now)) in
-    subst (λ d. NodeExits g.D.Disk.content g.D.Disk.images client_bytes first records meant ran.result d old new) (sym c.into_disk.ensures)
-    (opened_exits g.D.Disk.content g.D.Disk.images client_bytes first ran.new.command.client.journal.disk records meant ran.result old new (λ rs. ⊤ × ClientStands rs ran.new.command.client) (λ rs st. client_disk rs ran.new.command.client st.1)
-    (ran.ensures.exits tt records stands))
+    let last = ran.new.command.client in
+    let landed = client_landed records c.args.client c.gathered.result stands c.gathered.ensures.landed c.gathered.ensures.replica c.gathered.ensures.closed in
+    subst (λ d. NodeExits g.D.Disk.content g.D.Disk.images client_bytes first records meant ran.result d old new) (sym (c.into_disk-2.ensures ∙ ap below c.into_disk.ensures))
+    (opened_exits g.D.Disk.content g.D.Disk.images client_bytes first (below_client last) records meant ran.result old new (λ rs. ⊤ × ClientLanded rs last) (λ rs l. client_below rs last l.1)
+    (ran.ensures.exits tt records landed))

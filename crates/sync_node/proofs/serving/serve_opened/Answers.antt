@@ -1,11 +1,13 @@
 use Rattle.std.specs.Bool.{⊤}
-use Rattle.std.proofs.Common.{sym, subst}
+use Rattle.std.proofs.Common.{sym, ◌∙◌, ap, subst}
+use Rattle.gathered_disk.specs.Below.{below}
 use Rattle.sync_exchange.specs.Seen.{server_bytes}
-use Rattle.sync_node.specs.Holding.{ServerStands}
 use Rattle.sync_node.specs.Items.{frames_of}
+use Rattle.sync_node.specs.Landed.{ServerLanded, below_server}
 use Rattle.sync_node.specs.Runs.{NodeExits, runs}
 use Rattle.sync_node.specs.Steps.{serve_step}
-use Rattle.sync_node.proofs.Nodes.{opened_exits, server_disk}
+use Rattle.sync_node.proofs.Landed.{server_below, server_landed}
+use Rattle.sync_node.proofs.Nodes.{opened_exits}
 use Rattle.sync_node.proofs.serving.serve_opened.Goals as goal
 
 pub returns-clause-exits : goal.returns-clause-exits
@@ -14,6 +16,8 @@ returns-clause-exits g c = λ records first stands.
     let old = g.K.Sink.taken c.args.sink.now in
     let new = g.K.Sink.taken ran.new.sink in
     let meant = runs serve_step records (frames_of (g.S.Source.left c.args.source.now)) in
-    subst (λ d. NodeExits g.D.Disk.content g.D.Disk.images server_bytes first records meant ran.result d old new) (sym c.into_disk.ensures)
-    (opened_exits g.D.Disk.content g.D.Disk.images server_bytes first ran.new.command.server.journal.disk records meant ran.result old new (λ rs. ⊤ × ServerStands rs ran.new.command.server) (λ rs st. server_disk rs ran.new.command.server st.1)
-    (ran.ensures.exits tt records stands))
+    let last = ran.new.command.server in
+    let landed = server_landed records c.args.server c.gathered.result stands c.gathered.ensures.landed c.gathered.ensures.kept c.gathered.ensures.closed in
+    subst (λ d. NodeExits g.D.Disk.content g.D.Disk.images server_bytes first records meant ran.result d old new) (sym (c.into_disk-2.ensures ∙ ap below c.into_disk.ensures))
+    (opened_exits g.D.Disk.content g.D.Disk.images server_bytes first (below_server last) records meant ran.result old new (λ rs. ⊤ × ServerLanded rs last) (λ rs l. server_below rs last l.1)
+    (ran.ensures.exits tt records landed))

@@ -1,0 +1,5 @@
+pub mod Writing
+pub mod Gathering
+pub mod Bringing
+pub mod Stroking
+pub mod Same

@@ -1,0 +1,4 @@
+pub mod Gathered
+pub mod Strokes
+pub mod Laws
+pub mod Below
