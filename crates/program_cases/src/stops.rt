@@ -20,7 +20,7 @@ struct Case {
     file: Vec<u8>,
     /// The first part of the names of the files that have what is shown of none, one, two and three of the records.
     shown: &'static str,
-    /// Whether each record is answered, or all three at once.
+    /// Whether each record is answered, or all three at once, which then come to the file together.
     each: bool,
 }
 
@@ -33,9 +33,9 @@ struct Stop {
     stand: u32,
 }
 
-/// The command's own sync comes first, and then of each record its write, the sync of that, the write of the open gate, and
-/// the sync of that. What was written stands where a crash keeps it, or where it was synced.
-fn stop_of(at: u32, leaves: Leaves) -> Stop {
+/// The command's own sync comes first, and then of each line or frame the write of its records, the sync of that, the write of
+/// the open gate, and the sync of that. What was written stands where a crash keeps it, or where it was synced.
+fn stop_of(at: u32, leaves: Leaves, records: u32) -> Stop {
     let strokes = at.saturating_sub(2);
     let answered = strokes / 4;
     let opened = match leaves {
@@ -46,7 +46,7 @@ fn stop_of(at: u32, leaves: Leaves) -> Stop {
         at,
         leaves,
         answered,
-        stand: answered.saturating_add(opened),
+        stand: answered.saturating_add(opened).saturating_mul(records),
     }
 }
 
@@ -96,9 +96,10 @@ fn is_right(rt: &HostRuntime, case: &Case, stop: Stop) -> Result<bool, Failure> 
 
 /// Tries each stop of a command.
 fn try_case(rt: &HostRuntime, tally: &mut Tally, case: &Case) -> Result<(), Failure> {
-    for at in 1..=13 {
+    let (last, records) = if case.each { (13, 1) } else { (5, 3) };
+    for at in 1..=last {
         for leaves in [Leaves::Drop, Leaves::Torn, Leaves::Keep] {
-            let is_right = is_right(rt, case, stop_of(at, leaves))?;
+            let is_right = is_right(rt, case, stop_of(at, leaves, records))?;
             tally.count(rt, is_right, case.shown)?;
         }
     }

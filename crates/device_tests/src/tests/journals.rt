@@ -173,7 +173,11 @@ fn stops_landing(alloc: Global, at: u32, leaves: Leaves) -> bool {
     let is_met = is_met && disk.stopped();
     disk.crash();
     let is_kept = at >= 3 && leaves == Leaves::Keep;
-    let want: &[&[u8]] = if is_kept { &[b"a", b"bc", b"", b"d"] } else { &[b"a"] };
+    let want: &[&[u8]] = if is_kept {
+        &[b"a", b"bc", b"", b"d"]
+    } else {
+        &[b"a"]
+    };
     is_met && stands(alloc, disk, want)
 }
 
@@ -194,7 +198,10 @@ fn passes_landing(alloc: Global, leaves: Leaves) -> bool {
 fn a_stop_at_each_stroke_of_a_landing(rt: HostRuntime) {
     for leaves in [Leaves::Drop, Leaves::Keep, Leaves::Torn] {
         for at in 1..=4 {
-            assert!(rt; stops_landing(rt.alloc(), at, leaves), "at {at}, {leaves:?}");
+            assert!(rt;
+                stops_landing(rt.alloc(), at, leaves),
+                "at {at}, {leaves:?}"
+            );
         }
         assert!(rt; passes_landing(rt.alloc(), leaves), "{leaves:?}");
     }
