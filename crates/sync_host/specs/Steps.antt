@@ -15,6 +15,7 @@ use Rattle.sync_exchange.specs.Seen.{message_seen}
 use Rattle.sync_messages.specs.Reading.{message_in}
 use Rattle.sync_messages.specs.Spelling.{message_spelling}
 use Rattle.sync_messages.specs.declared.message.Message.{Message as CodeMessage}
+use Rattle.sync_messages.specs.declared.message.Message.TheVariants as messages
 use Rattle.sync_edits.specs.declared.event.NodeLine.{NodeLine}
 use Rattle.sync_edits.specs.declared.event.NodeLine.TheVariants as node_lines
 use Rattle.sync_client.specs.Clients as clients_code
@@ -64,6 +65,11 @@ line_answer records (node_lines.Subscribe tables) = said nothing (clients.subscr
 -- a message; none where the bytes are none
 abbrev pub message_read : List ℕ → Option Message
 message_read bytes = option_map message_seen (message_in bytes)
+
+-- up to which number the server says that it has a client's changes
+abbrev pub stored_in : CodeMessage → Option ℕ
+stored_in (messages.Stored stored) = Some stored.number
+stored_in message = None
 
 abbrev pub take_answer : List ClientRecord → Message → Answer
 take_answer records message = said word (clients.take the_profile (client_of the_profile records) message)

@@ -1,5 +1,6 @@
 ghost use Rattle.std.specs.Prelude.{◌≡◌, ℕ, List, IfSome, IfNone};
 ghost use Rattle.sync_host.specs.Verbs.{Asks};
+ghost use Rattle.sync_host.specs.declared.node.Node.TheVariants as nodes;
 
 use crate::node::Node;
 use crate::reply::Reply;
@@ -40,7 +41,9 @@ impl Host {
     ghost use Rattle.sync_host.specs.Hosts.{Turned, node_of};
 
     /// A place where no node is open.
-    pub fn new(alloc: Global) -> Host {
+    pub fn new(alloc: Global) -> Host
+        ensures { node_of result ≡ nodes.None }
+    {
         Host {
             alloc,
             node: Node::None,

@@ -3,7 +3,7 @@ ghost use Rattle.std.specs.Prelude.{◌≡◌, List, IfSome};
 ghost use Rattle.std.specs.Option.{option_map};
 ghost use Rattle.sync_model.specs.Clients as clients;
 ghost use Rattle.sync_exchange.specs.Profile.{the_profile};
-ghost use Rattle.sync_host.specs.Steps.{Answers, ClientStands, IfTold, SentSo, errand, message_read, number_in, retire_in, take_answer};
+ghost use Rattle.sync_host.specs.Steps.{Answers, ClientStands, IfTold, SentSo, errand, message_read, number_in, retire_in, stored_in, take_answer};
 
 use crate::answers::{dump, send};
 use crate::object::object;
@@ -42,7 +42,9 @@ fn number_in(bytes: &[u8]) -> Option<u32>
 }
 
 /// Up to which number the server says that it has changes.
-fn stored_by(message: &Message) -> Option<u32> {
+fn stored_by(message: &Message) -> Option<u32>
+    ensures { result ≡ stored_in message.now }
+{
     match message {
         Message::Stored(stored) => Some(stored.number()),
         _ => None,
