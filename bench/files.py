@@ -82,7 +82,7 @@ def new_reader(options, folder, server):
 
 
 def one_round(options, folder, count_syncs):
-    """The seconds of each command, the size of the server's file, and the number of syncs of each command."""
+    """The seconds of each command with its input and without, the size of the server's file, and the syncs of each command."""
     client, server = new_nodes(options, folder)
     reader = new_reader(options, folder, server)
     lines = b"".join(ADDITION % (10 + place) for place in range(options.changes - 1))
@@ -93,7 +93,7 @@ def one_round(options, folder, count_syncs):
             syncs[command] = counted(options, folder, command, path, given)
         _, opening = run(options, command, path)
         told, whole = run(options, command, path, given)
-        seconds[command] = max(whole - opening, 1e-9)
+        seconds[command] = whole, opening
         return told
 
     told = timed("edit", client, lines)
@@ -131,7 +131,10 @@ def measured(options, where, count_syncs):
     with tempfile.TemporaryDirectory(dir=where) as folder:
         rounds = [one_round(options, folder, count_syncs and place == 0) for place in range(options.times)]
         without = min(bare(options, folder, rounds[0][1]) for _ in range(options.times))
-    seconds = {name: min(each[0][name] for each in rounds) for name in ("edit", "serve", "take")}
+    seconds = {}
+    for name in ("edit", "serve", "take"):
+        whole, opening = (min(each[0][name][place] for each in rounds) for place in (0, 1))
+        seconds[name] = max(whole - opening, 1e-4)
     seconds["bare"] = without
     return seconds, rounds[0][2]
 
