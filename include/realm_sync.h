@@ -140,7 +140,9 @@ REALM_SYNC_API bool realm_room(uint8_t **bytes, size_t *room, size_t want) {
 REALM_SYNC_API bool realm_settle(realm_node *node) {
     static const uint8_t outbox = 'W', done = 'V';
     uint8_t status = 0;
-    size_t len = realm_node_turn(node->host, &outbox, 1, node->strokes, node->strokes_room);
+    /* the archive takes no null pointer, also where there is no room behind it */
+    uint8_t *strokes = node->strokes ? node->strokes : &status;
+    size_t len = realm_node_turn(node->host, &outbox, 1, strokes, node->strokes_room);
     if (len == 0) return true;
     if (node->file >= 0) {
         if (len > node->strokes_room) {

@@ -44,6 +44,13 @@ rm -f "$out/first" "$out/second" "$out/server"
 "$out/two_phones" "$out/first" "$out/second" "$out/server" >"$out/two_phones.files"
 same "$top/examples/c/two_phones.out" "$out/two_phones.files" "two_phones in C, over files"
 
+# A disk that is full, with sanitizers.
+cc -std=c11 -D_GNU_SOURCE -g -O1 -fsanitize=address,undefined -fno-sanitize-recover=all $warnings -I"$top/include" \
+    "$top/examples/c/full_disk.c" "$archive" "$heap" -o "$out/full_disk"
+rm -f "$out/full"
+"$out/full_disk" "$out/full" >"$out/full_disk.printed"
+same "$top/examples/c/full_disk.out" "$out/full_disk.printed" "full_disk in C"
+
 # Two phones in Python.
 REALM_SYNC_LIBRARY=$out/librealm_sync.so "$python" "$top/examples/python/two_phones.py" >"$out/two_phones.python"
 same "$top/examples/python/two_phones.out" "$out/two_phones.python" "two_phones in Python"
