@@ -36,12 +36,12 @@ abbrev pub shape_answer : Bool → Result (Unit {0}) WrongShape
 shape_answer true = Ok tt
 shape_answer false = Err (record {})
 
--- the refusal itself, where it isn't want of memory
+-- the refusal itself, where it isn't out of memory
 abbrev pub cause_of : CellRefusal → Option CellRefusal
 cause_of refusals.NoMemory = None
 cause_of e = Some e
 
--- what is refused is the refusal found, and where none is found want of memory alone
+-- what is refused is the refusal found, and where none is found out of memory alone
 abbrev pub IsRefusedBy : Option CellRefusal → Result (Unit {0}) CellRefusal → Type 0
 IsRefusedBy found (Ok u) = found ≡ None
 IsRefusedBy found (Err e) = found ≡ cause_of e

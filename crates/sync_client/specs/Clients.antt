@@ -41,7 +41,7 @@ module _ {D : Type 0} {G : Ghosts D} where
     pub answer_is : did.answer ≡ answer
     pub client : IsClientOf (records ++ did.records) c
 
-  -- it answered as defined and appended the step's records; want of memory, a fault and a closed client are told elsewhere
+  -- it answered as defined and appended the step's records; out of memory, a fault and a closed client are told elsewhere
   abbrev pub Says : {A : Type 0} → ClientStep A → List ClientRecord → Client D G → Result A CodeRefusal → Type 0
   Says did records new (Ok a) = Did did (Ok a) records new
   Says did records new (Err why) = IfSeen (refusal_seen why) (λ w. Did did (Err w) records new)
@@ -55,7 +55,7 @@ module _ {D : Type 0} {G : Ghosts D} where
   abbrev pub LeavesPrefix : (content : D → Option (List ℕ)) (images : D → List ℕ → Type 0) (moment : D → ℕ) (images_since : D → ℕ → List ℕ → Type 0) → List ClientRecord → Client D G → Client D G → Type 0
   LeavesPrefix content images moment images_since next old new = (rs : List (List ℕ)) → Stands content images rs old.journal → LeavesOnly moment images_since (disk_of old.journal) (disk_of new.journal) (StandsForPrefix rs (map client_bytes next))
 
-  -- the disk was asked for the appends of these records: for all of them, or for some up to a fault; after want of memory
+  -- the disk was asked for the appends of these records: for all of them, or for some up to a fault; after out of memory
   -- nothing is said
   abbrev pub AskedFor : (D → List Stroke) → List ClientRecord → Journal D G → Journal D G → Option CodeRefusal → Type 0
   AskedFor strokes next old new None = Asks strokes (map client_bytes next) old new

@@ -31,7 +31,7 @@ pub record TakesIt (old new : Client Instr State) (e : Sent) : Type 0 where
   pub fine : entry_refusal the_profile old e ≡ None
   pub after : new ≡ after_record the_profile old (took e)
 
--- it is taken, or refused as defined; after want of memory nothing is said
+-- it is taken, or refused as defined; out of memory, nothing is said
 abbrev pub Takes : Client Instr State → Client Instr State → Sent → Result (Unit {0}) CodeRefusal → Type 0
 Takes old new e (Ok u) = TakesIt old new e
 Takes old new e (Err why) = IfSeen (refusal_seen why) (Declines old new e)

@@ -26,7 +26,7 @@ pub record Admitted (past : Past) (old new : Replica) (next : ClientRecord) : Ty
   pub count : length then_past.made ≡ new.count
   pub after : seen then_past new ≡ after_record the_profile (seen past old) next
 
--- the record is admitted, or a client wouldn't have written it, whatever is ahead; after want of memory nothing is said
+-- the record is admitted, or a client wouldn't have written it, whatever is ahead; out of memory, nothing is said
 abbrev pub Admits : Past → Replica → Replica → ClientRecord → Result Bool NoMemory → Type 0
 Admits past old new next (Ok true) = Admitted past old new next
 Admits past old new next (Ok false) = (ahead : List (Option ClientRecord)) → client_admits the_profile (seen past old) ahead next ≡ false

@@ -1,4 +1,4 @@
--- The refusals of the code as those of the model; the model has no closed node, no disk and no want of memory.
+-- The refusals of the code as those of the model; in the model no node is closed, no disk fails and memory never runs out.
 use Rattle.std.specs.Prelude.{ℕ, Option, Some, None}
 use Rattle.sync_base.specs.Codes.{mismatch_code}
 use Rattle.sync_model.specs.Clients.{ClientRefusal}

@@ -53,7 +53,7 @@ abbrev pub planned : Option ℕ → ℕ → List Act → List Stroke
 planned stop n [] = []
 planned stop n (act ∷ acts) = record { act = act; failed = is_past stop n; lost = is_past stop n && is_lost stop n act } ∷ planned stop (suc n) acts
 
--- a call answers `Failed` exactly where it fails, but for want of memory, and is counted
+-- a call answers `Failed` exactly where it fails, but for out of memory, and is counted
 pub record AsForetold {T : Type 0} (fails : Bool) (old new : List ℕ) (result : Result T DiskRefusal) : Type 0 where
   pub failed : IsErrOf result Failed → fails ≡ true
   pub done : OnOk result (fails ≡ false)

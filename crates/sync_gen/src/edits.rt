@@ -13,7 +13,7 @@ use sync_store::Store;
 
 impl Gen {
     /// The edit that is drawn for these objects: one of sixteen is created where it is absent, and else changed or
-    /// erased. On want of memory the numbers are drawn all the same.
+    /// erased. Out of memory, the numbers are drawn all the same.
     pub fn edit(&mut self, alloc: Global, objects: &Store) -> Result<Instr, NoMemory>
         ensures edit { IfOk result (λ instr. instr ≡ (edit_of objects.now self.old).0) }
         ensures state { self.new ≡ (edit_of objects.now self.old).1 }

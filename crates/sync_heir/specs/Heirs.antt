@@ -22,7 +22,7 @@ use Rattle.sync_heir.specs.declared.refusal.ResetRefusal.{ResetRefusal as CodeRe
 use Rattle.sync_heir.specs.declared.refusal.ResetRefusal.TheVariants as resets
 use Rattle.sync_reset.specs.Saved.{drops}
 
--- ---- the answers of the code as those of the model; the model has no want of memory
+-- ---- the answers of the code as those of the model; in the model memory never runs out
 abbrev pub heir_seen : Heir → HeirAnswer
 heir_seen heirs.Integrated = HeirAnswer.Integrated
 heir_seen heirs.Known = HeirAnswer.Known
@@ -61,7 +61,7 @@ module _ {D : Type 0} {G : Ghosts D} where
     pub answer_is : did.answer ≡ answer
     pub client : IsClientOf (records ++ did.records) c
 
-  -- it answered as defined and appended the step's records; want of memory, a fault and a closed client are told elsewhere
+  -- it answered as defined and appended the step's records; out of memory, a fault and a closed client are told elsewhere
   abbrev pub HeirSays : HeirStep → List ClientRecord → Client D G → Result Heir CodeReset → Type 0
   HeirSays did records new (Ok a) = HeirDid did (Ok (heir_seen a)) records new
   HeirSays did records new (Err why) = IfReset (reset_seen why) (λ w. HeirDid did (Err w) records new)

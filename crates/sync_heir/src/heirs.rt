@@ -40,7 +40,7 @@ pub fn heir<D: Disk>(
     // No break comes of the heir's transaction, and it is never too large.
     ensures causes { (records : List ClientRecord) → IsClientOf records client.old → IfErr result IsHeirCause }
 
-    // A closed client does nothing. A fault, and want of memory in the transaction, close it; before that, want of memory
+    // A closed client does nothing. A fault, and out of memory in the transaction, close it; before that, out of memory
     // changes nothing.
     ensures closed { IsErrOf result (ResetRefusal.Client ClientRefusal.Closed) ↔ (is_closed client.old ≡ true) }
     ensures shut { IsErrOf result (ResetRefusal.Client ClientRefusal.Closed) → client.new ≡ client.old }

@@ -33,7 +33,7 @@ use Rattle.sync_host.specs.declared.verb.Verb.{Verb}
 use Rattle.sync_host.specs.declared.verb.Verb.TheVariants as verbs
 
 -- ---- what is said of a reply
--- after a fault, after want of memory and of a node that isn't open nothing is
+-- after a fault, out of memory and of a node that isn't open nothing is
 abbrev pub IfTold : Reply → Type 0 → Type 0
 IfTold replies.Closed P = Unit {0}
 IfTold replies.NoMemory P = Unit {0}

@@ -18,7 +18,7 @@ use sync_dump::dump_lines;
 use sync_messages::{Message, message_bytes};
 use sync_store::Store;
 
-/// Why a client refuses. Of a closed client, and after a fault and want of memory, the host knows no more than that.
+/// Why a client refuses. Of a closed client, and after a fault and out of memory, the host knows no more than that.
 pub(crate) fn decline(refusal: ClientRefusal) -> Reply
     ensures { Declines (refusal_seen refusal) result }
 {

@@ -23,7 +23,7 @@ Filled fills.More old new left = (piece : List ℕ) × (new.held ≡ old.held ++
 Filled fills.End old new left = (new ≡ old) × IfSome left (λ bytes. bytes ≡ []) × (old.taken < max_input)
 Filled fills.Full old new left = (new ≡ old) × (old.taken ≡ max_input)
 
--- a fill fails with its source, or for want of memory
+-- a fill fails with its source, or out of memory
 abbrev pub IsFillRefusal : ReadRefusal → Type 0
 IsFillRefusal refusals.Failed = Unit {0}
 IsFillRefusal refusals.NoMemory = Unit {0}

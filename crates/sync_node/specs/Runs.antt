@@ -69,7 +69,7 @@ abbrev pub StandsSo : {C N R : Type 0} → (C → N → List R → Type 0) → C
 StandsSo {N = N} Stands command records = (notes : N) × Stands command notes records
 
 -- ---- what a run that may be cut short does of it
--- a fault, or want of memory
+-- a fault, or out of memory
 abbrev pub is_fault : Status → Bool
 is_fault statuses.ReadFault = true
 is_fault statuses.WriteFault = true
@@ -88,7 +88,7 @@ pub record LeavesSome {R : Type 0} (bytes_of : R → List ℕ) (records next : L
   pub reads : records_of image ≡ Good (map bytes_of (records ++ take count next))
 
 module _ {R : Type 0} where
-  -- The status is the run's, and what was written too. After a fault and after want of memory a part of it was written, from its front.
+  -- The status is the run's, and what was written too. After a fault and out of memory a part of it was written, from its front.
   abbrev pub Follows : Status → Run R → Option (List ℕ) → Option (List ℕ) → Type 0
   Follows status run old new = MatchBool (is_fault status) (TookSome (texts run.answers) old new) ((status ≡ run.status) × Took (texts run.answers) old new)
 
@@ -137,7 +137,7 @@ module _ {R : Type 0} where
   EndsAt bytes_of Stands images records number meant status old new =
       (rest : List R → Run R) → ((new : List R) → AllTold (rest new).answers) → Exits bytes_of Stands images records (answered number meant rest) status old new
 
--- an item that is read ends a run by its own fault, that of a write or of the disk, or want of memory
+-- an item that is read ends a run by its own fault, that of a write or of the disk, or out of memory
 abbrev pub IsItemStatus : Status → Type 0
 IsItemStatus (statuses.BadInput number) = Unit {0}
 IsItemStatus statuses.WriteFault = Unit {0}

@@ -90,7 +90,7 @@ pub fn recover<S: Source, K: Sink, D: Disk>(
     sink: &mut K,
     disk: &mut D,
 ) -> Status
-    // What is written, and the status, are the run's over the records on the disk. After a fault and after want of memory what
+    // What is written, and the status, are the run's over the records on the disk. After a fault and out of memory what
     // was written is a part of it, from its front.
     ensures written { Told (D.content disk.old) (λ b. (records : List ClientRecord) → client_file b ≡ Ok records
         → FollowsTold result (noting_runs recover_step heard [] records (frames_of (S.left source.old))) (K.taken sink.old) (K.taken sink.new)) }

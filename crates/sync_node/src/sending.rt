@@ -129,7 +129,7 @@ fn run<K: Sink, D: Disk>(alloc: Global, sink: &mut K, disk: D, errand: Errand) -
 pub fn tell<K: Sink, D: Disk>(alloc: Global, sink: &mut K, disk: &mut D, errand: Errand) -> Status
     requires { IsErrand errand }
 
-    // What is written is the frame of the client of the records on the disk; after a fault and after want of memory a part
+    // What is written is the frame of the client of the records on the disk; after a fault and out of memory a part
     // of it, from its front.
     ensures told { Told (D.content disk.old) (λ b. (records : List ClientRecord) → client_file b ≡ Ok records → Writes result (text_of errand records) (K.taken sink.old) (K.taken sink.new)) }
 

@@ -120,7 +120,7 @@ pub fn tell_of_server<K: Sink, D: Disk>(
     disk: &mut D,
     what: ServerText,
 ) -> Status
-    // What is written is the text of the server of the records on the disk; after a fault and after want of memory a part
+    // What is written is the text of the server of the records on the disk; after a fault and out of memory a part
     // of it, from its front. The bytes of a new file stand for its records.
     ensures told { Told (D.content disk.old) (λ b. (records : List ServerRecord) → server_file b ≡ Ok records → Writes result (text_of what records) (K.taken sink.old) (K.taken sink.new)) }
     ensures stands { Told (D.content disk.old) (λ b. (records : List ServerRecord) → server_file b ≡ Ok records → result ≡ Status.Done → StandsFor what records) }

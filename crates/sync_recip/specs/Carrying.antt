@@ -72,7 +72,7 @@ pub record StuckAt {A : Type 0} (r : Result A (ℕ × ℕ × Mismatch)) (place :
   pub right : ℕ
   pub is : r ≡ Err (place, right, kind)
 
--- a mismatch is that of the crossing; of want of memory nothing is said
+-- a mismatch is that of the crossing; out of memory, nothing is said
 abbrev pub IsStuckBy : {A : Type 0} → RecipRefusal → Result A (ℕ × ℕ × Mismatch) → Type 0
 IsStuckBy (refusals.Mismatch place kind) r = StuckAt r place kind
 IsStuckBy refusals.NoMemory r = Unit {0}

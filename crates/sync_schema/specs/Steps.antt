@@ -21,7 +21,7 @@ tables_without_column t c tables = elim (map.get tables t) [ None ↦ tables | S
 abbrev pub bare : Tables → State
 bare tables = record { tables = tables; objects = map.empty }
 
--- the break that a refusal names: none for want of memory
+-- the break that a refusal names: none for out of memory
 abbrev pub named_break : SchemaRefusal → Option Break
 named_break refusals.TableExists = Some breaks.TableExists
 named_break refusals.NoTable = Some breaks.NoTable
@@ -29,7 +29,7 @@ named_break refusals.ColumnExists = Some breaks.ColumnExists
 named_break refusals.BadColumn = Some breaks.BadColumn
 named_break refusals.NoMemory = None
 
--- the answer is the break, where there is one, and else only want of memory is refused
+-- the answer is the break, where there is one, and else only out of memory is refused
 abbrev pub IsRefusedBy : Option Break → Result (Unit {0}) SchemaRefusal → Type 0
 IsRefusedBy found (Ok u) = found ≡ None
 IsRefusedBy found (Err e) = found ≡ named_break e

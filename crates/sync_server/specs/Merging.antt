@@ -43,7 +43,7 @@ numbers_broken len floor g number base =
     else if len == 4294967295 then Some (HistoryFull len)
     else None
 
--- ---- the steps; of want of memory nothing is said
+-- ---- the steps; out of memory, nothing is said
 
 -- the instructions that its bytes spell, or the first rule that they break
 abbrev pub Reads : Result Changes ChangeRefusal → Change → Type 0

@@ -20,7 +20,7 @@ pub record Admitted (old new : Kept) (next : ServerRecord) : Type 0 where
   pub admitted : admits_part the_profile (parts old) next ≡ true
   pub kept : parts new ≡ after_part the_profile (parts old) next
 
--- the record is admitted, or a server wouldn't have written it; after want of memory nothing is said
+-- the record is admitted, or a server wouldn't have written it; out of memory, nothing is said
 abbrev pub Admits : Kept → Kept → ServerRecord → Result Bool NoMemory → Type 0
 Admits old new next (Ok true) = Admitted old new next
 Admits old new next (Ok false) = admits_part the_profile (parts old) next ≡ false

@@ -70,7 +70,7 @@ module _ {D : Type 0} {G : Ghosts D} where
   LeavesPrefix content images moment images_since next old new = (rs : List (List ℕ)) → Stands content images rs old.journal → LeavesOnly moment images_since (disk_of old.journal) (disk_of new.journal) (StandsForPrefix rs (map server_bytes next))
 
   -- A call that answers asked the disk for the appends of these records and for nothing else; one that ends at a fault, for the first
-  -- of them up to the stroke that failed. Of want of memory nothing is said.
+  -- of them up to the stroke that failed. Out of memory, nothing is said.
   abbrev pub Asked : {B : Type 0} → (D → List Stroke) → List ServerRecord → Server D G → Server D G → Result B CodeRefusal → Type 0
   Asked strokes next old new (Ok b) = Asks strokes (map server_bytes next) old.journal new.journal
   Asked strokes next old new (Err causes.DiskFault) = AsksSome strokes (map server_bytes next) old.journal new.journal

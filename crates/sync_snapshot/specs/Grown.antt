@@ -10,7 +10,7 @@ use Rattle.sync_snapshot.specs.declared.growing.GrowRefusal.TheVariants as refus
 abbrev pub lists_of : List Changes → List (List Instr)
 lists_of parts = map (λ part. part.instrs) parts
 
--- the part at that place is named; after want of memory nothing is said
+-- the part at that place is named; out of memory, nothing is said
 abbrev pub Names : GrowRefusal → Result State ℕ → Type 0
 Names (refusals.BadPart place) r = r ≡ Err place
 Names refusals.NoMemory r = Unit {0}

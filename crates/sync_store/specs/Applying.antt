@@ -15,7 +15,7 @@ use Rattle.sync_store.specs.declared.refusals.ApplyRefusal.TheVariants as refusa
 use Rattle.sync_store.specs.declared.refusals.AllRefusal.{AllRefusal}
 use Rattle.sync_store.specs.declared.refusals.AllRefusal.TheVariants as all_refusals
 
--- the instruction has acted, or its break is told and nothing has changed; after want of memory nothing is said
+-- the instruction has acted, or its break is told and nothing has changed; out of memory, nothing is said
 abbrev pub Applies : Result (Unit {0}) ApplyRefusal → Instr → State → State → Type 0
 Applies (Ok u) i old new = act i old ≡ Some new
 Applies (Err (refusals.Break b)) i old new = (break_of old (effect_of i) ≡ Some b) × (new ≡ old)

@@ -232,7 +232,7 @@ module _ {C : Type 0} (answers : C → ℕ → List ℕ → Result (List ℕ × 
   is_cut (statuses.BadFile place) reading command old new follows leaves not = whole_is_cut (statuses.BadFile place) reading command old new follows leaves
   is_cut statuses.InputTooLong reading command old new follows leaves not = whole_is_cut statuses.InputTooLong reading command old new follows leaves
 
-  -- after a status that isn't want of memory
+  -- after a status that isn't out of memory
   flushed : (status : Status) (refusal : SinkRefusal) (readings : Option Reading) (command : C) (old new : Option (List ℕ)) → (status ≡ statuses.NoMemory → ⊥)
       → Done status readings command old new → Done (write_status refusal) readings command old new
   flushed status refusal readings command old new not did = record {

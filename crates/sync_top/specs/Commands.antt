@@ -26,7 +26,7 @@ module _ {D : Type 0} (content : D → Option (List ℕ)) (images : D → List �
   -- A node over a file answers the items of an input by the run that is meant. `first` is the disk before, `last` the disk after; `old` and
   -- `new` are what was written before and after.
   pub record AnswersItems {R : Type 0} (file_of : List ℕ → Result (List R) ℕ) (bytes_of : R → List ℕ) (meant : List R → Option (Run R)) (status : Status) (first last : D) (old new : Option (List ℕ)) : Type 0 where
-    -- what is written, and the status, are the run's; after a fault and after want of memory a part of it was written, from its front
+    -- what is written, and the status, are the run's; after a fault and out of memory a part of it was written, from its front
     pub written : Told (content first) (λ b. (records : List R) → file_of b ≡ Ok records → FollowsTold status (meant records) old new)
     -- the disk then holds the old records and those of the steps
     pub stored : Told (content first) (λ b. (records : List R) → file_of b ≡ Ok records → is_fault status ≡ false

@@ -69,7 +69,7 @@ module _ {C : Type 0} (answers : C → ℕ → List ℕ → Result (List ℕ × 
   runs before readings command = option_map (λ reading. run_from before reading command) readings
 
 -- ---- what a run that may be cut short does of it
--- a fault, or want of memory
+-- a fault, or out of memory
 abbrev pub is_fault : Status → Bool
 is_fault statuses.ReadFault = true
 is_fault statuses.WriteFault = true
@@ -77,7 +77,7 @@ is_fault statuses.DiskFault = true
 is_fault statuses.NoMemory = true
 is_fault status = false
 
--- The status is the run's, and what was written too. After a fault and after want of memory a part of it was written, from its front.
+-- The status is the run's, and what was written too. After a fault and out of memory a part of it was written, from its front.
 abbrev pub Follows : {C : Type 0} → Status → Ran C → Option (List ℕ) → Option (List ℕ) → Type 0
 Follows status ran old new = MatchBool (is_fault status) (TookSome ran.written old new) ((status ≡ ran.status) × Took ran.written old new)
 
@@ -104,7 +104,7 @@ module _ {C : Type 0} (answers : C → ℕ → List ℕ → Result (List ℕ × 
     pub written : TookSome (text ++ report_at report rest next) old new
     pub left : holds next
 
-  -- nothing is said after want of memory
+  -- nothing is said after out of memory
   abbrev pub LeavesOf : Status → Reading → C → Option (List ℕ) → Option (List ℕ) → Type 0
   LeavesOf statuses.NoMemory reading command old new = Unit {0}
   LeavesOf statuses.ReadFault reading command old new = IsCut reading command old new
@@ -151,7 +151,7 @@ read_status number reads.Cut = statuses.BadInput number
 read_status number reads.InputTooLong = statuses.InputTooLong
 read_status number reads.NoMemory = statuses.NoMemory
 
--- a line that is read ends a run by its own fault, that of a write, or want of memory
+-- a line that is read ends a run by its own fault, that of a write, or out of memory
 abbrev pub IsLineStatus : Status → Type 0
 IsLineStatus statuses.BadWords = ⊥
 IsLineStatus (statuses.BadFile place) = ⊥
@@ -193,7 +193,7 @@ pub record AnsweredAll {C : Type 0} (answers : C → ℕ → List ℕ → Result
   pub took : Took text old new
   pub left : holds next
 
--- a report that is written ends a run well, by a fault of its write, or for want of memory
+-- a report that is written ends a run well, by a fault of its write, or out of memory
 abbrev pub IsReportStatus : Status → Type 0
 IsReportStatus statuses.Done = Unit {0}
 IsReportStatus statuses.WriteFault = Unit {0}

@@ -56,11 +56,11 @@ pub fn generate<K: Sink>(
     requires turns { count ≤ most_turns }
     requires fresh { Holds model.empty_world world.old }
 
-    // What is written is the summary of the events that follow from the seed. After a fault and after want of memory what
+    // What is written is the summary of the events that follow from the seed. After a fault and out of memory what
     // was written is a part of it, from its front. There is no other answer.
     ensures generated { Writes (summary_of seed count) result (K.taken sink.old) (K.taken sink.new) }
 
-    // The events happen in this world and no other: after every answer but want of memory it is the world after all of them.
+    // The events happen in this world and no other: after every answer but out of memory it is the world after all of them.
     ensures generates { result ≢ Status.NoMemory → Holds (world_by model.empty_world (events_of seed count)) world.new }
 
     // A fault has its cause.

@@ -189,7 +189,7 @@ fn answer_all<S: Source, K: Sink, C: Command>(
     }
 }
 
-/// The status of a run behind which the last flush was refused: after want of memory nothing is said of what is left.
+/// The status of a run behind which the last flush was refused: out of memory, nothing is said of what is left.
 fn flush_status(status: Status, refusal: SinkRefusal) -> Status
     ensures { result ≡ flush_status status refusal }
 {

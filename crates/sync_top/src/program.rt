@@ -111,7 +111,7 @@ pub fn run<S: Source, K: Sink, D: Disk>(
         → FollowsTold result (runs answers report 0 (readings 0 [] (S.left source.old)) model.empty_world) (K.taken sink.old) (K.taken sink.new) }
 
     // The exchange that is left is the replay's after all events that were read. After a fault it is that after the events of
-    // some lines from the front, and only answers to these were written. Nothing is said after want of memory.
+    // some lines from the front, and only answers to these were written. Nothing is said after out of memory.
     ensures world { AsksFor Job.Replay (map string_bytes words.now)
         → Leaves answers report (λ w. Holds w world.new) result (readings 0 [] (S.left source.old)) model.empty_world (K.taken sink.old) (K.taken sink.new) }
 

@@ -20,7 +20,7 @@ invariant_of-self-then-eq-clause-in_step g c still b told =
     ∙ gate_opened b m.gate m.behind.items m.opened (m.inside still b told)
 
 pub invariant_of-self-2-clause-in_step : goal.invariant_of-self-2-clause-in_step
-invariant_of-self-2-clause-in_step g c still b told = 
+invariant_of-self-2-clause-in_step g c still b told =
     let m = c.args.self.now in
     let copied = c.in_ok-copy.ensures.items_if_clones_equal (λ x y e. e) in
     let behind : c.put_bytes.new.content.items ≡ put m.behind.items (c.args.place - m.gate - 1) c.args.bytes.now = search rules in
