@@ -21,4 +21,5 @@ pub mod Asked
 pub mod StaysAbove
 pub mod Calm
 pub mod Readers
+pub mod Harmless
 mod Examples
