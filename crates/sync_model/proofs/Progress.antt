@@ -22,4 +22,7 @@ pub mod StaysAbove
 pub mod Calm
 pub mod Readers
 pub mod Harmless
+pub mod Unhindered
+pub mod Batches
+pub mod Turns
 mod Examples

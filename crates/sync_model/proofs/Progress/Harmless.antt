@@ -144,7 +144,7 @@ module _ {I S : Type 0} (p : Profile I S) (of : ℕ → ℕ → List I → Type 
   abbrev pub LogOf : List (LogEntry (Changeset I)) → Type 0
   LogOf log = Each (λ e. of e.origin 0 e.change.instrs) log
 
-  made_sets : (c : ℕ) (ms : List (LogMade (Changeset I))) (k : ℕ) → Each (λ m. of c 0 m.change.instrs) ms → Sets c 0 (made_at ms k)
+  pub made_sets : (c : ℕ) (ms : List (LogMade (Changeset I))) (k : ℕ) → Each (λ m. of c 0 m.change.instrs) ms → Sets c 0 (made_at ms k)
   made_sets c [] k no_more = no_more
   made_sets c (m ∷ ms) k (and_each f g) = go (k == m.base) (made_sets c ms k g)
     where
