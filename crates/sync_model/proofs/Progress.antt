@@ -25,4 +25,5 @@ pub mod Harmless
 pub mod Unhindered
 pub mod Batches
 pub mod Turns
+pub mod InTurn
 mod Examples
