@@ -83,8 +83,8 @@ module _ {I S : Type 0} (p : Profile I S) (of : ℕ → ℕ → List I → Type 
   pending_of made origin f zero c le = f c 0
   pending_of made origin f (suc k) c le =
       each_append
-          (go (origin k == c) refl (head (pending (cross_changesets p) made origin k (origin k))) refl (pending_of made origin f k c (omega arith)) (pending_of made origin f k (origin k) (omega arith)))
-          (each_weaker (λ x g. after_more c (suc k) x.instrs g) (f c (suc k)))
+      (go (origin k == c) refl (head (pending (cross_changesets p) made origin k (origin k))) refl (pending_of made origin f k c (omega arith)) (pending_of made origin f k (origin k) (omega arith)))
+      (each_weaker (λ x g. after_more c (suc k) x.instrs g) (f c (suc k)))
     where
       go : (b : Bool) → (origin k == c) ≡ b → (o : Option (Changeset I)) → head (pending (cross_changesets p) made origin k (origin k)) ≡ o → Sets c k (pending (cross_changesets p) made origin k c) → Sets (origin k) k (pending (cross_changesets p) made origin k (origin k))
           → Sets c (suc k) (if b then tail (pending (cross_changesets p) made origin k c) else past_entry (cross_changesets p) (pending (cross_changesets p) made origin k c) o)

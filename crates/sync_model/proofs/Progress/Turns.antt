@@ -351,7 +351,7 @@ module _ {I S : Type 0} (p : Profile I S) (of : ℕ → ℕ → List I → Type 
         told_by : (go : List (Changeset I) → ServerStep) → (go (entries_from p s.log (length s.log - st.cursor) st.cursor)).answer ≡ Download st.ident st.cursor (load p (lacked s st)) → Told s st (if_there p s st.ident st.cursor (settled_from st.cursor st.unsent) go)
         told_by go is =
             let to = ap (λ t. if not t then refuses st.ident 0 (NoSuchIdent (length s.ids)) else (if nat_lt (length s.log) st.cursor then refuses st.ident 0 (AheadOfHistory (length s.log)) else marking st.ident (s.marks st.ident) st.cursor (settled_from st.cursor st.unsent) (go (entries_from p s.log (length s.log - st.cursor) st.cursor)).answer)) given
-                ∙ no_else (nat_lt (length s.log) st.cursor) (refuses st.ident 0 (AheadOfHistory (length s.log))) (marking st.ident (s.marks st.ident) st.cursor (settled_from st.cursor st.unsent) (go (entries_from p s.log (length s.log - st.cursor) st.cursor)).answer) (not_below (length s.log) st.cursor in_it) in
+            ∙ no_else (nat_lt (length s.log) st.cursor) (refuses st.ident 0 (AheadOfHistory (length s.log))) (marking st.ident (s.marks st.ident) st.cursor (settled_from st.cursor st.unsent) (go (entries_from p s.log (length s.log - st.cursor) st.cursor)).answer) (not_below (length s.log) st.cursor in_it) in
             let m = marks_keep s st.ident (s.marks st.ident) st.cursor (settled_from st.cursor st.unsent) (go (entries_from p s.log (length s.log - st.cursor) st.cursor)).answer in
             record { answer = ap (λ d. d.answer) to ∙ is; log = ap (λ d. (after_all p s d.records).log) to ∙ m.0; ids = ap (λ d. (after_all p s d.records).ids) to ∙ m.1 }
 
