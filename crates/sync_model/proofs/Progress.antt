@@ -26,4 +26,5 @@ pub mod Unhindered
 pub mod Batches
 pub mod Turns
 pub mod InTurn
+pub mod Lasting
 mod Examples

@@ -7,7 +7,12 @@ use Rattle.sync_model.specs.Each.{Each}
 use Rattle.sync_model.specs.Log.{ids, subset_of}
 use Rattle.sync_model.specs.Profile.{Profile, IsNamedKind, needs}
 use Rattle.sync_model.specs.Progress.{asks_at, made_by_all, uploads_at}
-use Rattle.sync_model.specs.Worlds.{Event, Node, World, at, is_own}
+use Rattle.sync_model.specs.Worlds.{Event, Edits, Uploads, Asks, Delivers, Restarts, Node, World, at, has_name, is_own}
+
+-- how many changes an event may make
+abbrev pub made_by_event : {I : Type 0} → Event I → ℕ
+made_by_event (Edits name ms edits) = 1
+made_by_event e = 0
 
 -- each client of these names uploads and asks once; so many messages were made before
 abbrev pub once : {I : Type 0} → List Name → ℕ → List (Event I)
@@ -47,3 +52,12 @@ module _ {I S : Type 0} (p : Profile I S) where
     pub own : (c : ℕ) → c ≢ 0 → c ≤ length (ids p w) → is_own p w c ≡ true
     pub clients : (i : ℕ) (nd : Node) → at w.clients i ≡ Some nd → IsHarmlessClient of nd
     pub few : made_by_all p w.clients ≤ most
+
+  -- a client makes such a change, sends something, gets a message or is opened anew
+  abbrev pub IsHarmlessEvent : (ℕ → ℕ → List I → Type 0) → World → Event I → Type 0
+  IsHarmlessEvent of w (Edits name ms edits) = (i : ℕ) (nd : Node) → at w.clients i ≡ Some nd → has_name name nd ≡ true → of (client_of p nd.records).ident 0 edits
+  IsHarmlessEvent of w (Uploads name) = Unit {0}
+  IsHarmlessEvent of w (Asks name) = Unit {0}
+  IsHarmlessEvent of w (Delivers message to) = Unit {0}
+  IsHarmlessEvent of w (Restarts node) = Unit {0}
+  IsHarmlessEvent of w e = ⊥
