@@ -6,8 +6,6 @@ use Rattle.serde_json.specs.Written.{compact_text}
 use Rattle.sync_model.specs.Messages.{Message}
 use Rattle.sync_model.specs.Clients.{ClientRefusal}
 use Rattle.sync_model.specs.Worlds.{Words}
-use Rattle.sync_world.specs.declared.words.Fixed.{Fixed}
-use Rattle.sync_world.specs.declared.words.Fixed.TheVariants as fixed
 
 -- a name as a JSON string
 abbrev pub name_text : List ℕ → List ℕ
@@ -83,18 +81,3 @@ words_text Words.NoNode = refused (codes "NoNode") []
 words_text Words.NoMessage = refused (codes "NoMessage") []
 words_text Words.BadMessage = refused (codes "BadMessage") []
 words_text Words.OwnIdent = refused (codes "OwnIdent") []
-
--- ---- words without numbers, as the code names them
-abbrev pub fixed_seen : Fixed → Words
-fixed_seen fixed.Opened = Words.Opened
-fixed_seen fixed.Armed = Words.Armed
-fixed_seen fixed.Stopped = Words.Stopped
-fixed_seen fixed.Upgraded = Words.Upgraded
-fixed_seen fixed.Current = Words.Current
-fixed_seen fixed.Subscribed = Words.SubscribedTo
-fixed_seen fixed.NameTaken = Words.NameTaken
-fixed_seen fixed.UuidTaken = Words.UuidTaken
-fixed_seen fixed.NoNode = Words.NoNode
-fixed_seen fixed.NoMessage = Words.NoMessage
-fixed_seen fixed.BadMessage = Words.BadMessage
-fixed_seen fixed.OwnIdent = Words.OwnIdent

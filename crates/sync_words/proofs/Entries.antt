@@ -12,8 +12,8 @@ use Rattle.sync_exchange.specs.Profile.{the_profile}
 use Rattle.sync_server.specs.Kept.{parts}
 use Rattle.sync_server.specs.Readers.{item_from}
 use Rattle.sync_server.specs.declared.kept.Kept.{Kept}
-use Rattle.sync_world.specs.Reports.{entries_text, entry_text, kept_text, server_text}
-use Rattle.sync_world.specs.Words.{said}
+use Rattle.sync_words.specs.Reports.{entries_text, entry_text, kept_text, server_text}
+use Rattle.sync_words.specs.Words.{said}
 
 some_of : {A : Type 0} {x y : A} → Some x ≡ Some y → x ≡ y
 some_of e = cc

@@ -1,5 +1,5 @@
 ghost use Rattle.std.specs.Prelude.{◌≡◌, ◌++◌, OnOk, decimal};
-ghost use Rattle.sync_world.specs.Words.{name_text, numbers_text, said};
+ghost use Rattle.sync_words.specs.Words.{name_text, numbers_text, said};
 
 use serde_json::Value as Json;
 use std::alloc::Global;

@@ -2,10 +2,10 @@ use Rattle.std.proofs.Common.{◌≡◌, OnOk, length, subst}
 use Rattle.std.specs.Prelude.{codes}
 use Rattle.sync_model.specs.Clients.{client_of}
 use Rattle.sync_exchange.specs.Profile.{the_profile}
-use Rattle.sync_world.specs.Reports.{standing_text}
-use Rattle.sync_world.specs.Words.{name_text}
-use Rattle.sync_world.proofs.Pieces.{three_put}
-use Rattle.sync_world.proofs.report.put_client.Goals as goal
+use Rattle.sync_words.specs.Reports.{standing_text}
+use Rattle.sync_words.specs.Words.{name_text}
+use Rattle.sync_words.proofs.Pieces.{three_put}
+use Rattle.sync_words.proofs.report.put_client.Goals as goal
 
 pub returns : goal.returns
 returns g c = λ records is.

@@ -1,8 +1,8 @@
 use Rattle.std.proofs.Common.{◌≡◌, ◌≤◌, ◌-◌, ◌++◌, drop}
 use Rattle.sync_server.specs.Kept.{parts}
 use Rattle.sync_server.specs.Serving.{kept_of}
-use Rattle.sync_world.specs.Reports.{entries_text}
-use Rattle.sync_world.proofs.report.put_entries.Given as goal
+use Rattle.sync_words.specs.Reports.{entries_text}
+use Rattle.sync_words.proofs.report.put_entries.Given as goal
 
 -- what was put, and what the rest gives, is what all gives
 abbrev pub invariant-loop-version : goal.invariant-loop-version

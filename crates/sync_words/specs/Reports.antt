@@ -8,7 +8,7 @@ use Rattle.sync_codec.specs.Spelling.{spelling}
 use Rattle.sync_dump.specs.Dump.{dump}
 use Rattle.sync_model.specs.Parts.{Parts}
 use Rattle.sync_model.specs.Reports.{ClientLine, Report}
-use Rattle.sync_world.specs.Words.{name_text, numbers_text, said}
+use Rattle.sync_words.specs.Words.{name_text, numbers_text, said}
 
 -- ---- the server: the length of its history, a line for each entry, and its dump
 -- the changeset as it was carried, in hex

@@ -2,10 +2,10 @@ use Rattle.std.proofs.Common.{◌++◌, ◌-◌, sym, ap, ◌∙◌, arith}
 use Rattle.sync_recip.specs.Lists.{entry_of}
 use Rattle.sync_server.specs.Kept.{parts}
 use Rattle.sync_server.specs.Serving.{kept_of}
-use Rattle.sync_world.specs.Reports.{entries_text}
-use Rattle.sync_world.proofs.Entries.{item_is, no_gap, one_put}
-use Rattle.sync_world.proofs.report.put_entries.Goals as goal
-use Rattle.sync_world.proofs.report.put_entries.Goals.{in-Some+in_ok-put_entry, in_default}
+use Rattle.sync_words.specs.Reports.{entries_text}
+use Rattle.sync_words.proofs.Entries.{item_is, no_gap, one_put}
+use Rattle.sync_words.proofs.report.put_entries.Goals as goal
+use Rattle.sync_words.proofs.report.put_entries.Goals.{in-Some+in_ok-put_entry, in_default}
 
 pub loop-version-preserved : goal.loop-version-preserved
 loop-version-preserved g c =

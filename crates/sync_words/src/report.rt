@@ -7,7 +7,7 @@ ghost use Rattle.sync_exchange.specs.Profile.{the_profile};
 ghost use Rattle.sync_client.specs.Clients.{IsClientOf};
 ghost use Rattle.sync_server.specs.Kept.{parts};
 ghost use Rattle.sync_server.specs.Serving.{kept_of};
-ghost use Rattle.sync_world.specs.Reports.{client_text, entries_text, entry_text, floor_text, kept_text, standing_text};
+ghost use Rattle.sync_words.specs.Reports.{client_text, entries_text, entry_text, floor_text, kept_text, standing_text};
 
 use super::text::{put, put_name, put_numbers, put_said};
 use std::alloc::Global;
