@@ -4,9 +4,9 @@
 
 /* Ends the program where a call didn't answer as it should. */
 static void expect(int status, const char *what, const realm_node *node) {
+    char words[256];
     if (status == REALM_DONE) return;
-    realm_refused why = realm_refusal(node);
-    fprintf(stderr, "%s: status %d, %s (%u, %u, %u)\n", what, status, realm_text_of(why.number), why.first, why.second, why.third);
+    fprintf(stderr, "%s: %s\n", what, realm_words(node, status, words, sizeof words));
     exit(1);
 }
 
@@ -70,11 +70,11 @@ int main(int count, char **words) {
     print_objects("first phone, offline", &first);
     print_objects("second phone, offline", &second);
 
-    /* A transaction that can't be is refused, and changes nothing. */
-    if (realm_commit(&second, 12, "[{\"op\":\"CreateObject\",\"table\":\"none\",\"key\":1}]") == REALM_REFUSED) {
-        realm_refused why = realm_refusal(&second);
-        printf("refused: %s (%u, %u)\n", realm_text_of(why.number), why.first, why.second);
-    }
+    /* A transaction that can't be is refused, and changes nothing. The enums say why, and realm_words says it in words. */
+    char text[256];
+    int status = realm_commit(&second, 12, "[{\"op\":\"CreateObject\",\"table\":\"none\",\"key\":1}]");
+    if (status == REALM_REFUSED && realm_refusal(&second).number == REALM_BREAK)
+        printf("refused: %s\n", realm_words(&second, status, text, sizeof text));
 
     sync_with(&first, &server);
     sync_with(&second, &server);
