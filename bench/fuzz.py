@@ -121,7 +121,7 @@ def write_inputs(folder):
     os.makedirs(corpus, exist_ok=True)
     for number, seed in enumerate(seeds()):
         with open(os.path.join(corpus, f"seed{number}"), "wb") as file:
-            file.write(seed)
+            file.write(bytes([number & 1]) + seed)
     with open(os.path.join(folder, "words"), "w") as file:
         file.writelines(f'"{word}"\n' for word in WORDS)
     return corpus

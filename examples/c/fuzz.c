@@ -1,9 +1,10 @@
 /* A fuzz target over the C library: bench/fuzz.py builds it with libFuzzer and runs it.
  *
- * Each input begins with a server and two clients that have met, and is read as a list of steps: an arbitrary request to one of them, a
- * line, an edit, a round of the sync, a message with changed bytes, an old message again, a file with changed bytes that is opened. What
- * must hold is checked after each: a status that there is, no byte written past the room for a reply, a refusal that changes nothing, and,
- * where no step was hostile, that all end with the same objects. Sanitizers and libFuzzer's limits see to the rest.
+ * Each input begins with a server and two clients that have met, over files or in memory by its first byte, and is then a list of steps:
+ * an arbitrary request to one of them, a line, an edit, a round of the sync, a message with changed bytes, an old message again, a file
+ * with changed bytes that is opened. What must hold is checked after each: a status that there is, no byte written past the room for a
+ * reply, a refusal that changes nothing, a node's own file that opens again, and, where no step was hostile, that all end with the same
+ * objects. Sanitizers and libFuzzer's limits see to the rest.
  *
  * The archive isn't instrumented. So bench/fuzz.py lists the beginnings of its basic blocks, a breakpoint is put at each of them, and the
  * first visit of a block counts as new coverage. */
@@ -108,6 +109,7 @@ static struct {
     size_t len;
 } kept[KEPT];
 static size_t count_kept;
+static bool over_files;      /* whether the server and the first client have a file */
 static bool hostile;         /* whether a step did what no node of an application does */
 static bool detached[NODES]; /* whether what stands there isn't what its file says */
 
@@ -135,7 +137,7 @@ static void new_node(int number) {
     node->file = -1;
     detached[number] = false;
     check(realm_node_new(&node->host), "memory for a node");
-    if (number != SECOND) { /* the second client lives in memory alone */
+    if (over_files && number != SECOND) {
         if (!files[number]) files[number] = memfd_create("node", MFD_CLOEXEC);
         check(ftruncate(files[number], 0) == 0, "an empty file");
         node->file = dup(files[number]);
@@ -423,6 +425,7 @@ int LLVMFuzzerInitialize(int *count, char ***words) {
 
 int LLVMFuzzerTestOneInput(const uint8_t *bytes, size_t len) {
     source from = {bytes, len};
+    over_files = next_byte(&from) & 1;
     begin();
     for (int steps = 0; from.len > 0 && steps < 64; steps++) step(&from);
     end();
