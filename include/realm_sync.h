@@ -431,6 +431,27 @@ REALM_SYNC_API int realm_upgrade(realm_node *node) {
     return realm_line(node, line, sizeof line - 1);
 }
 
+/* Writes a text as a JSON string, in its quotes: so what a user types goes into an edit. NULL where there is no room for it and the 0 at
+ * its end; six bytes for each byte of the text, and three, are enough. The text is UTF-8. */
+REALM_SYNC_API const char *realm_quote(char *into, size_t room, const char *text) {
+    size_t at = 0;
+    if (room < 3) return NULL;
+    into[at++] = '"';
+    for (; *text; text++) {
+        unsigned char byte = (unsigned char)*text;
+        if (room - at < 8) return NULL;
+        if (byte < 0x20) {
+            at += (size_t)snprintf(into + at, room - at, "\\u%04x", byte);
+            continue;
+        }
+        if (byte == '"' || byte == '\\') into[at++] = '\\';
+        into[at++] = *text;
+    }
+    into[at++] = '"';
+    into[at] = 0;
+    return into;
+}
+
 /* Commits a transaction at that many milliseconds since the epoch. `edits` is a JSON list: docs/FORMATS.md, "Edits".
  * realm_number tells its number. */
 REALM_SYNC_API int realm_commit(realm_node *node, uint64_t ms, const char *edits) {

@@ -42,6 +42,17 @@ static void new_phone(realm_node *phone, const char *path, const char *uuid) {
     expect(realm_upgrade(phone), "upgrade", phone);
 }
 
+/* What a user types becomes a JSON string by realm_quote. */
+static void edit_note(realm_node *phone, uint64_t ms, const char *typed, const char *tag) {
+    char text[256], tag_text[64], edits[1024];
+    if (!realm_quote(text, sizeof text, typed) || !realm_quote(tag_text, sizeof tag_text, tag)) return;
+    snprintf(edits, sizeof edits,
+             "[{\"op\":\"Update\",\"table\":\"notes\",\"key\":1,\"column\":\"text\",\"value\":%s},"
+             "{\"op\":\"SetInsert\",\"table\":\"notes\",\"key\":1,\"column\":\"tags\",\"value\":%s}]",
+             text, tag_text);
+    expect(realm_commit(phone, ms, edits), "edit", phone);
+}
+
 int main(int count, char **words) {
     realm_node first, second, server;
     new_phone(&first, count > 3 ? words[1] : NULL, "00000000-0000-4000-8000-000000000001");
@@ -59,14 +70,8 @@ int main(int count, char **words) {
     sync_with(&second, &server);
 
     /* Offline, both edit it. */
-    expect(realm_commit(&first, 10,
-                        "[{\"op\":\"Update\",\"table\":\"notes\",\"key\":1,\"column\":\"text\",\"value\":\"buy bread\"},"
-                        "{\"op\":\"SetInsert\",\"table\":\"notes\",\"key\":1,\"column\":\"tags\",\"value\":\"shop\"}]"),
-           "edit", &first);
-    expect(realm_commit(&second, 11,
-                        "[{\"op\":\"Update\",\"table\":\"notes\",\"key\":1,\"column\":\"text\",\"value\":\"buy oat milk\"},"
-                        "{\"op\":\"SetInsert\",\"table\":\"notes\",\"key\":1,\"column\":\"tags\",\"value\":\"today\"}]"),
-           "edit", &second);
+    edit_note(&first, 10, "buy bread", "shop");
+    edit_note(&second, 11, "buy oat milk", "today");
     print_objects("first phone, offline", &first);
     print_objects("second phone, offline", &second);
 
