@@ -1,6 +1,13 @@
 /* realm_sync for C and C++: clients and a server of the merge core. docs/EMBEDDING.md says how it is used, docs/FORMATS.md,
  * "Requests of a host", what passes between this header and the archive. Link libsync_host_c.a and the allocator.
  *
+ *     realm_node phone;
+ *     char text[256];
+ *     int status = realm_open_client(&phone, "phone");
+ *     if (status == REALM_DONE) status = realm_commit(&phone, ms, "[{\"op\":\"CreateObject\",\"table\":\"notes\",\"key\":1}]");
+ *     if (status != REALM_DONE) puts(realm_words(&phone, status, text, sizeof text));
+ *     realm_close(&phone);
+ *
  * One call at a time on a node, by any thread: where several use one, a lock orders their calls. Nodes share nothing, so any number of
  * them may be used at once (docs/EMBEDDING.md, "Threads").
  * Compiled with REALM_SYNC_API defined as nothing, the functions are exported, as from the shared library. */

@@ -143,7 +143,14 @@ def _load():
 
 _library = _load()
 _encode = json.JSONEncoder(ensure_ascii=False, separators=(",", ":")).encode
-_decode = json.JSONDecoder().decode
+_decode = json.JSONDecoder().raw_decode
+
+
+def _text_of(value):
+    """A key or a name as JSON: texts and integers by a shorter way."""
+    if type(value) is str:
+        return json.encoder.encode_basestring(value)
+    return repr(value) if type(value) is int else _encode(value)
 
 
 def _from_front(place, length):
@@ -169,7 +176,7 @@ class Transaction:
         self._edit("CreateObject", table=table, key=key)
 
     def erase(self, table, key):
-        self._erased.add((table, _encode(key)))
+        self._erased.add((table, _text_of(key)))
         self._lengths = {cell: length for cell, length in self._lengths.items() if cell[:2] not in self._erased}
         self._edit("EraseObject", table=table, key=key)
 
@@ -217,7 +224,7 @@ class Transaction:
 
     def clear(self, table, key, column):
         """A list, a set or a dictionary."""
-        self._lengths[table, _encode(key), column] = 0
+        self._lengths[table, _text_of(key), column] = 0
         self._edit("Clear", table=table, key=key, column=column)
 
     def _edit(self, op, **fields):
@@ -225,7 +232,7 @@ class Transaction:
 
     def _length(self, table, key, column, more):
         """How long that list is by now; the next edit changes that by so much."""
-        cell = (table, _encode(key), column)
+        cell = (table, _text_of(key), column)
         if cell not in self._lengths:
             found = self._client.object(table, key) if self._client and cell[:2] not in self._erased else None
             self._lengths[cell] = len(found["cells"].get(column) or ()) if found else 0
@@ -248,6 +255,7 @@ class _Open:
         self._node = _Node(file=-1)
         self._at = ctypes.addressof(self._node)
         self._lock = threading.Lock()
+        self._reply, self._room = b"", 0
         try:
             self._answered(open_node(self._at, os.fsencode(path) if path else None))
         except Error:
@@ -288,7 +296,11 @@ class _Open:
         raise {_BAD_REQUEST: BadRequest, _BUSY: Busy, _ABSENT: KeyError}.get(status, Failure)(text)
 
     def _bytes(self):
-        return ctypes.string_at(self._node.reply + 1, self._node.reply_len - 1)
+        node = self._node
+        if node.reply_room != self._room:
+            self._room = node.reply_room
+            self._reply = (ctypes.c_char * self._room).from_address(node.reply)
+        return self._reply[1 : node.reply_len]
 
     def take(self, message):
         """Takes a message. A client answers its cursor, a server its reply."""
@@ -301,7 +313,7 @@ class _Open:
         with self._lock:
             self._call(_library.realm_dump)
             text = self._bytes().decode()
-        return map(_decode, text.split("\n")[:-1])
+        return (_decode(line)[0] for line in text.split("\n")[:-1])
 
     def objects(self, table=None):
         """The objects as they are now, each with its table, key and cells, in order."""
@@ -310,14 +322,14 @@ class _Open:
 
     def object(self, table, key):
         """The object of that key, with its table, key and cells, or None where there is none."""
-        name = _encode({"table": table, "key": key}).encode()
+        name = f'{{"table":{_text_of(table)},"key":{_text_of(key)}}}'.encode()
         with self._lock:
             try:
                 self._call(_library.realm_object, name)
             except KeyError:
                 return None
             text = self._bytes()
-        return _decode(text.decode())
+        return _decode(text.decode())[0]
 
     def standing(self):
         """Where the node stands."""
