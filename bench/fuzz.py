@@ -1,14 +1,14 @@
 #!/usr/bin/env python3
 """Fuzzes the C library: arbitrary requests and messages over a live server and two clients (examples/c/fuzz.c), by libFuzzer.
 
-Two processes share a corpus, with AddressSanitizer and UndefinedBehaviorSanitizer over the header, until both have run their half of the
-executions. A crash, an input that takes 20 seconds, a process of more than 1 GB, an allocation of more than 256 MB at once, or a leak ends
-it with status 1; the input lies in the folder then. The corpus stays, and the next run begins with it. The last lines tell how many
-executions there were, and how many of the archive's basic blocks were visited.
+Two processes share a corpus: one with AddressSanitizer and UndefinedBehaviorSanitizer over the header, which makes a quarter of the
+executions, and a faster one without. A crash, an input that takes 20 seconds, a process of more than 1 GB, an allocation of more than
+256 MB at once, or a leak ends it with status 1; the input lies in the folder then. The corpus stays, and the next run begins with it. The
+last lines tell how many executions there were, and how many of the archive's basic blocks were visited.
 
 It takes clang with libFuzzer (Debian: clang, libclang-rt-14-dev), binutils, and what examples/c/library.sh takes.
 
-usage: bench/fuzz.py [--runs N] [--minutes M] [--folder FOLDER] [--jobs N]
+usage: bench/fuzz.py [--runs N] [--minutes M] [--folder FOLDER]
 """
 import argparse
 import bisect
@@ -100,19 +100,19 @@ def text_of(*words):
 
 
 def build(folder):
-    """Builds the program, and lists its blocks."""
-    archive, heap = text_of(os.path.join(TOP, "examples", "c", "library.sh"), folder).split()
-    program = os.path.join(folder, "fuzz")
-    sanitizers = ["-fsanitize=fuzzer,address,undefined", "-fno-sanitize-recover=all"]
-    warnings = ["-Wall", "-Wextra", "-Werror"]
+    """Builds the program with sanitizers and without, and lists the blocks of each."""
+    linked = text_of(os.path.join(TOP, "examples", "c", "library.sh"), folder).split()
     source = os.path.join(TOP, "examples", "c", "fuzz.c")
-    subprocess.run(
-        ["clang", "-O1", "-g", "-fno-pie", "-no-pie", *sanitizers, *warnings, "-I" + os.path.join(TOP, "include"), source, archive, heap, "-o", program],
-        check=True,
-    )
-    with open(os.path.join(folder, "blocks"), "w") as file:
-        file.writelines(f"{it:x}\n" for it in blocks_of(program, archive))
-    return program
+    words = ["-g", "-fno-pie", "-no-pie", "-Wall", "-Wextra", "-Werror", "-I" + os.path.join(TOP, "include"), source, *linked]
+    programs = {
+        os.path.join(folder, "sanitized"): ["-O1", "-fsanitize=fuzzer,address,undefined", "-fno-sanitize-recover=all"],
+        os.path.join(folder, "plain"): ["-O2", "-fsanitize=fuzzer"],
+    }
+    for program, how in programs.items():
+        subprocess.run(["clang", *how, *words, "-o", program], check=True)
+        with open(program + ".blocks", "w") as file:
+            file.writelines(f"{it:x}\n" for it in blocks_of(program, linked[0]))
+    return list(programs)
 
 
 def write_inputs(folder):
@@ -121,26 +121,31 @@ def write_inputs(folder):
     os.makedirs(corpus, exist_ok=True)
     for number, seed in enumerate(seeds()):
         with open(os.path.join(corpus, f"seed{number}"), "wb") as file:
-            file.write(bytes([number & 1]) + seed)
+            file.write(bytes([number & 1 | 2]) + seed)
     with open(os.path.join(folder, "words"), "w") as file:
         file.writelines(f'"{word}"\n' for word in WORDS)
     return corpus
 
 
-def start(program, folder, corpus, number, runs, minutes):
+def start(program, folder, corpus, runs, minutes, name=""):
     """One fuzzing process, which writes into its log."""
-    log = open(os.path.join(folder, f"log{number}"), "w")
+    log = open(program + name + ".log", "w")
     words = [f"-dict={folder}/words", f"-artifact_prefix={folder}/", f"-runs={runs}", f"-max_total_time={minutes * 60}"]
     return subprocess.Popen(
-        ["nice", "-n", "15", program, corpus, *LIMITS, *words, "-print_final_stats=1", "-reload=10"],
+        ["nice", "-n", os.environ.get("FUZZ_NICE", "15"), program, corpus, *LIMITS, *words, "-print_final_stats=1", "-reload=10"],
         stdout=log,
         stderr=log,
-        env={**os.environ, "FUZZ_BLOCKS": f"{folder}/blocks", "ASAN_OPTIONS": "quarantine_size_mb=16"},
+        env={**os.environ, "FUZZ_BLOCKS": program + ".blocks", "ASAN_OPTIONS": "quarantine_size_mb=16"},
     )
 
 
+def told(program, name=""):
+    with open(program + name + ".log", errors="replace") as file:
+        return file.read()
+
+
 def number_in(log, words):
-    found = re.findall(re.escape(words) + r" *(\d+)", log)
+    found = re.findall(words + r" *(\d+)", log)
     return int(found[-1]) if found else 0
 
 
@@ -148,30 +153,27 @@ def main():
     parser = argparse.ArgumentParser()
     parser.add_argument("--runs", type=int, default=10_000_000)
     parser.add_argument("--minutes", type=int, default=0, help="ends it after so long, whatever has been run")
-    parser.add_argument("--jobs", type=int, default=2)
     parser.add_argument("--folder", default=os.path.join(TOP, "build", "fuzz"))
     options = parser.parse_args()
     folder = os.path.abspath(options.folder)
     os.makedirs(folder, exist_ok=True)
-    program, corpus = build(folder), write_inputs(folder)
-    share = -(-options.runs // options.jobs)
-    running = [start(program, folder, corpus, number, share, options.minutes) for number in range(options.jobs)]
+    sanitized, plain = programs = build(folder)
+    corpus = write_inputs(folder)
+    quarter = options.runs // 4
+    running = [start(sanitized, folder, corpus, quarter, options.minutes), start(plain, folder, corpus, options.runs - quarter, options.minutes)]
     statuses = [it.wait() for it in running]
-    logs = [open(os.path.join(folder, f"log{number}"), errors="replace").read() for number in range(options.jobs)]
-    for number, status in enumerate(statuses):
-        if status != 0:
-            print(logs[number][-3000:])
-    # Once more over the whole corpus, for the blocks of both.
-    last = start(program, folder, corpus, "last", 0, 0)
-    status = last.wait()
-    told = open(os.path.join(folder, "loglast"), errors="replace").read()
-    print(f"executions: {sum(number_in(it, 'stat::number_of_executed_units:') for it in logs)}")
-    print(f"seconds: {max(number_in(it, 'Done ' + str(share) + ' runs in') for it in logs)}")
-    print(f"most memory, MB: {max(number_in(it, 'stat::peak_rss_mb:') for it in logs)}")
-    print(f"inputs kept: {len(os.listdir(corpus))}")
-    print(re.findall(r"blocks: .*", told)[-1])
-    print("crashes, hangs and leaks: " + ("none" if not any(statuses) and status == 0 else "see above"))
-    sys.exit(1 if any(statuses) or status else 0)
+    # Once more over the whole corpus, for the blocks that it visits.
+    statuses.append(start(plain, folder, corpus, 0, 0, ".last").wait())
+    logs = [told(it) for it in programs]
+    for status, log in zip(statuses, [*logs, told(plain, ".last")]):
+        print(log[-3000:] if status else "", end="")
+    print("executions:", *(f"{number_in(it, 'number_of_executed_units:'):,}" for it in logs), "(sanitized, plain)")
+    print("seconds:", *(number_in(it, r"Done \d+ runs in") for it in logs))
+    print("most memory, MB:", *(number_in(it, "peak_rss_mb:") for it in logs))
+    print("inputs kept:", len(os.listdir(corpus)))
+    print(re.findall(r"blocks: .*", told(plain, ".last"))[-1])
+    print("crashes, hangs and leaks:", "none" if not any(statuses) else "see above")
+    sys.exit(1 if any(statuses) else 0)
 
 
 if __name__ == "__main__":

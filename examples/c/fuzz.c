@@ -1,8 +1,8 @@
 /* A fuzz target over the C library: bench/fuzz.py builds it with libFuzzer and runs it.
  *
- * Each input begins with a server and two clients that have met, over files or in memory by its first byte, and is then a list of steps:
- * an arbitrary request to one of them, a line, an edit, a round of the sync, a message with changed bytes, an old message again, a file
- * with changed bytes that is opened. What must hold is checked after each: a status that there is, no byte written past the room for a
+ * Each input is about a server and two clients, over files or in memory, new or met, by its first byte. Then it is a list of steps: an
+ * arbitrary request to one of them, a line, an edit, a round of the sync, a message with changed bytes, an old message again, a file with
+ * changed bytes that is opened. What must hold is checked after each: a status that there is, no byte written past the room for a
  * reply, a refusal that changes nothing, a node's own file that opens again, and, where no step was hostile, that all end with the same
  * objects. Sanitizers and libFuzzer's limits see to the rest.
  *
@@ -110,6 +110,7 @@ static struct {
 } kept[KEPT];
 static size_t count_kept;
 static bool over_files;      /* whether the server and the first client have a file */
+static bool met;             /* whether a client has synced before its first step */
 static bool hostile;         /* whether a step did what no node of an application does */
 static bool detached[NODES]; /* whether what stands there isn't what its file says */
 
@@ -228,8 +229,11 @@ static uint8_t *changed(source *from, const uint8_t *message, size_t *len, unsig
     return copy;
 }
 
-/* Hands a message to a node, maybe changed; 0 where it was answered by a message of so many bytes. */
+static void need(int number);
+
+/* Hands a message to a node, maybe changed. */
 static int hand(source *from, int to, const uint8_t *message, size_t len, unsigned changes) {
+    need(to);
     uint8_t *copy = changed(from, message, &len, changes);
     keep(copy, len);
     int status = ask(to, 'T', copy, len);
@@ -348,11 +352,34 @@ static void open_again(source *from, int number) {
 
 /* ---- one input */
 
+/* A node is made by the first step that needs it. A client gets its uuid and form 2, and where they have met the first one has a table,
+ * and both have synced. */
+static void need(int number) {
+    static const char table[] =
+        "{\"ms\":1,\"edits\":[{\"op\":\"AddTable\",\"table\":\"t\",\"key\":\"Int\"},"
+        "{\"op\":\"AddColumn\",\"table\":\"t\",\"column\":\"n\",\"kind\":\"Int\",\"nullable\":false,\"shape\":\"One\"},"
+        "{\"op\":\"AddColumn\",\"table\":\"t\",\"column\":\"l\",\"kind\":\"Text\",\"nullable\":false,\"shape\":\"List\"},"
+        "{\"op\":\"AddColumn\",\"table\":\"t\",\"column\":\"u\",\"kind\":\"Int\",\"nullable\":false,\"shape\":\"Set\"},"
+        "{\"op\":\"AddColumn\",\"table\":\"t\",\"column\":\"d\",\"kind\":\"Int\",\"nullable\":false,\"shape\":\"Dict\"},"
+        "{\"op\":\"CreateObject\",\"table\":\"t\",\"key\":1}]}";
+    realm_node *node = &nodes[number];
+    if (node->host) return;
+    new_node(number);
+    if (number == SERVER) return;
+    const char *uuid = number == FIRST ? "00000000-0000-4000-8000-000000000001" : "00000000-0000-4000-8000-000000000002";
+    check(realm_born(node, uuid) == REALM_DONE && realm_upgrade(node) == REALM_DONE, "a client of form 2");
+    if (!met) return;
+    if (number == FIRST) check(ask(FIRST, 'L', table, sizeof table - 1) == REALM_DONE, "a table");
+    sync_client(number);
+}
+
 static void step(source *from) {
     uint8_t how = next_byte(from);
     int number = how % NODES, client = number == SERVER ? FIRST : number;
     size_t len, at;
     const uint8_t *run;
+    need(number);
+    need(client);
     switch (how / NODES % 12) {
     case 0: commit(from, client); break;
     case 1: sync_client(client); break;
@@ -377,24 +404,6 @@ static void step(source *from) {
     }
 }
 
-static void begin(void) {
-    static const char table[] =
-        "{\"ms\":1,\"edits\":[{\"op\":\"AddTable\",\"table\":\"t\",\"key\":\"Int\"},"
-        "{\"op\":\"AddColumn\",\"table\":\"t\",\"column\":\"n\",\"kind\":\"Int\",\"nullable\":false,\"shape\":\"One\"},"
-        "{\"op\":\"AddColumn\",\"table\":\"t\",\"column\":\"l\",\"kind\":\"Text\",\"nullable\":false,\"shape\":\"List\"},"
-        "{\"op\":\"AddColumn\",\"table\":\"t\",\"column\":\"u\",\"kind\":\"Int\",\"nullable\":false,\"shape\":\"Set\"},"
-        "{\"op\":\"AddColumn\",\"table\":\"t\",\"column\":\"d\",\"kind\":\"Int\",\"nullable\":false,\"shape\":\"Dict\"},"
-        "{\"op\":\"CreateObject\",\"table\":\"t\",\"key\":1}]}";
-    hostile = false;
-    for (int i = 0; i < NODES; i++) new_node(i);
-    for (int i = FIRST; i < NODES; i++) {
-        check(realm_born(&nodes[i], i == FIRST ? "00000000-0000-4000-8000-000000000001" : "00000000-0000-4000-8000-000000000002") == REALM_DONE, "born");
-        check(realm_upgrade(&nodes[i]) == REALM_DONE, "form 2");
-    }
-    check(ask(FIRST, 'L', table, sizeof table - 1) == REALM_DONE, "a table");
-    check(sync_client(FIRST) && sync_client(SECOND), "the first round");
-}
-
 static bool is_equal(int client) {
     size_t len, server_len;
     check(realm_dump(&nodes[client]) == REALM_DONE && realm_dump(&nodes[SERVER]) == REALM_DONE, "the objects");
@@ -404,9 +413,11 @@ static bool is_equal(int client) {
 
 /* Where nothing was hostile all agree, but for a client that is refused for tables or columns that differ. */
 static void end(void) {
-    if (!hostile && sync_client(FIRST) && sync_client(SECOND) && sync_client(FIRST))
+    bool both = nodes[FIRST].host && nodes[SECOND].host;
+    if (both && !hostile && sync_client(FIRST) && sync_client(SECOND) && sync_client(FIRST))
         check(is_equal(FIRST) && is_equal(SECOND), "all have the same objects");
-    for (int i = 0; i < NODES; i++) realm_close(&nodes[i]);
+    for (int i = 0; i < NODES; i++)
+        if (nodes[i].host) realm_close(&nodes[i]);
     for (int i = 0; i < KEPT; i++) {
         free(kept[i].bytes);
         kept[i].bytes = NULL;
@@ -425,8 +436,10 @@ int LLVMFuzzerInitialize(int *count, char ***words) {
 
 int LLVMFuzzerTestOneInput(const uint8_t *bytes, size_t len) {
     source from = {bytes, len};
-    over_files = next_byte(&from) & 1;
-    begin();
+    uint8_t how = next_byte(&from);
+    over_files = how & 1;
+    met = how & 2;
+    hostile = false;
     for (int steps = 0; from.len > 0 && steps < 64; steps++) step(&from);
     end();
     return 0;
