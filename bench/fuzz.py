@@ -8,7 +8,7 @@ last lines tell how many executions there were, and how many of the archive's ba
 
 It takes clang with libFuzzer (Debian: clang, libclang-rt-14-dev), binutils, and what examples/c/library.sh takes.
 
-usage: bench/fuzz.py [--runs N] [--minutes M] [--folder FOLDER]
+usage: bench/fuzz.py [--runs N] [--minutes M] [--folder FOLDER] [--nice N]
 """
 import argparse
 import bisect
@@ -127,12 +127,12 @@ def write_inputs(folder):
     return corpus
 
 
-def start(program, folder, corpus, runs, minutes, name=""):
+def start(program, corpus, options, runs, name=""):
     """One fuzzing process, which writes into its log."""
     log = open(program + name + ".log", "w")
-    words = [f"-dict={folder}/words", f"-artifact_prefix={folder}/", f"-runs={runs}", f"-max_total_time={minutes * 60}"]
+    words = [f"-dict={options.folder}/words", f"-artifact_prefix={options.folder}/", f"-runs={runs}", f"-max_total_time={options.minutes * 60}"]
     return subprocess.Popen(
-        ["nice", "-n", os.environ.get("FUZZ_NICE", "15"), program, corpus, *LIMITS, *words, "-print_final_stats=1", "-reload=10"],
+        ["nice", "-n", str(options.nice), program, corpus, *LIMITS, *words, "-print_final_stats=1", "-reload=10"],
         stdout=log,
         stderr=log,
         env={**os.environ, "FUZZ_BLOCKS": program + ".blocks", "ASAN_OPTIONS": "quarantine_size_mb=16"},
@@ -153,17 +153,17 @@ def main():
     parser = argparse.ArgumentParser()
     parser.add_argument("--runs", type=int, default=10_000_000)
     parser.add_argument("--minutes", type=int, default=0, help="ends it after so long, whatever has been run")
-    parser.add_argument("--folder", default=os.path.join(TOP, "build", "fuzz"))
+    parser.add_argument("--folder", type=os.path.abspath, default=os.path.join(TOP, "build", "fuzz"))
+    parser.add_argument("--nice", type=int, default=15)
     options = parser.parse_args()
-    folder = os.path.abspath(options.folder)
-    os.makedirs(folder, exist_ok=True)
-    sanitized, plain = programs = build(folder)
-    corpus = write_inputs(folder)
+    os.makedirs(options.folder, exist_ok=True)
+    sanitized, plain = programs = build(options.folder)
+    corpus = write_inputs(options.folder)
     quarter = options.runs // 4
-    running = [start(sanitized, folder, corpus, quarter, options.minutes), start(plain, folder, corpus, options.runs - quarter, options.minutes)]
+    running = [start(sanitized, corpus, options, quarter), start(plain, corpus, options, options.runs - quarter)]
     statuses = [it.wait() for it in running]
     # Once more over the whole corpus, for the blocks that it visits.
-    statuses.append(start(plain, folder, corpus, 0, 0, ".last").wait())
+    statuses.append(start(plain, corpus, options, 0, ".last").wait())
     logs = [told(it) for it in programs]
     for status, log in zip(statuses, [*logs, told(plain, ".last")]):
         print(log[-3000:] if status else "", end="")
