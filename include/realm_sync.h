@@ -1,7 +1,15 @@
 /* realm_sync for C and C++: clients and a server of the merge core. docs/EMBEDDING.md says how it is used, docs/FORMATS.md,
  * "Requests of a host", what passes between this header and the archive. Link libsync_host_c.a and the allocator.
  *
- * One call at a time on a node, and every call on the thread that opened it. Any number of nodes in a process.
+ *     realm_node phone;
+ *     char text[256];
+ *     int status = realm_open_client(&phone, "phone");
+ *     if (status == REALM_DONE) status = realm_commit(&phone, ms, "[{\"op\":\"CreateObject\",\"table\":\"notes\",\"key\":1}]");
+ *     if (status != REALM_DONE) puts(realm_words(&phone, status, text, sizeof text));
+ *     realm_close(&phone);
+ *
+ * One call at a time on a node, by any thread: where several use one, a lock orders their calls. Nodes share nothing, so any number of
+ * them may be used at once (docs/EMBEDDING.md, "Threads").
  * Compiled with REALM_SYNC_API defined as nothing, the functions are exported, as from the shared library. */
 #ifndef REALM_SYNC_H
 #define REALM_SYNC_H
@@ -58,7 +66,30 @@ typedef struct realm_node {
     bool failed;
 } realm_node;
 
-/* Why a client refuses: a number from 1 to 19, and what it says more of. */
+/* Why a client refuses, and what the numbers beside it say: docs/FORMATS.md, "Refusals by number". */
+enum realm_refusal_number {
+    REALM_NOT_BORN = 1,
+    REALM_ALREADY_BORN = 2,
+    REALM_NOT_NAMED = 3,
+    REALM_TOO_LARGE = 4,
+    REALM_NUMBERS_FULL = 5,
+    REALM_OLD_FORM = 6,        /* the edit's place */
+    REALM_NOT_SUBSCRIBED = 7,  /* the edit's place */
+    REALM_BREAK = 8,           /* the edit's place, code */
+    REALM_NOT_MINE = 9,
+    REALM_IDENT_DIFFERS = 10,  /* the ident that it keeps, the other */
+    REALM_GAP = 11,            /* cursor, from */
+    REALM_BAD_BODY = 12,       /* version, offset, code */
+    REALM_OLD_ENTRY = 13,      /* version */
+    REALM_MISMATCH = 14,       /* version, number, code */
+    REALM_FORKED = 15,         /* number */
+    REALM_NOT_APPLICABLE = 16, /* version, place, code */
+    REALM_WAS_REFUSED = 17,    /* number, code */
+    REALM_SUBSCRIBED = 18,
+    REALM_TOO_LATE = 19
+};
+
+/* Why a client refuses: a number of those above, and what it says more of. */
 typedef struct realm_refused {
     uint8_t number;
     uint32_t first;
@@ -291,31 +322,101 @@ REALM_SYNC_API uint64_t realm_bad_place(const realm_node *node) {
     return node->reply_len == 9 ? realm_number_at(node->reply + 1, 8) : 0;
 }
 
-/* What a refusal means, by its number. */
+/* What a status means, and what to do. */
+REALM_SYNC_API const char *realm_text_of_status(int status) {
+    switch (status) {
+    case REALM_DONE: return "done";
+    case REALM_REFUSED: return "the client refuses, and is as before";
+    case REALM_BAD_REQUEST: return "no such line, message or request: nothing changed";
+    case REALM_ABSENT: return "there is no such object";
+    case REALM_CLOSED: return "the disk failed, or the node is closed: close it, and open its file again";
+    case REALM_BAD_FILE: return "the file is another one's, or damaged: it is as it was";
+    case REALM_NO_MEMORY: return "out of memory: close the node, and open its file again";
+    case REALM_BUSY: return "another open holds the file: try again later";
+    default: return "unknown";
+    }
+}
+
+/* What a refusal means, by its number, and what to do. */
 REALM_SYNC_API const char *realm_text_of(uint8_t number) {
     static const char *const texts[] = {
         "no refusal",
-        "the client has no uuid yet",
+        "the client has no uuid yet: give it one first",
         "the client has its uuid already",
-        "the client has no ident yet: bind first",
-        "the transaction has more than 65,536 edits, or they carry more than 4,194,304 bytes",
+        "the client has no ident yet: send its Bind first",
+        "the transaction has more than 65,536 edits, or they carry more than 4,194,304 bytes: commit it in parts",
         "the client has made its last changeset",
-        "the file is in form 1, and the edit at the first number needs form 2: upgrade first",
-        "the client subscribed to tables, and the edit at the first number is of none of them",
-        "the edit at the first number doesn't act on the objects: the second is its code",
-        "the message isn't for this client",
-        "the server gives this client another ident: kept, got",
-        "the Download begins after the client's cursor: cursor, from",
-        "an entry is no changeset: version, offset, rule",
-        "an entry needs form 2: version; upgrade first",
-        "an entry can't cross an unsent changeset: version, number, kind",
-        "the client's own entry isn't its first unsent changeset: number; the file was copied or restored",
-        "an entry doesn't act on the objects: version, place, code",
-        "the server refused a changeset of this client: number, code",
+        "the file is in form 1, and an edit needs form 2: upgrade first",
+        "the client is of some tables, and an edit is about an object of another one",
+        "an edit doesn't act on the objects",
+        "the message is for another client: drop it",
+        "the server gives this client another ident",
+        "the Download begins behind the client's cursor: ask again",
+        "an entry of the Download is no changeset",
+        "an entry needs form 2: upgrade, and ask again",
+        "an entry and an unsent change can't be merged",
+        "the client's own entry isn't its first unsent change: the file was copied or restored",
+        "an entry doesn't act on the objects",
+        "the server refused a change of this client",
         "the client has its tables already",
-        "too late to name tables",
+        "too late to name tables: name them before the Bind and the first change",
     };
     return number < sizeof texts / sizeof texts[0] ? texts[number] : "unknown";
+}
+
+/* What the code of a refusal means: docs/FORMATS.md, "Outcome lines". */
+REALM_SYNC_API const char *realm_text_of_code(uint32_t code) {
+    switch (code) {
+    case 1: return "the tables differ";
+    case 2: return "the columns differ";
+    case 3: return "the sizes differ";
+    case 4: return "a size is out of range";
+    case 10: return "the table exists";
+    case 11: return "no such table";
+    case 12: return "the column exists";
+    case 13: return "a link column must be nullable if and only if it is single";
+    case 14: return "no such column";
+    case 20: return "the column has another shape";
+    case 21: return "the value doesn't fit the column";
+    case 23: return "the list has another length";
+    case 30: return "no such object";
+    case 31: return "the key is of another kind than the table's";
+    case 60: return "the ident wasn't given by this server";
+    case 61: return "not the client's next number: the file was copied or restored";
+    case 62: return "a base before the last one: the file was copied or restored";
+    case 63: return "ahead of the server's history: its file was restored, or it is another server";
+    case 64: return "the history is full";
+    case 65: return "all idents are given";
+    case 66: return "a message to clients came to the server";
+    case 67: return "the history needs form 2: upgrade first";
+    case 68: return "the ident is retired";
+    case 69: return "an ident can't retire itself";
+    case 70: return "the ident was retired for another one";
+    case 71: return "the server gave up the history that the client needs: begin a new file";
+    default: return code >= 40 && code <= 53 ? "no changeset" : "unknown";
+    }
+}
+
+/* Says in words what the last call answered, a refusal with its numbers, in at most `room` bytes with the 0 at the end. */
+REALM_SYNC_API const char *realm_words(const realm_node *node, int status, char *text, size_t room) {
+    static const char *const names[][3] = {
+        {0}, {0}, {0}, {0}, {0}, {0}, {"place"}, {"place"}, {"place", "code"}, {0}, {"kept", "got"}, {"cursor", "from"},
+        {"version", "offset", "code"}, {"version"}, {"version", "number", "code"}, {"number"}, {"version", "place", "code"},
+        {"number", "code"}, {0}, {0},
+    };
+    realm_refused why = realm_refusal(node);
+    uint32_t numbers[3] = {why.first, why.second, why.third};
+    bool is_known = why.number > 0 && why.number < sizeof names / sizeof names[0];
+    if (room == 0) return text;
+    snprintf(text, room, "%s", is_known ? realm_text_of(why.number) : realm_text_of_status(status));
+    for (int i = 0; i < 3 && is_known && names[why.number][i]; i++) {
+        const char *name = names[why.number][i];
+        size_t at = strlen(text);
+        snprintf(text + at, room - at, "%s %s %" PRIu32, i == 0 ? ":" : ",", name, numbers[i]);
+        at = strlen(text);
+        if (strcmp(name, "code") == 0) snprintf(text + at, room - at, ", %s", realm_text_of_code(numbers[i]));
+    }
+    return text;
 }
 
 /* ---- a client */
@@ -337,15 +438,37 @@ REALM_SYNC_API int realm_upgrade(realm_node *node) {
     return realm_line(node, line, sizeof line - 1);
 }
 
+/* Writes a text as a JSON string, in its quotes: so what a user types goes into an edit. NULL where there is no room for it and the 0 at
+ * its end; six bytes for each byte of the text, and three, are enough. The text is UTF-8. */
+REALM_SYNC_API const char *realm_quote(char *into, size_t room, const char *text) {
+    size_t at = 0;
+    if (room < 3) return NULL;
+    into[at++] = '"';
+    for (; *text; text++) {
+        unsigned char byte = (unsigned char)*text;
+        if (room - at < 8) return NULL;
+        if (byte < 0x20) {
+            at += (size_t)snprintf(into + at, room - at, "\\u%04x", byte);
+            continue;
+        }
+        if (byte == '"' || byte == '\\') into[at++] = '\\';
+        into[at++] = *text;
+    }
+    into[at++] = '"';
+    into[at] = 0;
+    return into;
+}
+
 /* Commits a transaction at that many milliseconds since the epoch. `edits` is a JSON list: docs/FORMATS.md, "Edits".
  * realm_number tells its number. */
 REALM_SYNC_API int realm_commit(realm_node *node, uint64_t ms, const char *edits) {
+    char small[1024];
     size_t room = strlen(edits) + 64;
-    char *line = (char *)malloc(room);
-    if (!line) return REALM_NO_MEMORY;
-    int len = snprintf(line, room, "{\"ms\":%" PRIu64 ",\"edits\":%s}", ms, edits);
-    int status = len < 0 ? (int)REALM_BAD_REQUEST : realm_line(node, line, (size_t)len);
-    free(line);
+    char *request = room <= sizeof small ? small : (char *)malloc(room);
+    if (!request) return REALM_NO_MEMORY;
+    int len = snprintf(request, room, "L{\"ms\":%" PRIu64 ",\"edits\":%s}", ms, edits);
+    int status = len < 0 ? (int)REALM_BAD_REQUEST : realm_turn(node, (const uint8_t *)request, (size_t)len);
+    if (request != small) free(request);
     return status;
 }
 

@@ -3,16 +3,18 @@
 #
 #     examples/c/build.sh [FOLDER]        (what is built goes to FOLDER, or to build/ at the top)
 #
-# It takes `rt`, the command of the Rattle toolchain, and a C and a C++ compiler. The first run proves the library, crate after
+# It takes `rt`, the command of the Rattle toolchain, a C and a C++ compiler, and Python. The first run proves the library, crate after
 # crate. Valgrind is used where it is installed.
 set -eu
 top=$(cd "$(dirname "$(readlink -f "$0")")/../.." && pwd)
 out=${1:-$top/build}
 mkdir -p "$out"
 out=$(cd "$out" && pwd)
-kit=$(dirname "$(rt doc)")
+library=$("$top/examples/c/library.sh" "$out")
 warnings="-Wall -Wextra -Wpedantic -Werror"
+sanitizers="-g -O1 -fsanitize=address,undefined -fno-sanitize-recover=all"
 python=${PYTHON:-python3}
+export REALM_SYNC_LIBRARY="$out/librealm_sync.so"
 
 same() {
     if ! diff "$1" "$2"; then
@@ -22,48 +24,70 @@ same() {
     echo "as in ${1#"$top"/}: $3"
 }
 
-# The archive: the proved code, and the allocator that it calls.
-(cd "$top/crates/sync_host_c" && rt lib) >"$out/rt.log" 2>&1 || { tail -n 20 "$out/rt.log" >&2; exit 1; }
-archive=$top/crates/sync_host_c/out/libsync_host_c.a
-heap=$kit/c/liblibc_c.a
+# built NAME FILE OPTIONS..: builds an example of that name.
+built() {
+    name=$1 made=$2
+    shift 2
+    # shellcheck disable=SC2086
+    cc -std=c11 -D_GNU_SOURCE $warnings "$@" -I"$top/include" "$top/examples/c/$name.c" $library -o "$out/$made"
+}
 
-# The shared library, with the header's functions.
-printf '#define REALM_SYNC_API\n#include "realm_sync.h"\n' >"$out/realm_sync.c"
-cc -O2 -fPIC -shared $warnings -I"$top/include" "$out/realm_sync.c" \
-    -Wl,--whole-archive "$archive" -Wl,--no-whole-archive "$heap" -o "$out/librealm_sync.so"
+# ran NAME WHAT COMMAND..: what a command prints is that of NAME.out.
+ran() {
+    name=$1 what=$2
+    shift 2
+    "$@" >"$out/printed"
+    same "$top/examples/$name.out" "$out/printed" "$what"
+}
+
+# refused WHAT COMMAND..: a command that has to fail.
+refused() {
+    what=$1
+    shift
+    if "$@" >"$out/printed" 2>&1; then
+        echo "build.sh: $what wasn't found" >&2
+        exit 1
+    fi
+    echo "found: $what"
+}
+
+files() {
+    rm -f "$out/first" "$out/second" "$out/server"
+    echo "$out/first $out/second $out/server"
+}
 
 # The header as C++.
 printf '#include "realm_sync.h"\nint main() { realm_node node; return realm_open_client(&node, nullptr); }\n' >"$out/header.cc"
-c++ -std=c++17 $warnings -I"$top/include" "$out/header.cc" "$archive" "$heap" -o "$out/header"
+# shellcheck disable=SC2086
+c++ -std=c++17 $warnings -I"$top/include" "$out/header.cc" $library -o "$out/header"
 
-# Two phones in C, over memory and over files.
-cc -std=c11 -D_GNU_SOURCE -O2 $warnings -I"$top/include" "$top/examples/c/two_phones.c" "$archive" "$heap" -o "$out/two_phones"
-"$out/two_phones" >"$out/two_phones.memory"
-same "$top/examples/c/two_phones.out" "$out/two_phones.memory" "two_phones in C, over memory"
-rm -f "$out/first" "$out/second" "$out/server"
-"$out/two_phones" "$out/first" "$out/second" "$out/server" >"$out/two_phones.files"
-same "$top/examples/c/two_phones.out" "$out/two_phones.files" "two_phones in C, over files"
-
-# A disk that is full, with sanitizers.
-cc -std=c11 -D_GNU_SOURCE -g -O1 -fsanitize=address,undefined -fno-sanitize-recover=all $warnings -I"$top/include" \
-    "$top/examples/c/full_disk.c" "$archive" "$heap" -o "$out/full_disk"
-rm -f "$out/full"
-"$out/full_disk" "$out/full" >"$out/full_disk.printed"
-same "$top/examples/c/full_disk.out" "$out/full_disk.printed" "full_disk in C"
-
-# Two phones in Python.
-REALM_SYNC_LIBRARY=$out/librealm_sync.so "$python" "$top/examples/python/two_phones.py" >"$out/two_phones.python"
-same "$top/examples/python/two_phones.out" "$out/two_phones.python" "two_phones in Python"
-
-# With sanitizers, and under valgrind.
-cc -std=c11 -D_GNU_SOURCE -g -O1 -fsanitize=address,undefined -fno-sanitize-recover=all $warnings -I"$top/include" \
-    "$top/examples/c/two_phones.c" "$archive" "$heap" -o "$out/two_phones_sanitized"
-rm -f "$out/first" "$out/second" "$out/server"
-"$out/two_phones_sanitized" "$out/first" "$out/second" "$out/server" >"$out/two_phones.sanitized"
-same "$top/examples/c/two_phones.out" "$out/two_phones.sanitized" "with AddressSanitizer and UndefinedBehaviorSanitizer"
+# Two phones, over memory and over files, with sanitizers and under valgrind.
+built two_phones two_phones -O2
+built two_phones two_phones_sanitized $sanitizers
+ran c/two_phones "two_phones in C, over memory" "$out/two_phones"
+ran c/two_phones "two_phones in C, over files" "$out/two_phones" $(files)
+ran c/two_phones "with AddressSanitizer and UndefinedBehaviorSanitizer" "$out/two_phones_sanitized" $(files)
 if command -v valgrind >/dev/null; then
-    rm -f "$out/first" "$out/second" "$out/server"
-    valgrind -q --leak-check=full --show-leak-kinds=all --error-exitcode=1 \
-        "$out/two_phones" "$out/first" "$out/second" "$out/server" >"$out/two_phones.valgrind"
-    same "$top/examples/c/two_phones.out" "$out/two_phones.valgrind" "under valgrind"
+    ran c/two_phones "under valgrind" valgrind -q --leak-check=full --show-leak-kinds=all --error-exitcode=1 "$out/two_phones" $(files)
 fi
+
+# Each refusal, and a disk that is full.
+built refusals refusals $sanitizers
+ran c/refusals "each refusal, with sanitizers" "$out/refusals"
+built full_disk full_disk $sanitizers
+rm -f "$out/full"
+ran c/full_disk "full_disk in C, with sanitizers" "$out/full_disk" "$out/full"
+
+# Nodes that go from thread to thread. A use that no lock orders is found, so the tools see what they are asked for.
+built threads threads -g -O1 -pthread
+built threads threads_sanitized -g -O1 -pthread -fsanitize=thread
+ran c/threads "threads in C, with ThreadSanitizer" "$out/threads_sanitized"
+refused "a use without a lock, by ThreadSanitizer" "$out/threads_sanitized" unordered
+if command -v valgrind >/dev/null; then
+    ran c/threads "threads in C, under helgrind" valgrind -q --tool=helgrind --error-exitcode=1 "$out/threads"
+    refused "a use without a lock, by helgrind" valgrind -q --tool=helgrind --error-exitcode=1 "$out/threads" unordered
+fi
+
+# From Python: two phones, and a server with eight clients over sockets.
+ran python/two_phones "two_phones in Python" "$python" "$top/examples/python/two_phones.py"
+ran python/serve_sockets "a server and eight clients over sockets" "$python" "$top/examples/python/serve_sockets.py"

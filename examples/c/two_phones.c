@@ -4,9 +4,9 @@
 
 /* Ends the program where a call didn't answer as it should. */
 static void expect(int status, const char *what, const realm_node *node) {
+    char words[256];
     if (status == REALM_DONE) return;
-    realm_refused why = realm_refusal(node);
-    fprintf(stderr, "%s: status %d, %s (%u, %u, %u)\n", what, status, realm_text_of(why.number), why.first, why.second, why.third);
+    fprintf(stderr, "%s: %s\n", what, realm_words(node, status, words, sizeof words));
     exit(1);
 }
 
@@ -42,6 +42,17 @@ static void new_phone(realm_node *phone, const char *path, const char *uuid) {
     expect(realm_upgrade(phone), "upgrade", phone);
 }
 
+/* What a user types becomes a JSON string by realm_quote. */
+static void edit_note(realm_node *phone, uint64_t ms, const char *typed, const char *tag) {
+    char text[256], tag_text[64], edits[1024];
+    if (!realm_quote(text, sizeof text, typed) || !realm_quote(tag_text, sizeof tag_text, tag)) return;
+    snprintf(edits, sizeof edits,
+             "[{\"op\":\"Update\",\"table\":\"notes\",\"key\":1,\"column\":\"text\",\"value\":%s},"
+             "{\"op\":\"SetInsert\",\"table\":\"notes\",\"key\":1,\"column\":\"tags\",\"value\":%s}]",
+             text, tag_text);
+    expect(realm_commit(phone, ms, edits), "edit", phone);
+}
+
 int main(int count, char **words) {
     realm_node first, second, server;
     new_phone(&first, count > 3 ? words[1] : NULL, "00000000-0000-4000-8000-000000000001");
@@ -59,22 +70,16 @@ int main(int count, char **words) {
     sync_with(&second, &server);
 
     /* Offline, both edit it. */
-    expect(realm_commit(&first, 10,
-                        "[{\"op\":\"Update\",\"table\":\"notes\",\"key\":1,\"column\":\"text\",\"value\":\"buy bread\"},"
-                        "{\"op\":\"SetInsert\",\"table\":\"notes\",\"key\":1,\"column\":\"tags\",\"value\":\"shop\"}]"),
-           "edit", &first);
-    expect(realm_commit(&second, 11,
-                        "[{\"op\":\"Update\",\"table\":\"notes\",\"key\":1,\"column\":\"text\",\"value\":\"buy oat milk\"},"
-                        "{\"op\":\"SetInsert\",\"table\":\"notes\",\"key\":1,\"column\":\"tags\",\"value\":\"today\"}]"),
-           "edit", &second);
+    edit_note(&first, 10, "buy bread", "shop");
+    edit_note(&second, 11, "buy oat milk", "today");
     print_objects("first phone, offline", &first);
     print_objects("second phone, offline", &second);
 
-    /* A transaction that can't be is refused, and changes nothing. */
-    if (realm_commit(&second, 12, "[{\"op\":\"CreateObject\",\"table\":\"none\",\"key\":1}]") == REALM_REFUSED) {
-        realm_refused why = realm_refusal(&second);
-        printf("refused: %s (%u, %u)\n", realm_text_of(why.number), why.first, why.second);
-    }
+    /* A transaction that can't be is refused, and changes nothing. The enums say why, and realm_words says it in words. */
+    char text[256];
+    int status = realm_commit(&second, 12, "[{\"op\":\"CreateObject\",\"table\":\"none\",\"key\":1}]");
+    if (status == REALM_REFUSED && realm_refusal(&second).number == REALM_BREAK)
+        printf("refused: %s\n", realm_words(&second, status, text, sizeof text));
 
     sync_with(&first, &server);
     sync_with(&second, &server);

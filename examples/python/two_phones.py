@@ -6,38 +6,36 @@ import tempfile
 
 from realm_sync import Busy, Client, Refused, Server
 
-TABLE = [
-    {"op": "AddTable", "table": "notes", "key": "Int"},
-    {"op": "AddColumn", "table": "notes", "column": "text", "kind": "Text", "nullable": False, "shape": "One"},
-    {"op": "AddColumn", "table": "notes", "column": "read", "kind": "Int", "nullable": False, "shape": "One"},
-    {"op": "CreateObject", "table": "notes", "key": 1},
-]
-
-
-def edit(op, column, **more):
-    return {"op": op, "table": "notes", "key": 1, "column": column, **more}
-
-
 with tempfile.TemporaryDirectory() as folder, Server() as server:
     file = os.path.join(folder, "phone")
     with Client(file) as phone, Client() as tablet:
         phone.born("00000000-0000-4000-8000-000000000001")
         tablet.born("00000000-0000-4000-8000-000000000002")
-        phone.commit(TABLE, ms=1)
+        with phone.transaction(ms=1) as edits:
+            edits.add_table("notes", "Int")
+            edits.add_column("notes", "text", "Text")
+            edits.add_column("notes", "read", "Int")
+            edits.create("notes", 1)
         phone.sync(server.take)
         tablet.sync(server.take)
 
         # Offline, both edit: the counter gets both additions, the text the later write.
-        phone.commit([edit("Update", "text", value="buy bread"), edit("AddInteger", "read", amount=3)], ms=10)
-        tablet.commit([edit("Update", "text", value="buy oat milk"), edit("AddInteger", "read", amount=4)], ms=11)
+        with phone.transaction(ms=10) as edits:
+            edits.update("notes", 1, "text", "buy bread")
+            edits.add("notes", 1, "read", 3)
+        with tablet.transaction(ms=11) as edits:
+            edits.update("notes", 1, "text", "buy oat milk")
+            edits.add("notes", 1, "read", 4)
         print("phone, offline:", list(phone.objects("notes")))
         print("tablet, offline:", list(tablet.objects("notes")))
 
         # A transaction that can't be is refused whole.
         try:
-            phone.commit([edit("AddInteger", "read", amount=1), {"op": "EraseObject", "table": "notes", "key": 9}], ms=12)
+            with phone.transaction(ms=12) as edits:
+                edits.add("notes", 1, "read", 1)
+                edits.erase("notes", 9)
         except Refused as why:
-            print("refused:", why, why.details[:2])
+            print("refused:", why)
 
         # The file is the phone's as long as it is open.
         try:

@@ -1,0 +1,25 @@
+#!/bin/sh
+# Builds the C library, and prints what a program is linked with:
+#
+#     cc -Iinclude app.c $(examples/c/library.sh) -o app
+#
+# The static archive stands in crates/sync_host_c/out/. The shared library, which examples/python/realm_sync.py loads, is put into
+# build/ at the top, or into the folder of the first argument. It takes `rt`, the command of the Rattle toolchain, and a C compiler.
+# The first run proves the library, crate after crate.
+set -eu
+top=$(cd "$(dirname "$(readlink -f "$0")")/../.." && pwd)
+out=${1:-$top/build}
+mkdir -p "$out"
+archive=$top/crates/sync_host_c/out/libsync_host_c.a
+heap=$(dirname "$(rt doc)")/c/liblibc_c.a
+
+(cd "$top/crates/sync_host_c" && rt lib) >"$out/rt.log" 2>&1 || { tail -n 20 "$out/rt.log" >&2; exit 1; }
+# Nodes may be used by several threads at once since the archive has no data that can be written.
+if nm --defined-only "$archive" | grep -E ' [bBcCdDsSuG] '; then
+    echo "library.sh: the archive has data that can be written" >&2
+    exit 1
+fi
+printf '#define REALM_SYNC_API\n#include "realm_sync.h"\n' >"$out/realm_sync.c"
+cc -O2 -fPIC -shared -Wall -Wextra -Wpedantic -Werror -I"$top/include" "$out/realm_sync.c" \
+    -Wl,--whole-archive "$archive" -Wl,--no-whole-archive "$heap" -o "$out/librealm_sync.so"
+echo "$archive $heap"
