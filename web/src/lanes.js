@@ -3,6 +3,8 @@
 import { hueOf, make, unseen } from './elements.js';
 import { editWords, fateWords, plural, reasonWords, savedWords, transactionWords } from './words.js';
 
+/** How many transactions of one download are drawn, the last ones. */
+const MOST = 8;
 const SVG = 'http://www.w3.org/2000/svg';
 const FATES = {
   waiting: 'made, not on the server yet',
@@ -35,7 +37,11 @@ function cellsOf(column) {
     const saved = column.transactions.map((it) => chip(it.saved.as, 'waiting'));
     return { [column.from]: [note('gave over'), ...column.transactions.map((it) => chip(it, it.fate))], server: [note(`retired ${column.from}`)], [node]: [note('took over'), ...saved] };
   }
-  if (kind === 'took') return { server: [note('download')], [node]: [note('took'), ...column.transactions.map((it) => chip(it, it.fate, it.client === node ? 'own' : ''))] };
+  if (kind === 'took') {
+    const [earlier, last] = [column.transactions.slice(0, -MOST), column.transactions.slice(-MOST)];
+    const said = earlier.length > 0 ? `took ${earlier.length}, and` : 'took';
+    return { server: [note('download')], [node]: [note(said), ...last.map((it) => chip(it, it.fate, it.client === node ? 'own' : ''))] };
+  }
   const refused = column.refused ? [chip(column.refused, 'refused'), note(reasonWords(column.refused.refused.code))] : [];
   return { [node]: [note('upload')], server: [...column.transactions.map((it) => chip(it, it.fate)), ...refused] };
 }

@@ -45,6 +45,7 @@ export const SCENES = [
     steps: [
       ...AWAY,
       does('A', 'a column due, a text', () => tasks.addDue('Text')),
+      does('B', 'a vote for A2', () => tasks.vote('A2')),
       does('B', 'a column due, a number', () => tasks.addDue('Int')),
       does('B', 'due of A1 is 7', () => tasks.setDue('A1', 7)),
       does('B', 'a vote for A1', () => tasks.vote('A1')),

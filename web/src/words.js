@@ -74,9 +74,10 @@ const droppedWords = ({ edit, code }) => `${editWords(edit)} (${reasonWords(code
 
 /** What became of a transaction when another phone took over, in one sentence. */
 export function savedWords({ name, saved: { as, kept, dropped } }) {
-  if (dropped.length === 0) return `${name} was saved as ${as.name}: ${transactionWords(kept) || 'nothing was left of it'}.`;
-  const lost = `dropped: ${dropped.map(droppedWords).join('; ')}`;
-  return kept.length === 0 ? `${name} is lost. ${lost}.` : `${name} was saved as ${as.name}: ${transactionWords(kept)}. ${lost}.`;
+  const lost = dropped.map(droppedWords).join('; ');
+  if (dropped.length === 0) return `${name} is saved as ${as.name}: ${transactionWords(kept) || 'nothing was left of it'}.`;
+  if (kept.length === 0) return `${name} is lost: ${lost}.`;
+  return `${name} is saved in part, as ${as.name}: ${transactionWords(kept)}. Dropped: ${lost}.`;
 }
 
 /** How many of a phone's transactions another one saved, in one sentence. */

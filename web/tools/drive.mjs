@@ -233,6 +233,7 @@ async function worksByKeyboard() {
 async function columnsThatDiffer() {
   await click('#A-online');
   await click('#B-online');
+  await click('#B-A4-vote');
   for (const [phone, kind] of [['A', 'Text'], ['B', 'Int']]) {
     await page(`document.querySelector('.phone[aria-labelledby="${phone}-name"] .schema').open = true`);
     await page(`document.getElementById('${phone}-kind').value = '${kind}'`);
@@ -241,8 +242,9 @@ async function columnsThatDiffer() {
   await click('#A-online');
   check('the first phone’s column is taken', (await text('A-state')).startsWith('It has taken all'), true);
   await click('#B-online');
-  check('the second phone stops, and says why, and that another can take over', await text('B-state'), 'Stopped: two devices define one column differently. It takes nothing more, and keeps all that it made (1 changeset of its own). A new phone can take over from it, and save of that what can be saved.');
-  check('what it made was refused', (await fates())['B·8'], 'refused by the server: two devices define one column differently (code 2)');
+  check('the second phone stops, and says why, and that another can take over', await text('B-state'), 'Stopped: two devices define one column differently. It takes nothing more, and keeps all that it made (2 changesets of its own). A new phone can take over from it, and save of that what can be saved.');
+  check('what it made before the column is on the server', (await shown('A'))[2].votes, '▲ 1');
+  check('the column was refused', (await fates())['B·9'], 'refused by the server: two devices define one column differently (code 2)');
   await write('#B-new', 'Written on a stopped phone');
   check('it still keeps what is made on it', (await titles('B')).at(-1), 'Written on a stopped phone');
   await write('#B-A2-due', '7');
@@ -253,17 +255,19 @@ async function columnsThatDiffer() {
 /** A new phone takes over from the stopped one, by the keyboard, and all agree again. */
 async function takesOver() {
   const before = await shown('A');
-  await page(`document.getElementById('B-replace').focus()`);
+  await page(`document.getElementById('B-online').focus()`);
+  await browser.press('Tab');
+  check('the Tab key goes from the switch to its replacement', await page('document.activeElement.id'), 'B-replace');
   await browser.press('Enter');
   check('a new phone stands where the stopped one stood', await page(`Array.from(document.querySelectorAll('.phone h2'), (it) => it.textContent)`), ['Phone A', 'Phone C']);
   check('the focus is at what it saved', await page('document.activeElement.id'), 'C-account');
   check('a screen reader is told', await text('status'), 'Phone C takes over from phone B. All phones and the server show the same.');
   check('it says how much it saved', await text('C-account', 'p'), 'Phone C took over from phone B. Of 4 changesets that the server had refused or had not seen: 2 saved, 2 lost.');
   check('and of each what became of it, with the reason', await page(`Array.from(document.querySelectorAll('#C-account li'), (it) => it.textContent)`), [
-    'B·8 is lost. dropped: column due, Int (a column of that name is there already, code 12).',
-    'B·9 was saved as C·2: new task B2 “Written on a stopped phone” at place 6.',
-    'B·10 is lost. dropped: due of A2 = 7 (the value doesn’t fit the column there, code 21).',
-    'B·11 was saved as C·4: votes of A2 + 1.',
+    'B·9 is lost: column due, Int (a column of that name is there already, code 12).',
+    'B·10 is saved as C·2: new task B2 “Written on a stopped phone” at place 6.',
+    'B·11 is lost: due of A2 = 7 (the value doesn’t fit the column there, code 21).',
+    'B·12 is saved as C·4: votes of A2 + 1.',
   ]);
   const voted = before.map((it) => (it.title === 'Water the plants' ? { ...it, votes: '▲ 3' } : it));
   const wanted = [...voted, task('Written on a stopped phone')];
@@ -304,13 +308,21 @@ async function theSameOnBoth() {
   check('and the page says so', (await fates())['B·1'], 'another did it too: column due, Text');
 }
 
-/** A scene that the page plays by itself. */
-async function scene() {
-  await page(`document.getElementById('scene').selectedIndex = 3`);
+/** Plays a scene until a text stands in the status. */
+async function plays(place, last) {
+  await page(`document.getElementById('scene').selectedIndex = ${place}`);
   await click('#play button');
-  await browser.until(`document.getElementById('length').textContent === '7 changesets in its history'`);
+  await browser.until(`document.getElementById('status').textContent.startsWith(${JSON.stringify(last)})`);
+}
+
+/** Scenes that the page plays by itself. */
+async function scenes() {
+  await plays(3, 'Phone A is online.');
   check('in a scene, an erased task is gone on both', [await titles('A'), await titles('B')], Array(2).fill(['Buy bread', 'Water the plants']));
   check('and what was done to it was dropped', Object.values(await fates()).filter((fate) => fate.startsWith('dropped')).length, 2);
+  await plays(4, 'Phone C takes over');
+  check('in another, a new phone takes over, and all agree', await text('agreement'), 'All phones and the server show the same.');
+  check('and it has both votes of the old one', (await shown('C')).map((it) => it.votes), ['▲ 1', '▲ 1', '▲ 0']);
 }
 
 const server = await serve(path.join(top, 'web'));
@@ -329,7 +341,7 @@ try {
   await runsInAShell();
   await threePhones();
   await theSameOnBoth();
-  await scene();
+  await scenes();
   check('nothing was asked of the network any more', browser.requests.slice(loaded), []);
   check('the page met no error', browser.faults, []);
   console.log('drive: all as expected');
