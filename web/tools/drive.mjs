@@ -144,9 +144,9 @@ async function runsInAShell() {
   if (!fs.existsSync(native)) return console.log('drive: the program was not built, so it was not compared with the page');
   await page(`document.getElementById('raw').open = true`);
   await browser.until(`document.querySelectorAll('#lines tr').length > 0`);
-  await browser.send('Browser.grantPermissions', { origin: server.origin, permissions: ['clipboardReadWrite'] });
+  await browser.send('Browser.grantPermissions', { origin: server.origin, permissions: ['clipboardReadWrite', 'clipboardSanitizedWrite'] });
   await click('#copy');
-  await browser.until(`document.getElementById('status').textContent.startsWith('The script is copied.')`);
+  await browser.until(`document.getElementById('status').textContent.startsWith('The script is copied.')`, 20);
   const script = await page('navigator.clipboard.readText()');
   const printed = await page(`Array.from(document.querySelectorAll('#lines td:last-child'), (cell) => cell.textContent)`);
   const room = fs.mkdtempSync(path.join(os.tmpdir(), 'page-'));
