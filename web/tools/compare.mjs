@@ -1,6 +1,6 @@
 // Tells whether the module does what the native program does, byte for byte: each recorded exchange of the examples, three
-// generated ones, and each command that the examples' scripts run over files, with what it leaves in its file. It does so in node
-// and in headless Chromium. Any other byte ends with status 1.
+// generated ones, and each command that scripts run over files, with what it leaves in its file. It does so in node and in headless
+// Chromium. Any other byte ends with status 1.
 
 import { execFileSync } from 'node:child_process';
 import fs from 'node:fs';
@@ -15,12 +15,12 @@ const native = process.env.REALM_SYNC ?? path.join(top, 'realm_sync');
 const examples = path.join(top, 'examples');
 const TURNS = '1000';
 const SEEDS = ['1', '2', '3'];
-const SCRIPTS = ['two_devices.sh', 'heir.sh'];
+const SCRIPTS = ['examples/two_devices.sh', 'examples/heir.sh', 'web/tools/commands.sh'];
 
 /** One command without a file, and what the program writes. It throws where that ends with a status. */
 function command(words, input) {
   const output = execFileSync(native, words, { input, maxBuffer: 1 << 28 });
-  return { words, exit: 0, input: input.toString('base64'), output: output.toString('base64'), file: null };
+  return { words, input: input.toString('base64'), before: null, exit: 0, output: output.toString('base64'), file: null };
 }
 
 /** The commands of a script, as the program runs them. */
@@ -28,7 +28,7 @@ function commandsOf(script) {
   const folder = fs.mkdtempSync(path.join(os.tmpdir(), 'compare-'));
   const record = path.join(folder, 'record');
   const env = { ...process.env, REALM_SYNC: native, RECORD: record };
-  execFileSync('sh', [path.join(examples, script), fileURLToPath(new URL('record.mjs', import.meta.url))], { env, stdio: ['ignore', 'ignore', 'inherit'] });
+  execFileSync('sh', [path.join(top, script), fileURLToPath(new URL('record.mjs', import.meta.url))], { env, stdio: ['ignore', 'ignore', 'pipe'] });
   const lines = fs.readFileSync(record, 'utf8').trimEnd().split('\n');
   fs.rmSync(folder, { recursive: true });
   return lines.map(JSON.parse);

@@ -11,10 +11,14 @@ function textOf(bytes) {
   return btoa(text);
 }
 
-/** Runs commands over files of their own, of which there is none at first: what each wrote, and what stands in its file then. */
+/**
+ * Runs commands over files of their own: for each its exit status, what it wrote, and what stands in its file then. A file that no
+ * earlier command made begins as it was `before`.
+ */
 export function commandsIn(module, commands) {
   const files = new Files();
-  return commands.map(({ words, input }) => {
+  return commands.map(({ words, input, before }) => {
+    if (before !== null && !files.get(words[1])) files.put(words[1], bytesOf(before));
     const { exit, output } = runProgram(module, words, bytesOf(input), files);
     const file = files.get(words[1]);
     return { exit, output: textOf(output), file: file ? textOf(file.bytes) : null };
