@@ -8,6 +8,8 @@ import { nodeOf, outcomesOf } from './report.js';
 export const SERVER = 'server';
 const UUID_FRONT = '00000000-0000-4000-8000-';
 const NOTHING = new Uint8Array(0);
+/** Commands that leave the file as it is. */
+const READERS = new Set(['show', 'send', 'ask', 'rescue', 'retire']);
 /** The head of the script that does the same in a shell. */
 const HEAD = `#!/bin/sh
 # What the page did, by the same commands, in a new folder. The program is the first argument: its whole path.
@@ -41,7 +43,7 @@ export class Exchange {
   run(words, input = NOTHING) {
     const { exit, output, errors } = runProgram(this.module, words, input, this.files);
     this.runs += 1;
-    if (words[0] !== 'show') this.shown.delete(words[1]);
+    if (!READERS.has(words[0])) this.shown.delete(words[1]);
     if (exit !== 0) throw new NotDone(`realm_sync ${words.join(' ')}: ${decoder.decode(errors).trim()}`);
     return output;
   }
@@ -122,7 +124,12 @@ export class Exchange {
     const rescued = this.pipe(rescue);
     const output = this.run(recover[0], joined([retired, rescued]));
     const command = `${spelled(retire)} >frames\n${spelled(rescue)} >>frames\n${spelled(recover)} <frames`;
-    this.keep({ kind: 'recover', node: heir, from, changes: uploadOf(rescued) }, command, output);
+    this.keep({ kind: 'recover', node: heir, from, unsent: uploadOf(rescued), made: this.unsent(heir) }, command, output);
+  }
+
+  /** The edits of what a client made and hasn't seen in the history, by their numbers. */
+  unsent(name) {
+    return uploadOf(this.run(['rescue', name, '0']));
   }
 
   /** What `show` prints of the server and of these clients. */

@@ -13,9 +13,9 @@ function wholeFate(all) {
 }
 
 /** What became of a transaction that an heir saved. */
-function savedFate({ kept, dropped }) {
+function savedFate({ as, dropped }) {
   if (dropped.length === 0) return 'saved';
-  return kept.length === 0 ? 'lost' : 'partly';
+  return as.edits.length === 0 ? 'lost' : 'partly';
 }
 
 /**
@@ -70,14 +70,13 @@ class Story {
   }
 
   /** An heir saves what can be saved of what another client has unsent, and tells each edit that it drops with its reason. */
-  recover({ node, from, changes, outcomes }, line) {
+  recover({ node, from, unsent, made, outcomes }, line) {
     const droppedOf = (number) => outcomes.filter((it) => it.kind === 'dropped' && it.numbers[0] === number).map((it) => it.numbers);
-    const recovered = outcomes.filter((it) => it.kind === 'saved').map(({ numbers: [number, made] }) => {
-      const edits = changes.get(number);
-      const dropped = droppedOf(number).map(([, place, code]) => ({ place, edit: edits[place], code }));
-      const kept = edits.filter((_, at) => dropped.every(({ place }) => place !== at));
+    const recovered = outcomes.filter((it) => it.kind === 'saved').map(({ numbers: [number, as] }) => {
+      const edits = unsent.get(number);
+      const dropped = droppedOf(number).map(([, place, code]) => ({ edit: edits[place], code }));
       const old = this.transactions.get(`${from}·${number}`);
-      const saved = { kept, dropped, became: fates(old.edits, edits), as: this.transaction(node, made, kept) };
+      const saved = { dropped, became: fates(old.edits, edits), as: this.transaction(node, as, made.get(as)) };
       return Object.assign(old, { saved, fate: savedFate(saved) });
     });
     this.columns.push({ line, kind: 'recovered', node, from, transactions: recovered });

@@ -72,12 +72,13 @@ export const reasonWords = (code) => CODES[code] ?? `rule ${code}`;
 
 const droppedWords = ({ edit, code }) => `${editWords(edit)} (${reasonWords(code)}, code ${code})`;
 
-/** What became of a transaction when another phone took over, in one sentence. */
-export function savedWords({ name, saved: { as, kept, dropped } }) {
+/** What became of a transaction when another phone took over, in a sentence or two. */
+export function savedWords({ name, saved: { as, dropped } }) {
+  const kept = transactionWords(as.edits);
   const lost = dropped.map(droppedWords).join('; ');
-  if (dropped.length === 0) return `${name} is saved as ${as.name}: ${transactionWords(kept) || 'nothing was left of it'}.`;
-  if (kept.length === 0) return `${name} is lost: ${lost}.`;
-  return `${name} is saved in part, as ${as.name}: ${transactionWords(kept)}. Dropped: ${lost}.`;
+  if (dropped.length === 0) return `${name} is saved as ${as.name}: ${kept || 'nothing was left of it'}.`;
+  if (as.edits.length === 0) return `${name} is lost: ${lost}.`;
+  return `${name} is saved in part, as ${as.name}: ${kept}. Lost of it: ${lost}.`;
 }
 
 /** How many of a phone's transactions another one saved, in one sentence. */

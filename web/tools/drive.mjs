@@ -249,6 +249,8 @@ async function columnsThatDiffer() {
   check('it still keeps what is made on it', (await titles('B')).at(-1), 'Written on a stopped phone');
   await write('#B-A2-due', '7');
   await click('#B-A2-vote');
+  await write('#A-new', 'Feed the cat');
+  await withMore('B', 'A5', (id) => click(`${id}-erase`));
   await picture('stopped');
 }
 
@@ -262,21 +264,22 @@ async function takesOver() {
   check('a new phone stands where the stopped one stood', await page(`Array.from(document.querySelectorAll('.phone h2'), (it) => it.textContent)`), ['Phone A', 'Phone C']);
   check('the focus is at what it saved', await page('document.activeElement.id'), 'C-account');
   check('a screen reader is told', await text('status'), 'Phone C takes over from phone B. All phones and the server show the same.');
-  check('it says how much it saved', await text('C-account', 'p'), 'Phone C took over from phone B. Of 4 changesets that the server had refused or had not seen: 2 saved, 2 lost.');
+  check('it says how much it saved', await text('C-account', 'p'), 'Phone C took over from phone B. Of 5 changesets that the server had refused or had not seen: 2 saved, 1 saved in part, 2 lost.');
   check('and of each what became of it, with the reason', await page(`Array.from(document.querySelectorAll('#C-account li'), (it) => it.textContent)`), [
     'B·9 is lost: column due, Int (a column of that name is there already, code 12).',
     'B·10 is saved as C·2: new task B2 “Written on a stopped phone” at place 6.',
     'B·11 is lost: due of A2 = 7 (the value doesn’t fit the column there, code 21).',
     'B·12 is saved as C·4: votes of A2 + 1.',
+    'B·13 is saved in part, as C·5: A5 erased. Lost of it: place 5 taken out (the list there has another length, code 23).',
   ]);
-  const voted = before.map((it) => (it.title === 'Water the plants' ? { ...it, votes: '▲ 3' } : it));
-  const wanted = [...voted, task('Written on a stopped phone')];
+  const [bread, plants, car, lawn, , cat] = before;
+  const wanted = [bread, { ...plants, votes: '▲ 3' }, car, lawn, task('Written on a stopped phone'), cat];
   check('phone A has what was saved', await shown('A'), wanted);
   check('and so has the new phone', await shown('C'), wanted);
   check('all agree', await text('agreement'), 'All phones and the server show the same.');
   await picture('replaced');
-  await click('#C-A1-vote');
-  check('the new phone’s next change reaches phone A', (await shown('A'))[0].votes, '▲ 2');
+  await click('#C-B2-down');
+  check('the new phone’s next change reaches phone A', (await titles('A')).slice(-2), ['Feed the cat', 'Written on a stopped phone']);
 }
 
 async function threePhones() {
