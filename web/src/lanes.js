@@ -27,29 +27,33 @@ function chip(transaction, fate, more = '') {
 
 const note = (text) => make('span', { class: 'note' }, text);
 
-/** What stands in each row at one column: the cells by node, and the rows that a line joins. */
-function cellsOf(column) {
-  const { kind, node } = column;
-  if (kind === 'made') return { [node]: [note('made'), chip(column.transaction, 'waiting')] };
-  if (kind === 'broken') return { [node]: [note(column.outcome.text)] };
-  if (kind === 'stopped') return { [node]: [make('span', { class: 'chip refused' }, '⊘ stopped'), note(reasonWords(column.outcome.numbers[2]))] };
-  if (kind === 'recovered') {
-    const saved = column.transactions.map((it) => chip(it.saved.as, 'waiting'));
-    return { [column.from]: [note('gave over'), ...column.transactions.map((it) => chip(it, it.fate))], server: [note(`retired ${column.from}`)], [node]: [note('took over'), ...saved] };
-  }
-  if (kind === 'took') {
-    const [earlier, last] = [column.transactions.slice(0, -MOST), column.transactions.slice(-MOST)];
-    const said = earlier.length > 0 ? `took ${earlier.length}, and` : 'took';
-    return { server: [note('download')], [node]: [note(said), ...last.map((it) => chip(it, it.fate, it.client === node ? 'own' : ''))] };
-  }
-  const refused = column.refused ? [chip(column.refused, 'refused'), note(reasonWords(column.refused.refused.code))] : [];
-  return { [node]: [note('upload')], server: [...column.transactions.map((it) => chip(it, it.fate)), ...refused] };
+/** The last transactions that a client took, and how many came before these. */
+function takenChips({ node, transactions }) {
+  const [earlier, last] = [transactions.slice(0, -MOST), transactions.slice(-MOST)];
+  return [note(earlier.length > 0 ? `took ${earlier.length}, and` : 'took'), ...last.map((it) => chip(it, it.fate, it.client === node ? 'own' : ''))];
 }
+
+const chips = (transactions) => transactions.map((it) => chip(it, it.fate));
+const refusalChips = (refused) => (refused ? [chip(refused, 'refused'), note(reasonWords(refused.refused.code))] : []);
+
+/** What stands in the rows at a column of each kind, by node. */
+const CELLS = {
+  made: ({ node, transaction }) => ({ [node]: [note('made'), chip(transaction, 'waiting')] }),
+  broken: ({ node, outcome }) => ({ [node]: [note(outcome.text)] }),
+  stopped: ({ node, outcome }) => ({ [node]: [make('span', { class: 'chip refused' }, '⊘ stopped'), note(reasonWords(outcome.numbers[2]))] }),
+  stored: ({ node, transactions, refused }) => ({ [node]: [note('upload')], server: [...chips(transactions), ...refusalChips(refused)] }),
+  took: (column) => ({ server: [note('download')], [column.node]: takenChips(column) }),
+  recovered: ({ node, from, transactions }) => ({
+    [from]: [note('gave over'), ...chips(transactions)],
+    server: [note(`retired ${from}`)],
+    [node]: [note('took over'), ...transactions.map((it) => chip(it.saved.as, 'waiting'))],
+  }),
+};
 
 /** The table of lanes. `rows` are the nodes from the top, `server` among them. */
 function tableOf(columns, rows) {
   const head = make('tr', {}, make('th', { scope: 'col' }, 'Command'), columns.map((it) => make('th', { scope: 'col' }, make('a', { href: `#line-${it.line}` }, String(it.line)))));
-  const cells = columns.map(cellsOf);
+  const cells = columns.map((column) => CELLS[column.kind](column));
   const body = rows.map((node) => {
     const name = node === 'server' ? 'Server' : `Phone ${node}`;
     const title = make('th', { scope: 'row', class: node === 'server' ? '' : hueOf(node) }, name);
