@@ -497,11 +497,11 @@ impl<D: Disk> Server<D> {
         self.kept.history.retired().get(place as usize).copied()
     }
 
-    /// The entry of a version as the next changes of an ident cross it. None comes where the ident isn't given or is
+    /// A copy of the entry of a version as the next changes of an ident cross it. None comes where the ident isn't given or is
     /// retired, where the version is below the floor or the base of the ident's last change, or from the length on, and
     /// where the ident made the entry.
-    pub fn past(&self, ident: Ident, version: u32) -> Option<&Changeset>
-        ensures { option_map (λ c. c.now) result ≡ option_map changes_of (past (parts (kept_of self.now)) ident version) }
+    pub fn past(&self, ident: Ident, version: u32) -> Result<Option<Changeset>, NoMemory>
+        ensures { IfOk result (λ found. found ≡ option_map changes_of (past (parts (kept_of self.now)) ident version)) }
     {
         self.kept.past(ident, version)
     }
