@@ -1,6 +1,6 @@
 use Rattle.std.proofs.Common.{Some, sym, ◌∙◌, ap, subst}
 use Rattle.sync_disk.specs.contracts.memory.MemoryDiskDisk.TheImpl.{ghosts}
-use Rattle.sync_disk.proofs.memory.MemoryDisk.begin_anew.Goals as goal
+use Rattle.sync_disk.proofs.memory.MemoryDiskBeginsAnew.begin_anew.Goals as goal
 
 pub returns-clause-content : goal.returns-clause-content
 returns-clause-content c = c.crash.ensures.content ∙ ap Some (sym c.args.self.now.in_step)
