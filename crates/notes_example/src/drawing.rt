@@ -18,7 +18,11 @@ pub(crate) fn draw(rt: &HostRuntime, name: &str, places: &[Place]) -> Result<(),
             }
             Place::Cell(cell) => {
                 let number = number_of(&cell.key);
-                println!(rt; "{name} draws {} {number}: {}", cell.table.text(), cell.column.text())?
+                println!(rt;
+                    "{name} draws {} {number}: {}",
+                    cell.table.text(),
+                    cell.column.text()
+                )?
             }
         }
     }

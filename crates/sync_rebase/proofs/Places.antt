@@ -135,9 +135,9 @@ pub shown_listed : (o : Option ListAction) (is : List Instr) → StaysListed is 
 shown_listed None is = λ s n h. h
 shown_listed (Some a) [] = λ s n h. h
 shown_listed (Some a) (i ∷ is) = λ s n h. (
-    subst (λ q. AllByRecursion (λ p. is_at s n p ≡ true) (listed q)) (sym (same_elsewhere place_of (λ c v s t. refl) (λ c s t. refl) (λ c v s t. refl) a i)) h.0,
-    h.1,
-  )
+  subst (λ q. AllByRecursion (λ p. is_at s n p ≡ true) (listed q)) (sym (same_elsewhere place_of (λ c v s t. refl) (λ c s t. refl) (λ c v s t. refl) a i)) h.0,
+  h.1,
+)
 
 -- the first of a list, written as it is
 pub set_first : (us : List (Unsent Instr)) (u v : Unsent Instr) → u ≡ get_or us 0 u → v ≡ u → set us 0 v ≡ us

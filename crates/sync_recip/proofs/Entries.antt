@@ -114,9 +114,9 @@ pub shown_listed : (o : Option ListAction) (is : List Instr) → StaysListed is 
 shown_listed None is = λ s n h. h
 shown_listed (Some a) [] = λ s n h. h
 shown_listed (Some a) (i ∷ is) = λ s n h. (
-    subst (λ q. AllByRecursion (λ p. is_at s n p ≡ true) (listed q)) (sym (same_elsewhere place_of (λ c v s t. refl) (λ c s t. refl) (λ c v s t. refl) a i)) h.0,
-    h.1,
-  )
+  subst (λ q. AllByRecursion (λ p. is_at s n p ≡ true) (listed q)) (sym (same_elsewhere place_of (λ c v s t. refl) (λ c s t. refl) (λ c v s t. refl) a i)) h.0,
+  h.1,
+)
 
 -- ---- behind other lists
 pub put_changed : (n : ℕ) (x : Entry) (ls : List (List Instr)) → put_left n (Changed x) ls ≡ put_list n x.changes.instrs ls

@@ -136,11 +136,7 @@ fn changed(
 }
 
 /// Notes what became of the entry at a place, where it changed.
-fn note(
-    crossed: &mut Vec<Crossed>,
-    place: usize,
-    became: Option<Became>,
-) -> Result<(), NoMemory>
+fn note(crossed: &mut Vec<Crossed>, place: usize, became: Option<Became>) -> Result<(), NoMemory>
     ensures { OnOk result (crossed.new.items ≡ crossed.old.items ++ noted place became) }
 {
     match became {

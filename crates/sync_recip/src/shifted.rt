@@ -15,8 +15,7 @@ use std::marker::Model;
 use sync_base::{Changeset, Entry, Ident, Instr, NoMemory, Stamp};
 use sync_index::Index;
 use sync_transform::{
-    ListAction, Moves, Shifted, action_in, both_move, is_later, same_first_cell, shown,
-    stays_apart,
+    ListAction, Moves, Shifted, action_in, both_move, is_later, same_first_cell, shown, stays_apart,
 };
 
 /// An entry as one client's changes crossed it. Where it is one list instruction that was only shifted, others hold it too,

@@ -13,11 +13,7 @@ impl Kept {
     ghost use Rattle.sync_server.specs.Kept.{parts};
 
     /// The entry of a version as the next changes of an ident cross it.
-    pub(crate) fn past(
-        &self,
-        ident: Ident,
-        version: u32,
-    ) -> Result<Option<Changeset>, NoMemory>
+    pub(crate) fn past(&self, ident: Ident, version: u32) -> Result<Option<Changeset>, NoMemory>
         ensures { IfOk result (λ found. found ≡ option_map changes_of (past (parts self.now) ident version)) }
     {
         let Some(given) = self.history.at(ident) else {
