@@ -1,0 +1,5 @@
+pub mod Meeting
+pub mod Harmless
+pub mod Edits
+pub mod Joined
+pub mod Eight
