@@ -25,11 +25,11 @@ use Rattle.gen_law.proofs.Meeting.{IsTame}
 abbrev pub Fits : Instr → Type 0
 Fits i = (weight i ≤ 200) × IsTame 0 (effect_of i)
 
-and_true : (a b : Bool) → a ≡ true → b ≡ true → (a && b) ≡ true
+pub and_true : (a b : Bool) → a ≡ true → b ≡ true → (a && b) ≡ true
 and_true true b e f = f
 and_true false b e f = cc
 
-light : (i : Instr) → is_whole i ≡ true → payload i ≤ 200 → weight i ≤ 200
+pub light : (i : Instr) → is_whole i ≡ true → payload i ≤ 200 → weight i ≤ 200
 light i e le = let f = ap (λ b. if b then payload i else 4194305) e in omega (arith, le, f)
 
 -- ---- parts
@@ -65,7 +65,7 @@ not_below a b le = on (nat_lt a b) refl
 gap_ok : (place prior : ℕ) → place ≤ prior → prior < 2147483648 → is_gap (record { place = place; prior = prior }) ≡ true
 gap_ok place prior le few = and_true (nat_lt place (2 ^ 32)) (nat_lt prior (2 ^ 32) && not (nat_lt prior place)) (lt-ltb place (2 ^ 32) (omega arith)) (and_true (nat_lt prior (2 ^ 32)) (not (nat_lt prior place)) (lt-ltb prior (2 ^ 32) (omega arith)) (not_below prior place le))
 
-whole : (i : Instr) → has_fields i ≡ true → are_strings (strings_in i) ≡ true → is_whole i ≡ true
+pub whole : (i : Instr) → has_fields i ≡ true → are_strings (strings_in i) ≡ true → is_whole i ≡ true
 whole i e f = and_true (has_fields i) (are_strings (strings_in i)) e f
 
 -- ---- the instructions
@@ -78,13 +78,13 @@ letter c lt = and_true (nat_le 1 255) (is_utf8 (c ∷ [])) refl (is_utf8-from_Is
     ascii zero = lt
     ascii (suc i) = omega arith
 
-one_name : are_strings (table ∷ []) ≡ true
+pub one_name : are_strings (table ∷ []) ≡ true
 one_name = and_true (is_string table) true (letter 116 (omega arith)) refl
 
-two_names : (c : ℕ) → c < 128 → are_strings (table ∷ (c ∷ []) ∷ []) ≡ true
+pub two_names : (c : ℕ) → c < 128 → are_strings (table ∷ (c ∷ []) ∷ []) ≡ true
 two_names c lt = and_true (is_string table) (are_strings ((c ∷ []) ∷ [])) (letter 116 (omega arith)) (and_true (is_string (c ∷ [])) true (letter c lt) refl)
 
-three_names : (c : ℕ) → c < 128 → are_strings (table ∷ (c ∷ []) ∷ table ∷ []) ≡ true
+pub three_names : (c : ℕ) → c < 128 → are_strings (table ∷ (c ∷ []) ∷ table ∷ []) ≡ true
 three_names c lt = and_true (is_string table) (are_strings ((c ∷ []) ∷ table ∷ [])) (letter 116 (omega arith)) (and_true (is_string (c ∷ [])) (are_strings (table ∷ [])) (letter c lt) one_name)
 
 create_strings : (k : ℕ) → are_strings (strings_in (create_object k)) ≡ true
@@ -166,7 +166,7 @@ excludes k n lt few = (light (set_erase k n) (whole (set_erase k n) (and_true (i
 
 -- ---- what is drawn
 
-below : (k x : ℕ) → 0 < k → (draw k x).0 < k
+pub below : (k x : ℕ) → 0 < k → (draw k x).0 < k
 unfolding draw
 below k x some = mod_below (next x / 2 ^ 33) k some
 

@@ -3,3 +3,4 @@ pub mod Harmless
 pub mod Edits
 pub mod Joined
 pub mod Eight
+pub mod Parts
