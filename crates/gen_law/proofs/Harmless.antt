@@ -64,7 +64,7 @@ IsSingle n [] = Unit {0}
 IsSingle n (i ∷ []) = IsTame n (effect_of i)
 IsSingle n (i ∷ j ∷ is) = ⊥
 
-abbrev AreDefinitions : List Instr → Type 0
+abbrev pub AreDefinitions : List Instr → Type 0
 AreDefinitions [] = Unit {0}
 AreDefinitions (i ∷ is) = (IsDefinition (effect_of i) × (needs_second i ≡ false)) × AreDefinitions is
 
@@ -363,3 +363,6 @@ drawn_harmless = record {
 -- a tame instruction that is light, and the definitions of the first client
 pub one_drawn : (c : ℕ) (i : Instr) → weight i ≤ 200 → IsTame 0 (effect_of i) → is_drawn c 0 (i ∷ []) ≡ true
 one_drawn c i w t = let e = one_light i in drawn_back c 0 (i ∷ []) (record { few = omega arith; light = omega arith; kind = inl t })
+
+pub definitions_drawn : (is : List Instr) → length is ≤ 8 → sum_by weight is ≤ 200 → AreDefinitions is → is_drawn 1 0 is ≡ true
+definitions_drawn is few light defs = drawn_back 1 0 is (record { few = few; light = light; kind = inr (refl, defs) })

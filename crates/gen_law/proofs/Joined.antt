@@ -40,34 +40,34 @@ with_clients cs = record { server = map (λ c. ServerRecord.Client (id_of c)) cs
 abbrev pub join : ℕ → World → World
 join c w = world_by w (joined (name_at c) (Event.Joins (name_at c) (id_of c)) w)
 
-join1 : join 1 empty_world ≡ with_clients (1 ∷ [])
+pub join1 : join 1 empty_world ≡ with_clients (1 ∷ [])
 unfolding after
 join1 = refl
 
-join2 : join 2 (with_clients (1 ∷ [])) ≡ with_clients (1 ∷ 2 ∷ [])
+pub join2 : join 2 (with_clients (1 ∷ [])) ≡ with_clients (1 ∷ 2 ∷ [])
 unfolding after
 join2 = refl
 
-join3 : join 3 (with_clients (1 ∷ 2 ∷ [])) ≡ with_clients (1 ∷ 2 ∷ 3 ∷ [])
+pub join3 : join 3 (with_clients (1 ∷ 2 ∷ [])) ≡ with_clients (1 ∷ 2 ∷ 3 ∷ [])
 unfolding after
 join3 = refl
 
-join4 : join 4 (with_clients (1 ∷ 2 ∷ 3 ∷ [])) ≡ with_clients (1 ∷ 2 ∷ 3 ∷ 4 ∷ [])
+pub join4 : join 4 (with_clients (1 ∷ 2 ∷ 3 ∷ [])) ≡ with_clients (1 ∷ 2 ∷ 3 ∷ 4 ∷ [])
 unfolding after
 join4 = refl
 
-join5 : join 5 (with_clients (1 ∷ 2 ∷ 3 ∷ 4 ∷ [])) ≡ with_clients (1 ∷ 2 ∷ 3 ∷ 4 ∷ 5 ∷ [])
+pub join5 : join 5 (with_clients (1 ∷ 2 ∷ 3 ∷ 4 ∷ [])) ≡ with_clients (1 ∷ 2 ∷ 3 ∷ 4 ∷ 5 ∷ [])
 unfolding after
 join5 = refl
 
-join6 : join 6 (with_clients (1 ∷ 2 ∷ 3 ∷ 4 ∷ 5 ∷ [])) ≡ with_clients (1 ∷ 2 ∷ 3 ∷ 4 ∷ 5 ∷ 6 ∷ [])
+pub join6 : join 6 (with_clients (1 ∷ 2 ∷ 3 ∷ 4 ∷ 5 ∷ [])) ≡ with_clients (1 ∷ 2 ∷ 3 ∷ 4 ∷ 5 ∷ 6 ∷ [])
 unfolding after
 join6 = refl
 
-join7 : join 7 (with_clients (1 ∷ 2 ∷ 3 ∷ 4 ∷ 5 ∷ 6 ∷ [])) ≡ with_clients (1 ∷ 2 ∷ 3 ∷ 4 ∷ 5 ∷ 6 ∷ 7 ∷ [])
+pub join7 : join 7 (with_clients (1 ∷ 2 ∷ 3 ∷ 4 ∷ 5 ∷ 6 ∷ [])) ≡ with_clients (1 ∷ 2 ∷ 3 ∷ 4 ∷ 5 ∷ 6 ∷ 7 ∷ [])
 unfolding after
 join7 = refl
 
-join8 : join 8 (with_clients (1 ∷ 2 ∷ 3 ∷ 4 ∷ 5 ∷ 6 ∷ 7 ∷ [])) ≡ with_clients (1 ∷ 2 ∷ 3 ∷ 4 ∷ 5 ∷ 6 ∷ 7 ∷ 8 ∷ [])
+pub join8 : join 8 (with_clients (1 ∷ 2 ∷ 3 ∷ 4 ∷ 5 ∷ 6 ∷ 7 ∷ [])) ≡ with_clients (1 ∷ 2 ∷ 3 ∷ 4 ∷ 5 ∷ 6 ∷ 7 ∷ 8 ∷ [])
 unfolding after
 join8 = refl

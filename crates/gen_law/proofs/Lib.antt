@@ -4,3 +4,5 @@ pub mod Edits
 pub mod Joined
 pub mod Eight
 pub mod Parts
+pub mod First
+pub mod Whole
