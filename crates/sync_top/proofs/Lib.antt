@@ -8,6 +8,7 @@ pub mod Places
 pub mod Planning
 pub mod Playing
 pub mod Plays
+pub mod Recoveries
 pub mod RunLemmas
 pub mod Shown
 pub mod Spaces
@@ -16,5 +17,6 @@ pub mod Summing
 pub mod Synced
 pub mod Tells
 pub mod Texts
+pub mod Trims
 pub mod Validity
 pub mod Whole
