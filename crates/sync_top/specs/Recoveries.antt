@@ -12,8 +12,9 @@ use Rattle.sync_journal.specs.Records.Reading.{Good}
 use Rattle.sync_model.specs.Clients.{ClientRecord, client_of, last, no_client}
 use Rattle.sync_model.specs.Each.{Each}
 use Rattle.sync_model.specs.Files.{client_opens, server_opens}
-use Rattle.sync_model.specs.Messages.{Message}
-use Rattle.sync_model.specs.Recovery.{CountIsFinal, IsFrame, ListsDrops, SavesOnce}
+use Rattle.sync_model.specs.Messages.{Change, Message}
+use Rattle.sync_model.specs.Recovery.{CountIsFinal, IsFrame, ListsDrops, SavesNow, SavesOnce}
+use Rattle.sync_model.specs.Resets.{SavedAs, heir as heir_step}
 use Rattle.sync_model.specs.Rescues.{LivesOn}
 use Rattle.sync_model.specs.Servers.{ServerRecord, count, heir_of, no_server, server_of}
 use Rattle.sync_exchange.specs.Profile.{the_profile}
@@ -106,6 +107,10 @@ pub record IsSavedOnce (server : List ServerRecord) (ident by : ℕ) (old heir :
   -- once the heir has them all, each change is integrated as itself, or saved
   pub lives : length (client_of the_profile old).made ≤ count (server_of the_profile server) ident + last (client_of the_profile heir)
       → (place : ℕ) → place < length (client_of the_profile old).made → LivesOn the_profile server ident old heir place
+  -- "saved" is said of the next change alone, with what is left out of it
+  pub says : (records : List ClientRecord) (change : Change) (number : ℕ) (dropped : List (ℕ × ℕ))
+      → (heir_step the_profile (client_of the_profile records) by (count (server_of the_profile server) ident) change).answer ≡ Ok (SavedAs number dropped)
+      → SavesNow the_profile (client_of the_profile records) by (count (server_of the_profile server) ident) change number dropped
   -- what is left out of a saved change is listed, each instruction once, with its break
   pub drops : (objects : State) (instrs : List Instr) → ListsDrops the_profile objects instrs
 

@@ -16,5 +16,6 @@ returns c server ident by old first runs r =
       lives = subst (λ rs. length (client_of the_profile old).made ≤ count (server_of the_profile server) ident + last (client_of the_profile rs)
           → (place : ℕ) → place < length (client_of the_profile old).made → LivesOn the_profile server ident old rs place)
           m.makes (c.recoveries_end.ensures.lives server ident by old first m.moves m.is);
+      says = λ records change number dropped saved. c.heirs_save_once.ensures.saves records by (count (server_of the_profile server) ident) change number dropped saved;
       drops = λ objects instrs. c.breaks_are_listed.ensures objects instrs;
     }
