@@ -66,13 +66,15 @@ next : (floor : ℕ) (whole less : List ServerRecord) → Both floor whole less 
     → ◌≡◌ {A = Answer ServerRecord} (replied (serve_by the_profile (kept_by less) m)) (replied (serve_by the_profile (kept_by whole) m)) × Both floor (whole ++ new_by whole m) (less ++ new_by less m)
 next floor whole less b m same =
     let x = serves whole m b.whole_gives in
-    let y = serves less m b.less_gives in
-    (ap₂ (λ t rs. record { text = frame t; records = rs }) same.1 same.0, record {
-      whole_gives = x.1;
-      less_gives = y.1;
-      kept = subst₂ (λ u v. KeptLess u v) (sym x.0) (sym y.0) same.2;
-      floor_is = ap (λ (k : Parts Instr State). k.floor) (y.0 ∙ sym (serve_writes the_profile (kept_by less) m).gives) ∙ parts_floor the_profile (new_by less m) (kept_by less) ∙ b.floor_is;
-    })
+    let y = serves less m b.less_gives in (
+      ap₂ (λ t rs. record { text = frame t; records = rs }) same.1 same.0,
+      record {
+        whole_gives = x.1;
+        less_gives = y.1;
+        kept = subst₂ (λ u v. KeptLess u v) (sym x.0) (sym y.0) same.2;
+        floor_is = ap (λ (k : Parts Instr State). k.floor) (y.0 ∙ sym (serve_writes the_profile (kept_by less) m).gives) ∙ parts_floor the_profile (new_by less m) (kept_by less) ∙ b.floor_is;
+      },
+    )
 
 none_added : (floor : ℕ) (whole less : List ServerRecord) → Both floor whole less → Both floor (whole ++ []) (less ++ [])
 none_added floor whole less b = subst₂ (λ w l. Both floor w l) (sym (append-nil whole)) (sym (append-nil less)) b
