@@ -8,12 +8,18 @@ ghost use Rattle.sync_model.specs.Fronts.{file_gives};
 ghost use Rattle.sync_model.specs.Log.{Stands, WorldFacts};
 ghost use Rattle.sync_model.specs.Parts.{Parts, parts_of};
 ghost use Rattle.sync_model.specs.Reports.{report_by_log, report_of};
-ghost use Rattle.sync_model.specs.Servers.{server_of};
+ghost use Rattle.sync_model.specs.Clients.{ClientRecord};
+ghost use Rattle.sync_model.specs.Servers.{ServerRecord, server_of};
 ghost use Rattle.sync_model.specs.Worlds.{Edits, Event, IsReached, Made, World, happens, world_after};
+ghost use Rattle.sync_node.specs.Items.{Items};
+ghost use Rattle.sync_node.specs.ServerTexts.{IsOwn};
+ghost use Rattle.sync_top.specs.Recoveries.{HeirRun, IsRecovery, IsSavedOnce, after_runs};
 ghost use Rattle.sync_top.specs.Synced.{AgreeWhereQuiet, AllCatchUp};
+ghost use Rattle.sync_top.specs.Trims.{IsServedAlike, StaysOwn};
 
 use sync_exchange::{Instrs, messages_bear_each_changeset};
 use sync_model::{
+    breaks_are_listed, heirs_save_once, recoveries_end, retired_counts_are_final,
     server_files_give_what_is_kept, servers_answer_by_parts, worlds_hold, worlds_make_progress,
 };
 
@@ -39,4 +45,22 @@ pub(crate) fn servers_keep()
     worlds_hold::<Instrs>();
     servers_answer_by_parts::<Instrs>();
     server_files_give_what_is_kept::<Instrs>();
+}
+
+/// A server over the file that `trim` writes of its own answers as over that, up to the first message that reaches below the
+/// new floor. What a server itself wrote stays its own file.
+pub(crate) fn trims_hold()
+    ensures alike { (records : List ServerRecord) → IsOwn records → IsServedAlike records }
+    ensures own { (records : List ServerRecord) (frames : Items) → StaysOwn records frames }
+{}
+
+/// However runs over an heir's file are repeated, and wherever they are stopped, each change of the old client is integrated or
+/// saved once.
+pub(crate) fn recoveries_hold()
+    ensures { (server : List ServerRecord) (ident by : ℕ) (old first : List ClientRecord) (runs : List HeirRun) → IsRecovery server ident by old first runs → IsSavedOnce server ident by old (after_runs first runs) }
+{
+    heirs_save_once::<Instrs>();
+    retired_counts_are_final::<Instrs>();
+    breaks_are_listed::<Instrs>();
+    recoveries_end::<Instrs>();
 }
