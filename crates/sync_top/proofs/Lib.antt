@@ -18,3 +18,4 @@ pub mod Tells
 pub mod Trims
 pub mod Validity
 pub mod Whole
+mod Equal

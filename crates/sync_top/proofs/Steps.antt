@@ -9,9 +9,9 @@ use Rattle.sync_gen.specs.declared.turns.Turn.{Turn}
 use Rattle.sync_gen.specs.declared.turns.TurnKind.{TurnKind}
 use Rattle.sync_model.specs.Worlds.{Words, World}
 use Rattle.sync_top.specs.declared.counts.Counts.{Counts}
-use Rattle.sync_top.specs.declared.plan.Move.TheVariants as moves
+use Rattle.gen_law.specs.declared.plan.Move.TheVariants as moves
 use Rattle.sync_top.specs.Counting.{counted}
-use Rattle.sync_top.specs.Generated.{done_by, move_events}
+use Rattle.gen_law.specs.Generated.{done_by, move_events}
 use Rattle.sync_top.specs.Telling.{is_made, is_message, is_refused, one_if}
 
 pub on_ok : {P Q : Type 0} (r : Result (Unit {0}) NoMemory) → OnOk r P → (P → Q) → OnOk r Q

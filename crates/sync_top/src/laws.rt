@@ -1,5 +1,5 @@
 // The laws of worlds, as a replay uses them.
-ghost use Rattle.std.specs.Prelude.{◌≡◌, ℕ, List, Ok, Some, map};
+ghost use Rattle.std.specs.Prelude.{◌≡◌, ◌≤◌, ℕ, List, Ok, Some, map};
 ghost use Rattle.sync_data.specs.declared.instr.Instr.{Instr};
 ghost use Rattle.sync_base.specs.States.{IsState, State};
 ghost use Rattle.sync_exchange.specs.Profile.{the_profile};
@@ -10,13 +10,18 @@ ghost use Rattle.sync_model.specs.Parts.{Parts, parts_of};
 ghost use Rattle.sync_model.specs.Reports.{report_by_log, report_of};
 ghost use Rattle.sync_model.specs.Clients.{ClientRecord};
 ghost use Rattle.sync_model.specs.Servers.{ServerRecord, server_of};
-ghost use Rattle.sync_model.specs.Worlds.{Edits, Event, IsReached, Made, World, happens, world_after};
+ghost use Rattle.sync_model.specs.Worlds.{Edits, Event, IsReached, Made, World, empty_world, happens, world_after};
+ghost use Rattle.gen_law.specs.Ends.{AllCaughtUp};
+ghost use Rattle.gen_law.specs.Generated.{events_of, world_by};
 ghost use Rattle.sync_node.specs.Items.{Items};
 ghost use Rattle.sync_node.specs.ServerTexts.{IsOwn};
+ghost use Rattle.sync_top.specs.Jobs.{most_turns};
 ghost use Rattle.sync_top.specs.Recoveries.{HeirRun, IsRecovery, IsSavedOnce, after_runs};
+ghost use Rattle.sync_top.specs.Summaries.{equal_in};
 ghost use Rattle.sync_top.specs.Synced.{AgreeWhereQuiet, AllCatchUp};
 ghost use Rattle.sync_top.specs.Trims.{IsServedAlike, StaysOwn};
 
+use gen_law::generated_exchanges_catch_up;
 use sync_exchange::{Instrs, messages_bear_each_changeset};
 use sync_model::{
     breaks_are_listed, heirs_save_once, recoveries_end, retired_counts_are_final,
@@ -36,6 +41,14 @@ pub(crate) fn exchanges_hold()
     messages_bear_each_changeset();
     worlds_hold::<Instrs>();
     worlds_make_progress::<Instrs>();
+}
+
+/// In the end of every generated exchange all clients are current and equal to the server.
+pub(crate) fn generated_end_equal()
+    ensures caught_up { (seed count : ℕ) → count ≤ most_turns → AllCaughtUp (world_by empty_world (events_of seed count)) }
+    ensures equal { (seed count : ℕ) → count ≤ most_turns → equal_in (world_by empty_world (events_of seed count)) ≡ 8 }
+{
+    generated_exchanges_catch_up();
 }
 
 /// What a server of such a world keeps is what its records give.

@@ -7,20 +7,21 @@ ghost use Rattle.sync_model.specs.Worlds as model;
 ghost use Rattle.sync_world.specs.Holding.{Holds};
 ghost use Rattle.sync_top.specs.Commands.{Does, IsFileFor, IsInputFor, ReadsNothing};
 ghost use Rattle.sync_top.specs.Exchange.{IsValidInput, answers, events_of, report};
-ghost use Rattle.sync_top.specs.Generated.{events_of as drawn_events, world_by};
+ghost use Rattle.gen_law.specs.Ends.{AllCaughtUp};
+ghost use Rattle.gen_law.specs.Generated.{events_of as drawn_events, world_by};
 ghost use Rattle.sync_top.specs.Jobs.{AsksFor, IsFileCommand, most_turns};
 ghost use Rattle.sync_top.specs.Playing.{Writes};
 ghost use Rattle.sync_top.specs.Recoveries.{SavesAtAnyEnd};
 ghost use Rattle.sync_top.specs.Runs.{FollowsTold, IsDoneOrNoMemory, Leaves, Passes, run_from, runs};
 ghost use Rattle.sync_top.specs.Statuses.{IsJobStatus};
-ghost use Rattle.sync_top.specs.Summaries.{summary_of};
+ghost use Rattle.sync_top.specs.Summaries.{equal_in, summary_of};
 ghost use Rattle.sync_top.specs.Synced.{IsSynced, first};
 ghost use Rattle.sync_top.specs.Trims.{ServesOwn, TrimsAlike};
 
 use super::files::run_file;
 use super::generated::generate;
 use super::job::{FileCommand, Job, job_of};
-use super::laws::{exchanges_hold, recoveries_hold, trims_hold};
+use super::laws::{exchanges_hold, generated_end_equal, recoveries_hold, trims_hold};
 use super::lines::run_lines;
 use std::alloc::Global;
 use sync_disk::Disk;
@@ -53,6 +54,10 @@ fn run_job<S: Source, K: Sink, D: Disk>(
         → Holds (world_by model.empty_world (drawn_events seed count)) world.new }
     ensures generated_headline { (seed count : ℕ) → job ≡ Job.Generate seed count
         → IsSynced (drawn_events seed count) (world_by model.empty_world (drawn_events seed count)) }
+    ensures caught_up { (seed count : ℕ) → job ≡ Job.Generate seed count
+        → AllCaughtUp (world_by model.empty_world (drawn_events seed count)) }
+    ensures equal { (seed count : ℕ) → job ≡ Job.Generate seed count
+        → equal_in (world_by model.empty_world (drawn_events seed count)) ≡ 8 }
     ensures file { (command : FileCommand) → job ≡ Job.File command
         → Does D.content D.images D.moment D.images_since command (S.left source.old) result disk.old disk.new (K.taken sink.old) (K.taken sink.new) }
     ensures trims { job ≡ Job.File FileCommand.Trim → TrimsAlike (D.content disk.old) }
@@ -89,6 +94,7 @@ fn run_job<S: Source, K: Sink, D: Disk>(
         }
         Job::Generate { seed, count } => {
             exchanges_hold();
+            generated_end_equal();
             generate(alloc, seed, count, sink, world)
         }
         Job::File { command } => {
@@ -141,6 +147,13 @@ pub fn run<S: Source, K: Sink, D: Disk>(
     // The headline holds of it too.
     ensures generated_headline { (seed count : ℕ) → AsksFor (Job.Generate seed count) (map string_bytes words.now)
         → IsSynced (drawn_events seed count) (world_by model.empty_world (drawn_events seed count)) }
+
+    // In the end all eight clients have the whole history, nothing unsent and the server's objects, and the number written as
+    // `equal` is 8.
+    ensures caught_up { (seed count : ℕ) → AsksFor (Job.Generate seed count) (map string_bytes words.now)
+        → AllCaughtUp (world_by model.empty_world (drawn_events seed count)) }
+    ensures equal { (seed count : ℕ) → AsksFor (Job.Generate seed count) (map string_bytes words.now)
+        → equal_in (world_by model.empty_world (drawn_events seed count)) ≡ 8 }
 
     // A command over a file does what is written of it.
     ensures file { (command : FileCommand) → AsksFor (Job.File command) (map string_bytes words.now)

@@ -36,6 +36,12 @@ returns-in-Some-clause-generates g c = λ seed count asks. c.run_job.ensures.gen
 pub returns-in-Some-clause-generated_headline : goal.returns-in-Some-clause-generated_headline
 returns-in-Some-clause-generated_headline g c = λ seed count asks. c.run_job.ensures.generated_headline seed count (asked_is (Some c.in-Some.job) (map string_bytes c.args.words.now) c.in-Some.ensures c.in-Some.job (jobs.Generate seed count) refl asks)
 
+pub returns-in-Some-clause-caught_up : goal.returns-in-Some-clause-caught_up
+returns-in-Some-clause-caught_up g c = λ seed count asks. c.run_job.ensures.caught_up seed count (asked_is (Some c.in-Some.job) (map string_bytes c.args.words.now) c.in-Some.ensures c.in-Some.job (jobs.Generate seed count) refl asks)
+
+pub returns-in-Some-clause-equal : goal.returns-in-Some-clause-equal
+returns-in-Some-clause-equal g c = λ seed count asks. c.run_job.ensures.equal seed count (asked_is (Some c.in-Some.job) (map string_bytes c.args.words.now) c.in-Some.ensures c.in-Some.job (jobs.Generate seed count) refl asks)
+
 pub returns-in-Some-clause-file : goal.returns-in-Some-clause-file
 returns-in-Some-clause-file g c = λ command asks. c.run_job.ensures.file command (asked_is (Some c.in-Some.job) (map string_bytes c.args.words.now) c.in-Some.ensures c.in-Some.job (jobs.File command) refl asks)
 
@@ -77,6 +83,12 @@ returns-in-None-clause-generates g c = λ seed count asks. absurd (none_asked No
 
 pub returns-in-None-clause-generated_headline : goal.returns-in-None-clause-generated_headline
 returns-in-None-clause-generated_headline g c = λ seed count asks. absurd (none_asked None (map string_bytes c.args.words.now) c.in-None.ensures (jobs.Generate seed count) refl asks)
+
+pub returns-in-None-clause-caught_up : goal.returns-in-None-clause-caught_up
+returns-in-None-clause-caught_up g c = λ seed count asks. absurd (none_asked None (map string_bytes c.args.words.now) c.in-None.ensures (jobs.Generate seed count) refl asks)
+
+pub returns-in-None-clause-equal : goal.returns-in-None-clause-equal
+returns-in-None-clause-equal g c = λ seed count asks. absurd (none_asked None (map string_bytes c.args.words.now) c.in-None.ensures (jobs.Generate seed count) refl asks)
 
 pub returns-in-None-clause-file : goal.returns-in-None-clause-file
 returns-in-None-clause-file g c = λ command asks. absurd (none_asked None (map string_bytes c.args.words.now) c.in-None.ensures (jobs.File command) refl asks)

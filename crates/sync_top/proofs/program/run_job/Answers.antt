@@ -5,7 +5,7 @@ use Rattle.sync_io.specs.Readers.{readings}
 use Rattle.sync_model.specs.Worlds.{empty_world}
 use Rattle.sync_top.proofs.Asked.{replay_no_bad, written_no_bad}
 use Rattle.sync_top.proofs.Synced.{Laws, first_synced, generated_synced, left_synced}
-use Rattle.sync_top.specs.Generated.{events_of}
+use Rattle.gen_law.specs.Generated.{events_of}
 use Rattle.sync_top.proofs.Recoveries.{saves_at_end}
 use Rattle.sync_top.proofs.Validity.{complete}
 use Rattle.sync_top.specs.Recoveries.{SavesAtAnyEnd}
@@ -46,6 +46,12 @@ pub returns-in-Generate-clause-generated_headline : goal.returns-in-Generate-cla
 returns-in-Generate-clause-generated_headline g c =
     let laws : Laws = record { facts = c.exchanges_hold-in-Generate.ensures.facts; reports = c.exchanges_hold-in-Generate.ensures.reports; acknowledged = c.exchanges_hold-in-Generate.ensures.acknowledged; quiet = c.exchanges_hold-in-Generate.ensures.quiet; progress = c.exchanges_hold-in-Generate.ensures.progress } in
     λ seed count job. generated_synced laws (events_of seed count)
+
+pub returns-in-Generate-clause-caught_up : goal.returns-in-Generate-clause-caught_up
+returns-in-Generate-clause-caught_up g c = λ seed count job. c.generated_end_equal.ensures.caught_up seed count (c.requires.turns seed count job)
+
+pub returns-in-Generate-clause-equal : goal.returns-in-Generate-clause-equal
+returns-in-Generate-clause-equal g c = λ seed count job. c.generated_end_equal.ensures.equal seed count (c.requires.turns seed count job)
 
 pub returns-in-Replay-clause-world : goal.returns-in-Replay-clause-world
 returns-in-Replay-clause-world g c = λ job. (c.run_lines.ensures.run empty_world c.requires.fresh).leaves

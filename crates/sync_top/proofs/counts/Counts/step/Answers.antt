@@ -2,7 +2,7 @@ use Rattle.sync_model.specs.Worlds.{empty_world, happens}
 use Rattle.sync_exchange.specs.Profile.{the_profile}
 use Rattle.sync_world.specs.Events.{event_seen}
 use Rattle.sync_words.specs.Outcomes.{outcome_seen}
-use Rattle.sync_top.specs.Generated.{world_by}
+use Rattle.gen_law.specs.Generated.{world_by}
 use Rattle.sync_top.proofs.Playing.{stepped}
 use Rattle.sync_top.proofs.Steps.{of_seen}
 use Rattle.sync_top.proofs.counts.Counts.step.Goals as goal
