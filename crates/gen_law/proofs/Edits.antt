@@ -1,16 +1,14 @@
 -- Each edit that is drawn is a light instruction on a list that is far from the greatest length.
-use Rattle.std.proofs.Common.{◌≡◌, ◌≢◌, ℕ, zero, suc, ◌+◌, ◌*◌, ◌/◌, ◌%◌, ◌^◌, ◌<◌, ◌≤◌, Bool, true, false, ◌&&◌, ◌||◌, not, List, [], ◌∷◌, ◌++◌, Option, Some, None, refl, sym, ap, ◌∙◌, subst, arith, if◌then◌else◌, ◌==◌, eqb-true, length, nat_le, nat_lt}
-use Rattle.std.specs.Prelude.{pos, codes, decimal}
+use Rattle.std.proofs.Common.{◌≡◌, ℕ, zero, suc, ◌+◌, ◌/◌, ◌^◌, ◌<◌, ◌≤◌, Bool, true, false, ◌&&◌, not, List, [], ◌∷◌, Option, Some, None, refl, ap, arith, if◌then◌else◌, ◌==◌, eqb-true, length, nat_le, nat_lt}
+use Rattle.std.specs.Prelude.{codes, decimal}
 use Rattle.std.specs.Option.{option_and_then}
-use Rattle.std.specs.Str.{is_utf8, IsAscii}
+use Rattle.std.specs.Str.{is_utf8}
 use Rattle.std.specs.Prelude.{slice_index}
-use Rattle.std.proofs.lemmas.Bool.{lt-ltb, ltb-true, le-leb, leb-true}
+use Rattle.std.proofs.lemmas.Bool.{lt-ltb, ltb-true, le-leb}
 use Rattle.std.proofs.lemmas.Fmt.{IsAscii-decimal, length-decimal-le}
 use Rattle.std.proofs.lemmas.Nat.{mod_below}
 use Rattle.std.proofs.lemmas.Str.{IsUtf8-from_ascii, is_utf8-from_IsUtf8}
 use Rattle.sync_data.specs.Payload.{payload}
-use Rattle.sync_data.specs.declared.value.Value.{Value}
-use Rattle.sync_data.specs.declared.instr.CellName.{CellName}
 use Rattle.sync_data.specs.declared.instr.Instr.{Instr}
 use Rattle.sync_base.specs.Effects.{effect_of}
 use Rattle.sync_base.specs.States.{State, Cell, One, Many, Members, Dict, cell_at}
@@ -18,8 +16,8 @@ use Rattle.sync_codec.specs.Reading.{is_name}
 use Rattle.sync_codec.specs.Spelling.{instr_fields}
 use Rattle.sync_exchange.specs.Profile.{weight}
 use Rattle.sync_exchange.specs.Whole.{is_string, are_strings, is_key, is_value, is_cell, is_element, is_gap, has_fields, strings_in, is_whole}
-use Rattle.sync_gen.specs.Draws.{Drawing, next, draw, given, and_then}
-use Rattle.sync_gen.specs.Edits.{table, key_of, cell, integer, text_of, link_to, create_object, erase_object, update, add_integer, list_insert, list_erase, list_update, set_insert, set_erase, number_updated, number_raised, text_updated, element_inserted, element_erased, element_updated, member_inserted, member_erased, link_updated, erased_or_linked, edit_by, short_length, length_in, edit_at, edit_of}
+use Rattle.sync_gen.specs.Draws.{Drawing, next, draw, given}
+use Rattle.sync_gen.specs.Edits.{table, key_of, cell, integer, text_of, link_to, create_object, erase_object, update, add_integer, list_insert, list_erase, list_update, set_insert, set_erase, number_updated, number_raised, text_updated, element_inserted, element_erased, element_updated, member_inserted, member_erased, link_updated, edit_by, short_length, length_in, edit_at, edit_of}
 use Rattle.gen_law.proofs.Meeting.{IsTame}
 
 abbrev pub Fits : Instr → Type 0

@@ -1,5 +1,5 @@
 -- Worlds in which the eight clients made drawn changes alone, and what each event makes of one.
-use Rattle.std.proofs.Common.{◌≡◌, ◌≢◌, ℕ, zero, suc, ◌+◌, ◌-◌, ◌<◌, ◌≤◌, Bool, true, false, List, [], ◌∷◌, ◌++◌, Option, Some, None, Result, Ok, Err, refl, sym, ap, ap₂, ◌∙◌, subst, arith, if◌then◌else◌, ◌==◌, length, map}
+use Rattle.std.proofs.Common.{◌≡◌, ◌≢◌, ℕ, zero, suc, ◌+◌, ◌≤◌, Bool, true, false, List, [], ◌∷◌, ◌++◌, Option, Some, None, Result, Ok, Err, refl, sym, ap, ap₂, ◌∙◌, subst, arith, if◌then◌else◌, ◌==◌, length, map}
 use Rattle.std.specs.Prelude.{bytes_eq}
 use Rattle.sync_data.specs.declared.instr.Instr.{Instr}
 use Rattle.sync_base.specs.States.{State}
@@ -10,7 +10,7 @@ use Rattle.sync_model.specs.Clients.{Client, ClientRecord, ClientRefusal, Client
 use Rattle.sync_model.specs.Harmless.{IsHarmless, IsHarmlessEvent, made_by_event}
 use Rattle.sync_model.specs.Messages.{Message, Upload}
 use Rattle.sync_model.specs.Servers.{serve, server_of}
-use Rattle.sync_model.specs.Worlds.{Event, IsReached, Node, NoMessage, NoNode, Outcome, World, at, client_called, client_calls, client_ends, client_moved, delivers, happens, has_name, is_node, made_words, message_at, message_words, messaged, reply_words, says, seek, server_called, server_ends, server_moved, server_name, stopped, took_words}
+use Rattle.sync_model.specs.Worlds.{Event, IsReached, Node, NoNode, Outcome, World, at, client_called, client_calls, client_ends, client_moved, delivers, happens, has_name, is_node, made_words, message_at, message_words, messaged, reply_words, says, seek, server_called, server_ends, server_moved, server_name, stopped, took_words}
 use Rattle.sync_model.proofs.Calling.{named_as}
 use Rattle.sync_model.proofs.Lists.{at_map, at_of_map, map_put, seek_found}
 use Rattle.sync_model.proofs.Reached.{reached_step}

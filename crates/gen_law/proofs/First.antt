@@ -1,5 +1,5 @@
 -- The world after all clients joined is such a world, and the first changes are drawn.
-use Rattle.std.proofs.Common.{◌≡◌, ◌≢◌, ℕ, zero, suc, ◌+◌, ◌<◌, ◌≤◌, Bool, true, false, List, [], ◌∷◌, ◌++◌, Option, Some, None, refl, sym, ap, ap₂, ◌∙◌, subst, arith, if◌then◌else◌, length, map, sum_by}
+use Rattle.std.proofs.Common.{◌≡◌, ◌≢◌, ℕ, zero, suc, ◌<◌, ◌≤◌, Bool, true, false, List, [], ◌∷◌, Option, Some, None, refl, sym, ap, ap₂, ◌∙◌, subst, arith, if◌then◌else◌, length, map, sum_by}
 use Rattle.std.specs.Prelude.{bytes_eq, codes}
 use Rattle.sync_data.specs.Payload.{payload}
 use Rattle.sync_data.specs.declared.key.KeyKind.TheVariants as key_kinds
@@ -17,10 +17,9 @@ use Rattle.sync_model.specs.Progress.{made_by_all}
 use Rattle.sync_model.specs.Worlds.{Event, IsReached, Node, Stop, World, arm, at, empty_world, has_name, is_own, server_name}
 use Rattle.sync_model.proofs.Reached.{reached_first, reached_step}
 use Rattle.sync_exchange.specs.Profile.{the_profile, weight}
-use Rattle.sync_exchange.specs.Whole.{are_strings, has_fields, is_whole, strings_in}
+use Rattle.sync_exchange.specs.Whole.{are_strings, has_fields, strings_in}
 use Rattle.sync_gen.specs.Clients.{add_column, first_edits_of, id_of, name_of}
 use Rattle.sync_gen.specs.Edits.{table}
-use Rattle.gen_law.specs.declared.plan.Move.{Move}
 use Rattle.gen_law.specs.declared.plan.Move.TheVariants as moves
 use Rattle.gen_law.specs.Generated.{after, joined, world_by}
 use Rattle.gen_law.specs.Plans.{AreClients, clients}

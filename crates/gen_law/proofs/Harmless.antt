@@ -1,7 +1,7 @@
 -- The changes of a generated exchange are harmless: one instruction that is tame, or the definitions of the first client.
-use Rattle.std.proofs.Common.{◌≡◌, ◌≢◌, ◌⊎◌, inl, inr, ⊎_elim, ℕ, zero, suc, ◌+◌, ◌*◌, ◌<◌, ◌≤◌, Bool, true, false, ◌&&◌, ◌||◌, not, List, [], ◌∷◌, ◌++◌, Option, Some, None, Result, Ok, Err, IfOk, IfErr, refl, sym, ap, ap₂, ◌∙◌, subst, arith, if◌then◌else◌, ◌==◌, eqb-true, length, nat_le, sum_by}
+use Rattle.std.proofs.Common.{◌≡◌, ◌≢◌, ◌⊎◌, inl, inr, ⊎_elim, ℕ, suc, ◌+◌, ◌<◌, ◌≤◌, Bool, true, false, ◌&&◌, ◌||◌, not, List, [], ◌∷◌, ◌++◌, Option, Some, None, Result, Ok, Err, IfOk, IfErr, refl, sym, ap, ◌∙◌, subst, arith, if◌then◌else◌, ◌==◌, eqb-true, length, nat_le, sum_by}
 use Rattle.std.proofs.lemmas.Bool.{leb-true, le-leb}
-use Rattle.std.proofs.lemmas.List.Sums.{sum_by-cons, sum_by-append}
+use Rattle.std.proofs.lemmas.List.Sums.{sum_by-cons}
 use Rattle.sync_data.specs.Payload.{payload, payload_all}
 use Rattle.sync_data.specs.declared.instr.Instr.{Instr}
 use Rattle.sync_data.specs.declared.instr.Instr.TheVariants as instrs
@@ -11,7 +11,7 @@ use Rattle.sync_law.specs.Coded.{meet_by_code}
 use Rattle.sync_theory.specs.Lists.{kept, step_right, met, row, step_down, rowed, cross}
 use Rattle.sync_model.specs.Profile.{IsNamedKind, IsNoHeavier, needs}
 use Rattle.sync_model.specs.Harmless.{AreHarmless}
-use Rattle.sync_exchange.specs.Profile.{the_profile, weight, fits_changeset}
+use Rattle.sync_exchange.specs.Profile.{the_profile, weight}
 use Rattle.sync_exchange.specs.Whole.{is_whole}
 use Rattle.sync_exchange.specs.Lemmas.Lawful.{real_lawful, small_instrs}
 use Rattle.sync_exchange.specs.Lemmas.Roomy.{spelled_short}

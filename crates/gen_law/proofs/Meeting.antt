@@ -6,13 +6,11 @@ use Rattle.sync_data.specs.Spot.{Spot}
 use Rattle.sync_data.specs.Orders.{value_cmp}
 use Rattle.sync_data.specs.declared.instr.Instr.{Instr}
 use Rattle.sync_data.specs.declared.instr.Instr.TheVariants as instrs
-use Rattle.sync_base.specs.declared.answers.Mismatch.{Mismatch}
 use Rattle.sync_base.specs.declared.answers.Mismatch.TheVariants as mismatches
-use Rattle.sync_base.specs.declared.answers.Outcome.{Outcome}
 use Rattle.sync_base.specs.Codes.{mismatch_code}
 use Rattle.sync_base.specs.Effects.{CellPath, Edit, Effect, Set, Add, Replace, Insert, Remove, Include, Exclude, Bind, Empty, NewTable, NewColumn, Create, Erase, Change, effect_of, instr_of}
 use Rattle.sync_base.specs.Merged.{path_cmp}
-use Rattle.sync_base.specs.Rules.{Outcomes, Answer, kept, only_left, only_right, neither, later_of, spot, top, sized, is_summed, rule_of_edits, has_row, placed, lifted, rule, outcome_of, meeting}
+use Rattle.sync_base.specs.Rules.{Answer, kept, only_left, only_right, later_of, top, sized, is_summed, rule_of_edits, has_row, placed, lifted, rule, outcome_of}
 use Rattle.sync_base.specs.States.{object_cmp}
 use Rattle.sync_law.specs.Coded.{coded, meet_by_code}
 use Rattle.sync_law.specs.Instrs.{as_pair}

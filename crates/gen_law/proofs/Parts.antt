@@ -1,16 +1,14 @@
 -- What the parts of a plan make of such a world, one after another.
-use Rattle.std.proofs.Common.{◌≡◌, ℕ, zero, suc, ◌+◌, ◌<◌, ◌≤◌, Bool, true, false, List, [], ◌∷◌, ◌++◌, Option, Some, None, refl, sym, ap, ap₂, ◌∙◌, subst, arith, append_assoc, append-nil, length, map}
-use Rattle.std.specs.Prelude.{bytes_eq}
+use Rattle.std.proofs.Common.{◌≡◌, ℕ, zero, suc, ◌+◌, List, [], ◌∷◌, ◌++◌, refl, sym, ap, ap₂, ◌∙◌, subst, arith, append_assoc, append-nil, length, map}
 use Rattle.sync_data.specs.declared.instr.Instr.{Instr}
 use Rattle.sync_model.specs.Bytes.{Name}
 use Rattle.sync_model.specs.Harmless.{after_once, in_turn, once}
 use Rattle.sync_model.specs.Progress.{asks_at, uploads_at}
 use Rattle.sync_model.specs.Clients.{client_of}
-use Rattle.sync_model.specs.Worlds.{Event, Node, World, at, has_name, world_after}
+use Rattle.sync_model.specs.Worlds.{Event, World, world_after}
 use Rattle.sync_model.proofs.Progress.Interrupted.{after_append}
 use Rattle.sync_exchange.specs.Profile.{the_profile}
 use Rattle.sync_gen.specs.Clients.{name_of}
-use Rattle.sync_gen.specs.Draws.{draw}
 use Rattle.sync_gen.specs.Edits.{edit_of}
 use Rattle.sync_gen.specs.Turns.{turn_of}
 use Rattle.sync_gen.specs.declared.turns.TurnKind.{TurnKind}
@@ -21,7 +19,7 @@ use Rattle.gen_law.specs.Generated.{after, done_by, events_by, exchanged, move_e
 use Rattle.gen_law.specs.Plans.{AreClients, IsClient, clients, round, rounds, turns}
 use Rattle.gen_law.proofs.Edits.{below, drawn_edit}
 use Rattle.gen_law.proofs.Eight.{Exchanged, Good, Lasts, asks_once, eight, exchange, good_after, good_less, good_made, there, uploads_once}
-use Rattle.gen_law.proofs.Harmless.{is_drawn, one_drawn}
+use Rattle.gen_law.proofs.Harmless.{one_drawn}
 
 -- ---- a world and the state of the draws, after parts of a plan
 
@@ -124,7 +122,7 @@ module _ (lasts : Lasts) where
       on {q1} {q2} {r} a b f =
           let n : length q2.0.messages ≡ suc (suc (suc (suc (length q.0.messages)))) = b.messages ∙ ap (λ k. suc (suc k)) a.messages in
           let w2 : q2.0 ≡ world_after the_profile (world_after the_profile q.0 (uploads_at (name_of c) (length q.0.messages))) (asks_at (name_of c) (suc (suc (length q.0.messages)))) =
-              b.world ∙ ap₂ (λ v k. world_after the_profile v (asks_at (name_of c) k)) a.world a.messages in
+          b.world ∙ ap₂ (λ v k. world_after the_profile v (asks_at (name_of c) k)) a.world a.messages in
           record {
             good = f.good;
             world = f.world ∙ ap₂ (λ v k. world_after the_profile v (once (map name_of cs) k)) w2 n;

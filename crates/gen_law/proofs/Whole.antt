@@ -1,7 +1,6 @@
 -- The whole exchange of a seed: all catch up.
-use Rattle.std.proofs.Common.{◌≡◌, ◌≢◌, ℕ, zero, suc, ◌+◌, ◌*◌, ◌<◌, ◌≤◌, Bool, true, List, [], ◌∷◌, ◌++◌, Some, refl, sym, ap, ◌∙◌, subst, arith, length, map}
+use Rattle.std.proofs.Common.{◌≡◌, ◌≢◌, ℕ, ◌+◌, ◌*◌, ◌<◌, ◌≤◌, Bool, true, List, [], ◌∷◌, ◌++◌, Some, sym, ap, ◌∙◌, subst, arith, length, map}
 use Rattle.sync_data.specs.declared.instr.Instr.{Instr}
-use Rattle.sync_base.specs.States.{State}
 use Rattle.sync_model.specs.Clients.{client_of}
 use Rattle.sync_model.specs.Harmless.{AreHarmless, IsHarmless, in_turn}
 use Rattle.sync_model.specs.Log.{ident_of, subset_of}
@@ -9,14 +8,13 @@ use Rattle.sync_model.specs.Profile.{only_by}
 use Rattle.sync_model.specs.Progress.{AllCurrent, IsCurrent}
 use Rattle.sync_model.specs.Servers.{server_objects, server_of}
 use Rattle.sync_model.specs.Worlds.{IsReached, Node, World, at, empty_world, world_after}
-use Rattle.sync_model.proofs.Progress.Names.{names_of}
 use Rattle.sync_exchange.specs.Profile.{the_profile}
 use Rattle.gen_law.specs.declared.plan.Move.{Move}
 use Rattle.gen_law.specs.declared.plan.Move.TheVariants as moves
 use Rattle.gen_law.specs.Ends.{AllCaughtUp}
 use Rattle.gen_law.specs.Generated.{events_of, world_by}
 use Rattle.gen_law.specs.Plans.{AreClients, clients, plan, rounds, turns}
-use Rattle.gen_law.proofs.Eight.{Good, Lasts, eight, good_less}
+use Rattle.gen_law.proofs.Eight.{Good, Lasts, good_less}
 use Rattle.gen_law.proofs.First.{good_found, join_steps}
 use Rattle.gen_law.proofs.Harmless.{drawn_harmless, is_drawn}
 use Rattle.gen_law.proofs.Joined.{with_clients}
@@ -38,17 +36,16 @@ all_clients =
     ((omega arith, omega arith), ((omega arith, omega arith), ((omega arith, omega arith), ((omega arith, omega arith), ((omega arith, omega arith), ((omega arith, omega arith), ((omega arith, omega arith), ((omega arith, omega arith), tt))))))))
 
 -- before the turns
-first_part : List Move
-first_part = map moves.Join clients ++ moves.Found ∷ [] ++ moves.Push 1 ∷ [] ++ map moves.Pull clients
+abbrev first_parts : List Move
+first_parts = map moves.Join clients ++ moves.Found ∷ [] ++ moves.Push 1 ∷ [] ++ map moves.Pull clients
 
 module _ (lasts : Lasts) (catch_up : CatchUp) (have : HaveObjects) where
-  good_first : (x : ℕ) → Good 1 (steps (map moves.Join clients ++ moves.Found ∷ [] ++ moves.Push 1 ∷ [] ++ map moves.Pull clients) (empty_world, x)).0
+  good_first : (x : ℕ) → Good 1 (steps first_parts (empty_world, x)).0
   good_first x =
       let a : List Move = map moves.Join clients in
-      let q : World × ℕ = step moves.Found (with_clients clients, x) in
-      let to : steps (a ++ moves.Found ∷ [] ++ moves.Push 1 ∷ [] ++ map moves.Pull clients) (empty_world, x) ≡ steps (map moves.Pull clients) (step (moves.Push 1) (step moves.Found (with_clients clients, x))) =
-          steps_append (a ++ moves.Found ∷ [] ++ moves.Push 1 ∷ []) (map moves.Pull clients) (empty_world, x)
-          ∙ ap (steps (map moves.Pull clients)) (steps_append (a ++ moves.Found ∷ []) (moves.Push 1 ∷ []) (empty_world, x) ∙ ap (step (moves.Push 1)) (steps_append a (moves.Found ∷ []) (empty_world, x) ∙ ap (step moves.Found) (join_steps x))) in
+      let to : steps first_parts (empty_world, x) ≡ steps (map moves.Pull clients) (step (moves.Push 1) (step moves.Found (with_clients clients, x))) =
+      steps_append (a ++ moves.Found ∷ [] ++ moves.Push 1 ∷ []) (map moves.Pull clients) (empty_world, x)
+      ∙ ap (steps (map moves.Pull clients)) (steps_append (a ++ moves.Found ∷ []) (moves.Push 1 ∷ []) (empty_world, x) ∙ ap (step (moves.Push 1)) (steps_append a (moves.Found ∷ []) (empty_world, x) ∙ ap (step moves.Found) (join_steps x))) in
       subst (λ (r : World × ℕ). Good 1 r.0) (sym to)
       (good_pulls lasts 1 clients all_clients (step (moves.Push 1) (step moves.Found (with_clients clients, x)))
       (good_push lasts 1 (step moves.Found (with_clients clients, x)) (good_found lasts all_clients x) 1 (omega arith, omega arith)))
@@ -70,9 +67,8 @@ module _ (lasts : Lasts) (catch_up : CatchUp) (have : HaveObjects) where
   pub all_catch_up : (seed count : ℕ) → count ≤ 100000 → AllCaughtUp (world_by empty_world (events_of seed count))
   unfolding events_of plan
   all_catch_up seed count le =
-      let b : List Move = map moves.Join clients ++ moves.Found ∷ [] ++ moves.Push 1 ∷ [] ++ map moves.Pull clients in
-      let q : World × ℕ = steps (turns count) (steps b (empty_world, seed)) in
-      let to : steps (b ++ turns count ++ rounds 64) (empty_world, seed) ≡ steps (rounds 64) (steps (turns count) (steps b (empty_world, seed))) =
-          steps_append (b ++ turns count) (rounds 64) (empty_world, seed) ∙ ap (steps (rounds 64)) (steps_append b (turns count) (empty_world, seed)) in
-      let g = good_less (1 + count) 100001 q.0 (omega arith) (good_turns lasts 1 count (steps b (empty_world, seed)) (good_first seed)) in
+      let q : World × ℕ = steps (turns count) (steps first_parts (empty_world, seed)) in
+      let to : steps (first_parts ++ turns count ++ rounds 64) (empty_world, seed) ≡ steps (rounds 64) (steps (turns count) (steps first_parts (empty_world, seed))) =
+      steps_append (first_parts ++ turns count) (rounds 64) (empty_world, seed) ∙ ap (steps (rounds 64)) (steps_append first_parts (turns count) (empty_world, seed)) in
+      let g = good_less (1 + count) 100001 q.0 (omega arith) (good_turns lasts 1 count (steps first_parts (empty_world, seed)) (good_first seed)) in
       subst AllCaughtUp (sym (steps_are (plan count) empty_world seed ∙ ap (λ (r : World × ℕ). r.0) to)) (caught_up q (steps (rounds 64) q) g (circled lasts 100001 64 all_clients q g))
