@@ -68,10 +68,14 @@ equal_at w all i c is = on (seek (has_name (name_of c)) w.clients) refl
 
 -- ---- all of them
 
+one : (b : Bool) → b ≡ true → ◌≡◌ {A = ℕ} (cond b 1 0) 1
+one true e = refl
+one false e = cc
+
 count_all : (p : ℕ → Bool) (cs : List ℕ) → ((i c : ℕ) → at cs i ≡ Some c → p c ≡ true) → count_by p cs ≡ length cs
 count_all p [] each = refl
 count_all p (c ∷ cs) each =
-    let first : cond (p c) 1 0 ≡ 1 = ap (λ b. cond b 1 0) (each 0 c refl) in
+    let first = one (p c) (each 0 c refl) in
     let rest = count_all p cs (λ i d is. each (suc i) d is) in
     let sum = sum_by-cons (λ x. cond (p x) 1 0) c cs in
     omega (arith, first, rest, sum)
