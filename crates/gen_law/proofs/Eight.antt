@@ -25,9 +25,6 @@ use Rattle.gen_law.specs.Generated.{after, exchanged, newest_to, world_by}
 use Rattle.gen_law.specs.Plans.{IsClient, clients}
 use Rattle.gen_law.proofs.Harmless.{is_drawn}
 
-abbrev pub AreDrawn : ℕ → ℕ → List Instr → Type 0
-AreDrawn c n is = is_drawn c n is ≡ true
-
 abbrev pub eight : List Name
 eight = map name_of clients
 
