@@ -9,7 +9,7 @@ script didn't see of it (the last moment of each process) is told.
 usage: bench/gate.py [--save FILE] [--log FILE] [--into DOCUMENT] -- COMMAND WORD ..
        bench/gate.py --read FILE [--into DOCUMENT]
 
-    bench/gate.py --save gate.json --log gate.log -- rt ci
+    bench/gate.py --save gate.json --log gate.log -- rt ci --anew
     bench/gate.py --read gate.json --into docs/ARCHITECTURE.md  # between the lines <!-- gate --> and <!-- end of gate -->
 """
 import argparse
@@ -230,7 +230,7 @@ def main():
     words.add_argument("--log", metavar="FILE", help="takes what the command prints")
     words.add_argument("--read", metavar="FILE", help="prints the table of what was kept, and runs nothing")
     words.add_argument("--into", metavar="DOCUMENT", help="puts the table between the marks of a document")
-    words.add_argument("command", nargs="*", metavar="COMMAND", help="for example rt ci")
+    words.add_argument("command", nargs="*", metavar="COMMAND", help="for example rt ci --anew")
     given = words.parse_args()
     if bool(given.read) == bool(given.command):
         words.error("either --read FILE, or -- and a command")

@@ -38,6 +38,7 @@ extern "C" {
 /* ---- the archive: proved code */
 
 bool realm_node_new(void **out);
+void realm_node_free(void *at);
 size_t realm_node_turn(void *at, const uint8_t *request, size_t request_len, uint8_t *reply, size_t reply_len);
 
 /* ---- a node */
@@ -256,12 +257,7 @@ REALM_SYNC_API uint8_t *realm_file_request(int file, char verb, size_t *len) {
 
 /* Lets the node go, and closes its file. What was answered is on the disk. */
 REALM_SYNC_API void realm_close(realm_node *node) {
-    static const uint8_t close_request = 'x';
-    uint8_t status = 0;
-    if (node->host) {
-        realm_node_turn(node->host, &close_request, 1, &status, 1);
-        free(node->host); /* a place where no node is open owns nothing else */
-    }
+    if (node->host) realm_node_free(node->host);
     if (node->file >= 0) close(node->file);
     free(node->reply);
     free(node->strokes);
@@ -501,6 +497,10 @@ REALM_SYNC_API int realm_dump(realm_node *node) { return realm_ask_of(node, 'D',
 
 /* The line of one object, by a line that names it: {"table":"notes","key":1}. REALM_ABSENT where there is none. */
 REALM_SYNC_API int realm_object(realm_node *node, const char *name) { return realm_ask_of(node, 'O', name, strlen(name)); }
+
+/* What the last realm_line, realm_commit or realm_take may have changed of a client's objects, a line of JSON for each place:
+ * docs/FORMATS.md, "Places". What none of them covers is as it was. */
+REALM_SYNC_API int realm_changed(realm_node *node) { return realm_ask_of(node, 'C', NULL, 0); }
 
 /* Where it stands. */
 REALM_SYNC_API int realm_standing(realm_node *node, realm_place *out) {

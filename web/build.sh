@@ -1,12 +1,19 @@
 #!/bin/sh
-# Makes web/realm_sync.wasm, the program for the page, and web/build.json, which says from what it was made.
-# It needs the toolchain (`rt`), python3 and binaryen's wasm-opt. With --trial nothing is proved, and the page says so.
+# Makes web/realm_sync.wasm, the program for the page, and web/build.json, which says from what it was made. What isn't built yet
+# of the program and its libraries is proved and built first. With --trial nothing is proved, and the page says so.
 set -eu
 here=$(cd "$(dirname "$0")" && pwd)
+. "$here/tools/need.sh"
+need rt "the command of the Rattle toolchain"
+need python3 "Python 3"
+need git "from which the page has its commit"
+need wasm-opt "Debian's package binaryen"
+if ! wasm-opt --help | grep -q memory64-lowering; then
+    echo "build.sh: this wasm-opt is too old: it knows no --memory64-lowering (binaryen 108 does)" >&2
+    exit 1
+fi
 room=$(mktemp -d)
 trap 'rm -rf "$room"' EXIT
-
-command -v wasm-opt >/dev/null || { echo "build.sh: wasm-opt isn't here (Debian's package binaryen)" >&2; exit 1; }
 
 python3 "$here/build/test_retarget.py"
 

@@ -14,7 +14,7 @@ import tempfile
 
 HERE = os.path.dirname(os.path.abspath(__file__))
 
-# What the page's host supplies (web/src/program.js); the files are never reached by `replay` and `gen`, and the host stops there.
+# What the page's host supplies (web/src/library.js). Of the calls on files it stops at those that the program never makes.
 HOST = "read write rattle_arg rattle_env rattle_env_at rattle_errno rattle_set_errno".split()
 FILES = "open close ftruncate fchmod fsync fdatasync flock statx lseek".split()
 # What `heap.c` and `start.c` define.

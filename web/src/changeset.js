@@ -1,12 +1,12 @@
-// Decodes the bytes of a changeset to edits, in the form in which event lines write them. docs/FORMATS.md, "Changesets".
+// Decodes the bytes of changesets to edits, in the form in which lines write them. docs/FORMATS.md, "Changesets" and "Messages".
 
 const KEYS = ['Int', 'Text', 'Uuid'];
 const KINDS = [, 'Int', 'Bool', 'Text', 'Bytes', 'Time', 'Uuid', 'Link'];
 const SHAPES = ['One', 'List', 'Set', 'Dict'];
 
 class Bytes {
-  constructor(hex) {
-    this.bytes = Uint8Array.from(hex.match(/../g) ?? [], (digits) => parseInt(digits, 16));
+  constructor(bytes) {
+    this.bytes = bytes;
     this.at = 0;
   }
 
@@ -119,11 +119,28 @@ class Fields extends Bytes {
 }
 
 /** The edits that a changeset's bytes spell, in their order. */
-export function editsOf(hex) {
-  const fields = new Fields(hex);
+function edits(bytes) {
+  const fields = new Fields(bytes);
   fields.byte();
   fields.readStrings();
   return Array.from({ length: fields.number() }, () => fields.instruction());
+}
+
+/** The same of bytes in hexadecimal digits. */
+export const editsOf = (hex) => edits(Uint8Array.from(hex.match(/../g) ?? [], (digits) => parseInt(digits, 16)));
+
+/** The changes of a frame that is an Upload, by their numbers: the edits of each. No frame has none. */
+export function uploadOf(frame) {
+  const fields = new Bytes(frame.subarray(5));
+  const change = () => {
+    const number = fields.number();
+    fields.number();
+    fields.big();
+    return [number, edits(fields.run(fields.number()))];
+  };
+  if (frame.length === 0) return new Map();
+  fields.number();
+  return new Map(Array.from({ length: fields.number() }, change));
 }
 
 const PLACED = new Set(['ListInsert', 'ListUpdate', 'ListErase']);

@@ -12,6 +12,11 @@ export function make(name, attributes = {}, ...children) {
   return element;
 }
 
+const HUES = 'abcdef';
+
+/** The class that gives a phone, named by a letter, its colour. */
+export const hueOf = (name) => `client-${HUES[(name.charCodeAt(0) - 65) % HUES.length]}`;
+
 /** Text that only a screen reader reads. */
 export const unseen = (text) => make('span', { class: 'unseen' }, text);
 

@@ -1,8 +1,8 @@
 // A phone: its switch, how far it is, its tasks, and what can be done on it. Each control calls `act` with one transaction.
 
-import { make, redraw, unseen } from './elements.js';
+import { hueOf, make, redraw, unseen } from './elements.js';
 import * as tasks from './tasks.js';
-import { plural, refusalWords } from './words.js';
+import { plural, reasonWords, savedWords, takenOverWords } from './words.js';
 
 /** A text key and a name have at most 255 bytes, and a character at most four. */
 const LONGEST = 60;
@@ -14,7 +14,8 @@ const wholeNumber = (value) => Math.max(-Number.MAX_SAFE_INTEGER, Math.min(Numbe
 function stateWords({ isOnline, client, length, refusal }) {
   if (refusal) {
     const kept = plural(client.unsent, 'changeset');
-    return `Stopped: ${refusalWords(refusal.numbers[2])}. It takes nothing more, and keeps all that it made (${kept} of its own). No reset brings it back yet: “Begin anew” starts over with new phones.`;
+    const online = isOnline ? '' : ', once this one is online';
+    return `Stopped: ${reasonWords(refusal.numbers[2])}. It takes nothing more, and keeps all that it made (${kept} of its own). A new phone can take over from it${online}, and save of that what can be saved.`;
   }
   const waiting = client.unsent > 0 ? `${plural(client.unsent, 'changeset')} made here ${client.unsent === 1 ? 'waits' : 'wait'}. ` : '';
   const behind = length - client.cursor;
@@ -131,20 +132,28 @@ class TaskView {
 }
 
 export class PhoneView {
-  /** `act(name, edits, said)` commits a transaction, `setOnline(name, isOnline)` and `retry(name)` are the network. */
-  constructor(name, { act, setOnline, retry }) {
+  /**
+   * `act(name, edits, said)` commits a transaction, `setOnline(name, isOnline)` and `retry(name)` are the network, and
+   * `replace(name)` has a new phone take over.
+   */
+  constructor(name, { act, setOnline, retry, replace }) {
     this.name = name;
     this.act = (edits, said) => act(name, edits, said);
     this.made = 0;
     this.switch = make('input', { type: 'checkbox', role: 'switch', id: `${name}-online`, checked: true, change: (event) => setOnline(name, event.target.checked) });
     this.state = make('p', { class: 'state', id: `${name}-state` });
-    this.retry = make('button', { type: 'button', class: 'retry', hidden: true, click: () => retry(name) }, 'Upload and ask again');
+    this.rescue = make('div', { class: 'row', hidden: true }, [
+      make('button', { type: 'button', id: `${name}-replace`, click: () => replace(name) }, `Replace phone ${name}`),
+      make('button', { type: 'button', id: `${name}-retry`, click: () => retry(name) }, 'Upload and ask again', unseen(` (phone ${name})`)),
+    ]);
+    this.account = make('section', { class: 'account', id: `${name}-account`, tabindex: '-1', hidden: true });
     this.list = make('ol', { class: 'tasks', tabindex: '-1', 'aria-label': `Tasks on phone ${name}` });
     this.schema = make('details', { class: 'schema' }, make('summary', {}, 'Change the schema'));
-    this.element = make('section', { class: `phone client-${name.toLowerCase()}`, 'aria-labelledby': `${name}-name` }, [
+    this.element = make('section', { class: `phone ${hueOf(name)}`, 'aria-labelledby': `${name}-name` }, [
       make('header', {}, make('h2', { id: `${name}-name` }, `Phone ${name}`), make('label', { class: 'switch' }, this.switch, make('span', {}, 'Online'), unseen(` (phone ${name})`))),
       this.state,
-      this.retry,
+      this.rescue,
+      this.account,
       this.adder(),
       this.list,
       this.schema,
@@ -175,18 +184,27 @@ export class PhoneView {
       event.preventDefault();
       if (!tasks.dueKind(this.tables)) this.act(tasks.addDue(kind.value), `a column due, a ${kind.value === 'Int' ? 'number' : 'text'}`);
     };
-    const hint = 'Two phones that add it offline as the same kind agree. With two kinds the server refuses the second one, and that phone stops for good: the program has no reset yet that would bring it back.';
+    const hint = 'Two phones that add it offline as the same kind agree. With two kinds the server refuses the second one, and that phone stops: a new phone can then take over from it.';
     return make('form', { submit, class: 'row' }, kind, this.addColumn, make('p', { class: 'hint' }, hint));
   }
 
-  /** Draws what the client of this phone shows. */
-  draw({ isOnline, client, length, refusal }) {
+  /** Tells from which phone this one took over, and what it saved of it. */
+  drawAccount(takenOver) {
+    this.account.hidden = !takenOver;
+    if (!takenOver) return;
+    this.account.setAttribute('aria-label', `What phone ${this.name} saved of phone ${takenOver.from}`);
+    this.account.replaceChildren(make('p', {}, takenOverWords(takenOver)), make('ul', {}, takenOver.transactions.map((it) => make('li', {}, savedWords(it)))));
+  }
+
+  /** Draws what the client of this phone shows. `takenOver` is null unless it took over from another. */
+  draw({ isOnline, client, length, refusal, takenOver }) {
     this.tables = client.tables;
     this.switch.checked = isOnline;
     this.element.classList.toggle('is-offline', !isOnline);
     this.element.classList.toggle('is-stopped', refusal !== null);
     this.state.textContent = stateWords({ isOnline, client, length, refusal });
-    this.retry.hidden = refusal === null || !isOnline;
+    this.rescue.hidden = refusal === null || !isOnline;
+    this.drawAccount(takenOver);
     this.addColumn.disabled = tasks.dueKind(this.tables) !== null;
     const shown = tasks.tasksOf(this.tables);
     redraw(this.list, shown.map((task, at) => new TaskView(this, task, at, shown.length).item()), this.list);

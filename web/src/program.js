@@ -1,13 +1,13 @@
-// Runs the compiled program over a text, as a shell would: arguments, standard input, standard output, exit status.
-// Each run is a new instance with a memory of its own, so nothing of one run is left for the next.
+// Runs the compiled program over a text and files in memory, as a shell would: arguments, standard input, standard output, exit
+// status. Each run is a new instance with a memory of its own, so that what one run leaves for the next are its files alone.
 
-/** The C library's calls that the program's files would make. `replay` and `gen` never reach them. */
-const FILES = ['open', 'close', 'ftruncate', 'fchmod', 'fsync', 'fdatasync', 'flock', 'statx', 'lseek'];
+import { Files, Openings } from './files.js';
+import { libraryFor } from './library.js';
 
 const encoder = new TextEncoder();
-const decoder = new TextDecoder('utf-8', { fatal: true });
 
-function joined(pieces) {
+/** Pieces of bytes as one. */
+export function joined(pieces) {
   const whole = new Uint8Array(pieces.reduce((sum, piece) => sum + piece.length, 0));
   let at = 0;
   for (const piece of pieces) {
@@ -17,63 +17,40 @@ function joined(pieces) {
   return whole;
 }
 
-/**
- * What the program asks of the C library. The proof assumes the C library's contracts, and nothing checks that these
- * functions meet them: above all, none may write or answer more than the length that it is given.
- */
-function libraryFor(memory, words, input, written) {
-  const bytesAt = (place, length) => new Uint8Array(memory().buffer, Number(place), Number(length));
-  let read = 0;
-  let errno = 0;
-  const put = (bytes, place, length) => {
-    const fitting = bytes.subarray(0, Number(length));
-    bytesAt(place, fitting.length).set(fitting);
-    return bytes.length > fitting.length ? -2n : BigInt(bytes.length);
-  };
-  const library = {
-    read(descriptor, place, length) {
-      const piece = input.subarray(read, read + Number(length));
-      bytesAt(place, piece.length).set(piece);
-      read += piece.length;
-      return BigInt(piece.length);
-    },
-    write(descriptor, place, length) {
-      written(descriptor, bytesAt(place, length).slice());
-      return length;
-    },
-    rattle_arg: (at, place, length) => (at < words.length ? put(words[Number(at)], place, length) : -1n),
-    rattle_env: () => -1n,
-    rattle_env_at: () => -1n,
-    rattle_errno: () => errno,
-    rattle_set_errno(value) {
-      errno = value;
-    },
-  };
-  for (const name of FILES) {
-    library[name] = () => {
-      throw new Error(`the program called ${name}, and a page has no files`);
-    };
+/** The program's standard input, and what it writes to standard output and errors. */
+class Streams {
+  constructor(input) {
+    this.input = input;
+    this.taken = 0;
+    this.written = { 1: [], 2: [] };
   }
-  return library;
+
+  read(descriptor, length) {
+    const piece = this.input.subarray(this.taken, this.taken + length);
+    this.taken += piece.length;
+    return piece;
+  }
+
+  write(descriptor, bytes) {
+    this.written[descriptor].push(bytes.slice());
+  }
 }
 
 /**
- * One run of the program: `words` are its arguments, `input` the bytes of its standard input.
+ * One run of the program: `words` are its arguments, `input` the bytes of its standard input, `files` those that it may open.
  * @returns {{ exit: number, output: Uint8Array, errors: Uint8Array, memory: number }}
  */
-export function runProgram(module, words, input) {
-  const pieces = { 1: [], 2: [] };
+export function runProgram(module, words, input, files = new Files()) {
   const spelled = ['realm_sync', ...words].map((word) => encoder.encode(word));
+  const streams = new Streams(input);
+  const openings = new Openings(files);
   let instance;
-  const library = libraryFor(() => instance.exports.memory, spelled, input, (descriptor, bytes) => pieces[descriptor].push(bytes));
-  instance = new WebAssembly.Instance(module, { env: library });
-  const exit = instance.exports.program_main();
-  return { exit, output: joined(pieces[1]), errors: joined(pieces[2]), memory: instance.exports.memory.buffer.byteLength };
-}
-
-/** `realm_sync replay` over the event lines: the text that it prints, and its exit status. */
-export function replay(module, lines) {
-  const input = encoder.encode(lines.map((line) => `${line}\n`).join(''));
-  const { exit, output } = runProgram(module, ['replay'], input);
-  return { exit, text: decoder.decode(output) };
+  const buffer = () => instance.exports.memory.buffer;
+  instance = new WebAssembly.Instance(module, { env: libraryFor(buffer, spelled, streams, openings) });
+  try {
+    const exit = instance.exports.program_main();
+    return { exit, output: joined(streams.written[1]), errors: joined(streams.written[2]), memory: buffer().byteLength };
+  } finally {
+    openings.end();
+  }
 }

@@ -1,10 +1,11 @@
-// Short scenes that the page plays by itself: who does what, in which order. Each begins anew with two phones.
+// Short scenes that the page plays by itself: who does what, in which order. Each begins anew with phones A and B.
 
 import * as tasks from './tasks.js';
 
 const offline = (name) => ({ name, isOnline: false });
 const online = (name) => ({ name, isOnline: true });
 const does = (name, said, edits) => ({ name, said, edits });
+const replaced = (name) => ({ name, isReplaced: true });
 const newTask = (name, title, atTop) => does(name, `new task “${title}”`, ({ tables, newKey }) => tasks.add(tables, newKey(), title, atTop));
 
 const AWAY = [offline('A'), offline('B')];
@@ -40,14 +41,17 @@ export const SCENES = [
     ],
   },
   {
-    name: 'Columns that can’t be merged',
+    name: 'Columns that differ, and a new phone',
     steps: [
       ...AWAY,
       does('A', 'a column due, a text', () => tasks.addDue('Text')),
+      does('B', 'a vote for A2', () => tasks.vote('A2')),
       does('B', 'a column due, a number', () => tasks.addDue('Int')),
+      does('B', 'due of A1 is 7', () => tasks.setDue('A1', 7)),
       does('B', 'a vote for A1', () => tasks.vote('A1')),
       online('A'),
       online('B'),
+      replaced('B'),
     ],
   },
 ];

@@ -1,4 +1,4 @@
-// What was made and what it became, read off the events, their outcomes and the server's history.
+// What was made and what it became, read off the commands so far, what they printed, and the server's history.
 
 import { editsOf, fates } from './changeset.js';
 
@@ -12,60 +12,80 @@ function wholeFate(all) {
   return has('moved') || has('changed') || has('same') ? 'moved' : 'kept';
 }
 
+/** What became of a transaction that an heir saved. */
+function savedFate({ as, dropped }) {
+  if (dropped.length === 0) return 'saved';
+  return as.edits.length === 0 ? 'lost' : 'partly';
+}
+
 /**
- * The story of an exchange: `columns`, an entry for each event that made, integrated, took or refused something, and
- * `transactions`, each with what it became. Messages that brought nothing new have no column.
+ * The story of an exchange: `columns`, an entry for each command that made, integrated, took, refused or recovered something,
+ * and `transactions`, each with what it became. Messages that brought nothing new have no column.
  */
-export function storyOf(events, { outcomes, replies, server, clients }) {
-  const names = new Map([...clients.values()].map((client) => [client.ident, client.name]));
-  const entries = new Map(server.history.map((entry) => [`${entry.origin} ${entry.number}`, entry]));
-  const transactions = new Map();
-  const columns = [];
-  const stored = new Map();
-  const cursors = new Map();
+class Story {
+  /** `names` has the client of each ident. */
+  constructor(history, names) {
+    this.history = history;
+    this.nameOf = (entry) => `${names.get(entry.origin)}·${entry.number}`;
+    this.entries = new Map(history.map((entry) => [this.nameOf(entry), entry]));
+    this.transactions = new Map();
+    this.columns = [];
+    this.stored = new Map();
+    this.cursors = new Map();
+  }
 
-  const integrated = (ident, last) => {
-    const first = (stored.get(ident) ?? 0) + 1;
-    stored.set(ident, Math.max(last, first - 1));
-    return Array.from({ length: Math.max(0, last - first + 1) }, (_, at) => transactions.get(`${ident} ${first + at}`));
-  };
+  transaction(client, number, edits) {
+    const name = `${client}·${number}`;
+    const entry = this.entries.get(name);
+    const became = entry ? fates(edits, editsOf(entry.hex)) : null;
+    const it = { client, number, name, edits, entry, became, refused: null, saved: null, fate: became ? wholeFate(became) : 'waiting' };
+    this.transactions.set(name, it);
+    return it;
+  }
 
-  const made = (event, outcome, line) => {
-    const ident = clients.get(event.client).ident;
-    if (outcome.kind !== 'made') return columns.push({ line, kind: 'broken', node: event.client, outcome });
-    const id = `${ident} ${outcome.number}`;
-    const entry = entries.get(id);
-    const became = entry ? fates(event.edits, editsOf(entry.hex)) : null;
-    const it = { client: event.client, number: outcome.number, name: `${event.client}·${outcome.number}`, line, edits: event.edits, entry, became, refused: null };
-    it.fate = became ? wholeFate(became) : 'waiting';
-    transactions.set(id, it);
-    return columns.push({ line, kind: 'made', node: event.client, transaction: it });
-  };
+  edit({ node, edits, outcomes: [outcome] }, line) {
+    if (!edits) return;
+    if (outcome.kind !== 'made') this.columns.push({ line, kind: 'broken', node, outcome });
+    else this.columns.push({ line, kind: 'made', node, transaction: this.transaction(node, outcome.numbers[0], edits) });
+  }
 
-  const arrived = (outcome, line) => {
-    if (outcome.reply !== 'stored' && outcome.reply !== 'refused') return;
-    const isRefused = outcome.reply === 'refused' && outcome.number > 0;
-    const all = integrated(outcome.ident, isRefused ? outcome.number - 1 : outcome.number);
-    const refused = isRefused ? transactions.get(`${outcome.ident} ${outcome.number}`) : null;
-    const isNew = refused && !refused.refused;
-    if (isNew) Object.assign(refused, { refused: outcome, fate: 'refused' });
-    if (all.length > 0 || isNew) columns.push({ line, kind: 'stored', node: names.get(outcome.ident), transactions: all, refused: isNew ? refused : null });
-  };
+  /** All that a client made and sent is integrated, up to a change that the server refuses. */
+  send({ node, outcomes: [outcome] }, line) {
+    const [number, code] = outcome.why === 'WasRefused' ? outcome.numbers : [Infinity];
+    const sent = [...this.transactions.values()].filter((it) => it.client === node && it.number > (this.stored.get(node) ?? 0));
+    const transactions = sent.filter((it) => it.number < number);
+    const refused = sent.find((it) => it.number === number && !it.refused) ?? null;
+    if (transactions.length > 0) this.stored.set(node, transactions.at(-1).number);
+    if (refused) Object.assign(refused, { refused: { code }, fate: 'refused' });
+    if (transactions.length > 0 || refused) this.columns.push({ line, kind: 'stored', node, transactions, refused });
+  }
 
-  const taken = (event, outcome, line) => {
-    if (replies.get(event.message)?.reply !== 'download') return;
-    if (outcome.kind === 'refused') return void columns.push({ line, kind: 'stopped', node: event.to, outcome });
-    const from = cursors.get(event.to) ?? 0;
-    cursors.set(event.to, outcome.cursor);
-    const fresh = server.history.slice(from, outcome.cursor);
-    if (fresh.length > 0) columns.push({ line, kind: 'took', node: event.to, transactions: fresh.map((entry) => transactions.get(`${entry.origin} ${entry.number}`)) });
-  };
+  /** A client takes the entries behind those that it has, up to one that it can't merge with what it made. */
+  ask({ node, outcomes: [outcome] }, line) {
+    const from = this.cursors.get(node) ?? 0;
+    const fresh = this.history.slice(from, outcome.numbers[0]);
+    this.cursors.set(node, from + fresh.length);
+    if (fresh.length > 0) this.columns.push({ line, kind: 'took', node, transactions: fresh.map((entry) => this.transactions.get(this.nameOf(entry))) });
+    if (outcome.kind === 'refused') this.columns.push({ line, kind: 'stopped', node, outcome });
+  }
 
-  events.forEach((event, at) => {
-    const outcome = outcomes[at];
-    if (event.event === 'edit') made(event, outcome, at + 1);
-    else if (event.event === 'deliver' && event.to === 'server') arrived(outcome, at + 1);
-    else if (event.event === 'deliver') taken(event, outcome, at + 1);
-  });
-  return { columns, transactions: [...transactions.values()] };
+  /** An heir saves what can be saved of what another client has unsent, and tells each edit that it drops with its reason. */
+  recover({ node, from, unsent, made, outcomes }, line) {
+    const droppedOf = (number) => outcomes.filter((it) => it.kind === 'dropped' && it.numbers[0] === number).map((it) => it.numbers);
+    const recovered = outcomes.filter((it) => it.kind === 'saved').map(({ numbers: [number, as] }) => {
+      const edits = unsent.get(number);
+      const dropped = droppedOf(number).map(([, place, code]) => ({ edit: edits[place], code }));
+      const old = this.transactions.get(`${from}·${number}`);
+      const saved = { dropped, became: fates(old.edits, edits), as: this.transaction(node, as, made.get(as)) };
+      return Object.assign(old, { saved, fate: savedFate(saved) });
+    });
+    this.columns.push({ line, kind: 'recovered', node, from, transactions: recovered });
+  }
+}
+
+/** The story of the commands `acts`, where the server has this history, and `names` the client of each ident. */
+export function storyOf(acts, history, names) {
+  const story = new Story(history, names);
+  acts.forEach((act, at) => story[act.kind]?.(act, at + 1));
+  return { columns: story.columns, transactions: [...story.transactions.values()] };
 }

@@ -48,14 +48,42 @@ export function fateWords({ edit, fate, became }) {
   return `changed: ${editWords(became)}`;
 }
 
-/** The reasons with which the rules refuse: codes of mismatches and of an upload's changes. */
-export const CODES = {
+/** The reasons with which the rules refuse: codes of mismatches, of an upload's changes, and of edits that break. */
+const CODES = {
   1: 'two devices define one table differently',
   2: 'two devices define one column differently',
   3: 'two devices changed lists of different lengths',
   4: 'a list would grow past its limit',
+  10: 'a table of that name is there already',
+  11: 'its table isn’t there',
+  12: 'a column of that name is there already',
+  14: 'its column isn’t there',
+  20: 'the column there is of another shape',
+  21: 'the value doesn’t fit the column there',
+  23: 'the list there has another length',
+  30: 'its task isn’t there',
+  31: 'the keys there are of another kind',
   61: 'a changeset before it was refused',
+  68: 'another phone took over from this one',
 };
 
-/** A refused upload or download in words. */
-export const refusalWords = (code) => CODES[code] ?? `rule ${code}`;
+/** The reason of a refusal or of a dropped edit in words. */
+export const reasonWords = (code) => CODES[code] ?? `rule ${code}`;
+
+const droppedWords = ({ edit, code }) => `${editWords(edit)} (${reasonWords(code)}, code ${code})`;
+
+/** What became of a transaction when another phone took over, in a sentence or two. */
+export function savedWords({ name, saved: { as, dropped } }) {
+  const kept = transactionWords(as.edits);
+  const lost = dropped.map(droppedWords).join('; ');
+  if (dropped.length === 0) return `${name} is saved as ${as.name}: ${kept || 'nothing was left of it'}.`;
+  if (as.edits.length === 0) return `${name} is lost: ${lost}.`;
+  return `${name} is saved in part, as ${as.name}: ${kept}. Lost of it: ${lost}.`;
+}
+
+/** How many of a phone's transactions another one saved, in one sentence. */
+export function takenOverWords({ node, from, transactions }) {
+  const count = (fate) => transactions.filter((it) => it.fate === fate).length;
+  const counts = [['saved', 'saved'], ['partly', 'saved in part'], ['lost', 'lost']].filter(([fate]) => count(fate) > 0).map(([fate, words]) => `${count(fate)} ${words}`);
+  return `Phone ${node} took over from phone ${from}. Of ${plural(transactions.length, 'changeset')} that the server had refused or had not seen: ${counts.join(', ') || 'none'}.`;
+}

@@ -37,6 +37,8 @@ export class Browser {
     const { targetId } = targetInfos.find((target) => target.type === 'page');
     browser.session = (await browser.send('Target.attachToTarget', { targetId, flatten: true })).sessionId;
     for (const domain of ['Page', 'Runtime', 'Log', 'Network']) await browser.send(`${domain}.enable`);
+    // As if its window were in front: what isn't may not use the clipboard.
+    await browser.send('Emulation.setFocusEmulationEnabled', { enabled: true });
     return browser;
   }
 

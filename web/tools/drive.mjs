@@ -1,10 +1,11 @@
 // Drives the page in headless Chromium as a person would, by mouse and by keyboard, and checks what it shows: offline edits on
-// two phones that agree after they come back, columns that can't be merged, labels, focus and width. Ends with status 1 at the
-// first check that fails. With a folder as its argument, pictures go there.
+// two phones that agree after they come back, columns that can't be merged and a phone that takes over, labels, focus and width.
+// Ends with status 1 at the first check that fails. With a folder as its argument, pictures go there.
 
 import assert from 'node:assert/strict';
 import { execFileSync } from 'node:child_process';
 import fs from 'node:fs';
+import os from 'node:os';
 import path from 'node:path';
 import { fileURLToPath } from 'node:url';
 import { Browser, serve } from './browser.mjs';
@@ -67,7 +68,7 @@ const shown = (phone) => page(`Array.from(document.querySelectorAll('.phone[aria
   chips: Array.from(it.querySelectorAll('.chips li'), (chip) => chip.firstChild.textContent),
 }))`);
 const titles = async (phone) => (await shown(phone)).map((task) => task.title);
-const text = (id) => page(`document.getElementById('${id}').textContent`);
+const text = (id, part) => page(`document.querySelector('#${id}${part ? ` ${part}` : ''}').textContent`);
 const fates = () => page(`Object.fromEntries(Array.from(document.querySelectorAll('#transactions tbody tr'), (row) => [row.querySelector('.chip').childNodes[1].textContent, row.lastChild.textContent]))`);
 const task = (title, votes = 0, done = false, chips = []) => ({ title, votes: `▲ ${votes}`, done, chips });
 
@@ -137,18 +138,22 @@ async function agreesAfterwards() {
   await picture('after');
 }
 
-/** The event lines of the page, through the program itself, where it was built. */
-async function replaysNatively() {
+/** The page's script, as its button copies it, in a shell with the program itself, where that was built. */
+async function runsInAShell() {
   const native = process.env.REALM_SYNC ?? path.join(top, 'crates/realm_sync/out/realm_sync');
-  if (!fs.existsSync(native)) return console.log('drive: the program was not built, so its own replay of the page’s events was not compared');
+  if (!fs.existsSync(native)) return console.log('drive: the program was not built, so it was not compared with the page');
   await page(`document.getElementById('raw').open = true`);
   await browser.until(`document.querySelectorAll('#lines tr').length > 0`);
-  const lines = await page(`Array.from(document.querySelectorAll('#lines tr'), (row) => Array.from(row.children, (cell) => cell.textContent))`);
-  const input = lines.map(([, event]) => `${event}\n`).join('');
-  const outcomes = lines.map(([line, , printed]) => `${line} ${printed}\n`).join('');
-  const wanted = execFileSync(native, ['replay'], { input, encoding: 'utf8', maxBuffer: 1 << 28 });
-  assert.equal(`${outcomes}${await text('report')}\n`, wanted);
-  console.log(`drive: the program itself prints the same for the page’s ${lines.length} events`);
+  await browser.send('Browser.grantPermissions', { origin: server.origin, permissions: ['clipboardReadWrite', 'clipboardSanitizedWrite'] });
+  await click('#copy');
+  await browser.until(`document.getElementById('status').textContent.startsWith('The script is copied.')`, 20);
+  const script = await page('navigator.clipboard.readText()');
+  const printed = await page(`Array.from(document.querySelectorAll('#lines td:last-child'), (cell) => cell.textContent)`);
+  const room = fs.mkdtempSync(path.join(os.tmpdir(), 'page-'));
+  const wanted = execFileSync('sh', ['-s', native], { input: script, env: { ...process.env, TMPDIR: room }, encoding: 'utf8', maxBuffer: 1 << 28 });
+  fs.rmSync(room, { recursive: true });
+  assert.equal(printed.join('') + (await text('report')), wanted);
+  console.log(`drive: in a shell the program prints the same for the page’s ${printed.length} commands`);
   await page(`document.getElementById('raw').open = false`);
 }
 
@@ -184,7 +189,8 @@ function faintTexts() {
   return [...faint];
 }
 
-async function isReadAndFits() {
+/** Names of controls, the contrast of texts in light and dark, and the width of a narrow window, as the page stands. */
+async function isReadAndFits(name) {
   const { nodes } = await browser.send('Accessibility.getFullAXTree');
   const roles = new Set(['button', 'textbox', 'checkbox', 'switch', 'combobox', 'spinbutton', 'link', 'region', 'DisclosureTriangle']);
   const controls = nodes.filter((node) => !node.ignored && roles.has(node.role?.value));
@@ -193,10 +199,10 @@ async function isReadAndFits() {
     await browser.look({ ...NARROW, isDark });
     check(`all text stands out from its ground, ${isDark ? 'dark' : 'light'}`, await page(`(${faintTexts})()`), []);
     check(`nothing lies beside a window of 360 pixels, ${isDark ? 'dark' : 'light'}`, await page('document.documentElement.scrollWidth'), NARROW.width);
-    if (isDark) await picture('narrow_dark');
+    if (isDark && name === 'after') await picture('narrow_dark');
   }
   await browser.look({ ...WIDE, isDark: true });
-  await picture('after_dark');
+  await picture(`${name}_dark`);
   await browser.look(WIDE);
 }
 
@@ -227,6 +233,7 @@ async function worksByKeyboard() {
 async function columnsThatDiffer() {
   await click('#A-online');
   await click('#B-online');
+  await click('#B-A4-vote');
   for (const [phone, kind] of [['A', 'Text'], ['B', 'Int']]) {
     await page(`document.querySelector('.phone[aria-labelledby="${phone}-name"] .schema').open = true`);
     await page(`document.getElementById('${phone}-kind').value = '${kind}'`);
@@ -235,11 +242,44 @@ async function columnsThatDiffer() {
   await click('#A-online');
   check('the first phone’s column is taken', (await text('A-state')).startsWith('It has taken all'), true);
   await click('#B-online');
-  check('the second phone stops, and says why, and that nothing brings it back', await text('B-state'), 'Stopped: two devices define one column differently. It takes nothing more, and keeps all that it made (1 changeset of its own). No reset brings it back yet: “Begin anew” starts over with new phones.');
-  check('what it made was refused', (await fates())['B·8'], 'refused by the server: two devices define one column differently (code 2)');
+  check('the second phone stops, and says why, and that another can take over', await text('B-state'), 'Stopped: two devices define one column differently. It takes nothing more, and keeps all that it made (2 changesets of its own). A new phone can take over from it, and save of that what can be saved.');
+  check('what it made before the column is on the server', (await shown('A'))[2].votes, '▲ 1');
+  check('the column was refused', (await fates())['B·9'], 'refused by the server: two devices define one column differently (code 2)');
   await write('#B-new', 'Written on a stopped phone');
   check('it still keeps what is made on it', (await titles('B')).at(-1), 'Written on a stopped phone');
+  await write('#B-A2-due', '7');
+  await click('#B-A2-vote');
+  await write('#A-new', 'Feed the cat');
+  await withMore('B', 'A5', (id) => click(`${id}-erase`));
   await picture('stopped');
+}
+
+/** A new phone takes over from the stopped one, by the keyboard, and all agree again. */
+async function takesOver() {
+  const before = await shown('A');
+  await page(`document.getElementById('B-online').focus()`);
+  await browser.press('Tab');
+  check('the Tab key goes from the switch to its replacement', await page('document.activeElement.id'), 'B-replace');
+  await browser.press('Enter');
+  check('a new phone stands where the stopped one stood', await page(`Array.from(document.querySelectorAll('.phone h2'), (it) => it.textContent)`), ['Phone A', 'Phone C']);
+  check('the focus is at what it saved', await page('document.activeElement.id'), 'C-account');
+  check('a screen reader is told', await text('status'), 'Phone C takes over from phone B. All phones and the server show the same.');
+  check('it says how much it saved', await text('C-account', 'p'), 'Phone C took over from phone B. Of 5 changesets that the server had refused or had not seen: 2 saved, 1 saved in part, 2 lost.');
+  check('and of each what became of it, with the reason', await page(`Array.from(document.querySelectorAll('#C-account li'), (it) => it.textContent)`), [
+    'B·9 is lost: column due, Int (a column of that name is there already, code 12).',
+    'B·10 is saved as C·2: new task B2 “Written on a stopped phone” at place 6.',
+    'B·11 is lost: due of A2 = 7 (the value doesn’t fit the column there, code 21).',
+    'B·12 is saved as C·4: votes of A2 + 1.',
+    'B·13 is saved in part, as C·5: A5 erased. Lost of it: place 5 taken out (the list there has another length, code 23).',
+  ]);
+  const [bread, plants, car, lawn, , cat] = before;
+  const wanted = [bread, { ...plants, votes: '▲ 3' }, car, lawn, task('Written on a stopped phone'), cat];
+  check('phone A has what was saved', await shown('A'), wanted);
+  check('and so has the new phone', await shown('C'), wanted);
+  check('all agree', await text('agreement'), 'All phones and the server show the same.');
+  await picture('replaced');
+  await click('#C-B2-down');
+  check('the new phone’s next change reaches phone A', (await titles('A')).slice(-2), ['Feed the cat', 'Written on a stopped phone']);
 }
 
 async function threePhones() {
@@ -271,13 +311,21 @@ async function theSameOnBoth() {
   check('and the page says so', (await fates())['B·1'], 'another did it too: column due, Text');
 }
 
-/** A scene that the page plays by itself. */
-async function scene() {
-  await page(`document.getElementById('scene').selectedIndex = 3`);
+/** Plays a scene until a text stands in the status. */
+async function plays(place, last) {
+  await page(`document.getElementById('scene').selectedIndex = ${place}`);
   await click('#play button');
-  await browser.until(`document.getElementById('length').textContent === '7 changesets in its history'`);
+  await browser.until(`document.getElementById('status').textContent.startsWith(${JSON.stringify(last)})`);
+}
+
+/** Scenes that the page plays by itself. */
+async function scenes() {
+  await plays(3, 'Phone A is online.');
   check('in a scene, an erased task is gone on both', [await titles('A'), await titles('B')], Array(2).fill(['Buy bread', 'Water the plants']));
   check('and what was done to it was dropped', Object.values(await fates()).filter((fate) => fate.startsWith('dropped')).length, 2);
+  await plays(4, 'Phone C takes over');
+  check('in another, a new phone takes over, and all agree', await text('agreement'), 'All phones and the server show the same.');
+  check('and it has both votes of the old one', (await shown('C')).map((it) => it.votes), ['▲ 1', '▲ 1', '▲ 0']);
 }
 
 const server = await serve(path.join(top, 'web'));
@@ -288,13 +336,15 @@ try {
   await leavesTheNetwork();
   await editsOffline();
   await agreesAfterwards();
-  await replaysNatively();
-  await isReadAndFits();
+  await isReadAndFits('after');
   await worksByKeyboard();
   await columnsThatDiffer();
+  await takesOver();
+  await isReadAndFits('replaced');
+  await runsInAShell();
   await threePhones();
   await theSameOnBoth();
-  await scene();
+  await scenes();
   check('nothing was asked of the network any more', browser.requests.slice(loaded), []);
   check('the page met no error', browser.faults, []);
   console.log('drive: all as expected');

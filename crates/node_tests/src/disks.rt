@@ -1,7 +1,6 @@
 //! Disks that fail at a call or stop at a stroke, in each call that adds records.
 
 use crate::client::{Call, ID, Sends, answer, sent};
-use crate::server_cases::{BIND_OTHER, GIVEN_OTHER};
 use crate::spelled::{disk_of, is_spelled, message};
 use std::alloc::Global;
 use std::process::Abort;
@@ -151,6 +150,12 @@ fn came_of_server(
         Err(ServerRefusal::NoMemory) => Came::Other,
     }
 }
+
+// A Bind of the uuid of 16 bytes 0b, and its Ident where it is the second one.
+const BIND_OTHER: &[u8] = b"\x01\x0b\x0b\x0b\x0b\x0b\x0b\x0b\x0b\x0b\x0b\x0b\x0b\x0b\x0b\x0b\x0b";
+
+const GIVEN_OTHER: &[u8] =
+    b"\x02\x0b\x0b\x0b\x0b\x0b\x0b\x0b\x0b\x0b\x0b\x0b\x0b\x0b\x0b\x0b\x0b\x02";
 
 // A Bind of the uuid of 16 bytes 0c.
 const BIND_THIRD: &[u8] = b"\x01\x0c\x0c\x0c\x0c\x0c\x0c\x0c\x0c\x0c\x0c\x0c\x0c\x0c\x0c\x0c\x0c";

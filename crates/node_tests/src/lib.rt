@@ -1,22 +1,10 @@
-//! Worked cases of a client and of a server over a disk in memory: tables, and a few loops that run them. The crate has
-//! tests alone.
+//! Clients and servers over disks in memory that fail at a call or stop at a stroke. The crate has tests alone: what nodes answer
+//! to messages is tried in `program_cases`.
 #![tactic(auto)]
 
 #[cfg(test)]
 mod client;
 #[cfg(test)]
-mod client_cases;
-#[cfg(test)]
 mod disks;
-#[cfg(test)]
-mod entry_cases;
-#[cfg(test)]
-mod files;
-#[cfg(test)]
-mod server;
-#[cfg(test)]
-mod server_cases;
-#[cfg(test)]
-mod sizes;
 #[cfg(test)]
 mod spelled;

@@ -3,7 +3,7 @@
 use std::alloc::Global;
 use sync_codec::decode;
 use sync_data::Instr;
-use sync_disk::{Disk, MemoryDisk};
+use sync_disk::MemoryDisk;
 use sync_journal::Journal;
 use sync_messages::{Message, message_bytes, message_of};
 
@@ -30,36 +30,6 @@ pub fn edits(alloc: Global, bytes: &[u8]) -> Option<Vec<Instr>> {
     }
     match decode(alloc, 5, bytes) {
         Ok(changes) => Some(changes.into_instrs()),
-        Err(_) => None,
-    }
-}
-
-/// Whether the disk holds these bytes.
-pub fn holds(alloc: Global, disk: &mut MemoryDisk, want: &[u8]) -> bool {
-    let Ok(mut bytes) = vec![in alloc; 0u8; want.len()] else {
-        return false;
-    };
-    match disk.len() {
-        Ok(len) if len as usize == want.len() => {}
-        _ => return false,
-    }
-    match disk.read_at(0, &mut bytes) {
-        Ok(()) => bytes.as_slice() == want,
-        Err(_) => false,
-    }
-}
-
-/// A disk that holds these bytes, synced.
-pub fn disk_with(alloc: Global, bytes: &[u8]) -> Option<MemoryDisk> {
-    let Ok(mut disk) = MemoryDisk::new(alloc) else {
-        return None;
-    };
-    match disk.write_at(0, bytes) {
-        Ok(()) => {}
-        Err(_) => return None,
-    }
-    match disk.sync() {
-        Ok(()) => Some(disk),
         Err(_) => None,
     }
 }

@@ -1,7 +1,7 @@
 // The disk: what it holds and what a crash leaves is that of a disk in memory on which no call was set to fail.
 ghost use Rattle.std.specs.Prelude.{◌≡◌, ◌+◌, ◌^◌, ◌<◌, ◌≤◌, [], List, ℕ, None, Some, length, IfOk};
-ghost use Rattle.sync_disk.specs.Disk.{Only, Within};
-ghost use Rattle.sync_disk.specs.Faults.{IsSound, begun};
+ghost use Rattle.sync_disk.specs.Disk.{Only};
+ghost use Rattle.sync_disk.specs.Faults.{IsSound};
 ghost use Rattle.sync_disk.specs.contracts.memory.MemoryDiskDisk.TheImpl.{ghosts as memory};
 ghost use Rattle.sync_disk.specs.contracts.memory.MemoryDiskDisk.TheImpl.Laws.{is_image-law, counts_now-law, only_now-law, by_strokes-law, none_failing-law, as_planned-law};
 ghost use Rattle.sync_disk.specs.declared.leaves.Leaves.TheVariants.{Keep};
@@ -9,7 +9,7 @@ ghost use Rattle.outbox_disk.specs.Outbox.{outbox_bytes};
 
 use crate::outbox::{add_sync, add_write};
 use std::alloc::Global;
-use sync_disk::{Disk, DiskRefusal, MemoryDisk, NoMemory};
+use sync_disk::{BeginsAnew, Disk, DiskRefusal, MemoryDisk, NoMemory};
 
 /// A disk over the bytes of a file, which tells its content. What was asked of it since its outbox was emptied stands there
 /// as bytes: docs/FORMATS.md, "The outbox".
@@ -46,22 +46,6 @@ impl OutboxDisk {
         ensures { result.now ≡ outbox_bytes (⟦<OutboxDisk as Disk>⟧.strokes self.now) }
     {
         &self.outbox
-    }
-
-    /// Empties the outbox, once its host has done what stands in it. The disk begins anew with what it holds, which stands
-    /// synced.
-    pub fn begin_anew(&mut self)
-        ensures content { ⟦<OutboxDisk as Disk>⟧.content self.new ≡ ⟦<OutboxDisk as Disk>⟧.content self.old }
-        ensures strokes { ⟦<OutboxDisk as Disk>⟧.strokes self.new ≡ [] }
-        ensures synced { (c : List ℕ) → ⟦<OutboxDisk as Disk>⟧.content self.new ≡ Some c → Only c (⟦<OutboxDisk as Disk>⟧.images self.new) }
-        ensures crash { Within (⟦<OutboxDisk as Disk>⟧.images self.new) (⟦<OutboxDisk as Disk>⟧.images self.old) }
-        ensures origin { (c : List ℕ) → ⟦<OutboxDisk as Disk>⟧.content self.new ≡ Some c
-            → ⟦<OutboxDisk as Disk>⟧.origin self.new ≡ begun c (⟦<OutboxDisk as Disk>⟧.origin self.old) }
-        ensures faults { ⟦<OutboxDisk as Disk>⟧.faults self.new ≡ ⟦<OutboxDisk as Disk>⟧.faults self.old }
-        ensures failing { ⟦<OutboxDisk as Disk>⟧.failing self.new ≡ ⟦<OutboxDisk as Disk>⟧.failing self.old }
-    {
-        self.disk.begin_anew();
-        self.outbox.clear();
     }
 }
 
@@ -128,5 +112,13 @@ impl Disk for OutboxDisk {
             self.outbox.truncate(had);
         }
         done
+    }
+}
+
+/// Its outbox is emptied, once its host has done what stands in it and has synced.
+impl BeginsAnew for OutboxDisk {
+    fn begin_anew(&mut self) {
+        self.disk.begin_anew();
+        self.outbox.clear();
     }
 }

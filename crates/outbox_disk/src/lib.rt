@@ -3,9 +3,7 @@
 
 mod disk;
 mod outbox;
-mod shared;
 #[cfg(test)]
 mod tests;
 
 pub use disk::OutboxDisk;
-pub use shared::{Outbox, SharedDisk};

@@ -1,6 +1,6 @@
 use super::*;
 use std::alloc::Global;
-use sync_disk::{Disk, DiskRefusal};
+use sync_disk::{BeginsAnew, Disk, DiskRefusal};
 
 /// A write of two bytes at place 3, a sync, and a write of two bytes at place 1.
 const STROKES: &[u8] =
@@ -32,27 +32,16 @@ fn holds<D: Disk>(alloc: Global, disk: &mut D, want: &[u8]) -> bool {
     disk.read_at(0, &mut bytes).is_ok() && bytes.as_slice() == want
 }
 
-/// Whether these bytes stand in the outbox, which is told where there is room for some of them alone.
-fn has(outbox: &Outbox, want: &[u8]) -> bool {
-    let mut room = [0; 48];
-    let mut less = [0; 3];
-    outbox.copy_to(&mut less) == Some(want.len())
-        && outbox.copy_to(&mut room) == Some(want.len())
-        && room.starts_with(want)
-        && want.starts_with(&less[..want.len().min(3)])
-}
-
 /// Whether the outbox has each stroke since it was emptied, in order.
 fn hands_out_each_stroke(alloc: Global) -> bool {
-    let Ok((mut disk, outbox)) = SharedDisk::over(alloc, &[1, 2, 3, 4]) else {
+    let Ok(mut disk) = OutboxDisk::over(alloc, &[1, 2, 3, 4]) else {
         return false;
     };
-    has(&outbox, &[])
-        && stroke(&mut disk).is_ok()
-        && has(&outbox, STROKES)
-        && outbox.empty()
-        && has(&outbox, &[])
-        && holds(alloc, &mut disk, &[1, 9, 10, 7, 8])
+    if !disk.outbox().is_empty() || stroke(&mut disk).is_err() || disk.outbox() != STROKES {
+        return false;
+    }
+    disk.begin_anew();
+    disk.outbox().is_empty() && holds(alloc, &mut disk, &[1, 9, 10, 7, 8])
 }
 
 #[test]

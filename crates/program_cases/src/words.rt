@@ -4,7 +4,7 @@ use super::tally::Tally;
 use std::alloc::Global;
 use sync_client::ClientRefusal;
 use sync_top::{Job, job_of};
-use sync_world::declined_words;
+use sync_words::Outcome;
 
 /// Whether the words ask for that job.
 fn is_job(alloc: Global, words: &[&str], want: Option<Job>) -> Result<bool, Failure> {
@@ -25,8 +25,9 @@ pub fn try_all(rt: &HostRuntime) -> Result<Tally, Failure> {
     let most = ["gen", "18446744073709551615", "100000"];
     let most = is_job(alloc, &most, Some(Job::Generate { seed, count }))?;
     tally.count(rt, most, "the greatest seed and count")?;
-    let full = declined_words(alloc, &ClientRefusal::NumbersFull)?;
-    let full = full.as_slice() == b"refused NumbersFull".as_slice();
+    let why = ClientRefusal::NumbersFull;
+    let full = Outcome::Declined { why }.line(alloc, 1)?;
+    let full = full.as_slice() == b"1 refused NumbersFull\n".as_slice();
     tally.count(rt, full, "refused NumbersFull")?;
     Ok(tally)
 }

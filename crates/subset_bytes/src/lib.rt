@@ -3,8 +3,6 @@
 
 mod reading;
 mod refusal;
-#[cfg(test)]
-mod tests;
 mod writing;
 
 pub use reading::tables_of;

@@ -1,5 +1,6 @@
 ghost use Rattle.std.specs.Prelude.{◌≡◌, ◌↔◌, ◌⊎◌, ◌≤◌, ◌++◌, ◌∷◌, [], ℕ, List, length, map, Some, IsErrOf, IfErr, IfOk, OnOk, OnErr, true, false};
 ghost use Rattle.std.specs.Result.{result_err};
+ghost use Rattle.sync_data.specs.Payload.{IsSmall};
 ghost use Rattle.sync_disk.specs.Disk.{LeavesOnly, Rose, SameDisk, Told};
 ghost use Rattle.sync_disk.specs.Faults.{armed, begun, disarmed, has_stopped};
 ghost use Rattle.sync_model.specs.Clients as model;
@@ -14,7 +15,7 @@ use crate::replica::Replica;
 use crate::transactions::Made;
 use std::alloc::Global;
 use sync_data::{Blob, Id, Instr};
-use sync_disk::{Disk, Leaves, MemoryDisk};
+use sync_disk::{BeginsAnew, Disk, Leaves, MemoryDisk};
 use sync_journal::{Journal, JournalRefusal};
 use sync_records::ClientRecord;
 use sync_subset::Subset;
@@ -71,6 +72,7 @@ impl<D: Disk> Client<D> {
         ensures any_moment { (records : List model.ClientRecord) → IsClientOf records self.old → IsStored D.content D.images records self.old
             → LeavesOnly D.moment D.images_since (disk_of (journal_of self.old)) (disk_of (journal_of self.new)) (StandsForPrefix (map client_bytes records) (map client_bytes (model.commit the_profile (model.client_of the_profile records) ms edits.items).records)) }
         ensures strokes { (records : List model.ClientRecord) → IsClientOf records self.old → IsStored D.content D.images records self.old → Asked D.strokes (model.commit the_profile (model.client_of the_profile records) ms edits.items) self.old self.new result }
+        ensures large { IsErrOf result ClientRefusal.TooLarge → IsSmall edits.items → ⊥ }
         ensures closed { IsErrOf result ClientRefusal.Closed ↔ (is_closed self.old ≡ true) }
         ensures shut { IsErrOf result ClientRefusal.Closed → self.new ≡ self.old }
         ensures closes { IsErrOf result ClientRefusal.DiskFault ⊎ IsErrOf result ClientRefusal.NoMemory → is_closed self.new ≡ true }
@@ -192,6 +194,13 @@ impl<D: Disk> Client<D> {
         Ok(())
     }
 
+    /// The disk that it holds.
+    pub fn disk(&self) -> &D
+        ensures { result.now ≡ disk_of (journal_of self.now) }
+    {
+        self.journal.disk()
+    }
+
     /// Want of memory closes the client.
     pub(crate) fn refused(&mut self, refusal: ClientRefusal) -> ClientRefusal
         ensures same { result ≡ refusal }
@@ -266,24 +275,28 @@ impl Client<MemoryDisk> {
         self.journal.disarm();
     }
 
-    /// The disk that it holds begins its strokes anew with what it holds, which stands synced. It is no longer armed.
-    pub fn begin_anew(&mut self)
-        ensures content { ⟦<MemoryDisk as Disk>⟧.content (disk_of (journal_of self.new)) ≡ ⟦<MemoryDisk as Disk>⟧.content (disk_of (journal_of self.old)) }
-        ensures strokes { ⟦<MemoryDisk as Disk>⟧.strokes (disk_of (journal_of self.new)) ≡ [] }
-        ensures origin { (c : List ℕ) → ⟦<MemoryDisk as Disk>⟧.content (disk_of (journal_of self.new)) ≡ Some c
-            → ⟦<MemoryDisk as Disk>⟧.origin (disk_of (journal_of self.new)) ≡ begun c (⟦<MemoryDisk as Disk>⟧.origin (disk_of (journal_of self.old))) }
-        ensures closed { is_closed self.new ≡ is_closed self.old }
-        ensures replica { replica_of self.new ≡ replica_of self.old }
-        ensures stands { (records : List (List ℕ)) → Stands ⟦<MemoryDisk as Disk>⟧.content ⟦<MemoryDisk as Disk>⟧.images records (journal_of self.old)
-            → Stands ⟦<MemoryDisk as Disk>⟧.content ⟦<MemoryDisk as Disk>⟧.images records (journal_of self.new) }
-    {
-        self.journal.begin_anew();
-    }
-
     /// Whether the disk that it holds has stopped.
     pub fn stopped(&self) -> bool
         ensures { result ≡ has_stopped (⟦<MemoryDisk as Disk>⟧.origin (disk_of (journal_of self.now))).stop (length (⟦<MemoryDisk as Disk>⟧.strokes (disk_of (journal_of self.now)))) }
     {
         self.journal.stopped()
+    }
+}
+
+impl<D: BeginsAnew> Client<D> {
+    ghost use Rattle.sync_client.specs.Clients.{is_closed, journal_of, replica_of};
+
+    /// The disk that it holds begins its strokes anew with what it holds, which stands synced. It is no longer armed.
+    pub fn begin_anew(&mut self)
+        ensures content { D.content (disk_of (journal_of self.new)) ≡ D.content (disk_of (journal_of self.old)) }
+        ensures strokes { D.strokes (disk_of (journal_of self.new)) ≡ [] }
+        ensures origin { (c : List ℕ) → D.content (disk_of (journal_of self.new)) ≡ Some c
+            → D.origin (disk_of (journal_of self.new)) ≡ begun c (D.origin (disk_of (journal_of self.old))) }
+        ensures closed { is_closed self.new ≡ is_closed self.old }
+        ensures replica { replica_of self.new ≡ replica_of self.old }
+        ensures stands { (records : List (List ℕ)) → Stands D.content D.images records (journal_of self.old)
+            → Stands D.content D.images records (journal_of self.new) }
+    {
+        self.journal.begin_anew();
     }
 }

@@ -1,5 +1,6 @@
-ghost use Rattle.std.specs.Prelude.{◌≡◌, ◌≤◌, ◌&&◌, not, List, length, IfSome, IfOk, IfErr, OnOk, OnErr, Some, None, true, false};
+ghost use Rattle.std.specs.Prelude.{◌≡◌, ◌≤◌, ◌&&◌, not, List, length, IfSome, IfOk, IfErr, IsErrOf, OnOk, OnErr, Some, None, true, false};
 ghost use Rattle.sync_base.specs.Checks.{act_all};
+ghost use Rattle.sync_data.specs.Payload.{IsSmall};
 ghost use Rattle.sync_model.specs.Profile.{all_admitted, first_need, first_outside, needs};
 ghost use Rattle.sync_exchange.specs.Profile.{the_profile};
 ghost use Rattle.sync_client.specs.Refusals.{IsPlain};
@@ -30,6 +31,7 @@ impl Replica {
         edits: Vec<Instr>,
     ) -> Result<Made, ClientRefusal>
         ensures step { (past : Past) → length past.made ≡ self.old.count → Commits past self.old self.new ms edits.items result }
+        ensures large { IsErrOf result ClientRefusal.TooLarge → IsSmall edits.items → ⊥ }
         ensures number { IfOk result (λ made. made.number ≤ 4294967295) }
         ensures plain { IfErr result IsPlain }
     {
@@ -99,6 +101,7 @@ impl Replica {
         ensures acts { OnOk result (act_all changes.now.instrs self.old.objects ≡ Some self.new.objects) }
         ensures others { OnOk result (self.new ≡ record self.old { objects = self.new.objects }) }
         ensures refused { IfErr result (RefusesEdits self.old self.new changes.now.instrs) }
+        ensures fits { IsErrOf result ClientRefusal.TooLarge → ⊥ }
         ensures plain { IfErr result IsPlain }
     {
         let _ = changes.instrs();

@@ -1,3 +1,5 @@
 pub mod Said
+pub mod Untold
+pub mod Floats
 pub mod NodeKinds
 pub mod Objects

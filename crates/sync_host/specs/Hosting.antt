@@ -1,5 +1,5 @@
 -- What a node in a host's place answers, and what stands there afterwards.
-use Rattle.std.specs.Prelude.{◌≡◌, ◌∷◌, ℕ, List, IfSome}
+use Rattle.std.specs.Prelude.{◌≡◌, ◌∷◌, ℕ, false, List, IfSome}
 use Rattle.std.specs.Option.{option_map}
 use Rattle.sync_dump.specs.Dump.{dump}
 use Rattle.sync_edits.specs.Lines.{node_form_of_line}
@@ -10,8 +10,10 @@ use Rattle.sync_exchange.specs.Profile.{the_profile}
 use Rattle.sync_server.specs.Kept.{parts}
 use Rattle.sync_server.specs.Serving.{kept_of}
 use Rattle.sync_host.specs.Objects.{ObjectTold, object_form_of_line}
+use Rattle.sync_host.specs.Places.{place_lines}
 use Rattle.sync_host.specs.Replies.{reply_bytes}
-use Rattle.sync_host.specs.Steps.{Answers, ClientStands, IfTold, SentSo, Serves, ServerStands, errand, line_answer, message_read, server_standing, standing_of, take_answer}
+use Rattle.sync_host.specs.Steps.{Answers, ClientStands, IfTold, SentSo, Serves, ServerStands, Tells, errand, line_answer, message_read, server_standing, standing_of, take_answer}
+use Rattle.sync_host.specs.Verbs.{is_call}
 use Rattle.sync_host.specs.declared.hosted.HostedClient.{HostedClient}
 use Rattle.sync_host.specs.declared.hosted.HostedServer.{HostedServer}
 use Rattle.sync_host.specs.declared.reply.Reply.{Reply}
@@ -22,19 +24,26 @@ use Rattle.sync_host.specs.declared.verb.Verb.TheVariants as verbs
 -- a client, of whatever records it stands for
 pub record ClientAnswers (verb : Verb) (body : List ℕ) (old : HostedClient) (reply : Reply) (new : HostedClient) : Type 0 where
   -- a node line, or a message: the model's step
-  pub line : verb ≡ verbs.Line → (records : List ClientRecord) → ClientStands records old.client → IfTold reply (Answers (option_map (line_answer records) (node_form_of_line body)) records reply new.client)
-  pub take : verb ≡ verbs.Take → (records : List ClientRecord) → ClientStands records old.client → IfTold reply (Answers (option_map (take_answer records) (message_read body)) records reply new.client)
+  pub line : verb ≡ verbs.Line → (records : List ClientRecord) → ClientStands records old.client → IfTold reply (Answers (option_map (line_answer records) (node_form_of_line body)) records reply old.client new.client)
+  pub take : verb ≡ verbs.Take → (records : List ClientRecord) → ClientStands records old.client → IfTold reply (Answers (option_map (take_answer records) (message_read body)) records reply old.client new.client)
+  -- what none of the places that it then keeps covers is as it was
+  pub changes_by_line : verb ≡ verbs.Line → (records : List ClientRecord) → ClientStands records old.client → IfTold reply (Tells new.changed.items records (option_map (line_answer records) (node_form_of_line body)))
+  pub changes_by_take : verb ≡ verbs.Take → (records : List ClientRecord) → ClientStands records old.client → IfTold reply (Tells new.changed.items records (option_map (take_answer records) (message_read body)))
+  -- nothing else changes it
+  pub unchanged : is_call verb ≡ false → new ≡ old
   -- a message to send
   pub sends : (records : List ClientRecord) → ClientStands records old.client → IfSome (errand verb body old.stored (client_of the_profile records)) (λ did. IfTold reply (SentSo did.answer reply))
   -- what is read
   pub dumps : verb ≡ verbs.Dump → (records : List ClientRecord) → ClientStands records old.client → IfTold reply (reply_bytes reply ≡ 0 ∷ dump (client_of the_profile records).objects)
+  pub changes : verb ≡ verbs.Changed → IfTold reply (reply_bytes reply ≡ 0 ∷ place_lines old.changed.items)
   pub tells : verb ≡ verbs.Object → (records : List ClientRecord) → ClientStands records old.client → IfTold reply (ObjectTold (object_form_of_line body) (client_of the_profile records).objects reply)
   pub stands : verb ≡ verbs.Standing → (records : List ClientRecord) → ClientStands records old.client → reply ≡ replies.Standing (standing_of (client_of the_profile records))
 
 -- a server, of whatever records it stands for
 pub record ServerAnswers (verb : Verb) (body : List ℕ) (old : HostedServer) (reply : Reply) (new : HostedServer) : Type 0 where
   pub take : verb ≡ verbs.Take → (records : List ServerRecord) → ServerStands records old.server
-      → IfTold reply (Serves (option_map (serve_by the_profile (parts (kept_of old.server))) (message_read body)) records reply new.server)
+      → IfTold reply (Serves (option_map (serve_by the_profile (parts (kept_of old.server))) (message_read body)) records reply old.server new.server)
+  pub unchanged : is_call verb ≡ false → new ≡ old
   pub dumps : verb ≡ verbs.Dump → IfTold reply (reply_bytes reply ≡ 0 ∷ dump (parts (kept_of old.server)).objects)
   pub tells : verb ≡ verbs.Object → IfTold reply (ObjectTold (object_form_of_line body) (parts (kept_of old.server)).objects reply)
   pub stands : verb ≡ verbs.Standing → reply ≡ replies.Standing (server_standing (parts (kept_of old.server)).len)

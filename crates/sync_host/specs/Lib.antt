@@ -2,8 +2,10 @@ pub mod Verbs
 pub mod Refusals
 pub mod Replies
 pub mod Steps
+pub mod Places
 pub mod Opening
 pub mod Objects
+pub mod Outboxes
 pub mod Hosting
 pub mod Nodes
 pub mod Hosts

@@ -3,6 +3,7 @@ use Rattle.std.specs.Prelude.{◌≡◌, ℕ, List, true}
 use Rattle.sync_client.specs.Files as client_files
 use Rattle.sync_server.specs.Files as server_files
 use Rattle.sync_host.specs.Hosting.{ClientAnswers, ServerAnswers}
+use Rattle.sync_host.specs.Outboxes.{Emptied}
 use Rattle.sync_host.specs.Opening.{ClientOpens, ServerOpens}
 use Rattle.sync_host.specs.Verbs.{is_to_node}
 use Rattle.sync_host.specs.declared.hosted.HostedClient.{HostedClient}
@@ -35,3 +36,4 @@ pub record Answered (verb : Verb) (body : List ℕ) (old : Node) (reply : Reply)
   pub opens_server : verb ≡ verbs.OpenServer → reply ≡ replies.Done → OpensServer body new
   pub bad_server : verb ≡ verbs.OpenServer → (place : ℕ) → reply ≡ replies.BadFile place → server_files.BadPlace body place
   pub closes : verb ≡ verbs.Close → new ≡ nodes.None
+  pub empties : verb ≡ verbs.Done → Emptied old new

@@ -1,9 +1,12 @@
 -- What a node's request is replied, and the records that it adds, by the records of the node.
-use Rattle.std.specs.Prelude.{◌≡◌, ◌⊎◌, ◌==◌, ◌&&◌, ℕ, List, [], ◌∷◌, ◌++◌, length, nat_lt, if◌then◌else◌, Option, None, Some, Result, Ok, Err}
+use Rattle.std.specs.Prelude.{◌≡◌, ◌⊎◌, ◌==◌, ◌&&◌, ℕ, false, List, [], ◌∷◌, ◌++◌, length, map, nat_lt, if◌then◌else◌, Option, None, Some, Result, Ok, Err}
 use Rattle.std.specs.Int.{w32, from_le_bytes}
 use Rattle.std.specs.Option.{option_map}
 use Rattle.sync_data.specs.declared.instr.Instr.{Instr}
+use Rattle.sync_base.specs.Footprints.{Part, SameAt}
 use Rattle.sync_base.specs.States.{State}
+use Rattle.sync_changed.specs.Places.{is_told}
+use Rattle.sync_changed.specs.declared.place.Place.{Place}
 use Rattle.sync_disk.specs.declared.disk.Disk.{Ghosts}
 use Rattle.sync_model.specs.Clients as clients
 use Rattle.sync_model.specs.Clients.{Client as ModelClient, ClientRecord, ClientRefusal, ClientStep, NotNamed, answers, ask, bind, client_of, last, refuse, upload_from}
@@ -11,7 +14,8 @@ use Rattle.sync_model.specs.Messages.{Message, Retire}
 use Rattle.sync_model.specs.Parts.{Served}
 use Rattle.sync_model.specs.Servers.{ServerRecord}
 use Rattle.sync_exchange.specs.Profile.{the_profile}
-use Rattle.sync_exchange.specs.Seen.{message_seen}
+use Rattle.sync_exchange.specs.Seen.{client_bytes, message_seen, server_bytes}
+use Rattle.sync_journal.specs.Several.{Asks}
 use Rattle.sync_messages.specs.Reading.{message_in}
 use Rattle.sync_messages.specs.Spelling.{message_spelling}
 use Rattle.sync_messages.specs.declared.message.Message.{Message as CodeMessage}
@@ -106,6 +110,11 @@ errand verb body stored c = None
 abbrev pub standing_of : ModelClient Instr State → Standing
 standing_of c = record { ident = c.ident; cursor = c.cursor; last = last c; unsent = length c.unsent }
 
+-- what none of these places covers is as it was before the records were added
+abbrev pub Tells : List Place → List ClientRecord → Option Answer → Type 0
+Tells places records None = Unit {0}
+Tells places records (Some answer) = (x : Part) → is_told places x ≡ false → SameAt (client_of the_profile (records ++ answer.records)).objects (client_of the_profile records).objects x
+
 -- the message that a client makes, or why it makes none
 abbrev pub SentSo : Result Message ClientRefusal → Reply → Type 0
 SentSo (Ok message) reply = (sent : CodeMessage) × (message_seen sent ≡ message) × (reply_bytes reply ≡ 0 ∷ message_spelling sent)
@@ -127,15 +136,26 @@ module _ {D : Type 0} {G : Ghosts D} where
     pub server : IsServerOf records s
     pub stored : servers_code.IsStored G.content G.images records s
 
-  -- it was replied so and added the records; what is no request of this kind changes nothing
-  abbrev pub Answers : Option Answer → List ClientRecord → Reply → Client D G → Type 0
-  Answers None records reply c = (reply ≡ replies.BadRequest) × ClientStands records c
-  Answers (Some answer) records reply c = (reply_bytes reply ≡ answer.reply) × ClientStands (records ++ answer.records) c
+  -- it was replied so and added the records, and asked the disk for their strokes and no others
+  pub record Did (answer : Answer) (records : List ClientRecord) (reply : Reply) (old new : Client D G) : Type 0 where
+    pub replied : reply_bytes reply ≡ answer.reply
+    pub stands : ClientStands (records ++ answer.records) new
+    pub asked : Asks G.strokes (map client_bytes answer.records) (clients_code.journal_of old) (clients_code.journal_of new)
 
-  -- a server's reply
-  abbrev pub Serves : Option (Served Instr State) → List ServerRecord → Reply → Server D G → Type 0
-  Serves None records reply s = (reply ≡ replies.BadRequest) × ServerStands records s
-  Serves (Some did) records reply s = ((sent : CodeMessage) × (message_seen sent ≡ did.answer) × (reply_bytes reply ≡ 0 ∷ message_spelling sent)) × ServerStands (records ++ did.records) s
+  -- what is no request of this kind changes nothing
+  abbrev pub Answers : Option Answer → List ClientRecord → Reply → Client D G → Client D G → Type 0
+  Answers None records reply old new = (reply ≡ replies.BadRequest) × (new ≡ old)
+  Answers (Some answer) records reply old new = Did answer records reply old new
+
+  -- the same of a server
+  pub record DidServe (did : Served Instr State) (records : List ServerRecord) (reply : Reply) (old new : Server D G) : Type 0 where
+    pub replied : (sent : CodeMessage) × (message_seen sent ≡ did.answer) × (reply_bytes reply ≡ 0 ∷ message_spelling sent)
+    pub stands : ServerStands (records ++ did.records) new
+    pub asked : Asks G.strokes (map server_bytes did.records) (servers_code.journal_of old) (servers_code.journal_of new)
+
+  abbrev pub Serves : Option (Served Instr State) → List ServerRecord → Reply → Server D G → Server D G → Type 0
+  Serves None records reply old new = (reply ≡ replies.BadRequest) × (new ≡ old)
+  Serves (Some did) records reply old new = DidServe did records reply old new
 
 abbrev pub server_standing : ℕ → Standing
 server_standing len = record { ident = 0; cursor = len; last = 0; unsent = 0 }

@@ -17,6 +17,7 @@ verb_of byte =
     else if byte == 71 then Some verbs.Retire
     else if byte == 68 then Some verbs.Dump
     else if byte == 79 then Some verbs.Object
+    else if byte == 67 then Some verbs.Changed
     else if byte == 73 then Some verbs.Standing
     else if byte == 82 then Some verbs.Again
     else if byte == 87 then Some verbs.Outbox
@@ -41,6 +42,7 @@ is_to_node verbs.Ask = true
 is_to_node verbs.Retire = true
 is_to_node verbs.Dump = true
 is_to_node verbs.Object = true
+is_to_node verbs.Changed = true
 is_to_node verbs.Standing = true
 is_to_node verbs.Again = false
 is_to_node verbs.Outbox = false
@@ -60,7 +62,14 @@ is_new verbs.Ask = true
 is_new verbs.Retire = true
 is_new verbs.Dump = true
 is_new verbs.Object = true
+is_new verbs.Changed = true
 is_new verbs.Standing = true
 is_new verbs.Again = false
 is_new verbs.Outbox = false
 is_new verbs.Done = true
+
+-- it is a node line or a message
+abbrev pub is_call : Verb → Bool
+is_call verbs.Line = true
+is_call verbs.Take = true
+is_call verb = false

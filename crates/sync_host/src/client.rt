@@ -1,29 +1,26 @@
 // The requests that a client answers.
 ghost use Rattle.std.specs.Prelude.{◌≡◌, ◌≤◌, List, Some};
-ghost use Rattle.std.specs.Option.{option_map};
 ghost use Rattle.sync_model.specs.Clients as model;
 ghost use Rattle.sync_exchange.specs.Profile.{the_profile};
 ghost use Rattle.sync_exchange.specs.Seen.{message_seen};
 ghost use Rattle.sync_client.specs.Clients.{IsClientOf};
 ghost use Rattle.sync_client.specs.Sending.{Sends};
-ghost use Rattle.sync_edits.specs.Lines.{node_form_of_line};
 ghost use Rattle.sync_host.specs.Replies.{word};
 ghost use Rattle.sync_host.specs.Steps.{Answers, ClientStands, IfTold, line_answer, next, nothing, retire, said, standing_of, take_answer};
 ghost use Rattle.sync_host.specs.declared.reply.Reply.TheVariants as replies;
 
 use crate::answers::decline;
 use crate::reply::{Reply, Standing};
-use std::alloc::Global;
 use sync_client::{Client, ClientRefusal};
 use sync_data::{Id, Instr};
 use sync_disk::Disk;
-use sync_edits::{LineRefusal, NodeLine, node_line_of};
+use sync_edits::NodeLine;
 use sync_messages::{Message, Retire};
 use sync_subset::Subset;
 
 /// The client gets its uuid.
 fn born<D: Disk>(client: &mut Client<D>, id: Id) -> Reply
-    ensures { (records : List model.ClientRecord) → ClientStands records client.old → IfTold result (Answers (Some (said nothing (model.born (model.client_of the_profile records) id))) records result client.new) }
+    ensures { (records : List model.ClientRecord) → ClientStands records client.old → IfTold result (Answers (Some (said nothing (model.born (model.client_of the_profile records) id))) records result client.old client.new) }
 {
     match client.born(id) {
         Ok(()) => Reply::Done,
@@ -33,7 +30,7 @@ fn born<D: Disk>(client: &mut Client<D>, id: Id) -> Reply
 
 /// The client commits a transaction.
 fn commit<D: Disk>(client: &mut Client<D>, ms: u64, edits: Vec<Instr>) -> Reply
-    ensures { (records : List model.ClientRecord) → ClientStands records client.old → IfTold result (Answers (Some (said word (model.commit the_profile (model.client_of the_profile records) ms edits.items))) records result client.new) }
+    ensures { (records : List model.ClientRecord) → ClientStands records client.old → IfTold result (Answers (Some (said word (model.commit the_profile (model.client_of the_profile records) ms edits.items))) records result client.old client.new) }
 {
     match client.commit(ms, edits) {
         Ok(number) => Reply::Number(number),
@@ -43,7 +40,7 @@ fn commit<D: Disk>(client: &mut Client<D>, ms: u64, edits: Vec<Instr>) -> Reply
 
 /// The client's file is brought to form 2.
 fn upgrade<D: Disk>(client: &mut Client<D>) -> Reply
-    ensures { (records : List model.ClientRecord) → ClientStands records client.old → IfTold result (Answers (Some (said nothing (model.upgrade (model.client_of the_profile records)))) records result client.new) }
+    ensures { (records : List model.ClientRecord) → ClientStands records client.old → IfTold result (Answers (Some (said nothing (model.upgrade (model.client_of the_profile records)))) records result client.old client.new) }
 {
     match client.upgrade() {
         Ok(_) => Reply::Done,
@@ -53,7 +50,7 @@ fn upgrade<D: Disk>(client: &mut Client<D>) -> Reply
 
 /// The client names its tables.
 fn subscribe<D: Disk>(client: &mut Client<D>, tables: Subset) -> Reply
-    ensures { (records : List model.ClientRecord) → ClientStands records client.old → IfTold result (Answers (Some (said nothing (model.subscribe (model.client_of the_profile records) tables))) records result client.new) }
+    ensures { (records : List model.ClientRecord) → ClientStands records client.old → IfTold result (Answers (Some (said nothing (model.subscribe (model.client_of the_profile records) tables))) records result client.old client.new) }
 {
     match client.subscribe(tables) {
         Ok(()) => Reply::Done,
@@ -61,9 +58,9 @@ fn subscribe<D: Disk>(client: &mut Client<D>, tables: Subset) -> Reply
     }
 }
 
-/// The client does what a node line says.
-fn take_line<D: Disk>(client: &mut Client<D>, line: NodeLine) -> Reply
-    ensures { (records : List model.ClientRecord) → ClientStands records client.old → IfTold result (Answers (Some (line_answer records line)) records result client.new) }
+/// The client does what a node line says: born, commit, upgrade or tables.
+pub(crate) fn take_line<D: Disk>(client: &mut Client<D>, line: NodeLine) -> Reply
+    ensures { (records : List model.ClientRecord) → ClientStands records client.old → IfTold result (Answers (Some (line_answer records line)) records result client.old client.new) }
 {
     match line {
         NodeLine::Born { id } => born(client, id),
@@ -73,20 +70,9 @@ fn take_line<D: Disk>(client: &mut Client<D>, line: NodeLine) -> Reply
     }
 }
 
-/// Does what a node line says: born, commit, upgrade or tables.
-pub(crate) fn line<D: Disk>(alloc: Global, client: &mut Client<D>, line: &[u8]) -> Reply
-    ensures step { (records : List model.ClientRecord) → ClientStands records client.old → IfTold result (Answers (option_map (line_answer records) (node_form_of_line line.now)) records result client.new) }
-{
-    match node_line_of(alloc, line) {
-        Ok(line) => take_line(client, line),
-        Err(LineRefusal::BadLine) => Reply::BadRequest,
-        Err(LineRefusal::NoMemory) => Reply::NoMemory,
-    }
-}
-
 /// Takes a message: the cursor is answered.
 pub(crate) fn take<D: Disk>(client: &mut Client<D>, message: Message) -> Reply
-    ensures { (records : List model.ClientRecord) → ClientStands records client.old → IfTold result (Answers (Some (take_answer records (message_seen message))) records result client.new) }
+    ensures { (records : List model.ClientRecord) → ClientStands records client.old → IfTold result (Answers (Some (take_answer records (message_seen message))) records result client.old client.new) }
 {
     match client.take(message) {
         Ok(cursor) => Reply::Number(cursor),

@@ -1,34 +1,38 @@
-// A node and the outbox of its disk.
+// A node over a disk with an outbox.
 ghost use Rattle.std.specs.Prelude.{◌≡◌, List, IfSome};
 ghost use Rattle.std.specs.Option.{option_map};
 ghost use Rattle.sync_model.specs.Clients as clients;
 ghost use Rattle.sync_exchange.specs.Profile.{the_profile};
-ghost use Rattle.sync_host.specs.Steps.{Answers, ClientStands, IfTold, SentSo, errand, message_read, number_in, retire_in, stored_in, take_answer};
+ghost use Rattle.sync_edits.specs.Lines.{node_form_of_line};
+ghost use Rattle.sync_host.specs.Steps.{Answers, ClientStands, IfTold, SentSo, Tells, errand, line_answer, message_read, number_in, retire_in, stored_in, take_answer};
 
 use crate::answers::{dump, send};
 use crate::object::object;
+use crate::places::{changed_by_line, tell};
 use crate::reply::Reply;
 use crate::verb::Verb;
 use crate::{client, server};
-use outbox_disk::{Outbox, SharedDisk};
+use outbox_disk::OutboxDisk;
 use std::alloc::Global;
+use sync_changed::{Place, changed_by_message};
 use sync_client::Client;
+use sync_edits::{LineRefusal, node_line_of};
 use sync_messages::{Message, MessageRefusal, message_of};
 use sync_server::Server;
 
-/// A client, the outbox of its disk, and the number up to which the server has said that it has the client's changes.
+/// A client, the number up to which the server has said that it has the client's changes, and what the last node line or message
+/// may have changed.
 #[derive(Drop)]
 pub(crate) struct HostedClient {
-    pub client: Client<SharedDisk>,
-    pub outbox: Outbox,
+    pub client: Client<OutboxDisk>,
     pub stored: u32,
+    pub changed: Vec<Place>,
 }
 
-/// A server, and the outbox of its disk.
+/// A server.
 #[derive(Drop)]
 pub(crate) struct HostedServer {
-    pub server: Server<SharedDisk>,
-    pub outbox: Outbox,
+    pub server: Server<OutboxDisk>,
 }
 
 /// The number that these four bytes are, the lowest first.
@@ -53,17 +57,43 @@ fn stored_by(message: &Message) -> Option<u32>
 
 impl HostedClient {
     ghost use Rattle.sync_host.specs.Hosting.{ClientAnswers};
+    ghost use Rattle.sync_host.specs.Outboxes.{EmptiedClient};
 
-    /// Takes the message of these bytes, and keeps what it says of the client's changes.
+    /// Does what a node line says, and keeps what it may change.
+    fn line(&mut self, alloc: Global, bytes: &[u8]) -> Reply
+        ensures step { (records : List clients.ClientRecord) → ClientStands records self.old.client
+            → IfTold result (Answers (option_map (line_answer records) (node_form_of_line bytes.now)) records result self.old.client self.new.client) }
+        ensures told { (records : List clients.ClientRecord) → IfTold result (Tells self.new.changed.items records (option_map (line_answer records) (node_form_of_line bytes.now))) }
+    {
+        let line = match node_line_of(alloc, bytes) {
+            Ok(line) => line,
+            Err(LineRefusal::BadLine) => return Reply::BadRequest,
+            Err(LineRefusal::NoMemory) => return Reply::NoMemory,
+        };
+        let Ok(places) = changed_by_line(alloc, &line) else {
+            let_go(line);
+            return Reply::NoMemory;
+        };
+        self.changed = places;
+        client::take_line(&mut self.client, line)
+    }
+
+    /// Takes the message of these bytes, and keeps what it may change and what it says of the client's changes.
     fn take(&mut self, alloc: Global, bytes: &[u8]) -> Reply
         ensures step { (records : List clients.ClientRecord) → ClientStands records self.old.client
-            → IfTold result (Answers (option_map (take_answer records) (message_read bytes.now)) records result self.new.client) }
+            → IfTold result (Answers (option_map (take_answer records) (message_read bytes.now)) records result self.old.client self.new.client) }
+        ensures told { (records : List clients.ClientRecord) → IfTold result (Tells self.new.changed.items records (option_map (take_answer records) (message_read bytes.now))) }
     {
         let message = match message_of(alloc, bytes) {
             Ok(message) => message,
             Err(MessageRefusal::BadMessage) => return Reply::BadRequest,
             Err(MessageRefusal::NoMemory) => return Reply::NoMemory,
         };
+        let Ok(places) = changed_by_message(alloc, &message) else {
+            let_go(message);
+            return Reply::NoMemory;
+        };
+        self.changed = places;
         let stored = stored_by(&message);
         let reply = client::take(&mut self.client, message);
         if let (Some(number), Reply::Number(_)) = (stored, &reply) {
@@ -119,18 +149,27 @@ impl HostedClient {
         ensures { ClientAnswers verb body.now self.old result self.new }
     {
         match verb {
-            Verb::Line => client::line(alloc, &mut self.client, body),
+            Verb::Line => self.line(alloc, body),
             Verb::Take => self.take(alloc, body),
             Verb::Dump => dump(alloc, self.client.objects()),
             Verb::Object => object(alloc, self.client.objects(), body),
+            Verb::Changed => tell(alloc, &self.changed),
             Verb::Standing => client::standing(&self.client),
             _ => self.errand(alloc, verb, body),
         }
+    }
+
+    /// The outbox of its disk is emptied.
+    pub(crate) fn empty(&mut self)
+        ensures { EmptiedClient self.old self.new }
+    {
+        self.client.begin_anew();
     }
 }
 
 impl HostedServer {
     ghost use Rattle.sync_host.specs.Hosting.{ServerAnswers};
+    ghost use Rattle.sync_host.specs.Outboxes.{EmptiedServer};
 
     /// Answers a request.
     pub(crate) fn answer(&mut self, alloc: Global, verb: Verb, body: &[u8]) -> Reply
@@ -144,4 +183,14 @@ impl HostedServer {
             _ => Reply::BadRequest,
         }
     }
+
+    /// The outbox of its disk is emptied.
+    pub(crate) fn empty(&mut self)
+        ensures { EmptiedServer self.old self.new }
+    {
+        self.server.begin_anew();
+    }
 }
+
+/// Drops a value, so that no caller's proof has the cases of its kind.
+fn let_go<T: Drop>(_: T) {}

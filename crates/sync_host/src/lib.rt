@@ -9,6 +9,7 @@ mod hosted;
 mod node;
 mod object;
 mod opening;
+mod places;
 mod refusals;
 mod reply;
 mod server;

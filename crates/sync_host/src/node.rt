@@ -1,13 +1,14 @@
 ghost use Rattle.std.specs.Prelude.{◌≡◌, ℕ, length};
 ghost use Rattle.sync_client.specs.Files as client_files;
 ghost use Rattle.sync_server.specs.Files as server_files;
+ghost use Rattle.outbox_disk.specs.Outbox.{outbox_bytes};
+ghost use Rattle.sync_host.specs.Replies.{over};
 ghost use Rattle.sync_host.specs.declared.reply.Reply.TheVariants as replies;
 
 use crate::hosted::{HostedClient, HostedServer};
 use crate::opening::{open_client, open_server};
-use crate::reply::Reply;
+use crate::reply::{Reply, copy};
 use crate::verb::Verb;
-use outbox_disk::Outbox;
 use std::alloc::Global;
 
 /// What stands in a host's place.
@@ -20,6 +21,7 @@ pub(crate) enum Node {
 
 impl Node {
     ghost use Rattle.sync_host.specs.Nodes.{Answered, NodeAnswers, OpensClient, OpensServer};
+    ghost use Rattle.sync_host.specs.Outboxes.{Emptied, strokes_in};
 
     /// Opens the client of these bytes of a file, in place of what stood there.
     fn open_client(&mut self, alloc: Global, file: &[u8]) -> Reply
@@ -28,11 +30,11 @@ impl Node {
     {
         *self = Node::None;
         match open_client(alloc, file) {
-            Ok((client, outbox)) => {
+            Ok(client) => {
                 *self = Node::Client(HostedClient {
                     client,
-                    outbox,
                     stored: 0,
+                    changed: Vec::new(alloc),
                 });
                 Reply::Done
             }
@@ -47,8 +49,8 @@ impl Node {
     {
         *self = Node::None;
         match open_server(alloc, file) {
-            Ok((server, outbox)) => {
-                *self = Node::Server(HostedServer { server, outbox });
+            Ok(server) => {
+                *self = Node::Server(HostedServer { server });
                 Reply::Done
             }
             Err(reply) => reply,
@@ -66,35 +68,38 @@ impl Node {
         }
     }
 
-    fn outbox(&self) -> Option<&Outbox> {
+    fn outbox(&self) -> &[u8]
+        ensures { result.now ≡ outbox_bytes (strokes_in self.now) }
+    {
         match self {
-            Node::None => None,
-            Node::Client(hosted) => Some(&hosted.outbox),
-            Node::Server(hosted) => Some(&hosted.outbox),
+            Node::None => &[],
+            Node::Client(hosted) => hosted.client.disk().outbox(),
+            Node::Server(hosted) => hosted.server.disk().outbox(),
         }
     }
 
-    /// Copies the outbox, and tells its length.
+    /// Copies the outbox, as far as there is room, and tells its length.
     pub(crate) fn copy_outbox(&self, into: &mut [u8]) -> usize
-        ensures { length into.new ≡ length into.old }
+        ensures told { result ≡ length (outbox_bytes (strokes_in self.now)) }
+        ensures copied { into.new ≡ over (outbox_bytes (strokes_in self.now)) into.old }
     {
-        match self.outbox() {
-            Some(outbox) => outbox.copy_to(into).unwrap_or(0),
-            None => 0,
-        }
+        copy(self.outbox(), into)
     }
 
     /// Empties the outbox.
-    fn empty_outbox(&self) -> Reply {
-        match self.outbox() {
-            Some(outbox) => {
-                if outbox.empty() {
-                    Reply::Done
-                } else {
-                    Reply::Closed
-                }
+    fn empty_outbox(&mut self) -> Reply
+        ensures { Emptied self.old self.new }
+    {
+        match self {
+            Node::None => Reply::Closed,
+            Node::Client(hosted) => {
+                hosted.empty();
+                Reply::Done
             }
-            None => Reply::Closed,
+            Node::Server(hosted) => {
+                hosted.empty();
+                Reply::Done
+            }
         }
     }
 

@@ -6,7 +6,7 @@ ghost use Rattle.sync_host.specs.Opening.{ClientOpens, ServerOpens, Unopened};
 ghost use Rattle.sync_host.specs.declared.reply.Reply.TheVariants as replies;
 
 use crate::reply::Reply;
-use outbox_disk::{Outbox, SharedDisk};
+use outbox_disk::OutboxDisk;
 use std::alloc::Global;
 use sync_client::Client;
 use sync_disk::Disk;
@@ -25,32 +25,32 @@ fn unopened<D: Disk>(refusal: OpenRefusal<D>) -> Reply
     }
 }
 
-/// The client of a file with these bytes, and the outbox of its disk.
-pub(crate) fn open_client(alloc: Global, file: &[u8]) -> Result<(Client<SharedDisk>, Outbox), Reply>
-    ensures opened { IfOk result (λ made. ClientOpens file.now made.0) }
+/// The client of a file with these bytes.
+pub(crate) fn open_client(alloc: Global, file: &[u8]) -> Result<Client<OutboxDisk>, Reply>
+    ensures opened { IfOk result (λ made. ClientOpens file.now made) }
     ensures bad { IfErr result (λ reply. (place : ℕ) → reply ≡ replies.BadFile place → client_files.BadPlace file.now place) }
     ensures not_done { IfErr result (λ reply. reply ≡ replies.Done → ⊥) }
 {
-    let Ok((disk, outbox)) = SharedDisk::over(alloc, file) else {
+    let Ok(disk) = OutboxDisk::over(alloc, file) else {
         return Err(Reply::NoMemory);
     };
     match Client::open(alloc, disk) {
-        Ok(client) => Ok((client, outbox)),
+        Ok(client) => Ok(client),
         Err(refusal) => Err(unopened(refusal)),
     }
 }
 
-/// The server of a file with these bytes, and the outbox of its disk.
-pub(crate) fn open_server(alloc: Global, file: &[u8]) -> Result<(Server<SharedDisk>, Outbox), Reply>
-    ensures opened { IfOk result (λ made. ServerOpens file.now made.0) }
+/// The server of a file with these bytes.
+pub(crate) fn open_server(alloc: Global, file: &[u8]) -> Result<Server<OutboxDisk>, Reply>
+    ensures opened { IfOk result (λ made. ServerOpens file.now made) }
     ensures bad { IfErr result (λ reply. (place : ℕ) → reply ≡ replies.BadFile place → server_files.BadPlace file.now place) }
     ensures not_done { IfErr result (λ reply. reply ≡ replies.Done → ⊥) }
 {
-    let Ok((disk, outbox)) = SharedDisk::over(alloc, file) else {
+    let Ok(disk) = OutboxDisk::over(alloc, file) else {
         return Err(Reply::NoMemory);
     };
     match Server::open(alloc, disk) {
-        Ok(server) => Ok((server, outbox)),
+        Ok(server) => Ok(server),
         Err(refusal) => Err(unopened(refusal)),
     }
 }

@@ -36,6 +36,16 @@ pub enum Reply {
     NoMemory,
 }
 
+/// Copies bytes over a buffer, as far as there is room, and tells how many they are.
+pub(crate) fn copy(bytes: &[u8], into: &mut [u8]) -> usize
+    ensures told { result ≡ length bytes.now }
+    ensures copied { into.new ≡ over bytes.now into.old }
+{
+    let count = bytes.len().min(into.len());
+    into[..count].copy_from_slice(&bytes[..count]);
+    bytes.len()
+}
+
 /// Writes a byte and others over a buffer, as far as there is room, and tells how many they are.
 fn lay(into: &mut [u8], first: u8, rest: &[u8]) -> usize
     requires { length rest.now < 2 ^ 63 }
@@ -44,8 +54,7 @@ fn lay(into: &mut [u8], first: u8, rest: &[u8]) -> usize
 {
     if let Some((front, back)) = into.split_first_mut() {
         *front = first;
-        let count = rest.len().min(back.len());
-        back[..count].copy_from_slice(&rest[..count]);
+        copy(rest, back);
     }
     rest.len() + 1
 }

@@ -19,7 +19,7 @@ use sync_server::{Server, ServerRefusal};
 
 /// The server takes a message: its reply is answered.
 fn take_message<D: Disk>(alloc: Global, server: &mut Server<D>, message: Message) -> Reply
-    ensures { (records : List model.ServerRecord) → ServerStands records server.old → IfTold result (Serves (Some (serve_by the_profile (parts (kept_of server.old)) (message_seen message))) records result server.new) }
+    ensures { (records : List model.ServerRecord) → ServerStands records server.old → IfTold result (Serves (Some (serve_by the_profile (parts (kept_of server.old)) (message_seen message))) records result server.old server.new) }
 {
     match server.take(message) {
         Ok(reply) => spell(alloc, &reply),
@@ -30,7 +30,7 @@ fn take_message<D: Disk>(alloc: Global, server: &mut Server<D>, message: Message
 
 /// Takes the message of these bytes.
 pub(crate) fn take<D: Disk>(alloc: Global, server: &mut Server<D>, bytes: &[u8]) -> Reply
-    ensures step { (records : List model.ServerRecord) → ServerStands records server.old → IfTold result (Serves (option_map (serve_by the_profile (parts (kept_of server.old))) (message_read bytes.now)) records result server.new) }
+    ensures step { (records : List model.ServerRecord) → ServerStands records server.old → IfTold result (Serves (option_map (serve_by the_profile (parts (kept_of server.old))) (message_read bytes.now)) records result server.old server.new) }
 {
     match message_of(alloc, bytes) {
         Ok(message) => take_message(alloc, server, message),

@@ -4,7 +4,7 @@ use super::*;
 const ROOM: usize = 64;
 
 /// Requests to one place after the other, and their replies.
-const CLIENT: [(&[u8], &[u8]); 13] = [
+const CLIENT: [(&[u8], &[u8]); 18] = [
     (b"I", b"\x05"),
     (b"c", b"\0"),
     // A journal without records is made.
@@ -30,9 +30,21 @@ const CLIENT: [(&[u8], &[u8]); 13] = [
     // The server has its change, so it asks next.
     (b"T\x07\x03\x01", b"\0\0\0\0\0"),
     (b"N", b"\0\x04\x03\0\0"),
+    // What a message changed, and a transaction.
+    (
+        b"T\x05\x03\0\x01\x01\x01\x07\x08\x01\x01\x01q\x01\x01\0\0",
+        b"\0\x01\0\0\0",
+    ),
+    (b"C", b"\0{\"table\":\"q\"}\n"),
+    (
+        b"L{\"ms\":2,\"edits\":[{\"op\":\"CreateObject\",\"table\":\"q\",\"key\":5}]}",
+        b"\0\x02\0\0\0",
+    ),
+    (b"I", b"\0\x03\0\0\0\x01\0\0\0\x02\0\0\0\x02\0\0\0"),
+    (b"C", b"\0{\"key\":5,\"table\":\"q\"}\n"),
 ];
 
-const OTHERS: [(&[u8], &[u8]); 12] = [
+const OTHERS: [(&[u8], &[u8]); 13] = [
     (b"", b"\x02"),
     (b"?", b"\x02"),
     (b"s", b"\0"),
@@ -46,6 +58,7 @@ const OTHERS: [(&[u8], &[u8]); 12] = [
         b"\0\x02\x0a\x0a\x0a\x0a\x0a\x0a\x0a\x0a\x0a\x0a\x0a\x0a\x0a\x0a\x0a\x0a\x01",
     ),
     (b"T\x04\x01\0\0", b"\0\x05\x01\0\0"),
+    (b"C", b"\x02"),
     (b"O{\"table\":\"t\",\"key\":1}", b"\x03"),
     (b"O{\"table\":\"t\"}", b"\x02"),
     (b"cRSYNCJ02\0\0", b"\x06\x07\0\0\0\0\0\0\0"),

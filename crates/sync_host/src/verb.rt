@@ -28,6 +28,8 @@ pub enum Verb {
     Dump,
     /// Asks for one object.
     Object,
+    /// Asks what the last line or message may have changed.
+    Changed,
     /// Asks where the node stands.
     Standing,
     /// Asks for the last reply again.
@@ -56,6 +58,7 @@ impl Verb {
             b'G' => Some(Verb::Retire),
             b'D' => Some(Verb::Dump),
             b'O' => Some(Verb::Object),
+            b'C' => Some(Verb::Changed),
             b'I' => Some(Verb::Standing),
             b'R' => Some(Verb::Again),
             b'W' => Some(Verb::Outbox),

@@ -1,12 +1,14 @@
-//! A host's place as C sees it: a pointer, and one call on it. include/realm_sync.h has the calls by name over these two.
+//! A host's place as C sees it: a pointer, one call on it, and one that gives it back. include/realm_sync.h has the calls by name over
+//! these.
 #![tactic(auto)]
 
 ghost use Rattle.std.specs.Borrow.{full_share, sem};
+ghost use Rattle.std.specs.Box.Ownership.{box_owns};
 ghost use Rattle.std.specs.Ptr.{lies_at};
 ghost use Rattle.sync_host.specs.Hosts.{Turned};
 ghost use Rattle.sync_host.specs.contracts.host.Host.{the_row};
 
-use std::alloc::Global;
+use std::alloc::{Allocator, Global};
 use sync_host::Host;
 
 /// The address of a host's place that lives on.
@@ -42,4 +44,16 @@ pub unsafe extern "C" fn realm_node_turn(at: *mut u8, request: &[u8], reply: &mu
     ensures* { ∃ₛ (λ (after : Host). sem 𝓛 (lies_at the_row full_share at after) ∗ ⌜ Turned host request.now reply.old result reply.new after ⌝) }
 {
     turn(&mut *(at as *mut Host), request, reply)
+}
+
+fn let_go(_: Box<Host>) {}
+
+/// Gives a place back, with what stands in it.
+#[unsafe(no_mangle)]
+pub unsafe extern "C" fn realm_node_free(alloc: Global, at: *mut u8)
+    // What C owes: `at` is what `realm_node_new` gave, no call on it runs, and none follows.
+    ghost host: { Host }
+    requires* { sem 𝓛 (box_owns (⟦<Global as Allocator>⟧.dealloc_token alloc) the_row at host) }
+{
+    let_go(Box::from_raw(alloc, at as *mut Host))
 }

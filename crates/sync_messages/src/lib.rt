@@ -13,8 +13,6 @@ mod retire;
 mod retired;
 mod sent;
 mod stored;
-#[cfg(test)]
-mod tests;
 mod upload;
 mod writing;
 

@@ -4,7 +4,7 @@ use Rattle.std.proofs.lemmas.Bool.Decides.{nat_tests}
 use Rattle.std.proofs.lemmas.Bool.{le-leb}
 use Rattle.sync_model.specs.Bytes.{Uuid, Tables}
 use Rattle.sync_theory.specs.Grid.{Carried, carry, reciprocal, tail}
-use Rattle.sync_theory.specs.Logs.{Made as LogMade, Entry as LogEntry, made_at, of_origin, origin_at, Nodes, world_of}
+use Rattle.sync_theory.specs.Logs.{Made as LogMade, Entry as LogEntry, made_at, of_origin, origin_at, Nodes, world_of, nodes_integrate}
 use Rattle.sync_theory.specs.Changesets.{Changeset}
 use Rattle.sync_theory.specs.Lists.{ok_state}
 use Rattle.sync_model.specs.Profile.{Profile, Stuck, apply_all, act_changeset, cross_changesets, restricted, Lawful, needs, IsNamedKind}
@@ -33,13 +33,17 @@ IsOfMerge NotForServer = ⊥
 IsOfMerge (NeedsForm2 n) = ⊥
 IsOfMerge why = Unit {0}
 
--- such a reply to an upload
+-- a reply to an upload, where such a refusal alone may come
+abbrev pub Answers : (ServerRefusal → Type 0) → Message → Type 0
+Answers q (Refused ident number code place) = (why : ServerRefusal) × (code ≡ code_of why) × (place ≡ at_place why) × q why
+Answers q m = Unit {0}
+
+-- what may be refused of an upload of the exchange
 abbrev pub IsUploadFair : Message → Type 0
-IsUploadFair (Refused ident number code place) = (why : ServerRefusal) × (code ≡ code_of why) × (place ≡ at_place why) × MayRefuse why × IsOfMerge why
-IsUploadFair m = Unit {0}
+IsUploadFair m = Answers (λ why. MayRefuse why × IsOfMerge why) m
 
 upload_fair : (m : Message) → IsUploadFair m → IsFair m
-upload_fair (Refused ident number code place) f = (f.0, f.1, f.2, f.3)
+upload_fair (Refused ident number code place) f = (f.0, f.1, f.2, f.3.0)
 upload_fair (Bind u) f = tt
 upload_fair (Ident u c) f = tt
 upload_fair (Upload c hs) f = tt
@@ -61,7 +65,7 @@ module _ {I S : Type 0} (p : Profile I S) where
   OfErr (Ok x) = Unit {0}
   OfErr (Err why) = IsOfMerge why
 
-  of_merge : (s : Server I) (c : ℕ) (h : Change) (why : ServerRefusal) → merge p s c h ≡ Err why → IsOfMerge why
+  pub of_merge : (s : Server I) (c : ℕ) (h : Change) (why : ServerRefusal) → merge p s c h ≡ Err why → IsOfMerge why
   of_merge s c h why e = subst OfErr e (tests (is_retired (heir_of c s.retired)) (nat_lt (suc (count s c)) h.number) (nat_lt h.base (last_base (of_origin c s.log))) (nat_lt (length s.log) h.base) (length s.log == p.full) (p.unspell h.body))
     where
       applied_ : (new : List ServerRecord) (r : Result S (ℕ × ℕ)) → OfErr (merge_applied new r)
@@ -115,7 +119,7 @@ module _ {I S : Type 0} (p : Profile I S) where
         not_zero : c ≡ 0 → ⊥
         not_zero z = own_not_zero s.ids us c mine z
 
-    own_fair : (s : Server I) (n : Nodes (Changeset I) S) (sim : Sim p s cls inj n) (c : ℕ) (m : LogMade (Changeset I)) (more : List (LogMade (Changeset I))) (h : Change) → class s.ids us c ≡ true → n.mades c ≡ of_origin c n.log ++ m ∷ more → h ≡ change_of p (record { base = m.base; number = m.change.number; ms = m.change.ms; instrs = m.change.instrs }) → made_of p c h m.change.instrs ≡ m → h.number ≡ suc (length (of_origin c n.log)) → (why : ServerRefusal) → merge p s c h ≡ Err why → MayRefuse why
+    pub own_fair : (s : Server I) (n : Nodes (Changeset I) S) (sim : Sim p s cls inj n) (c : ℕ) (m : LogMade (Changeset I)) (more : List (LogMade (Changeset I))) (h : Change) → class s.ids us c ≡ true → n.mades c ≡ of_origin c n.log ++ m ∷ more → h ≡ change_of p (record { base = m.base; number = m.change.number; ms = m.change.ms; instrs = m.change.instrs }) → made_of p c h m.change.instrs ≡ m → h.number ≡ suc (length (of_origin c n.log)) → (why : ServerRefusal) → merge p s c h ≡ Err why → MayRefuse why
     own_fair s n sim c m more h mine next h_is same number why e0 =
         if_fair (is_retired (heir_of c s.retired)) (IdentRetired (count s c)) _ why (λ b. absurd (mine_or_theirs (sim.retired c b).theirs)) (λ b0 e.
         if_fair (nat_lt (suc (count s c)) h.number) (NumberGap (suc (count s c))) _ why (λ b. absurd (not_lt (suc (count s c)) h.number b (let k = counted in omega arith))) (λ b e1.
@@ -184,59 +188,73 @@ module _ {I S : Type 0} (p : Profile I S) where
                 let a = acts q.0 r1 in
                 applies (new_records p s c h m.change.instrs) (apply_all p q.0.instrs (server_objects p s)) (sym (apply_is p q.0.instrs (server_objects p s)) ∙ ap (act_changeset p q.0) (objects_of p law cls inj s n sim) ∙ a.1) e
 
+    -- the next change of a client is refused so, where this holds of the nodes
+    abbrev pub Refuses : (ℕ → Nodes (Changeset I) S → Type 0) → (ServerRefusal → Type 0) → Type 0
+    Refuses inv q = (s : Server I) (n : Nodes (Changeset I) S) (sim : Sim p s cls inj n) (c : ℕ) (m : LogMade (Changeset I)) (more : List (LogMade (Changeset I))) (h : Change) → class s.ids us c ≡ true → n.mades c ≡ of_origin c n.log ++ m ∷ more → h ≡ change_of p (record { base = m.base; number = m.change.number; ms = m.change.ms; instrs = m.change.instrs }) → made_of p c h m.change.instrs ≡ m → h.number ≡ suc (length (of_origin c n.log))
+        → inv c n → (why : ServerRefusal) → merge p s c h ≡ Err why → q why
+
+    -- and it lasts where the next change of a client is integrated
+    abbrev pub Lasts : (ℕ → Nodes (Changeset I) S → Type 0) → Type 0
+    Lasts inv = (c : ℕ) (n : Nodes (Changeset I) S) (m : LogMade (Changeset I)) (more : List (LogMade (Changeset I))) (x : Changeset I) (t : S) → n.mades c ≡ of_origin c n.log ++ m ∷ more → inv c n → inv c (nodes_integrate n c m x t)
+
+    module _ (inv : ℕ → Nodes (Changeset I) S → Type 0) (q : ServerRefusal → Type 0) (refused : Refuses inv q) (keeps : Lasts inv) where
+      pub answers_by : (hs : List Change) (s : Server I) (n : Nodes (Changeset I) S) (sim : Sim p s cls inj n) (c f : ℕ) → c ≢ 0 → c ≤ length s.ids → class s.ids us c ≡ true → f ≤ length (of_origin c n.log) → Uploaded p (n.mades c) f hs → inv c n → Answers q (serve_changes p s c hs).answer
+      answers_by [] s n sim c f given there mine known up so = tt
+      answers_by (h ∷ hs) s n sim c f given there mine known (a_change m here h_is up) so =
+          go (nat_le h.number (count s c)) refl (merge p s c h) refl (answers_by hs)
+        where
+          number_is : h.number ≡ suc f
+          number_is = let a = ap (λ z. z.number) h_is in let b = (numbered_at f m (sim.numbered c) here).0 in omega arith
+
+          count_is : count s c ≡ length (of_origin c n.log)
+          count_is = ap (λ l. length (of_origin c l)) (sym sim.log_is)
+
+          at_end : (xs ys : List (LogMade (Changeset I))) → n.mades c ≡ xs ++ ys → f ≡ length xs → n.mades c ≡ xs ++ m ∷ tail ys
+          at_end xs ys e is = e ∙ ap (λ l. xs ++ l) (at_head xs ys m (subst₂ (λ l k. at l k ≡ Some m) e is here))
+
+          go : (b : Bool) → nat_le h.number (count s c) ≡ b → (r : Result (List ServerRecord) ServerRefusal) → merge p s c h ≡ r
+              → ((s2 : Server I) (n2 : Nodes (Changeset I) S) (sim2 : Sim p s2 cls inj n2) (c2 f2 : ℕ) → c2 ≢ 0 → c2 ≤ length s2.ids → class s2.ids us c2 ≡ true → f2 ≤ length (of_origin c2 n2.log) → Uploaded p (n2.mades c2) f2 hs → inv c2 n2 → Answers q (serve_changes p s2 c2 hs).answer)
+              → Answers q (if b then serve_changes p s c hs else merged c h.number r (λ new. serve_changes p (after_all p s new) c hs)).answer
+          go true b_is r r_is rec =
+              let le : h.number ≤ count s c = grind (arith, nat_tests) in
+              let a = number_is in
+              let b = count_is in
+              rec s n sim c (suc f) given there mine (omega arith) up so
+          go false b_is r r_is rec =
+              let gt : count s c < h.number = grind (arith, nat_tests) in
+              let a = number_is in
+              let b = count_is in
+              let f_is : f ≡ length (of_origin c n.log) = omega arith in
+              let ahead = sim.ahead c in
+              on r r_is rec f_is (at_end (of_origin c n.log) ahead.0 ahead.1 f_is)
+            where
+              on : (r : Result (List ServerRecord) ServerRefusal) → merge p s c h ≡ r
+                  → ((s2 : Server I) (n2 : Nodes (Changeset I) S) (sim2 : Sim p s2 cls inj n2) (c2 f2 : ℕ) → c2 ≢ 0 → c2 ≤ length s2.ids → class s2.ids us c2 ≡ true → f2 ≤ length (of_origin c2 n2.log) → Uploaded p (n2.mades c2) f2 hs → inv c2 n2 → Answers q (serve_changes p s2 c2 hs).answer)
+                  → f ≡ length (of_origin c n.log) → n.mades c ≡ of_origin c n.log ++ m ∷ tail (sim.ahead c).0
+                  → Answers q (merged c h.number r (λ new. serve_changes p (after_all p s new) c hs)).answer
+              on (Err why) r_is rec f_is next =
+                  let small = made_small p law cls inj s n sim c f m mine here in
+                  let back = ap (λ z. p.unspell z.body) h_is ∙ law.spelled m.change.instrs small in
+                  let same = own_change p law cls inj n c f m h m.change.instrs (sim.numbered c) here h_is small back in
+                  let a = number_is in
+                  (why, refl, refl, refused s n sim c m (tail (sim.ahead c).0) h mine next h_is same (omega arith) so why r_is)
+              on (Ok new) r_is rec f_is next0 =
+                  let g = merging p s c h new r_is in
+                  let same = own_change p law cls inj n c f m h g.instrs (sim.numbered c) here h_is (made_small p law cls inj s n sim c f m mine here) g.read in
+                  let next : n.mades c ≡ of_origin c n.log ++ made_of p c h g.instrs ∷ tail (sim.ahead c).0 = next0 ∙ ap (λ z. of_origin c n.log ++ z ∷ tail (sim.ahead c).0) (sym same) in
+                  let o : Nodes (Changeset I) S = Rattle.sync_theory.specs.Logs.nodes_integrate n c (made_of p c h g.instrs) g.entry g.state in
+                  let longer_ = ap length (Rattle.sync_model.proofs.Moves.origin_here c (made_of p c h g.instrs) n.log) ∙ Rattle.sync_theory.proofs.Logs.length_snoc (of_origin c n.log) (made_of p c h g.instrs) in
+                  let all = entered p law cls inj s n sim c h new g o
+                  (λ s1 sim1 l i. entry_own p s1 cls inj n sim1 c (made_of p c h g.instrs) g.entry g.state (stamp_here p law cls inj s n sim c h new g) refl (read_small p law h.body g.instrs g.read) (carried_here p law cls inj s n sim c h new g) (acts_here p law cls inj s n sim c h new g) (tail (sim.ahead c).0) next (ap (λ z. class z us c) i ∙ mine))
+                  (entry_own_later p s cls inj n sim c (made_of p c h g.instrs) g.entry g.state (stamp_here p law cls inj s n sim c h new g) refl (read_small p law h.body g.instrs g.read) (carried_here p law cls inj s n sim c h new g) (acts_here p law cls inj s n sim c h new g) (tail (sim.ahead c).0) next mine) in
+                  let m_is = all.is in
+                  let up2 : Uploaded p (all.whole.m.mades c) (suc f) hs = subst (λ z. Uploaded p (z.mades c) (suc f) hs) (sym m_is) up in
+                  let known2 : suc f ≤ length (of_origin c all.whole.m.log) = subst (λ z. suc f ≤ length (of_origin c z.log)) (sym m_is) (omega (arith, longer_)) in
+                  rec (after_all p s new) all.whole.m all.whole.sim c (suc f) given (subst (λ z. c ≤ length z) (sym all.ids_are) there) (ap (λ z. class z us c) all.ids_are ∙ mine) known2 up2 (subst (inv c) (sym m_is) (keeps c n (made_of p c h g.instrs) (tail (sim.ahead c).0) g.entry g.state next so))
+
     pub own_answers : (hs : List Change) (s : Server I) (n : Nodes (Changeset I) S) (sim : Sim p s cls inj n) (c f : ℕ) → c ≢ 0 → c ≤ length s.ids → class s.ids us c ≡ true → f ≤ length (of_origin c n.log) → Uploaded p (n.mades c) f hs → IsUploadFair (serve_changes p s c hs).answer
-    own_answers [] s n sim c f given there mine known up = tt
-    own_answers (h ∷ hs) s n sim c f given there mine known (a_change m here h_is up) =
-        go (nat_le h.number (count s c)) refl (merge p s c h) refl (own_answers hs)
-      where
-        number_is : h.number ≡ suc f
-        number_is = let a = ap (λ z. z.number) h_is in let b = (numbered_at f m (sim.numbered c) here).0 in omega arith
-
-        count_is : count s c ≡ length (of_origin c n.log)
-        count_is = ap (λ l. length (of_origin c l)) (sym sim.log_is)
-
-        at_end : (xs ys : List (LogMade (Changeset I))) → n.mades c ≡ xs ++ ys → f ≡ length xs → n.mades c ≡ xs ++ m ∷ tail ys
-        at_end xs ys e is = e ∙ ap (λ l. xs ++ l) (at_head xs ys m (subst₂ (λ l k. at l k ≡ Some m) e is here))
-
-        go : (b : Bool) → nat_le h.number (count s c) ≡ b → (r : Result (List ServerRecord) ServerRefusal) → merge p s c h ≡ r
-            → ((s2 : Server I) (n2 : Nodes (Changeset I) S) (sim2 : Sim p s2 cls inj n2) (c2 f2 : ℕ) → c2 ≢ 0 → c2 ≤ length s2.ids → class s2.ids us c2 ≡ true → f2 ≤ length (of_origin c2 n2.log) → Uploaded p (n2.mades c2) f2 hs → IsUploadFair (serve_changes p s2 c2 hs).answer)
-            → IsUploadFair (if b then serve_changes p s c hs else merged c h.number r (λ new. serve_changes p (after_all p s new) c hs)).answer
-        go true b_is r r_is rec =
-            let le : h.number ≤ count s c = grind (arith, nat_tests) in
-            let a = number_is in
-            let b = count_is in
-            rec s n sim c (suc f) given there mine (omega arith) up
-        go false b_is r r_is rec =
-            let gt : count s c < h.number = grind (arith, nat_tests) in
-            let a = number_is in
-            let b = count_is in
-            let f_is : f ≡ length (of_origin c n.log) = omega arith in
-            let ahead = sim.ahead c in
-            on r r_is rec f_is (at_end (of_origin c n.log) ahead.0 ahead.1 f_is)
-          where
-            on : (r : Result (List ServerRecord) ServerRefusal) → merge p s c h ≡ r
-                → ((s2 : Server I) (n2 : Nodes (Changeset I) S) (sim2 : Sim p s2 cls inj n2) (c2 f2 : ℕ) → c2 ≢ 0 → c2 ≤ length s2.ids → class s2.ids us c2 ≡ true → f2 ≤ length (of_origin c2 n2.log) → Uploaded p (n2.mades c2) f2 hs → IsUploadFair (serve_changes p s2 c2 hs).answer)
-                → f ≡ length (of_origin c n.log) → n.mades c ≡ of_origin c n.log ++ m ∷ tail (sim.ahead c).0
-                → IsUploadFair (merged c h.number r (λ new. serve_changes p (after_all p s new) c hs)).answer
-            on (Err why) r_is rec f_is next =
-                let small = made_small p law cls inj s n sim c f m mine here in
-                let back = ap (λ z. p.unspell z.body) h_is ∙ law.spelled m.change.instrs small in
-                let same = own_change p law cls inj n c f m h m.change.instrs (sim.numbered c) here h_is small back in
-                let a = number_is in
-                (why, refl, refl, own_fair s n sim c m (tail (sim.ahead c).0) h mine next h_is same (omega arith) why r_is, of_merge s c h why r_is)
-            on (Ok new) r_is rec f_is next0 =
-                let g = merging p s c h new r_is in
-                let same = own_change p law cls inj n c f m h g.instrs (sim.numbered c) here h_is (made_small p law cls inj s n sim c f m mine here) g.read in
-                let next : n.mades c ≡ of_origin c n.log ++ made_of p c h g.instrs ∷ tail (sim.ahead c).0 = next0 ∙ ap (λ z. of_origin c n.log ++ z ∷ tail (sim.ahead c).0) (sym same) in
-                let o : Nodes (Changeset I) S = Rattle.sync_theory.specs.Logs.nodes_integrate n c (made_of p c h g.instrs) g.entry g.state in
-                let longer_ = ap length (Rattle.sync_model.proofs.Moves.origin_here c (made_of p c h g.instrs) n.log) ∙ Rattle.sync_theory.proofs.Logs.length_snoc (of_origin c n.log) (made_of p c h g.instrs) in
-                let all = entered p law cls inj s n sim c h new g o
-                (λ s1 sim1 l i. entry_own p s1 cls inj n sim1 c (made_of p c h g.instrs) g.entry g.state (stamp_here p law cls inj s n sim c h new g) refl (read_small p law h.body g.instrs g.read) (carried_here p law cls inj s n sim c h new g) (acts_here p law cls inj s n sim c h new g) (tail (sim.ahead c).0) next (ap (λ z. class z us c) i ∙ mine))
-                (entry_own_later p s cls inj n sim c (made_of p c h g.instrs) g.entry g.state (stamp_here p law cls inj s n sim c h new g) refl (read_small p law h.body g.instrs g.read) (carried_here p law cls inj s n sim c h new g) (acts_here p law cls inj s n sim c h new g) (tail (sim.ahead c).0) next mine) in
-                let m_is = all.is in
-                let up2 : Uploaded p (all.whole.m.mades c) (suc f) hs = subst (λ z. Uploaded p (z.mades c) (suc f) hs) (sym m_is) up in
-                let known2 : suc f ≤ length (of_origin c all.whole.m.log) = subst (λ z. suc f ≤ length (of_origin c z.log)) (sym m_is) (omega (arith, longer_)) in
-                rec (after_all p s new) all.whole.m all.whole.sim c (suc f) given (subst (λ z. c ≤ length z) (sym all.ids_are) there) (ap (λ z. class z us c) all.ids_are ∙ mine) known2 up2
+    own_answers hs s n sim c f given there mine known up =
+        answers_by (λ d m. Unit {0}) (λ why. MayRefuse why × IsOfMerge why) (λ s1 n1 sim1 d m more h mine1 next h_is same number so why e. (own_fair s1 n1 sim1 d m more h mine1 next h_is same number why e, of_merge s1 d h why e)) (λ d n1 m more x t next so. so) hs s n sim c f given there mine known up tt
 
     module _ (s : Server I) (n : Nodes (Changeset I) S) (sim : Sim p s cls inj n) where
       pub given_so : (c : ℕ) → Mine p s.ids us c → is_given s c ≡ true

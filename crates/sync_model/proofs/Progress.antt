@@ -21,4 +21,10 @@ pub mod Asked
 pub mod StaysAbove
 pub mod Calm
 pub mod Readers
+pub mod Harmless
+pub mod Unhindered
+pub mod Batches
+pub mod Turns
+pub mod InTurn
+pub mod Lasting
 mod Examples

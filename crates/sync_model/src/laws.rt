@@ -1,8 +1,9 @@
-ghost use Rattle.std.specs.Prelude.{Err, IfOk, List, None, Ok, Option, Some, [], drop, false, length, map, take, true, ◌++◌, ◌+◌, ◌-◌, ◌<◌, ◌≤◌, ◌≢◌, ◌⊎◌, ℕ, ◌≡◌};
+ghost use Rattle.std.specs.Prelude.{Bool, Err, IfOk, List, None, Ok, Option, Some, [], drop, false, length, map, take, true, ◌++◌, ◌+◌, ◌-◌, ◌*◌, ◌<◌, ◌≤◌, ◌≢◌, ◌⊎◌, ℕ, ◌≡◌};
 ghost use Rattle.sync_theory.specs.Changesets.{Changeset};
 ghost use Rattle.sync_model.specs.Bytes.{Bytes, Name, Tables, Uuid};
 ghost use Rattle.sync_model.specs.Clients.{ClientRecord, ClientRefusal, ask, bind, born, client_of, commit, last, no_client, subscribe, take as take_message, upgrade, upload, upload_from};
 ghost use Rattle.sync_model.specs.Files.{FilesOpen, is_growing, client_opens, client_reads, server_admits, server_opens, server_reads};
+ghost use Rattle.sync_model.specs.Harmless.{AreHarmless, IsHarmless, IsHarmlessEvent, in_turn, made_by_event};
 ghost use Rattle.sync_model.specs.Later.{IsLater, Later, LaterEvent, LaterFacts, all_later, first_later, later};
 ghost use Rattle.sync_model.specs.Limits.{ClientLists, ClientNumbers, CrossSmall, IsClientRecord, IsMessage, IsServerRecord, ServerLists, ServerNumbers, WorldNumbers};
 ghost use Rattle.sync_model.specs.Each.{Each};
@@ -254,6 +255,19 @@ pub fn worlds_make_progress<E: Exchange>()
     ensures late { (w : World) → IsReached E.profile w → AllCurrent E.profile w → (late : List (ℕ × Name))
         → AllCurrent E.profile (world_after E.profile w (map (λ d. Delivers d.0 d.1) late)) × (log E.profile (world_after E.profile w (map (λ d. Delivers d.0 d.1) late)) ≡ log E.profile w) }
     ensures turns { (name : Name) (w : World) (between : List (List (Event E.Instr))) → world_after E.profile w (turns E.profile name w between) ≡ after_turns E.profile name w between }
+{}
+
+/// Clients of which none made a change that mismatches, needs form 2 or is long are never held up: where each has its ident
+/// and gets all tables, no disk is armed and nobody else has an ident, they upload and ask in turn, without another Bind, and
+/// all are current after twice as many rounds as it takes messages to bear all that they made. No exception is left. It is so
+/// of a world after each such change, sending, delivery and opening anew.
+pub fn harmless_clients_catch_up<E: Exchange>()
+    ensures in_turn { (test : ℕ → ℕ → List E.Instr → Bool) (most size : ℕ) → AreHarmless E.profile (λ c n is. test c n is ≡ true) most size → most ≤ E.profile.full
+        → (w : World) → IsReached E.profile w → IsHarmless E.profile (λ c n is. test c n is ≡ true) most w
+        → (batch : ℕ) → batch ≤ E.profile.most → batch * size ≤ E.profile.room → (turns : ℕ) → most < turns * batch → (rounds : ℕ) → turns + turns ≤ rounds
+        → AllCurrent E.profile (world_after E.profile w (in_turn (map (λ nd. nd.name) w.clients) (length w.messages) rounds)) }
+    ensures lasts { (test : ℕ → ℕ → List E.Instr → Bool) (most : ℕ) (w : World) → IsReached E.profile w → IsHarmless E.profile (λ c n is. test c n is ≡ true) most w
+        → (e : Event E.Instr) → IsHarmlessEvent E.profile (λ c n is. test c n is ≡ true) w e → IsHarmless E.profile (λ c n is. test c n is ≡ true) (most + made_by_event e) (happens E.profile w e).world }
 {}
 
 /// The same where the server gave up history, as often as it may: in a quiet exchange all clients that the server knows

@@ -21,7 +21,8 @@ use Rattle.sync_client.specs.Refusals.{IfSeen, refusal_seen}
 use Rattle.sync_client.specs.declared.refusal.ClientRefusal.{ClientRefusal as CodeRefusal}
 use Rattle.sync_client.specs.declared.refusal.ClientRefusal.TheVariants as codes
 use Rattle.sync_data.specs.declared.memory.NoMemory.{NoMemory}
-use Rattle.sync_world.specs.Words.{outcome_line, refusal_text}
+use Rattle.sync_model.specs.Worlds.{Words}
+use Rattle.sync_words.specs.Words.{outcome_line, words_text}
 use Rattle.sync_client.specs.declared.client.Client.{Client}
 use Rattle.sync_server.specs.Serving as servers
 use Rattle.sync_server.specs.declared.server.Server.{Server}
@@ -80,10 +81,14 @@ module _ {A D : Type 0} {G : Ghosts D} (words : A → List ℕ) (number : ℕ) (
   }
 
 -- a refusal that is told
-pub declined_some : (number : ℕ) (why : Option ClientRefusal) (words : Result (Vec ℕ Global) NoMemory) (result : Result (Vec ℕ Global) ItemEnd) → (why ≡ None → ⊥) → IfSeen why (λ w. IfOk words (λ t. t.items ≡ refusal_text w))
-    → ((said : List ℕ) → IfOk words (λ w. w.items ≡ said) → IfOk result (λ text. text.items ≡ outcome_line number said)) → IfOk result (λ text. Declined number text.items why)
-declined_some number None words result known seen says = absurd (known refl)
-declined_some number (Some w) words result known seen says = says (refusal_text w) seen
+pub declined_some : (number : ℕ) (why : Option ClientRefusal) (result : Result (Vec ℕ Global) ItemEnd) → (why ≡ None → ⊥)
+    → IfSome (option_map words_text (option_map Words.Declined why)) (λ said. IfOk result (λ text. text.items ≡ outcome_line number said)) → IfOk result (λ text. Declined number text.items why)
+declined_some number None result known says = absurd (known refl)
+declined_some number (Some w) result known says = says
+
+-- what is said of a text is said of the outcome's
+pub of_text : {P : List ℕ → Type 0} (o : Option (List ℕ)) (text : List ℕ) → o ≡ Some text → IfSome o P → P text
+of_text {P} o text is all = subst (λ (x : Option (List ℕ)). IfSome x P) is all
 
 pub plain_seen : (why : CodeRefusal) → (why ≡ codes.DiskFault → ⊥) → (why ≡ codes.NoMemory → ⊥) → (why ≡ codes.Closed → ⊥) → refusal_seen why ≡ None → ⊥
 plain_seen codes.Closed a b c e = c refl

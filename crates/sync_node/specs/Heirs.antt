@@ -16,8 +16,8 @@ use Rattle.sync_exchange.specs.Profile.{the_profile}
 use Rattle.sync_exchange.specs.Seen.{message_seen}
 use Rattle.sync_messages.specs.declared.message.Message.{Message as CodeMessage}
 use Rattle.sync_node.specs.declared.command.ItemEnd.{ItemEnd}
-use Rattle.sync_world.specs.Messages.{message_read}
-use Rattle.sync_world.specs.Words.{outcome_line, said}
+use Rattle.sync_words.specs.Messages.{message_read}
+use Rattle.sync_words.specs.Words.{outcome_line, said}
 use Rattle.sync_node.specs.Holding.{ClientStands}
 use Rattle.sync_node.specs.Recovering.{Counts, dropped_lines, heir_lines, recover_step, recovered, recovery_line}
 use Rattle.sync_node.specs.Runs.{Answer, AnswersSo, IsTold}

@@ -6,8 +6,8 @@ use Rattle.sync_model.specs.Clients.{ClientRecord, client_of}
 use Rattle.sync_model.specs.Messages.{Message}
 use Rattle.sync_model.specs.Resets.{HeirAnswer, Integrated, Known, SavedAs, ResetRefusal, NotMine, Skips, BadChange, ByClient, Recovered, RecoveryLine, IsHeir, Handled, Refuses, NoRetired, recover_frame}
 use Rattle.sync_exchange.specs.Profile.{the_profile}
-use Rattle.sync_world.specs.Messages.{message_read}
-use Rattle.sync_world.specs.Words.{outcome_line, refusal_text, refused, said}
+use Rattle.sync_words.specs.Messages.{message_read}
+use Rattle.sync_words.specs.Words.{outcome_line, refusal_text, refused, said}
 use Rattle.sync_node.specs.Runs.{Answer}
 
 -- the ident of a retired client and how many of its changes are integrated, the latest first

@@ -9,8 +9,8 @@ use Rattle.sync_model.specs.Servers.{ServerRecord}
 use Rattle.sync_edits.specs.Lines.{node_form_of_line}
 use Rattle.sync_edits.specs.declared.event.NodeLine.{NodeLine}
 use Rattle.sync_edits.specs.declared.event.NodeLine.TheVariants as node_lines
-use Rattle.sync_world.specs.Messages.{message_read}
-use Rattle.sync_world.specs.Words.{outcome_line}
+use Rattle.sync_words.specs.Messages.{message_read}
+use Rattle.sync_words.specs.Words.{outcome_line}
 use Rattle.sync_node.specs.Frames.{frame, framed}
 use Rattle.sync_node.specs.Runs.{Answer, IsTold}
 use Rattle.sync_node.specs.Steps.{edit_step, line_answer, serve_step, take_answer, take_step}

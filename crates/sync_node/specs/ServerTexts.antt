@@ -12,7 +12,7 @@ use Rattle.sync_model.specs.Starts.{started}
 use Rattle.sync_model.specs.Trimmed.{trim_records}
 use Rattle.sync_exchange.specs.Profile.{the_profile}
 use Rattle.sync_exchange.specs.Seen.{client_bytes, server_bytes}
-use Rattle.sync_world.specs.Reports.{kept_text}
+use Rattle.sync_words.specs.Reports.{kept_text}
 use Rattle.sync_node.specs.Steps.{kept_by}
 use Rattle.sync_node.specs.declared.server_text.ServerText.{ServerText}
 use Rattle.sync_node.specs.declared.server_text.ServerText.TheVariants as texts

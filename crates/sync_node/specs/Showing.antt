@@ -9,7 +9,7 @@ use Rattle.sync_exchange.specs.Seen.{read_client}
 use Rattle.sync_node.specs.Opening.{client_in, server_in}
 use Rattle.sync_node.specs.ServerTexts.{text_of}
 use Rattle.sync_node.specs.declared.server_text.ServerText.TheVariants as texts
-use Rattle.sync_world.specs.Reports.{standing_text}
+use Rattle.sync_words.specs.Reports.{standing_text}
 
 -- ---- whose file it is
 abbrev pub is_birth : Option ClientRecord → Bool

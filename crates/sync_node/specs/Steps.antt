@@ -14,8 +14,8 @@ use Rattle.sync_exchange.specs.Profile.{the_profile}
 use Rattle.sync_edits.specs.Lines.{node_form_of_line}
 use Rattle.sync_edits.specs.declared.event.NodeLine.{NodeLine}
 use Rattle.sync_edits.specs.declared.event.NodeLine.TheVariants as node_lines
-use Rattle.sync_world.specs.Messages.{message_read}
-use Rattle.sync_world.specs.Words.{outcome_line, refusal_text, words_text}
+use Rattle.sync_words.specs.Messages.{message_read}
+use Rattle.sync_words.specs.Words.{outcome_line, refusal_text, words_text}
 use Rattle.sync_node.specs.Frames.{frame}
 use Rattle.sync_node.specs.Items.{Items, Over, Bad, Limit, Next}
 use Rattle.sync_node.specs.Runs.{Answer}

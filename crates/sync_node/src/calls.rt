@@ -4,6 +4,7 @@ ghost use Rattle.sync_disk.specs.Disk.{Rose};
 ghost use Rattle.sync_model.specs.Clients as model;
 ghost use Rattle.sync_exchange.specs.Profile.{the_profile};
 ghost use Rattle.sync_exchange.specs.Seen.{client_bytes, message_seen};
+ghost use Rattle.sync_words.specs.Outcomes.{outcome_text};
 ghost use Rattle.sync_node.specs.Holding.{ClientStands, client_faults, client_images, client_origin};
 ghost use Rattle.sync_node.specs.Runs.{AnswersSo, LeavesSome};
 ghost use Rattle.sync_node.specs.Steps.{born_words, line_answer, made_words, said, subscribe_words, take_answer, took_words, upgrade_words};
@@ -12,30 +13,21 @@ use super::command::ItemEnd;
 use super::outcome::{decline, say};
 use std::alloc::Global;
 use sync_client::Client;
-use sync_data::{Id, Instr, NoMemory};
+use sync_data::{Id, Instr};
 use sync_disk::Disk;
 use sync_edits::NodeLine;
 use sync_messages::Message;
 use sync_subset::Subset;
-use sync_world::{Fixed, fixed_words, made_words, put, took_words};
+use sync_words::Outcome;
 
-/// The word of a client that has its uuid now.
-fn born_words(alloc: Global) -> Result<Vec<u8>, NoMemory>
-    ensures { IfOk result (λ words. words.items ≡ born_words tt) }
-{
-    let mut out = Vec::new(alloc);
-    put(&mut out, "born")?;
-    Ok(out)
-}
-
-/// The word of a file that is in form 2 now, or was before.
-fn upgrade_words(alloc: Global, is_new: bool) -> Result<Vec<u8>, NoMemory>
-    ensures { IfOk result (λ words. words.items ≡ upgrade_words is_new) }
+/// That a file is in form 2 now, or was before.
+fn upgraded(is_new: bool) -> Outcome
+    ensures { outcome_text result ≡ Some (upgrade_words is_new) }
 {
     if is_new {
-        fixed_words(alloc, Fixed::Upgraded)
+        Outcome::Upgraded
     } else {
-        fixed_words(alloc, Fixed::Current)
+        Outcome::Current
     }
 }
 
@@ -56,7 +48,7 @@ fn born<D: Disk>(
     ensures cause { result ≡ Err ItemEnd.DiskFault → Rose (client_faults client.old) (client_faults client.new) }
 {
     match client.born(id) {
-        Ok(()) => say(alloc, number, born_words(alloc)),
+        Ok(()) => say(alloc, number, &Outcome::Born),
         Err(refusal) => decline(alloc, number, refusal),
     }
 }
@@ -79,7 +71,7 @@ fn commit<D: Disk>(
     ensures cause { result ≡ Err ItemEnd.DiskFault → Rose (client_faults client.old) (client_faults client.new) }
 {
     match client.commit(ms, edits) {
-        Ok(made) => say(alloc, number, made_words(alloc, made)),
+        Ok(made) => say(alloc, number, &Outcome::Made { number: made }),
         Err(refusal) => decline(alloc, number, refusal),
     }
 }
@@ -96,7 +88,7 @@ fn upgrade<D: Disk>(alloc: Global, client: &mut Client<D>, number: u32) -> Resul
     ensures cause { result ≡ Err ItemEnd.DiskFault → Rose (client_faults client.old) (client_faults client.new) }
 {
     match client.upgrade() {
-        Ok(is_new) => say(alloc, number, upgrade_words(alloc, is_new)),
+        Ok(is_new) => say(alloc, number, &upgraded(is_new)),
         Err(refusal) => decline(alloc, number, refusal),
     }
 }
@@ -118,7 +110,7 @@ fn subscribe<D: Disk>(
     ensures cause { result ≡ Err ItemEnd.DiskFault → Rose (client_faults client.old) (client_faults client.new) }
 {
     match client.subscribe(tables) {
-        Ok(()) => say(alloc, number, fixed_words(alloc, Fixed::Subscribed)),
+        Ok(()) => say(alloc, number, &Outcome::Subscribed),
         Err(refusal) => decline(alloc, number, refusal),
     }
 }
@@ -140,7 +132,7 @@ pub(crate) fn take<D: Disk>(
     ensures cause { result ≡ Err ItemEnd.DiskFault → Rose (client_faults client.old) (client_faults client.new) }
 {
     match client.take(message) {
-        Ok(cursor) => say(alloc, number, took_words(alloc, cursor)),
+        Ok(cursor) => say(alloc, number, &Outcome::Took { cursor }),
         Err(refusal) => decline(alloc, number, refusal),
     }
 }

@@ -9,7 +9,7 @@ ghost use Rattle.sync_model.specs.Resets.{count_known, recover_changes, recover_
 ghost use Rattle.sync_exchange.specs.Profile.{the_profile};
 ghost use Rattle.sync_exchange.specs.Seen.{change_seen, client_bytes, message_seen};
 ghost use Rattle.sync_heir.specs.Heirs.{heir_step};
-ghost use Rattle.sync_world.specs.Words.{outcome_line, said};
+ghost use Rattle.sync_words.specs.Words.{outcome_line, said};
 ghost use Rattle.sync_messages.specs.declared.message.Message.{Message as CodeMessage};
 ghost use Rattle.sync_node.specs.Heirs.{HandledSo, RecoversSo, RecovererStands, SavedSo, counts_of, mine};
 ghost use Rattle.sync_node.specs.Holding.{ClientStands, client_faults, client_images, client_origin};

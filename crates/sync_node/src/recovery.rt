@@ -1,7 +1,7 @@
 // The lines of a recovery.
 ghost use Rattle.std.specs.Prelude.{◌≡◌, ◌++◌, OnOk, Err, map};
 ghost use Rattle.sync_heir.specs.Heirs.{heir_seen, reset_seen};
-ghost use Rattle.sync_world.specs.Words.{outcome_line, refused, said};
+ghost use Rattle.sync_words.specs.Words.{outcome_line, refused, said};
 ghost use Rattle.sync_node.specs.Recovering.{IsPutFor, dropped_lines, heir_lines};
 
 use super::command::ItemEnd;
@@ -11,7 +11,7 @@ use sync_client::ClientRefusal;
 use sync_data::NoMemory;
 use sync_heir::{Heir, ResetRefusal};
 use sync_reset::Dropped;
-use sync_world::{put, put_number, put_said};
+use sync_words::{put, put_number, put_said};
 
 /// Puts the line of a word and numbers.
 pub(crate) fn put_line(

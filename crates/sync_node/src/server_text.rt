@@ -20,7 +20,7 @@ use sync_disk::Disk;
 use sync_io::{Sink, Status};
 use sync_server::Server;
 use sync_trim::{started_file, trimmed_file};
-use sync_world::put_server;
+use sync_words::put_server;
 
 /// What is asked of a server over a file.
 #[derive(Clone, Copy, Debug, PartialEq, Eq)]

@@ -24,7 +24,7 @@ use sync_disk::Disk;
 use sync_io::{Sink, Status};
 use sync_journal::Journal;
 use sync_records::{ClientRecord, RecordRefusal};
-use sync_world::{put, put_standing};
+use sync_words::{put, put_standing};
 
 /// The disk of a node's file, and whether it is a client's.
 #[derive(Drop)]

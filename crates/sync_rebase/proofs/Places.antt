@@ -1,14 +1,21 @@
 -- One unsent changeset of a list gets other instructions.
 use Rattle.std.specs.Prelude.{OnOk, OnErr}
 use Rattle.std.proofs.lemmas.List.{map-append}
-use Rattle.std.proofs.Common.{◌≡◌, Result, Ok, Err, ℕ, zero, suc, ◌<◌, List, [], ◌∷◌, ◌++◌, refl, sym, ap, ◌∙◌, length, take, drop, set, get_or, map, subst, arith}
+use Rattle.std.specs.List.{AllByRecursion}
+use Rattle.std.proofs.Common.{◌≡◌, true, Option, Some, None, Result, Ok, Err, ℕ, zero, suc, ◌<◌, List, [], ◌∷◌, ◌++◌, refl, sym, ap, ◌∙◌, length, take, drop, set, get_or, map, subst, arith}
 use Rattle.sync_data.specs.declared.instr.Instr.{Instr}
 use Rattle.sync_rivals.specs.Lists.{Indexed, Lists, StaysAt, StaysListed, put_list}
+use Rattle.sync_rivals.specs.Homes.{listed}
+use Rattle.sync_rivals.specs.Strangers.{place_of}
+use Rattle.sync_rivals.specs.Marks.{is_at}
 use Rattle.sync_rivals.proofs.Listed.{pushed}
+use Rattle.sync_transform.specs.Moves.{shown}
+use Rattle.sync_transform.specs.declared.moves.ListAction.{ListAction}
+use Rattle.sync_transform.proofs.Stands.{same_elsewhere}
 use Rattle.sync_model.specs.Clients.{Original, Unsent, changeset_of, carried_to, number_at}
 use Rattle.sync_rebase.specs.declared.carried.Crossed.{Crossed}
 use Rattle.sync_rebase.specs.declared.carried.Became.{Became}
-use Rattle.sync_rebase.specs.Settling.{left_of, put_current, put_became, settled, KeepsTime, FitsAt, Fits, currents}
+use Rattle.sync_rebase.specs.Settling.{left_of, put_current, put_became, settled, Suits, FitsAt, Fits, currents}
 
 -- those of whom they are stay
 abbrev pub originals : {I : Type 0} → List (Unsent I) → List (Original I)
@@ -59,10 +66,10 @@ became_is [] i b u t e = refl
 became_is (v ∷ us) zero b u t e = let h : v ≡ u = cc in ap (λ (w : Unsent Instr). with_list v (left_of b w.current) ∷ us) h
 became_is (v ∷ us) (suc i) b u t e = ap (λ l. v ∷ l) (became_is us i b u t e)
 
-pub fits_there : (us : List (Unsent Instr)) (i : ℕ) (b : Became) (u : Unsent Instr) (t : List (Unsent Instr)) → drop i us ≡ u ∷ t → KeepsTime u.original.ms b → StaysListed u.current (left_of b u.current) → FitsAt i b us
+pub fits_there : (us : List (Unsent Instr)) (i : ℕ) (b : Became) (u : Unsent Instr) (t : List (Unsent Instr)) → drop i us ≡ u ∷ t → Suits b u → StaysListed u.current (left_of b u.current) → FitsAt i b us
 fits_there [] zero b u t e h k = cc
 fits_there [] (suc i) b u t e h k = cc
-fits_there (v ∷ us) zero b u t e h k = let g : u ≡ v = cc in (subst (λ (w : Unsent Instr). KeepsTime w.original.ms b) g h, subst (λ (w : Unsent Instr). StaysListed w.current (left_of b w.current)) g k)
+fits_there (v ∷ us) zero b u t e h k = let g : u ≡ v = cc in (subst (λ (w : Unsent Instr). Suits b w) g h, subst (λ (w : Unsent Instr). StaysListed w.current (left_of b w.current)) g k)
 fits_there (v ∷ us) (suc i) b u t e h k = fits_there us i b u t e h k
 
 -- where it fits there is one
@@ -71,10 +78,10 @@ fits_within [] i b h = absurd h
 fits_within (u ∷ us) zero b h = omega arith
 fits_within (u ∷ us) (suc i) b h = let k = fits_within us i b h in omega (arith, k)
 
-pub fits_time : (us : List (Unsent Instr)) (i : ℕ) (b : Became) (u : Unsent Instr) → FitsAt i b us → u ≡ get_or us i u → KeepsTime u.original.ms b
-fits_time [] i b u h e = absurd h
-fits_time (v ∷ us) zero b u h e = subst (λ (w : Unsent Instr). KeepsTime w.original.ms b) (sym e) h.0
-fits_time (v ∷ us) (suc i) b u h e = fits_time us i b u h e
+pub fits_suits : (us : List (Unsent Instr)) (i : ℕ) (b : Became) (u : Unsent Instr) → FitsAt i b us → u ≡ get_or us i u → Suits b u
+fits_suits [] i b u h e = absurd h
+fits_suits (v ∷ us) zero b u h e = subst (Suits b) (sym e) h.0
+fits_suits (v ∷ us) (suc i) b u h e = fits_suits us i b u h e
 
 -- what a write of the place does
 pub set_is_became : (us : List (Unsent Instr)) (i : ℕ) (b : Became) (u v : Unsent Instr) → i < length us → u ≡ get_or us i u → v ≡ record u { current = left_of b u.current } → set us i v ≡ put_became i b us
@@ -122,3 +129,17 @@ pub listed_push : {A E : Type 0} (r : Result A E) (x : Indexed) (us vs : List (U
 listed_push (Ok a) x us vs u ok err h =
     subst (λ ws. Lists x (currents ws)) (sym ok) (subst (Lists x) (sym (map-append (λ (v : Unsent Instr). v.current) us (u ∷ []))) (pushed x.marks x.first x.listed (currents us) u.current h))
 listed_push (Err a) x us vs u ok err h = subst (λ ws. Lists x (currents ws)) (sym err) h
+
+-- where an instruction of a list stands isn't asked
+pub shown_listed : (o : Option ListAction) (is : List Instr) → StaysListed is (shown o is)
+shown_listed None is = λ s n h. h
+shown_listed (Some a) [] = λ s n h. h
+shown_listed (Some a) (i ∷ is) = λ s n h. (
+  subst (λ q. AllByRecursion (λ p. is_at s n p ≡ true) (listed q)) (sym (same_elsewhere place_of (λ c v s t. refl) (λ c s t. refl) (λ c v s t. refl) a i)) h.0,
+  h.1,
+)
+
+-- the first of a list, written as it is
+pub set_first : (us : List (Unsent Instr)) (u v : Unsent Instr) → u ≡ get_or us 0 u → v ≡ u → set us 0 v ≡ us
+set_first [] u v e h = refl
+set_first (w ∷ us) u v e h = ap (λ x. x ∷ us) (h ∙ e)

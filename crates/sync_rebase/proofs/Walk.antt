@@ -1,5 +1,5 @@
 -- An entry walks along the unsent changesets: what was settled so far, and what the rest gives, is what all gives.
-use Rattle.std.proofs.Common.{◌≡◌, ◌≢◌, ◌≤◌, ◌<◌, ℕ, zero, suc, ◌+◌, ◌-◌, Bool, List, [], ◌∷◌, ◌++◌, Result, Ok, Err, refl, sym, ap, ◌∙◌, length, take, drop, get_or, map, subst, add-one, zero-add, append-nil, arith}
+use Rattle.std.proofs.Common.{◌≡◌, ◌≢◌, ◌≤◌, ◌<◌, ℕ, zero, suc, ◌+◌, ◌-◌, Bool, List, [], ◌∷◌, ◌++◌, Some, Result, Ok, Err, refl, sym, ap, ◌∙◌, length, take, drop, get_or, map, subst, add-one, zero-add, append-nil, arith}
 use Rattle.std.proofs.lemmas.List.{length-map, drop_more, drop_all, take_all, map_push}
 use Rattle.sync_data.specs.declared.instr.Instr.{Instr}
 use Rattle.sync_data.specs.declared.entry.Entry.{Entry}
@@ -16,14 +16,14 @@ use Rattle.sync_rivals.proofs.Listed.{stands_at}
 use Rattle.sync_rivals.specs.Lemmas.Skips.{lists_of, known_right, listed_left}
 use Rattle.sync_model.specs.Clients.{Unsent, changeset_of}
 use Rattle.sync_transform.specs.Sets.{made_by}
-use Rattle.sync_transform.specs.Moves.{moved_first}
-use Rattle.sync_transform.specs.declared.moves.Spot.{Spot}
+use Rattle.sync_transform.specs.Moves.{kind_in, kind_of, moved_first}
+use Rattle.sync_transform.specs.declared.moves.ListAction.{ListAction}
 use Rattle.sync_rebase.specs.declared.carried.Crossed.{Crossed}
 use Rattle.sync_rebase.specs.declared.carried.Became.{Became}
 use Rattle.sync_rebase.specs.declared.carried.Became.TheVariants.{Moved, Changed}
 use Rattle.sync_rebase.specs.declared.refusal.RebaseRefusal.{RebaseRefusal}
 use Rattle.sync_rebase.specs.declared.refusal.RebaseRefusal.TheVariants.{Mismatch, Forked, NoMemory}
-use Rattle.sync_rebase.specs.Settling.{left_of, put_current, settled, KeepsTime, Fits, currents}
+use Rattle.sync_rebase.specs.Settling.{left_of, put_current, settled, Suits, Fits, currents}
 use Rattle.sync_rebase.specs.Taking.{Crosses, Refuses}
 use Rattle.sync_rebase.specs.Passing.{StopsAt}
 use Rattle.sync_rebase.proofs.Places.{element, take_put, drop_put, put_same, became_is, fits_there, number_there, carried_same, settled_push, fits_push, originals_settled}
@@ -108,9 +108,9 @@ module _ (t : Touched) (x : Indexed) (codes : List ℕ) (own : ℕ) (us : List (
       }
 
   -- it becomes this, and the entry goes on
-  walk_becomes : (b : Became) (next : Changes) → KeepsTime u.original.ms b → cross_sets meet (changeset_of own u) (made_by e.origin e.number now) ≡ Ok (changeset_of own (record u { current = left_of b u.current }), made_by e.origin e.number next) → Covers t next.instrs
+  walk_becomes : (b : Became) (next : Changes) → Suits b u → cross_sets meet (changeset_of own u) (made_by e.origin e.number now) ≡ Ok (changeset_of own (record u { current = left_of b u.current }), made_by e.origin e.number next) → Covers t next.instrs
       → Walked t x codes own us e (i + 1) (crossed ++ record { place = i; became = b } ∷ []) next
-  walk_becomes b next time m covers =
+  walk_becomes b next suits m covers =
       let is = left_of b u.current in
       let later = is_later (changeset_of own u) (made_by e.origin e.number now) in
       let lists = lists_of (changeset_of own u) (made_by e.origin e.number now) (cross (λ a b. meet a b later) u.current now.instrs) (changeset_of own (record u { current = is }), made_by e.origin e.number next) m in
@@ -119,15 +119,15 @@ module _ (t : Touched) (x : Indexed) (codes : List ℕ) (own : ℕ) (us : List (
       record {
         so_far = turn is next m ∙ ap (λ l. rebase_after (in_grid own (take (i + 1) l)) (i + 1) (rebase (cross_sets meet) (in_grid own (drop (i + 1) us)) (made_by e.origin e.number next))) (sym list);
         rest = ap (drop (i + 1)) list ∙ after is;
-        fits = fits_push crossed (record { place = i; became = b }) us w.fits (fits_there (settled crossed us) i b u _ there time left);
+        fits = fits_push crossed (record { place = i; became = b }) us w.fits (fits_there (settled crossed us) i b u _ there suits left);
         indexed = covers;
         served = λ some. known_right codes later u.current now.instrs is next.instrs lists (w.served some);
       }
 
-  -- its instruction stands at another spot
-  pub walk_moves : (s : Spot) (next : Changes) → cross_sets meet (changeset_of own u) (made_by e.origin e.number now) ≡ Ok (changeset_of own (record u { current = moved_first s u.current }), made_by e.origin e.number next) → Covers t next.instrs
-      → Walked t x codes own us e (i + 1) (crossed ++ record { place = i; became = Moved s } ∷ []) next
-  walk_moves s next m covers = walk_becomes (Moved s) next tt m covers
+  -- its one list instruction does the same elsewhere
+  pub walk_moves : (a : ListAction) (next : Changes) → kind_in u.current ≡ Some (kind_of a) → cross_sets meet (changeset_of own u) (made_by e.origin e.number now) ≡ Ok (changeset_of own (record u { current = moved_first a u.current }), made_by e.origin e.number next) → Covers t next.instrs
+      → Walked t x codes own us e (i + 1) (crossed ++ record { place = i; became = Moved a } ∷ []) next
+  walk_moves a next kind m covers = walk_becomes (Moved a) next kind m covers
 
   -- or it is another changeset
   pub walk_crosses : (c next : Changes) → cross_sets meet (changeset_of own u) (made_by e.origin e.number now) ≡ Ok (made_by own u.original.number c, made_by e.origin e.number next) → Covers t next.instrs

@@ -1,10 +1,10 @@
 -- What an entry becomes over a list of unsent changesets, and the list after it.
-use Rattle.std.specs.Prelude.{◌≡◌, ℕ, zero, suc, List, [], ◌∷◌, map}
+use Rattle.std.specs.Prelude.{◌≡◌, ℕ, zero, suc, List, [], ◌∷◌, Some, map}
 use Rattle.sync_data.specs.declared.instr.Instr.{Instr}
 use Rattle.sync_data.specs.Payload.{Changes}
 use Rattle.sync_model.specs.Clients.{Unsent}
 use Rattle.sync_rivals.specs.Lists.{StaysListed}
-use Rattle.sync_transform.specs.Moves.{moved_first}
+use Rattle.sync_transform.specs.Moves.{kind_in, kind_of, moved_first}
 use Rattle.sync_rebase.specs.declared.carried.Became.{Became}
 use Rattle.sync_rebase.specs.declared.carried.Became.TheVariants.{Moved, Changed}
 use Rattle.sync_rebase.specs.declared.carried.Crossed.{Crossed}
@@ -16,7 +16,7 @@ pub record Carried : Type 0 where
 
 -- what became of these instructions
 abbrev pub left_of : Became → List Instr → List Instr
-left_of (Moved s) is = moved_first s is
+left_of (Moved a) is = moved_first a is
 left_of (Changed c) is = c.instrs
 
 -- the unsent changeset at a place has these instructions now
@@ -40,15 +40,15 @@ settled (c ∷ cs) us = settled cs (put_became c.place c.became us)
 abbrev pub currents : List (Unsent Instr) → List (List Instr)
 currents us = map (λ (u : Unsent Instr). u.current) us
 
--- a changeset has the time that it had
-abbrev pub KeepsTime : ℕ → Became → Type 0
-KeepsTime ms (Moved s) = Unit {0}
-KeepsTime ms (Changed c) = c.ms ≡ ms
+-- only of one list instruction that does the same it is told what it does; a changeset has the time that it had
+abbrev pub Suits : Became → Unsent Instr → Type 0
+Suits (Moved a) u = kind_in u.current ≡ Some (kind_of a)
+Suits (Changed c) u = c.ms ≡ u.original.ms
 
 -- there is an unsent changeset at this place, of which this is left
 abbrev pub FitsAt : ℕ → Became → List (Unsent Instr) → Type 0
 FitsAt n b [] = ⊥
-FitsAt zero b (u ∷ us) = KeepsTime u.original.ms b × StaysListed u.current (left_of b u.current)
+FitsAt zero b (u ∷ us) = Suits b u × StaysListed u.current (left_of b u.current)
 FitsAt (suc n) b (u ∷ us) = FitsAt n b us
 
 -- each of those that crossed has its place in the list, and is left of what stands there

@@ -17,7 +17,7 @@ use std::collections::VecDeque;
 use sync_data::{Changeset, Entry, Ident};
 use sync_index::Index;
 use sync_rivals::{Pace, RivalIndex};
-use sync_transform::{cross_sets_indexed, moved_to, sets_move, stays_apart};
+use sync_transform::{Shifted, cross_sets_indexed};
 
 /// Carries an entry of another client over the unsent changesets, from the first on. Those alone that are listed under a
 /// place of its rivals are visited; the others stay. Where there are none no index is made. Of two list instructions that
@@ -62,37 +62,38 @@ fn walk(
     ensures fits { IfOk result (λ carried. Fits carried.crossed items.now.items) }
     ensures refused { IfErr result (Refuses own items.now.items entry.now) }
 {
-    let mut changes = copy_of(&entry.changes)?;
+    let copy = copy_of(&entry.changes)?;
+    let mut changes = Shifted::new(copy);
     let mut crossed = Vec::new(alloc);
     let mut pace = Pace::new();
     let end = items.len();
     let mut from = 0;
     while from < end {
-        let place = rivals.next(&mut pace, codes, changes.instrs(), from, end);
+        let place = rivals.next(&mut pace, codes, changes.is_empty(), from, end);
         if place >= end {
-            return Ok(Carried::new(changes, crossed));
+            return Ok(Carried::new(changes.into_changes(), crossed));
         }
         from = place + 1;
         let unsent = &items[place];
-        if let Some(moves) = sets_move(unsent.current(), own, &changes, entry.origin) {
-            changes = moved_to(changes, moves.right);
+        if let Some(moves) = unsent.moves(own, &changes, entry.origin) {
+            changes.shift_to(moves.right);
             let became = Became::Moved(moves.left);
             push(&mut crossed, Crossed { place, became })?;
             continue;
         }
-        if stays_apart(unsent.spot(), unsent.current(), index) {
+        if unsent.stays_apart(index) {
             continue;
         }
-        match pass(unsent, own, changes, entry.origin, index) {
+        match pass(unsent, own, changes.into_changes(), entry.origin, index) {
             Err(refusal) => return Err(refusal),
             Ok((current, carried)) => {
-                changes = carried;
+                changes = Shifted::new(carried);
                 let became = Became::Changed(current);
                 push(&mut crossed, Crossed { place, became })?;
             }
         }
     }
-    Ok(Carried::new(changes, crossed))
+    Ok(Carried::new(changes.into_changes(), crossed))
 }
 
 fn codes_of(alloc: Global, rivals: &RivalIndex, entry: &Entry) -> Result<Vec<u64>, RebaseRefusal>
@@ -119,7 +120,7 @@ fn pass(
     ensures indexed { IfOk result (λ p. Covers index.now p.1.instrs) }
     ensures stuck { IfErr result (StopsAt own unsent.now origin changes) }
 {
-    let Ok(current) = unsent.current().copy() else {
+    let Ok(current) = unsent.current() else {
         return Err(RebaseRefusal::NoMemory);
     };
     match cross_sets_indexed(current, own, changes, origin, index) {

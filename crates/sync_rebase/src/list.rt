@@ -12,7 +12,7 @@ use std::collections::VecDeque;
 use std::marker::Model;
 use sync_data::{Changeset, Entry, Ident, NoMemory};
 use sync_rivals::RivalIndex;
-use sync_transform::Spot;
+use sync_transform::ListAction;
 
 /// After so many looks at a changeset it has paid to list it.
 const LOOKS: usize = 64;
@@ -96,14 +96,16 @@ impl PendingList {
         }
     }
 
-    /// Whether the entry is the oldest changeset: its number, its time and its instructions as rebased.
-    pub fn is_head(&self, entry: &Entry) -> bool
-        ensures { IsTrue result ↔ IsHead entry.now self.now }
+    /// Whether the entry is the oldest changeset: its number, its time and its instructions as rebased. It takes no memory.
+    pub fn is_head(&mut self, entry: &Entry) -> bool
+        ensures same { self.new ≡ self.old }
+        ensures told { IsTrue result ↔ IsHead entry.now self.old }
     {
-        match self.items.get(0) {
-            Some(unsent) => unsent.is_of(entry),
-            None => false,
+        if self.items.is_empty() {
+            return false;
         }
+        let head = &mut self.items[0];
+        head.is_of(self.alloc, entry)
     }
 
     /// Takes the oldest changeset out, where there is one. It takes no memory.
@@ -111,7 +113,7 @@ impl PendingList {
         ensures { self.new ≡ tail self.old }
     {
         if let Some(head) = self.items.pop_front() {
-            self.index.drop_first(head.current().instrs());
+            self.index.drop_first(head.listed());
         }
     }
 
@@ -156,7 +158,7 @@ impl PendingList {
             if place >= count {
                 return;
             }
-            self.index.list(self.items[place].current().instrs());
+            self.index.list(self.items[place].listed());
         }
     }
 
@@ -178,25 +180,25 @@ impl PendingList {
     {
         let Crossed { place, became } = crossed;
         match became {
-            Became::Moved(spot) => self.move_at(place, spot),
+            Became::Moved(action) => self.shift_at(place, action),
             Became::Changed(current) => self.change_at(place, current),
         }
     }
 
-    /// The first instruction of a changeset stands at another spot. Its home stays, and so does the index.
-    fn move_at(&mut self, place: usize, spot: Spot)
-        requires { FitsAt place (Became.Moved spot) self.old }
-        ensures { self.new ≡ put_became place (Became.Moved spot) self.old }
+    /// The one list instruction of a changeset does the same elsewhere. Its home stays, and so does the index.
+    fn shift_at(&mut self, place: usize, action: ListAction)
+        requires { FitsAt place (Became.Moved action) self.old }
+        ensures { self.new ≡ put_became place (Became.Moved action) self.old }
     {
         let unsent = &mut self.items[place];
-        unsent.move_to(self.alloc, spot);
+        unsent.shift_to(action);
     }
 
     fn change_at(&mut self, place: usize, current: Changeset)
         requires { FitsAt place (Became.Changed current) self.old }
         ensures { self.new ≡ put_became place (Became.Changed current) self.old }
     {
-        let before = self.items[place].current().instrs();
+        let before = self.items[place].listed();
         self.index.change(place, before, current.instrs());
         let unsent = &mut self.items[place];
         unsent.rebase(current);

@@ -1,16 +1,21 @@
-ghost use Rattle.std.specs.Prelude.{◌≡◌, ◌≤◌, ◌↔◌, IfOk, IsTrue};
+ghost use Rattle.std.specs.Prelude.{◌≡◌, ◌≤◌, ◌↔◌, ℕ, Bool, List, Some, Ok, IfOk, IfSome, IsTrue};
 ghost use Rattle.sync_data.specs.Payload.{IsSmall};
-ghost use Rattle.sync_index.specs.Spots.{LieAt};
-ghost use Rattle.sync_model.specs.Clients.{as_made};
-ghost use Rattle.sync_transform.specs.Moves.{moved_first};
+ghost use Rattle.sync_data.specs.declared.instr.Instr.{Instr};
+ghost use Rattle.sync_theory.specs.Lists.{cross as crossed};
+ghost use Rattle.sync_theory.specs.Changesets.{cross_sets};
+ghost use Rattle.sync_law.specs.Instrs.{meet};
+ghost use Rattle.sync_index.specs.Touched.{Covers};
+ghost use Rattle.sync_model.specs.Clients.{as_made, changeset_of};
+ghost use Rattle.sync_rivals.specs.Lists.{StaysListed};
+ghost use Rattle.sync_transform.specs.Sets.{made_by};
+ghost use Rattle.sync_transform.specs.Moves.{kind_in, kind_of, moved_changes, moved_first};
 ghost use Rattle.sync_rebase.specs.Taking.{IsEntryOf};
 
 use std::alloc::Global;
 use std::marker::Model;
-use std::mem;
-use sync_data::{Changeset, Entry, NoMemory, equality_is_exact};
-use sync_index::shared_spot;
-use sync_transform::{Spot, moved_to};
+use sync_data::{Changeset, Entry, Ident, Instr, NoMemory, Stamp};
+use sync_index::{Index, shared_spot};
+use sync_transform::{ListAction, Moves, Shifted, both_move, is_later, same_first_cell};
 
 /// A changeset that the server hasn't acknowledged: its number, at least 1, among the client's, the version of the history on which
 /// it was made, and its instructions as they were made and as they were rebased since.
@@ -20,7 +25,7 @@ pub struct Unsent {
     base: u32,
     spot: Option<u8>,
     original: Changeset,
-    current: Changeset,
+    current: Shifted,
 }
 
 impl Model for Unsent {
@@ -49,7 +54,7 @@ impl Unsent {
             base,
             spot: shared_spot(current.instrs()),
             original,
-            current,
+            current: Shifted::new(current),
         }
     }
 
@@ -89,22 +94,50 @@ impl Unsent {
         original
     }
 
-    /// The changeset as it was rebased since.
-    pub fn current(&self) -> &Changeset
-        ensures changes { result.now ≡ record { ms = self.now.original.ms; instrs = self.now.current } }
-        ensures small { IsSmall self.now.current }
+    /// A copy of the changeset as it was rebased since.
+    pub fn current(&self) -> Result<Changeset, NoMemory>
+        ensures { IfOk result (λ changes. changes ≡ record { ms = self.now.original.ms; instrs = self.now.current }) }
     {
-        let current = &self.current;
-        let _ = current.instrs();
-        current
+        self.current.copy()
     }
 
-    /// The spot of a filter at which all objects of its instructions as rebased lie, where it is known.
-    #[inline(always)]
-    pub(crate) fn spot(&self) -> Option<u8>
-        ensures { LieAt result self.now.current }
+    /// Its instructions as an index lists them, which asks nothing of where one of a list stands.
+    pub(crate) fn listed(&self) -> &[Instr]
+        ensures { StaysListed result.now self.now.current }
     {
-        self.spot
+        self.current.written().instrs()
+    }
+
+    /// What it and a changeset of another do after they crossed, where each is one instruction of one list, and both stay.
+    #[inline(always)]
+    pub(crate) fn moves(&self, own: Ident, changes: &Shifted, origin: Ident) -> Option<Moves>
+        ensures crosses { IfSome result (λ m. (n : ℕ) → cross_sets meet (changeset_of own self.now) (made_by origin n changes.now) ≡ Ok (changeset_of own (record self.now { current = moved_first m.left self.now.current }), made_by origin n (moved_changes m.right changes.now))) }
+        ensures left { IfSome result (λ m. kind_in self.now.current ≡ Some (kind_of m.left)) }
+        ensures right { IfSome result (λ m. kind_in changes.now.instrs ≡ Some (kind_of m.right)) }
+    {
+        let (action, other) = (self.current.action()?, changes.action()?);
+        if !same_first_cell(self.current.written(), changes.written()) {
+            return None;
+        }
+        let left_later = is_later(
+            Stamp {
+                ms: self.current.ms(),
+                ident: own,
+            },
+            Stamp {
+                ms: changes.ms(),
+                ident: origin,
+            },
+        );
+        both_move(action, other, left_later)
+    }
+
+    /// Whether an index tells that it meets nothing of what that is of.
+    #[inline(always)]
+    pub(crate) fn stays_apart(&self, index: &Index) -> bool
+        ensures { IsTrue result → (others : List Instr) → Covers index.now others → (later : Bool) → crossed (λ a b. meet a b later) self.now.current others ≡ Ok (self.now.current, others) }
+    {
+        self.current.stays_apart(self.spot, index)
     }
 
     /// An equal one.
@@ -121,18 +154,18 @@ impl Unsent {
                 base: self.base,
                 spot: self.spot,
                 original,
-                current,
+                current: Shifted::new(current),
             }),
             Err(refusal) => Err(refusal),
         }
     }
 
-    /// Whether the entry is this changeset: its number, its time and its instructions.
-    pub(crate) fn is_of(&self, entry: &Entry) -> bool
-        ensures { IsTrue result ↔ IsEntryOf entry.now self.now }
+    /// Whether the entry is this changeset: its number, its time and its instructions. It takes no memory.
+    pub(crate) fn is_of(&mut self, alloc: Global, entry: &Entry) -> bool
+        ensures same { self.new ≡ self.old }
+        ensures told { IsTrue result ↔ IsEntryOf entry.now self.old }
     {
-        equality_is_exact();
-        self.number == entry.number && self.current == entry.changes
+        self.number == entry.number && self.current.is(alloc, &entry.changes)
     }
 
     /// It stands as rebased once more.
@@ -141,15 +174,15 @@ impl Unsent {
         ensures { self.new ≡ record self.old { current = current.instrs } }
     {
         self.spot = shared_spot(current.instrs());
-        self.current = current;
+        self.current = Shifted::new(current);
     }
 
-    /// Its first instruction, as rebased, stands at another spot of its list. It takes no memory.
-    pub(crate) fn move_to(&mut self, alloc: Global, spot: Spot)
-        ensures { self.new ≡ record self.old { current = moved_first spot self.old.current } }
+    /// Its one list instruction does the same elsewhere. It takes no memory.
+    #[inline(always)]
+    pub(crate) fn shift_to(&mut self, action: ListAction)
+        requires { kind_in self.old.current ≡ Some (kind_of action) }
+        ensures { self.new ≡ record self.old { current = moved_first action self.old.current } }
     {
-        let nothing = Changeset::checked(self.original.ms(), Vec::new(alloc)).unwrap();
-        let current = mem::replace(&mut self.current, nothing);
-        self.current = moved_to(current, spot);
+        self.current.shift_to(action);
     }
 }

@@ -2,7 +2,6 @@
 use Rattle.std.proofs.Common.{◌≡◌, ◌≢◌, ◌≤◌, ℕ, zero, suc, ◌+◌, ◌-◌, ◌<◌, Bool, List, [], ◌∷◌, ◌++◌, Option, None, Some, Result, Ok, refl, length, map, take, drop, get_or, sym, ap, ◌∙◌, subst, All, append-nil, length-drop, arith}
 use Rattle.std.proofs.lemmas.List.{drop_more, drop_all, take_all, drop-map, take-map, map_more, length-map, length-take-le, get_or-drop}
 use Rattle.std.proofs.lemmas.List.Elements.{All-head, All-tail}
-use Rattle.sync_data.specs.declared.entry.Entry.{Entry}
 use Rattle.sync_data.specs.declared.instr.Instr.{Instr}
 use Rattle.sync_data.specs.Payload.{Changes}
 use Rattle.sync_base.specs.declared.answers.Mismatch.{Mismatch}
@@ -11,19 +10,19 @@ use Rattle.sync_theory.specs.Changesets.{Changeset, cross_sets, with_lists, is_l
 use Rattle.sync_theory.specs.Grid.{carry}
 use Rattle.sync_law.specs.Instrs.{meet}
 use Rattle.sync_index.specs.Touched.{Touched, Covers}
-use Rattle.sync_rivals.specs.Lists.{Indexed, Serves, Pass, StandsAt}
+use Rattle.sync_rivals.specs.Lists.{Indexed, Serves, Pass, StandsAt, StaysListed}
 use Rattle.sync_rivals.specs.Lemmas.Skips.{lists_of, known_left, listed_right}
-use Rattle.sync_rivals.proofs.Listed.{stays_at}
 use Rattle.sync_transform.specs.Sets.{made_by}
 use Rattle.sync_recip.specs.declared.kept.Kept.{Kept}
 use Rattle.sync_recip.specs.declared.carried.Crossed.{Crossed}
 use Rattle.sync_recip.specs.declared.refusal.RecipRefusal.{RecipRefusal}
 use Rattle.sync_recip.specs.declared.refusal.RecipRefusal.TheVariants as refusals
 use Rattle.sync_recip.specs.Lists.{entry_of, kept_entry, lists_in}
-use Rattle.sync_recip.specs.Carrying.{crossed_entry, crossed_entries, AllWithin, AllLeft, noted, IsStuckBy}
+use Rattle.sync_recip.specs.declared.carried.Became.{Became}
+use Rattle.sync_recip.specs.Carrying.{became_of, crossed_entry, crossed_entries, AllWithin, AllLeft, SuitsIf, noted, IsStuckBy}
 use Rattle.sync_recip.proofs.Carries.{carry_after, carry_none, carry_step, carry_stop, carry_end}
 use Rattle.sync_recip.proofs.Covered.{left_covered}
-use Rattle.sync_recip.proofs.Entries.{noted_entries, within_more, within_up, left_more, LeftAt}
+use Rattle.sync_recip.proofs.Entries.{noted_entries, within_more, within_up, left_more, left_there, left_is, LeftIf}
 
 pub other_at : (own : ℕ) (ks : List Kept) (n : ℕ) (k : Kept) → n < length ks → k ≡ get_or ks n k → All (λ e. e.origin ≢ own) (map kept_entry ks) → k.item.origin ≢ own
 other_at own [] n k h e a = absurd (omega arith)
@@ -46,7 +45,7 @@ module _ (ks : List Kept) (n : ℕ) (k : Kept) (within : n < length ks) (here : 
 
   module _ (whole : Result (Changeset Instr × List (Changeset Instr)) (ℕ × ℕ × Mismatch)) (cs : List Crossed) (x : Changeset Instr)
       (so_far : whole ≡ carry_after (crossed_entries cs (take n (map kept_entry ks))) (carry (cross_sets meet) x (drop n (map kept_entry ks)))) where
-    pub turn : (ds : List Crossed) (o : Option Entry) (y : Changeset Instr) → AllWithin n cs → ds ≡ cs ++ noted n o → cross_sets meet x (kept_entry k) ≡ Ok (y, crossed_entry o (kept_entry k))
+    pub turn : (ds : List Crossed) (o : Option Became) (y : Changeset Instr) → AllWithin n cs → ds ≡ cs ++ noted n o → cross_sets meet x (kept_entry k) ≡ Ok (y, crossed_entry o (kept_entry k))
         → whole ≡ carry_after (crossed_entries ds (take (n + 1) (map kept_entry ks))) (carry (cross_sets meet) y (drop (n + 1) (map kept_entry ks)))
     turn ds o y inside is m =
         so_far ∙ ap (λ l. carry_after (crossed_entries cs (take n (map kept_entry ks))) (carry (cross_sets meet) x l)) opened
@@ -94,24 +93,25 @@ module _ (t : Touched) (x : Indexed) (codes : List ℕ) (own : ℕ) (ks : List K
   crosses : (next : Changes) (e : Changeset Instr) → cross_sets meet (made_by own 0 now) (kept_entry k) ≡ Ok (made_by own 0 next, e) → cross (λ a b. meet a b (is_later (made_by own 0 now) (kept_entry k))) now.instrs (kept_entry k).instrs ≡ Ok (next.instrs, e.instrs)
   crosses next e m = lists_of (made_by own 0 now) (kept_entry k) (cross (λ a b. meet a b (is_later (made_by own 0 now) (kept_entry k))) now.instrs (kept_entry k).instrs) (made_by own 0 next, e) m
 
-  left_at : (o : Option Entry) (next : Changes) → cross_sets meet (made_by own 0 now) (kept_entry k) ≡ Ok (made_by own 0 next, crossed_entry o (kept_entry k)) → LeftAt n o (lists_in (map kept_entry ks))
-  left_at None next m = tt
-  left_at (Some y) next m =
+  left_at : (o : Option Became) (next : Changes) → SuitsIf o (kept_entry k).instrs → cross_sets meet (made_by own 0 now) (kept_entry k) ≡ Ok (made_by own 0 next, crossed_entry o (kept_entry k)) → LeftIf n o (lists_in (map kept_entry ks))
+  left_at None next s m = tt
+  left_at (Some b) next s m =
       let later = is_later (made_by own 0 now) (kept_entry k) in
-      stays_at (λ (e : Changeset Instr). e.instrs) (map kept_entry ks) n y.changes.instrs (kept_entry k) (drop (n + 1) (map kept_entry ks)) (opened ks n k inside here) (λ s j. listed_right s j later now.instrs (kept_entry k).instrs next.instrs y.changes.instrs (crosses next (entry_of y) m))
+      let stays : StaysListed (kept_entry k).instrs (became_of b (kept_entry k)).instrs = λ s j. listed_right s j later now.instrs (kept_entry k).instrs next.instrs (became_of b (kept_entry k)).instrs (crosses next (became_of b (kept_entry k)) m) in
+      left_there (map kept_entry ks) n b (kept_entry k) (drop (n + 1) (map kept_entry ks)) (opened ks n k inside here) s (subst (StaysListed (kept_entry k).instrs) (left_is b (kept_entry k)) stays)
 
-  pub walk_over : (ds : List Crossed) (o : Option Entry) (next : Changes) → ds ≡ cs ++ noted n o → ((number : ℕ) → cross_sets meet (made_by own number now) (kept_entry k) ≡ Ok (made_by own number next, crossed_entry o (kept_entry k))) → Walked t x codes own ks c (n + 1) ds next
-  walk_over ds o next is m =
+  pub walk_over : (ds : List Crossed) (o : Option Became) (next : Changes) → ds ≡ cs ++ noted n o → SuitsIf o (kept_entry k).instrs → ((number : ℕ) → cross_sets meet (made_by own number now) (kept_entry k) ≡ Ok (made_by own number next, crossed_entry o (kept_entry k))) → Walked t x codes own ks c (n + 1) ds next
+  walk_over ds o next is suits m =
       record {
         so_far = λ number. turn ks n k inside here (carry (cross_sets meet) (made_by own number c) (map kept_entry ks)) cs (made_by own number now) (w.so_far number) ds o (made_by own number next) w.within is (m number);
         within = subst (AllWithin (n + 1)) (sym is) (within_more cs o n w.within);
-        left = subst (λ l. AllLeft l (lists_in (map kept_entry ks))) (sym is) (left_more cs o n (lists_in (map kept_entry ks)) w.within w.left (left_at o next (m 0)));
+        left = subst (λ l. AllLeft l (lists_in (map kept_entry ks))) (sym is) (left_more cs o n (lists_in (map kept_entry ks)) w.within w.left (left_at o next suits (m 0)));
         indexed = left_covered t (made_by own 0 now) (kept_entry k) (made_by own 0 next) (crossed_entry o (kept_entry k)) (m 0) w.indexed;
         served = λ some. known_left codes (is_later (made_by own 0 now) (kept_entry k)) now.instrs (kept_entry k).instrs next.instrs (crossed_entry o (kept_entry k)).instrs (crosses next (crossed_entry o (kept_entry k)) (m 0)) (w.served some);
       }
 
   pub walk_past : ((later : Bool) → cross (λ a b. meet a b later) now.instrs (kept_entry k).instrs ≡ Ok (now.instrs, (kept_entry k).instrs)) → Walked t x codes own ks c (n + 1) cs now
-  walk_past apart = walk_over cs None now (sym (append-nil cs)) (λ number. ap (with_lists (made_by own number now) (kept_entry k)) (apart (is_later (made_by own number now) (kept_entry k))))
+  walk_past apart = walk_over cs None now (sym (append-nil cs)) tt (λ number. ap (with_lists (made_by own number now) (kept_entry k)) (apart (is_later (made_by own number now) (kept_entry k))))
 
   pub walk_stops : (number : ℕ) (e : RecipRefusal) → IsStuckBy e (cross_sets meet (made_by own number now) (kept_entry k)) → IsStuckBy e (carry (cross_sets meet) (made_by own number c) (map kept_entry ks))
   walk_stops number e h = stuck ks n k inside here (carry (cross_sets meet) (made_by own number c) (map kept_entry ks)) cs (made_by own number now) (w.so_far number) e h

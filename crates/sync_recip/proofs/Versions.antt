@@ -14,9 +14,10 @@ use Rattle.sync_theory.specs.Grid.{tail}
 use Rattle.sync_theory.specs.Reciprocals.{from_base, put_first, settle}
 use Rattle.sync_theory.proofs.World.{put_if, put_unless}
 use Rattle.sync_recip.specs.declared.kept.Kept.{Kept}
-use Rattle.sync_recip.specs.Lists.{entry_at, kept_entry, pair_of, versions, IsRising}
+use Rattle.sync_recip.specs.Lists.{entry_at, entry_of, kept_entry, pair_of, versions, IsRising}
 use Rattle.sync_recip.specs.declared.carried.Crossed.{Crossed}
-use Rattle.sync_recip.specs.Carrying.{with_crossed, crossed_entries, AllWithin}
+use Rattle.sync_recip.specs.declared.carried.Became.{Became}
+use Rattle.sync_recip.specs.Carrying.{became_of, with_crossed, crossed_entries, AllWithin}
 
 -- ---- what rises
 first_least : (v : ℕ) (ks : List Kept) (i : ℕ) (d : Kept) → All (λ w. v < w) (versions ks) → i < length ks → v < (get_or ks i d).version
@@ -152,10 +153,10 @@ all_from_base P b (q ∷ qs) a =
 abbrev put_entry : Kept → Entry → Kept
 put_entry k x = record { version = k.version; item = x }
 
-pub entries_set : (ks : List Kept) (n : ℕ) (d : Kept) (x : Entry) → n < length ks → map kept_entry (set ks n (put_entry (get_or ks n d) x)) ≡ with_crossed n x (map kept_entry ks)
-entries_set [] n d x h = absurd (omega arith)
-entries_set (k ∷ ks) zero d x h = refl
-entries_set (k ∷ ks) (suc n) d x h = ap (λ l. kept_entry k ∷ l) (entries_set ks n d x (omega arith))
+pub entries_set : (ks : List Kept) (n : ℕ) (d : Kept) (b : Became) (x : Entry) → n < length ks → entry_of x ≡ became_of b (kept_entry (get_or ks n d)) → map kept_entry (set ks n (put_entry (get_or ks n d) x)) ≡ with_crossed n b (map kept_entry ks)
+entries_set [] n d b x h e = absurd (omega arith)
+entries_set (k ∷ ks) zero d b x h e = ap (λ l. l ∷ map kept_entry ks) e
+entries_set (k ∷ ks) (suc n) d b x h e = ap (λ l. kept_entry k ∷ l) (entries_set ks n d b x (omega arith) e)
 
 pub versions_set : (ks : List Kept) (n : ℕ) (d : Kept) (x : Entry) → n < length ks → versions (set ks n (put_entry (get_or ks n d) x)) ≡ versions ks
 versions_set [] n d x h = absurd (omega arith)

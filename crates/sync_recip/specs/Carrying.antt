@@ -1,13 +1,16 @@
 -- A change that was carried over entries, and these as it crossed them.
 use Rattle.std.specs.Prelude.{◌≡◌, ℕ, zero, suc, ◌<◌, List, [], ◌∷◌, ◌++◌, Option, None, Some, Result, Err, length}
 use Rattle.sync_data.specs.Payload.{Changes}
-use Rattle.sync_data.specs.declared.entry.Entry.{Entry}
 use Rattle.sync_data.specs.declared.instr.Instr.{Instr}
 use Rattle.sync_base.specs.declared.answers.Mismatch.{Mismatch}
 use Rattle.sync_theory.specs.Changesets.{Changeset}
 use Rattle.sync_theory.specs.Reciprocals.{from_base}
-use Rattle.sync_rivals.specs.Lists.{Indexed, Lists, StaysAt, put_list}
+use Rattle.sync_rivals.specs.Lists.{Indexed, Lists, StaysListed}
+use Rattle.sync_transform.specs.Moves.{kind_in, kind_of, moved_first}
+use Rattle.sync_transform.specs.declared.moves.ListAction.{ListAction}
 use Rattle.sync_recip.specs.Lists.{entry_of, lists_in}
+use Rattle.sync_recip.specs.declared.carried.Became.{Became}
+use Rattle.sync_recip.specs.declared.carried.Became.TheVariants.{Moved, Changed}
 use Rattle.sync_recip.specs.declared.carried.Crossed.{Crossed}
 use Rattle.sync_recip.specs.declared.refusal.RecipRefusal.{RecipRefusal}
 use Rattle.sync_recip.specs.declared.refusal.RecipRefusal.TheVariants as refusals
@@ -20,36 +23,71 @@ pub record Carrying : Type 0 where
 
 -- ---- the entries as crossed
 
--- an entry as what it became, or as it was
-abbrev pub crossed_entry : Option Entry → Changeset Instr → Changeset Instr
+-- an entry of which the one list instruction does this now
+abbrev pub moved_entry : ListAction → Changeset Instr → Changeset Instr
+moved_entry a e = record e { instrs = moved_first a e.instrs }
+
+-- an entry as what became of it
+abbrev pub became_of : Became → Changeset Instr → Changeset Instr
+became_of (Moved a) e = moved_entry a e
+became_of (Changed x) e = entry_of x
+
+-- or as it was
+abbrev pub crossed_entry : Option Became → Changeset Instr → Changeset Instr
 crossed_entry None e = e
-crossed_entry (Some x) e = entry_of x
+crossed_entry (Some b) e = became_of b e
 
--- entries of which that at a place became this
-abbrev pub with_crossed : ℕ → Entry → List (Changeset Instr) → List (Changeset Instr)
-with_crossed place x [] = []
-with_crossed zero x (e ∷ es) = crossed_entry (Some x) e ∷ es
-with_crossed (suc place) x (e ∷ es) = e ∷ with_crossed place x es
+-- entries of which this became of the one at a place
+abbrev pub with_crossed : ℕ → Became → List (Changeset Instr) → List (Changeset Instr)
+with_crossed place b [] = []
+with_crossed zero b (e ∷ es) = became_of b e ∷ es
+with_crossed (suc place) b (e ∷ es) = e ∷ with_crossed place b es
 
--- entries of which those that changed are what they became
+-- entries of which those that changed are what became of them
 abbrev pub crossed_entries : List Crossed → List (Changeset Instr) → List (Changeset Instr)
 crossed_entries [] es = es
-crossed_entries (c ∷ cs) es = crossed_entries cs (with_crossed c.place c.entry es)
+crossed_entries (c ∷ cs) es = crossed_entries cs (with_crossed c.place c.became es)
 
 -- each of them has a place below this
 abbrev pub AllWithin : ℕ → List Crossed → Type 0
 AllWithin n [] = Unit {0}
 AllWithin n (c ∷ cs) = (c.place < n) × AllWithin n cs
 
--- each is left of what stands at its place
+-- ---- their instructions
+
+-- what became of these
+abbrev pub left_of : Became → List Instr → List Instr
+left_of (Moved a) is = moved_first a is
+left_of (Changed x) is = x.changes.instrs
+
+-- only of one list instruction that does the same it is told what it does
+abbrev pub Suits : Became → List Instr → Type 0
+Suits (Moved a) is = kind_in is ≡ Some (kind_of a)
+Suits (Changed x) is = Unit {0}
+
+abbrev pub SuitsIf : Option Became → List Instr → Type 0
+SuitsIf None is = Unit {0}
+SuitsIf (Some b) is = Suits b is
+
+abbrev pub put_left : ℕ → Became → List (List Instr) → List (List Instr)
+put_left n b [] = []
+put_left zero b (l ∷ lists) = left_of b l ∷ lists
+put_left (suc n) b (l ∷ lists) = l ∷ put_left n b lists
+
+-- what became of those at a place is left of them
+abbrev pub LeftAt : ℕ → Became → List (List Instr) → Type 0
+LeftAt n b [] = ⊥
+LeftAt zero b (l ∷ lists) = Suits b l × StaysListed l (left_of b l)
+LeftAt (suc n) b (l ∷ lists) = LeftAt n b lists
+
 abbrev pub AllLeft : List Crossed → List (List Instr) → Type 0
 AllLeft [] lists = Unit {0}
-AllLeft (c ∷ cs) lists = StaysAt c.place c.entry.changes.instrs lists × AllLeft cs (put_list c.place c.entry.changes.instrs lists)
+AllLeft (c ∷ cs) lists = LeftAt c.place c.became lists × AllLeft cs (put_left c.place c.became lists)
 
 -- what is noted of an entry at a place: nothing where it stays
-abbrev pub noted : ℕ → Option Entry → List Crossed
+abbrev pub noted : ℕ → Option Became → List Crossed
 noted place None = []
-noted place (Some x) = record { place = place; entry = x } ∷ []
+noted place (Some b) = record { place = place; became = b } ∷ []
 
 -- an index of lists that end with the instructions of these entries is one of those that end with these
 abbrev pub Follows : ℕ → Indexed → List (Changeset Instr) → Indexed → List (Changeset Instr) → Type 0

@@ -5,19 +5,19 @@ ghost use Rattle.sync_law.specs.Instrs.{meet};
 ghost use Rattle.sync_index.specs.Touched.{Covers};
 ghost use Rattle.sync_rivals.specs.Lists.{Lists, Serves};
 ghost use Rattle.sync_transform.specs.Sets.{made_by};
-ghost use Rattle.sync_transform.specs.Moves.{moved_changes};
 ghost use Rattle.sync_recip.specs.Lists.{entry_of, kept_entry, lists_in};
-ghost use Rattle.sync_recip.specs.Carrying.{AllLeft, AllWithin, crossed_entry, crossed_entries, noted, IsStuckBy};
+ghost use Rattle.sync_recip.specs.Carrying.{AllLeft, AllWithin, SuitsIf, crossed_entry, crossed_entries, noted, IsStuckBy};
 
-use super::carried::{Carried, Crossed};
+use super::carried::{Became, Carried, Crossed};
 use super::kept::Kept;
 use super::refusal::RecipRefusal;
 use super::shared::SharedEntry;
+use super::shifted::ShiftedEntry;
 use std::alloc::Global;
 use sync_base::{Changeset, Entry, Ident, NoMemory};
 use sync_index::Index;
 use sync_rivals::{Pace, RivalIndex};
-use sync_transform::{Spot, cross_sets, moved_to, sets_move, stays_apart};
+use sync_transform::{Shifted, cross_sets};
 
 /// A change of a client is carried over the entries of others from the place `first` on. By an index of the change and the
 /// codes of its rivals, what it can't meet is passed over.
@@ -42,41 +42,37 @@ pub(crate) fn carry_over(
     ensures fits { IfOk result (λ c. AllWithin (length (map kept_entry (drop first kept.now))) c.crossed × AllLeft c.crossed (lists_in (map kept_entry (drop first kept.now)))) }
     ensures stuck { IfErr result (λ e. (number : ℕ) → IsStuckBy e (carry (crossed_sets meet) (made_by own number changes) (map kept_entry (drop first kept.now)))) }
 {
-    let mut left = changes;
+    let mut left = Shifted::new(changes);
     let mut crossed = Vec::new(alloc);
     let mut pace = Pace::new();
     let end = kept.len();
     let mut from = first;
     while from < end {
-        let next = rivals.next(&mut pace, codes, left.instrs(), from, end);
+        let next = rivals.next(&mut pace, codes, left.is_empty(), from, end);
         if next >= end {
             return Ok(Carried {
                 base,
-                changes: left,
+                changes: left.into_changes(),
                 crossed,
             });
         }
         from = next + 1;
         let one = &kept[next];
-        let entry = one.item.entry();
-        if let Some(moves) = sets_move(&left, own, &entry.changes, entry.origin) {
-            let Ok(moved) = entry_moved(alloc, entry, moves.right) else {
-                return Err(RecipRefusal::NoMemory);
-            };
-            left = moved_to(left, moves.left);
-            let Ok(()) = note(&mut crossed, next - first, Some(moved)) else {
+        if let Some(moves) = one.item.moves(&left, own) {
+            left.shift_to(moves.left);
+            let Ok(()) = note(&mut crossed, next - first, Some(Became::Moved(moves.right))) else {
                 return Err(RecipRefusal::NoMemory);
             };
             continue;
         }
-        if stays_apart(one.item.spot(), &entry.changes, index) {
+        if one.item.stays_apart(index) {
             continue;
         }
-        match cross_one(alloc, left, own, entry) {
+        match cross_one(alloc, left.into_changes(), own, &one.item) {
             Err(refusal) => return Err(refusal),
-            Ok((rest, entry)) => {
-                left = rest;
-                let Ok(()) = note(&mut crossed, next - first, entry) else {
+            Ok((rest, became)) => {
+                left = Shifted::new(rest);
+                let Ok(()) = note(&mut crossed, next - first, became) else {
                     return Err(RecipRefusal::NoMemory);
                 };
             }
@@ -84,85 +80,68 @@ pub(crate) fn carry_over(
     }
     Ok(Carried {
         base,
-        changes: left,
+        changes: left.into_changes(),
         crossed,
     })
 }
 
-/// The entry with its one list instruction at another spot.
-fn entry_moved(alloc: Global, entry: &Entry, spot: Spot) -> Result<SharedEntry, NoMemory>
-    ensures { IfOk result (λ moved. moved ≡ record entry.now { changes = moved_changes spot entry.now.changes }) }
-{
-    let changes = moved_to(entry.changes.copy()?, spot);
-    entry_with(alloc, entry, changes)
-}
-
-/// The entry with other changes.
-fn entry_with(alloc: Global, entry: &Entry, changes: Changeset) -> Result<SharedEntry, NoMemory>
-    ensures { IfOk result (λ made. made ≡ record entry.now { changes = changes }) }
-{
-    let changed = Entry {
-        origin: entry.origin,
-        number: entry.number,
-        changes,
-    };
-    SharedEntry::new(alloc, changed)
-}
-
-/// What is left of a change as it crosses an entry of another, and what the entry became where it changed.
+/// What is left of a change as it crosses an entry of another, and what became of the entry where it changed.
 fn cross_one(
     alloc: Global,
     changes: Changeset,
     own: Ident,
-    entry: &Entry,
-) -> Result<(Changeset, Option<SharedEntry>), RecipRefusal>
-    requires { entry.now.origin ≢ own }
-    ensures ok { IfOk result (λ p. (number : ℕ) → crossed_sets meet (made_by own number changes) (entry_of entry.now) ≡ Ok (made_by own number p.0, crossed_entry p.1 (entry_of entry.now))) }
-    ensures stuck { IfErr result (λ e. (number : ℕ) → IsStuckBy e (crossed_sets meet (made_by own number changes) (entry_of entry.now))) }
+    item: &ShiftedEntry,
+) -> Result<(Changeset, Option<Became>), RecipRefusal>
+    requires { item.now.origin ≢ own }
+    ensures ok { IfOk result (λ p. (number : ℕ) → crossed_sets meet (made_by own number changes) (entry_of item.now) ≡ Ok (made_by own number p.0, crossed_entry p.1 (entry_of item.now))) }
+    ensures suits { IfOk result (λ p. SuitsIf p.1 item.now.changes.instrs) }
+    ensures stuck { IfErr result (λ e. (number : ℕ) → IsStuckBy e (crossed_sets meet (made_by own number changes) (entry_of item.now))) }
 {
-    let Ok(right) = entry.changes.copy() else {
+    let Ok(right) = item.changes() else {
         return Err(RecipRefusal::NoMemory);
     };
-    match cross_sets(changes, own, right, entry.origin) {
+    match cross_sets(changes, own, right, item.origin()) {
         Err(stop) => Err(RecipRefusal::Mismatch {
             place: stop.left_place,
             kind: stop.kind,
         }),
-        Ok((left, right)) => match changed(alloc, entry, right) {
-            Ok(crossed) => Ok((left, crossed)),
+        Ok((left, right)) => match changed(alloc, item, right) {
+            Ok(became) => Ok((left, became)),
             Err(NoMemory) => Err(RecipRefusal::NoMemory),
         },
     }
 }
 
-/// The entry with the changes that it became; none where they are the ones that it has.
+/// The entry with the changes that it became; none where they are seen to be the ones that it has.
 fn changed(
     alloc: Global,
-    entry: &Entry,
+    item: &ShiftedEntry,
     changes: Changeset,
-) -> Result<Option<SharedEntry>, NoMemory>
-    ensures { IfOk result (λ crossed. crossed_entry crossed (entry_of entry.now) ≡ made_by entry.now.origin entry.now.number changes) }
+) -> Result<Option<Became>, NoMemory>
+    ensures is { IfOk result (λ became. crossed_entry became (entry_of item.now) ≡ made_by item.now.origin item.now.number changes) }
+    ensures suits { IfOk result (λ became. SuitsIf became item.now.changes.instrs) }
 {
-    if changes == entry.changes {
+    if item.is(&changes) {
         return Ok(None);
     }
-    match entry_with(alloc, entry, changes) {
-        Ok(shared) => Ok(Some(shared)),
+    let changed = Entry {
+        origin: item.origin(),
+        number: item.number(),
+        changes,
+    };
+    match SharedEntry::new(alloc, changed) {
+        Ok(shared) => Ok(Some(Became::Changed(shared))),
         Err(NoMemory) => Err(NoMemory),
     }
 }
 
-/// Notes what the entry at a place became, where it changed.
-fn note(
-    crossed: &mut Vec<Crossed>,
-    place: usize,
-    entry: Option<SharedEntry>,
-) -> Result<(), NoMemory>
-    ensures { OnOk result (crossed.new.items ≡ crossed.old.items ++ noted place entry) }
+/// Notes what became of the entry at a place, where it changed.
+fn note(crossed: &mut Vec<Crossed>, place: usize, became: Option<Became>) -> Result<(), NoMemory>
+    ensures { OnOk result (crossed.new.items ≡ crossed.old.items ++ noted place became) }
 {
-    match entry {
+    match became {
         None => Ok(()),
-        Some(entry) => keep(crossed, Crossed { place, entry }),
+        Some(became) => keep(crossed, Crossed { place, became }),
     }
 }
 

@@ -2,13 +2,13 @@ ghost use Rattle.std.specs.Prelude.{◌≡◌, ◌≤◌, ◌<◌, length, take,
 ghost use Rattle.sync_theory.specs.Reciprocals.{from_base};
 ghost use Rattle.sync_recip.specs.Lists.{versions, pair_of, kept_entry, IsRising};
 
-use super::shared::SharedEntry;
+use super::shifted::ShiftedEntry;
 
-/// A shared entry and its version.
+/// An entry as a client's changes crossed it, and its version.
 #[derive(Drop)]
 pub(crate) struct Kept {
     pub(crate) version: u32,
-    pub(crate) item: SharedEntry,
+    pub(crate) item: ShiftedEntry,
 }
 
 /// How many have a version below the base.

@@ -8,6 +8,7 @@ mod kept;
 mod recip;
 mod refusal;
 mod shared;
+mod shifted;
 
 pub use carried::Carried;
 pub use recip::Recip;

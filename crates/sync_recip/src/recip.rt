@@ -14,6 +14,7 @@ use super::carry::{carry_over, keep};
 use super::kept::{Kept, count_below, first_from};
 use super::refusal::RecipRefusal;
 use super::shared::SharedEntry;
+use super::shifted::ShiftedEntry;
 use std::alloc::Global;
 use std::marker::Model;
 use sync_base::{Changeset, Entry, Ident, NoMemory};
@@ -64,30 +65,33 @@ impl Recip {
         self.kept.len()
     }
 
-    /// The entry at a place, counted from 0, with its version; none at or past the end. It takes no memory.
-    pub fn get(&self, place: usize) -> Option<(u32, &Entry)>
-        ensures { option_map {U = ℕ × Changes Instr} (λ p. (p.0, entry_of p.1.now)) result ≡ slice_get self.now place }
+    /// A copy of the entry at a place, counted from 0, with its version; none at or past the end.
+    pub fn get(&self, place: usize) -> Result<Option<(u32, Entry)>, NoMemory>
+        ensures { IfOk result (λ found. option_map {U = ℕ × Changes Instr} (λ p. (p.0, entry_of p.1)) found ≡ slice_get self.now place) }
     {
         match self.kept.as_slice().get(place) {
-            Some(kept) => Some((kept.version, kept.item.entry())),
-            None => None,
+            Some(kept) => Ok(Some((kept.version, kept.item.copy()?))),
+            None => Ok(None),
         }
     }
 
-    /// The entry with a version, as the client's changes crossed it; none where no entry has it. It takes no memory.
-    pub fn at(&self, version: u32) -> Option<&Entry>
-        ensures { option_map (λ e. entry_of e.now) result ≡ entry_at version self.now }
+    /// A copy of the entry with a version, as the client's changes crossed it; none where no entry has it.
+    pub fn at(&self, version: u32) -> Result<Option<Entry>, NoMemory>
+        ensures { IfOk result (λ found. option_map entry_of found ≡ entry_at version self.now) }
     {
         let kept = self.kept.as_slice();
         let place = count_below(kept, version);
         if place >= kept.len() {
-            return None;
+            return Ok(None);
         }
         let found = &kept[place];
         if found.version != version {
-            return None;
+            return Ok(None);
         }
-        Some(found.item.entry())
+        match found.item.copy() {
+            Ok(entry) => Ok(Some(entry)),
+            Err(NoMemory) => Err(NoMemory),
+        }
     }
 
     /// Adds an entry at the end, whose version is above all others.
@@ -119,6 +123,7 @@ impl Recip {
         ensures ok { OnOk result (self.new ≡ self.old ++ (version, entry_of item) ∷ []) }
         ensures unchanged { OnErr result (self.new ≡ self.old) }
     {
+        let item = ShiftedEntry::new(item);
         keep(&mut self.kept, Kept { version, item })
     }
 
@@ -200,8 +205,7 @@ impl Recip {
             if place >= count {
                 return;
             }
-            let entry = self.kept[place].item.entry();
-            self.rivals.list(entry.changes.instrs());
+            self.rivals.list(self.kept[place].item.instrs());
         }
     }
 }

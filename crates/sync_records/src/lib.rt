@@ -6,8 +6,6 @@ mod fields;
 mod named;
 mod refusal;
 mod server;
-#[cfg(test)]
-mod tests;
 mod writing;
 
 pub use client::ClientRecord;

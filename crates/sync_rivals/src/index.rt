@@ -1,7 +1,7 @@
-ghost use Rattle.std.specs.Prelude.{◌≡◌, ◌≤◌, ◌<◌, ◌+◌, ◌∷◌, [], List, IfOk};
+ghost use Rattle.std.specs.Prelude.{◌≡◌, ◌≤◌, ◌<◌, ◌+◌, ◌∷◌, [], List, IsTrue, IfOk};
 ghost use Rattle.sync_data.specs.declared.instr.Instr.{Instr};
 ghost use Rattle.sync_rivals.specs.Marks.{AreGone};
-ghost use Rattle.sync_rivals.specs.Lists.{Lists, StandsAt, StaysAt, put_list, Serves, Pass};
+ghost use Rattle.sync_rivals.specs.Lists.{Lists, StandsAt, StaysAt, StaysListed, put_list, Serves, Pass};
 
 use super::listing::Listing;
 use super::pace::Pace;
@@ -51,9 +51,10 @@ impl RivalIndex {
         self.listed
     }
 
-    /// Lists the first list that isn't. Where memory runs out it isn't either, and is met as before.
+    /// Lists the first list that isn't, by instructions that lie under the places where it does. Where memory runs out it isn't
+    /// listed either, and is met as before.
     pub fn list(&mut self, instrs: &[Instr])
-        ensures { (lists : List (List Instr)) → Lists self.old lists → StandsAt self.old.listed instrs.now lists → Lists self.new lists }
+        ensures { (l : List Instr) (lists : List (List Instr)) → StaysListed instrs.now l → Lists self.old lists → StandsAt self.old.listed l lists → Lists self.new lists }
     {
         let number = self.first + self.listed as u64;
         if number == u64::MAX {
@@ -108,23 +109,23 @@ impl RivalIndex {
         rivals_of(alloc, instrs)
     }
 
-    /// The next place from `from` on, and before `end`, whose list may meet the instructions; `end` where there is none. All
-    /// before it stay as they are. It takes no memory. A list that isn't listed may meet them, and so may each where there are more codes
-    /// to look for than places, and each to which the walk goes on by its pace.
+    /// The next place from `from` on, and before `end`, whose list may meet instructions whose rivals have these codes; `end`
+    /// where there is none, or where no instruction is left. All before it stay as they are. It takes no memory. A list that
+    /// isn't listed may meet them, and so may each where there are more codes to look for than places, and each to which the
+    /// walk goes on by its pace.
     pub fn next(
         &self,
         pace: &mut Pace,
         codes: &[u64],
-        instrs: &[Instr],
+        none_left: bool,
         from: usize,
         end: usize,
     ) -> usize
-        requires known { Serves self.now codes.now instrs.now }
         requires order { from ≤ end }
         ensures order { (from ≤ result) × (result ≤ end) }
-        ensures pass { (lists : List (List Instr)) → Lists self.now lists → Pass from result lists instrs.now }
+        ensures pass { (instrs : List Instr) (lists : List (List Instr)) → Serves self.now codes.now instrs → (IsTrue none_left → instrs ≡ []) → Lists self.now lists → Pass from result lists instrs }
     {
-        if instrs.is_empty() {
+        if none_left {
             return end;
         }
         let listed = self.listed.min(end);
@@ -134,18 +135,17 @@ impl RivalIndex {
         if pace.goes_on() || codes.len() > listed - from {
             return from;
         }
-        let place = self.ask(codes, instrs, from, listed);
+        let place = self.ask(codes, from, listed);
         pace.asked(place == from);
         place
     }
 
     /// The same by the marks, among the lists that are listed.
-    fn ask(&self, codes: &[u64], instrs: &[Instr], from: usize, listed: usize) -> usize
-        requires known { Serves self.now codes.now instrs.now }
+    fn ask(&self, codes: &[u64], from: usize, listed: usize) -> usize
         requires within { listed ≤ self.now.listed }
         requires order { from < listed }
         ensures order { (from ≤ result) × (result ≤ listed) }
-        ensures pass { (lists : List (List Instr)) → Lists self.now lists → Pass from result lists instrs.now }
+        ensures pass { (instrs : List Instr) (lists : List (List Instr)) → Serves self.now codes.now instrs → Lists self.now lists → Pass from result lists instrs }
     {
         match self.listing.next(codes, self.first + from as u64) {
             None => listed,

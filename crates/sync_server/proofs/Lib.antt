@@ -9,7 +9,6 @@ pub mod Steps
 pub mod Sending
 pub mod Adding
 pub mod Changed
-pub mod Pairs
 pub mod Uploading
 pub mod Continuing
 pub mod Spelled

@@ -6,16 +6,12 @@ use Rattle.sync_data.specs.Payload.{Changes}
 use Rattle.sync_theory.specs.Changesets.{Changeset}
 use Rattle.sync_model.specs.Parts.{Given, Parts, at_ident}
 use Rattle.sync_model.specs.Trims.{is_live}
+use Rattle.sync_recip.specs.Lists.{entry_at}
 use Rattle.sync_server.specs.declared.counts.Counts.{Counts}
 
 -- the item of a version, where the first one is of the floor; none below it
 abbrev pub item_from : {A : Type 0} → ℕ → List A → ℕ → Option A
 item_from floor xs version = if nat_lt version floor then None else slice_get xs (version - floor)
-
--- the entry with a version, if there is one
-abbrev pub entry_at : ℕ → List (ℕ × Changeset Instr) → Option (Changeset Instr)
-entry_at version [] = None
-entry_at version (q ∷ qs) = if q.0 == version then Some q.1 else entry_at version qs
 
 -- the entry of a version as the changes of an ident that has these cross it; none where they can't come any more
 abbrev pub crossed_by : ℕ → ℕ → Option (Given Instr) → Option (Changeset Instr)

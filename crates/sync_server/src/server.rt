@@ -23,7 +23,7 @@ use crate::kept::Kept;
 use crate::refusal::{ChangeRefusal, Refusal, ServerRefusal};
 use std::alloc::Global;
 use sync_base::{Blob, Changeset, Entry, Id, Ident, NoMemory};
-use sync_disk::{Disk, Leaves, MemoryDisk};
+use sync_disk::{BeginsAnew, Disk, Leaves, MemoryDisk};
 use sync_journal::{Journal, JournalRefusal};
 use sync_messages::{Ask, Change, Given, Message, Retire, Retired, Stored, Upload};
 use sync_records::ServerRecord;
@@ -497,13 +497,20 @@ impl<D: Disk> Server<D> {
         self.kept.history.retired().get(place as usize).copied()
     }
 
-    /// The entry of a version as the next changes of an ident cross it. None comes where the ident isn't given or is
+    /// A copy of the entry of a version as the next changes of an ident cross it. None comes where the ident isn't given or is
     /// retired, where the version is below the floor or the base of the ident's last change, or from the length on, and
     /// where the ident made the entry.
-    pub fn past(&self, ident: Ident, version: u32) -> Option<&Changeset>
-        ensures { option_map (λ c. c.now) result ≡ option_map changes_of (past (parts (kept_of self.now)) ident version) }
+    pub fn past(&self, ident: Ident, version: u32) -> Result<Option<Changeset>, NoMemory>
+        ensures { IfOk result (λ found. found ≡ option_map changes_of (past (parts (kept_of self.now)) ident version)) }
     {
         self.kept.past(ident, version)
+    }
+
+    /// The disk that it holds.
+    pub fn disk(&self) -> &D
+        ensures { result.now ≡ disk_of (journal_of self.now) }
+    {
+        self.journal.disk()
     }
 
     /// Hands the disk back.
@@ -542,24 +549,28 @@ impl Server<MemoryDisk> {
         self.journal.disarm();
     }
 
-    /// The disk that it holds begins its strokes anew with what it holds, which stands synced. It is no longer armed.
-    pub fn begin_anew(&mut self)
-        ensures content { ⟦<MemoryDisk as Disk>⟧.content (disk_of (journal_of self.new)) ≡ ⟦<MemoryDisk as Disk>⟧.content (disk_of (journal_of self.old)) }
-        ensures strokes { ⟦<MemoryDisk as Disk>⟧.strokes (disk_of (journal_of self.new)) ≡ [] }
-        ensures origin { (c : List ℕ) → ⟦<MemoryDisk as Disk>⟧.content (disk_of (journal_of self.new)) ≡ Some c
-            → ⟦<MemoryDisk as Disk>⟧.origin (disk_of (journal_of self.new)) ≡ begun c (⟦<MemoryDisk as Disk>⟧.origin (disk_of (journal_of self.old))) }
-        ensures closed { is_closed self.new ≡ is_closed self.old }
-        ensures kept { kept_of self.new ≡ kept_of self.old }
-        ensures stands { (records : List (List ℕ)) → Stands ⟦<MemoryDisk as Disk>⟧.content ⟦<MemoryDisk as Disk>⟧.images records (journal_of self.old)
-            → Stands ⟦<MemoryDisk as Disk>⟧.content ⟦<MemoryDisk as Disk>⟧.images records (journal_of self.new) }
-    {
-        self.journal.begin_anew();
-    }
-
     /// Whether the disk that it holds has stopped.
     pub fn stopped(&self) -> bool
         ensures { result ≡ has_stopped (⟦<MemoryDisk as Disk>⟧.origin (disk_of (journal_of self.now))).stop (length (⟦<MemoryDisk as Disk>⟧.strokes (disk_of (journal_of self.now)))) }
     {
         self.journal.stopped()
+    }
+}
+
+impl<D: BeginsAnew> Server<D> {
+    ghost use Rattle.sync_server.specs.Serving.{is_closed, journal_of, kept_of};
+
+    /// The disk that it holds begins its strokes anew with what it holds, which stands synced. It is no longer armed.
+    pub fn begin_anew(&mut self)
+        ensures content { D.content (disk_of (journal_of self.new)) ≡ D.content (disk_of (journal_of self.old)) }
+        ensures strokes { D.strokes (disk_of (journal_of self.new)) ≡ [] }
+        ensures origin { (c : List ℕ) → D.content (disk_of (journal_of self.new)) ≡ Some c
+            → D.origin (disk_of (journal_of self.new)) ≡ begun c (D.origin (disk_of (journal_of self.old))) }
+        ensures closed { is_closed self.new ≡ is_closed self.old }
+        ensures kept { kept_of self.new ≡ kept_of self.old }
+        ensures stands { (records : List (List ℕ)) → Stands D.content D.images records (journal_of self.old)
+            → Stands D.content D.images records (journal_of self.new) }
+    {
+        self.journal.begin_anew();
     }
 }

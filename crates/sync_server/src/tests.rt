@@ -108,9 +108,9 @@ fn has_history(server: &Server<MemoryDisk>) -> bool {
         && server.entry(1).is_none()
         && server.base_of(0) == Some(0)
         && server.base_of(1).is_none()
-        && server.past(3, 0).is_some()
-        && server.past(1, 0).is_none()
-        && server.past(2, 0).is_none()
+        && matches!(&server.past(3, 0), Ok(Some(_)))
+        && matches!(&server.past(1, 0), Ok(None))
+        && matches!(&server.past(2, 0), Ok(None))
 }
 
 fn opened(alloc: Global, disk: MemoryDisk) -> Result<Server<MemoryDisk>, Fail> {

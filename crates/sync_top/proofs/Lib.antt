@@ -10,11 +10,9 @@ pub mod Playing
 pub mod Plays
 pub mod RunLemmas
 pub mod Shown
-pub mod Spaces
 pub mod Steps
 pub mod Summing
 pub mod Synced
 pub mod Tells
-pub mod Texts
 pub mod Validity
 pub mod Whole

@@ -12,7 +12,6 @@ use Rattle.sync_gen.specs.Clients.{name_of}
 use Rattle.sync_model.specs.Bytes.{Name}
 use Rattle.sync_model.specs.Worlds.{Event, Words, World, empty_world, happens, server_name}
 use Rattle.sync_world.specs.Holding.{Holds}
-use Rattle.sync_world.specs.Words.{words_text}
 use Rattle.sync_world.specs.declared.world.World.{World as CodeWorld}
 use Rattle.sync_top.specs.declared.counts.Counts.{Counts}
 use Rattle.sync_top.specs.declared.plan.Move.{Move}
@@ -22,7 +21,7 @@ use Rattle.sync_top.specs.Counting.{Goes, HasRoom, counted}
 use Rattle.sync_top.specs.Generated.{after, answered, done_by, events_by, exchanged, joined, move_events, newest_to, told, words_by, world_by}
 use Rattle.sync_top.specs.Plans.{AreMoves, IsMove}
 use Rattle.sync_top.specs.Playing.{PlayedSoFar, Plays}
-use Rattle.sync_top.specs.Telling.{IsPlace, PlaceFits, is_made, is_message, is_refused, one_if}
+use Rattle.sync_top.specs.Telling.{is_made, is_message, is_refused, one_if}
 use Rattle.sync_top.proofs.Tells.{happens_tells}
 
 -- ---- some events and then others
@@ -51,30 +50,6 @@ event_messages : (w : World) (e : Event Instr) → length (after w e).messages �
 unfolding after told
 event_messages w e = (happens_tells the_profile w e).messages
 
-event_place : (w : World) (e : Event Instr) → IsPlace (suc (length w.messages)) (told w e)
-unfolding told
-event_place w e = (happens_tells the_profile w e).place
-
-fits : (n : ℕ) (words : Words) → IsPlace (suc n) words → n < 2 ^ 32 → PlaceFits words
-fits n (Words.Joined name) e small = tt
-fits n (Words.Made number) e small = tt
-fits n (Words.Messaged place) e small = tt
-fits n (Words.Took cursor) e small = tt
-fits n (Words.Replied place reply) e small = omega arith
-fits n Words.Opened e small = tt
-fits n Words.Armed e small = tt
-fits n Words.Stopped e small = tt
-fits n Words.Upgraded e small = tt
-fits n Words.Current e small = tt
-fits n Words.SubscribedTo e small = tt
-fits n (Words.Declined why) e small = tt
-fits n Words.NameTaken e small = tt
-fits n Words.UuidTaken e small = tt
-fits n Words.NoNode e small = tt
-fits n Words.NoMessage e small = tt
-fits n Words.BadMessage e small = tt
-fits n Words.OwnIdent e small = tt
-
 -- ---- no event
 pub goes_none : (world : CodeWorld) → Holds empty_world world → Goes [] (record { messages = 0; made = 0; refused = 0 }) world
 goes_none world holds = record { holds = holds; messages = refl; made = refl; refused = refl; few_messages = omega arith; few_made = omega arith; few_refused = omega arith }
@@ -102,15 +77,11 @@ goes_on es e old new old_world world goes holds is =
       few_refused = one_more es e old.refused new.refused (is_refused (told w e)) goes.few_refused (ap (λ (c : Counts). c.refused) is);
     }
 
-pub stepped : (es : List (Event Instr)) (e : Event Instr) (old new : Counts) (old_world world : CodeWorld) (text : List ℕ) → length es + 1 < 2 ^ 32 → Goes es old old_world
-    → (text ≡ words_text (happens the_profile (world_by empty_world es) e).words) → Holds (happens the_profile (world_by empty_world es) e).world world
-    → ((said : Words) → text ≡ words_text said → PlaceFits said → HasRoom old → new ≡ counted old said)
+pub stepped : (es : List (Event Instr)) (e : Event Instr) (old new : Counts) (old_world world : CodeWorld) → length es + 1 < 2 ^ 32 → Goes es old old_world
+    → Holds (happens the_profile (world_by empty_world es) e).world world → (HasRoom old → new ≡ counted old (happens the_profile (world_by empty_world es) e).words)
     → Goes (es ++ e ∷ []) new world
 unfolding after told
-stepped es e old new old_world world text small goes says holds counts =
-    let w = world_by empty_world es in
-    let few : length w.messages < 2 ^ 32 = omega (arith, goes.messages, goes.few_messages) in
-    goes_on es e old new old_world world goes holds (counts (told w e) says (fits (length w.messages) (told w e) (event_place w e) few) (room es old old_world small goes))
+stepped es e old new old_world world small goes holds counts = goes_on es e old new old_world world goes holds (counts (room es old old_world small goes))
 
 -- ---- what is sent and answered
 after_one : (es : List (Event Instr)) (e : Event Instr) → world_by empty_world (es ++ e ∷ []) ≡ after (world_by empty_world es) e

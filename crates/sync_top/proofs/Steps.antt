@@ -1,5 +1,6 @@
 -- What the steps of the code come to.
-use Rattle.std.proofs.Common.{◌≡◌, ◌+◌, ℕ, List, Result, Ok, Err, sym, ap, ◌∙◌}
+use Rattle.std.proofs.Common.{◌≡◌, ◌+◌, ℕ, Option, Some, Result, Ok, Err, sym, ap, subst, ◌∙◌}
+use Rattle.std.specs.Prelude.{IfSome}
 use Rattle.std.specs.Result.{OnOk}
 use Rattle.sync_data.specs.declared.memory.NoMemory.{NoMemory}
 use Rattle.sync_gen.specs.Clients.{name_of}
@@ -7,13 +8,11 @@ use Rattle.sync_gen.specs.Turns.{turn_of}
 use Rattle.sync_gen.specs.declared.turns.Turn.{Turn}
 use Rattle.sync_gen.specs.declared.turns.TurnKind.{TurnKind}
 use Rattle.sync_model.specs.Worlds.{Words, World}
-use Rattle.sync_world.specs.Words.{words_text}
 use Rattle.sync_top.specs.declared.counts.Counts.{Counts}
 use Rattle.sync_top.specs.declared.plan.Move.TheVariants as moves
-use Rattle.sync_top.specs.Counting.{counted, tells_made, tells_message, tells_refused}
+use Rattle.sync_top.specs.Counting.{counted}
 use Rattle.sync_top.specs.Generated.{done_by, move_events}
-use Rattle.sync_top.specs.Telling.{PlaceFits, is_made, is_message, is_refused, one_if}
-use Rattle.sync_top.proofs.Texts.{made_told, message_told, refused_told}
+use Rattle.sync_top.specs.Telling.{is_made, is_message, is_refused, one_if}
 
 pub on_ok : {P Q : Type 0} (r : Result (Unit {0}) NoMemory) → OnOk r P → (P → Q) → OnOk r Q
 on_ok (Ok u) p then = then p
@@ -26,14 +25,13 @@ counts_same a b p q r =
     let R : ℕ → Counts = λ k. record { messages = b.messages; made = b.made; refused = k } in
     ap M p ∙ ap D q ∙ ap R r
 
-pub counts_are : (old new : Counts) (text : List ℕ) (said : Words) → text ≡ words_text said → PlaceFits said
-    → new.messages ≡ old.messages + one_if (tells_message text) → new.made ≡ old.made + one_if (tells_made text) → new.refused ≡ old.refused + one_if (tells_refused text)
+pub counts_are : (old new : Counts) (said : Words) → new.messages ≡ old.messages + one_if (is_message said) → new.made ≡ old.made + one_if (is_made said) → new.refused ≡ old.refused + one_if (is_refused said)
     → new ≡ counted old said
-counts_are old new text said is fits messages made refused =
-    let a : new.messages ≡ old.messages + one_if (is_message said) = messages ∙ ap (λ b. old.messages + one_if b) (ap tells_message is ∙ message_told said) in
-    let b : new.made ≡ old.made + one_if (is_made said) = made ∙ ap (λ b. old.made + one_if b) (ap tells_made is ∙ made_told said) in
-    let c : new.refused ≡ old.refused + one_if (is_refused said) = refused ∙ ap (λ b. old.refused + one_if b) (ap tells_refused is ∙ refused_told said fits) in
-    counts_same new (counted old said) a b c
+counts_are old new said messages made refused = counts_same new (counted old said) messages made refused
+
+-- what is said of words is said of an outcome that the model has
+pub of_seen : {P : Words → Type 0} (o : Option Words) (said : Words) → o ≡ Some said → IfSome o P → P said
+of_seen {P} o said is all = subst (λ (x : Option Words). IfSome x P) is all
 
 -- what is done in a turn is what was drawn for it
 pub turned_is : (number x draws : ℕ) (turn : Turn) (kind : TurnKind) (w : World) → turn ≡ (turn_of number x).0 → draws ≡ (turn_of number x).1 → turn.kind ≡ kind

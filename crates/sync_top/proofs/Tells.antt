@@ -18,10 +18,10 @@ one_more : (v w : World) (m : Message) → v.messages ≡ w.messages → length 
 one_more v w m same = length-append v.messages (m ∷ []) ∙ ap (λ ms. length ms + 1) same
 
 messaged_tells : (w v : World) (m : Message) → v.messages ≡ w.messages → Tells w (messaged v m)
-messaged_tells w v m same = record { messages = one_more v w m same; place = tt }
+messaged_tells w v m same = record { messages = one_more v w m same }
 
 reply_tells : (w v : World) (m : Message) → v.messages ≡ w.messages → Tells w (reply_words v m)
-reply_tells w v m same = record { messages = one_more v w m same; place = ap (λ ms. suc (length ms)) same }
+reply_tells w v m same = record { messages = one_more v w m same }
 
 none : (v w : World) → v.messages ≡ w.messages → length v.messages ≡ length w.messages + 0
 none v w same = ap length same ∙ sym (add-zero (length w.messages))
@@ -32,36 +32,36 @@ AnswerTells {A} w words = (v : World) (r : Result A ClientRefusal) → v.message
 
 message_tells : (w : World) → AnswerTells w message_words
 message_tells w v (Ok m) same = messaged_tells w v m same
-message_tells w v (Err r) same = record { messages = none v w same; place = tt }
+message_tells w v (Err r) same = record { messages = none v w same }
 
 made_tells : (w : World) → AnswerTells w made_words
-made_tells w v (Ok n) same = record { messages = none v w same; place = tt }
-made_tells w v (Err r) same = record { messages = none v w same; place = tt }
+made_tells w v (Ok n) same = record { messages = none v w same }
+made_tells w v (Err r) same = record { messages = none v w same }
 
 took_tells : (w : World) → AnswerTells w took_words
-took_tells w v (Ok n) same = record { messages = none v w same; place = tt }
-took_tells w v (Err r) same = record { messages = none v w same; place = tt }
+took_tells w v (Ok n) same = record { messages = none v w same }
+took_tells w v (Err r) same = record { messages = none v w same }
 
 upgrade_tells : (w : World) → AnswerTells w upgrade_words
-upgrade_tells w v (Ok true) same = record { messages = none v w same; place = tt }
-upgrade_tells w v (Ok false) same = record { messages = none v w same; place = tt }
-upgrade_tells w v (Err r) same = record { messages = none v w same; place = tt }
+upgrade_tells w v (Ok true) same = record { messages = none v w same }
+upgrade_tells w v (Ok false) same = record { messages = none v w same }
+upgrade_tells w v (Err r) same = record { messages = none v w same }
 
 subscribe_tells : (w : World) → AnswerTells w subscribe_words
-subscribe_tells w v (Ok done) same = record { messages = none v w same; place = tt }
-subscribe_tells w v (Err r) same = record { messages = none v w same; place = tt }
+subscribe_tells w v (Ok done) same = record { messages = none v w same }
+subscribe_tells w v (Err r) same = record { messages = none v w same }
 
 -- a call that is answered, or stops
 ends_tells : {A : Type 0} (w : World) (place : ℕ) (n : Node) (did : ClientStep A) (words : World → Result A ClientRefusal → Outcome) → AnswerTells w words → (stand : Option (List ClientRecord)) → Tells w (client_ends w place n did words stand)
 ends_tells w place n did words tells None = tells (client_moved w place n did.records) did.answer refl
-ends_tells w place n did words tells (Some stand) = record { messages = none (client_moved w place n stand) w refl; place = tt }
+ends_tells w place n did words tells (Some stand) = record { messages = none (client_moved w place n stand) w refl }
 
 served_tells : (w v : World) → v.messages ≡ w.messages → (did : ServerStep) (stand : Option (List ServerRecord)) → Tells w (server_ends v did stand)
 served_tells w v same did None = reply_tells w (server_moved v did.records) did.answer same
-served_tells w v same did (Some stand) = record { messages = none (server_moved v stand) w same; place = tt }
+served_tells w v same did (Some stand) = record { messages = none (server_moved v stand) w same }
 
 nothing_tells : (w : World) (x : Words) → is_message x ≡ false → IsPlace (suc (length w.messages)) x → Tells w (says w x)
-nothing_tells w x untold place = record { messages = sym (add-zero (length w.messages)) ∙ ap (λ b. length w.messages + one_if b) (sym untold); place = place }
+nothing_tells w x untold place = record { messages = sym (add-zero (length w.messages)) ∙ ap (λ b. length w.messages + one_if b) (sym untold) }
 
 named_same : (w : World) (m : Message) → (named_by w m).messages ≡ w.messages
 named_same w (Message.Bind u) = refl
@@ -102,7 +102,7 @@ module _ {I S : Type 0} (p : Profile I S) where
   joins_tells : (w : World) (name : Name) (records : List ClientRecord) (taken known : Bool) → Tells w (if taken then says w Words.NameTaken else if known then says w Words.UuidTaken else says (record w { clients = w.clients ++ record { name = name; records = records } ∷ [] }) (Words.Joined name))
   joins_tells w name records true known = nothing_tells w Words.NameTaken refl tt
   joins_tells w name records false true = nothing_tells w Words.UuidTaken refl tt
-  joins_tells w name records false false = record { messages = sym (add-zero (length w.messages)); place = tt }
+  joins_tells w name records false false = record { messages = sym (add-zero (length w.messages)) }
 
   pub happens_tells : (w : World) (e : Event I) → Tells w (happens p w e)
   happens_tells w (Event.Joins name id) = joins_tells w name _ _ _
@@ -115,5 +115,5 @@ module _ {I S : Type 0} (p : Profile I S) where
   happens_tells w (Event.Subscribes name tables) = calls_tells w name (λ c. subscribe c tables) subscribe_words (subscribe_tells w)
   happens_tells w (Event.Delivers message to) = either (is_node w to) (delivers p w to (message_at w message)) (says w Words.NoNode) (delivers_tells w to (message_at w message)) (nothing_tells w Words.NoNode refl tt)
   happens_tells w (Event.Restarts node) = restarts_tells w (is_node w node)
-  happens_tells w (Event.Stops node k leaves) = either (is_node w node) _ (says w Words.NoNode) (record { messages = sym (add-zero (length w.messages)); place = tt }) (nothing_tells w Words.NoNode refl tt)
+  happens_tells w (Event.Stops node k leaves) = either (is_node w node) _ (says w Words.NoNode) (record { messages = sym (add-zero (length w.messages)) }) (nothing_tells w Words.NoNode refl tt)
   happens_tells w (Event.Injects m) = injects_tells w m

@@ -1,6 +1,5 @@
--- Counting what is told of events, by its text.
-use Rattle.std.specs.Prelude.{◌≡◌, ◌<◌, ◌≤◌, ◌+◌, ◌^◌, ◌==◌, ◌&&◌, ◌||◌, if◌then◌else◌, ℕ, Bool, List, [], ◌∷◌, codes, count_by, drop, length, take}
-use Rattle.std.specs.Str.{bytes_eq}
+-- Counting what events came to.
+use Rattle.std.specs.Prelude.{◌≡◌, ◌<◌, ◌≤◌, ◌+◌, ◌^◌, List, count_by, length}
 use Rattle.sync_data.specs.declared.instr.Instr.{Instr}
 use Rattle.sync_model.specs.Worlds.{Event, Words, empty_world}
 use Rattle.sync_world.specs.Holding.{Holds}
@@ -18,30 +17,8 @@ pub record HasRoom (counts : Counts) : Type 0 where
   pub made : counts.made + 1 < 2 ^ 32
   pub refused : counts.refused + 1 < 2 ^ 32
 
--- ---- the text of words
-abbrev pub begins : List ℕ → List ℕ → Bool
-begins front text = bytes_eq front (take (length front) text)
-
--- from the first space on
-abbrev pub from_space : List ℕ → List ℕ
-from_space [] = []
-from_space (b ∷ bs) = if b == 32 then b ∷ bs else from_space bs
-
--- `reply PLACE refused ..`
-abbrev pub reply_refuses : List ℕ → Bool
-reply_refuses text = begins (codes "reply ") text && begins (codes " refused ") (from_space (drop 6 text))
-
-abbrev pub tells_message : List ℕ → Bool
-tells_message text = begins (codes "message ") text || begins (codes "reply ") text
-
-abbrev pub tells_made : List ℕ → Bool
-tells_made text = begins (codes "made ") text
-
-abbrev pub tells_refused : List ℕ → Bool
-tells_refused text = begins (codes "refused ") text || reply_refuses text
-
 -- ---- an exchange under way
--- these events have happened in a world that was empty, and what is told of them is counted
+-- these events have happened in a world that was empty, and what they came to is counted
 pub record Goes (es : List (Event Instr)) (counts : Counts) (world : CodeWorld) : Type 0 where
   pub holds : Holds (world_by empty_world es) world
   pub messages : counts.messages ≡ length (world_by empty_world es).messages

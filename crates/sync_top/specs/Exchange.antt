@@ -10,8 +10,8 @@ use Rattle.sync_model.specs.Worlds.{Event, Outcome, World, happens, is_there}
 use Rattle.sync_model.specs.Reports.{report_of}
 use Rattle.sync_exchange.specs.Profile.{the_profile}
 use Rattle.sync_world.specs.Events.{event_seen}
-use Rattle.sync_world.specs.Reports.{report_text}
-use Rattle.sync_world.specs.Words.{outcome_line, words_text}
+use Rattle.sync_words.specs.Reports.{report_text}
+use Rattle.sync_words.specs.Words.{outcome_line, words_text}
 use Rattle.sync_top.specs.declared.command.LineEnd.{LineEnd}
 use Rattle.sync_top.specs.declared.command.LineEnd.TheVariants as line_ends
 use Rattle.sync_top.specs.Runs.{is_blank}

@@ -9,7 +9,7 @@ use Rattle.sync_model.specs.Bytes.{Name}
 use Rattle.sync_model.specs.Clients.{client_of}
 use Rattle.sync_model.specs.Servers.{server_objects, server_of}
 use Rattle.sync_model.specs.Worlds.{Event, Node, World, empty_world, has_name, seek}
-use Rattle.sync_world.specs.Words.{said}
+use Rattle.sync_words.specs.Words.{said}
 use Rattle.sync_top.specs.Generated.{events_of, words_by, world_by}
 use Rattle.sync_top.specs.Plans.{clients}
 use Rattle.sync_top.specs.Telling.{is_made, is_refused}

@@ -1,5 +1,5 @@
 -- What is told of events.
-use Rattle.std.specs.Prelude.{◌≡◌, ◌<◌, ◌+◌, ◌^◌, ℕ, suc, Bool, true, false, length}
+use Rattle.std.specs.Prelude.{◌≡◌, ◌+◌, ℕ, Bool, true, false, length}
 use Rattle.sync_model.specs.Messages.{Message}
 use Rattle.sync_model.specs.Worlds.{Outcome, Words, World}
 
@@ -45,16 +45,6 @@ is_message (Words.Messaged place) = true
 is_message (Words.Replied place reply) = true
 is_message words = false
 
--- the number of a reply has few digits
-abbrev pub PlaceFits : Words → Type 0
-PlaceFits (Words.Replied place reply) = place < 2 ^ 64
-PlaceFits words = Unit {0}
-
 -- an event is told so that the messages made are those told of
-abbrev pub IsPlace : ℕ → Words → Type 0
-IsPlace n (Words.Replied place reply) = place ≡ n
-IsPlace n words = Unit {0}
-
 pub record Tells (w : World) (o : Outcome) : Type 0 where
   pub messages : length o.world.messages ≡ length w.messages + one_if (is_message o.words)
-  pub place : IsPlace (suc (length w.messages)) o.words

@@ -1,21 +1,23 @@
-ghost use Rattle.std.specs.Prelude.{◌≡◌, ◌<◌, ◌+◌, ◌^◌, ◌∷◌, ◌++◌, [], List, length, OnOk};
+ghost use Rattle.std.specs.Prelude.{◌≡◌, ◌<◌, ◌+◌, ◌^◌, ◌∷◌, ◌++◌, [], List, length, IfSome, OnOk};
 ghost use Rattle.sync_data.specs.declared.instr.Instr.{Instr};
 ghost use Rattle.sync_model.specs.Worlds as model;
 ghost use Rattle.sync_gen.specs.Clients.{name_of};
 ghost use Rattle.sync_world.specs.Events.{IsCounted, event_seen};
-ghost use Rattle.sync_world.specs.Words.{words_text};
-ghost use Rattle.sync_top.specs.Counting.{Goes, HasRoom, counted, from_space, reply_refuses, tells_made, tells_message, tells_refused};
+ghost use Rattle.sync_words.specs.Outcomes.{outcome_seen};
+ghost use Rattle.sync_top.specs.Counting.{Goes, HasRoom, counted};
 ghost use Rattle.sync_top.specs.Generated.{exchanged, newest_to, world_by};
 ghost use Rattle.sync_top.specs.Plans.{IsClient};
-ghost use Rattle.sync_top.specs.Telling.{PlaceFits, one_if};
+ghost use Rattle.sync_top.specs.Telling.{is_made, is_message, is_refused, one_if};
 
 use std::alloc::Global;
 use sync_data::{Name, NoMemory};
 use sync_edits::Event;
 use sync_gen::client_name;
+use sync_messages::Message;
+use sync_words::Outcome;
 use sync_world::World;
 
-/// What was told of the events of an exchange.
+/// What the events of an exchange came to.
 #[derive(Clone, Copy, Debug, PartialEq, Eq)]
 pub struct Counts {
     /// The messages that were made.
@@ -26,48 +28,35 @@ pub struct Counts {
     pub refused: u32,
 }
 
-/// What stands from the first space on.
-fn from_space(text: &[u8]) -> &[u8]
-    ensures { result.now ≡ from_space text.now }
+/// Whether a message was made.
+fn is_message(outcome: &Outcome) -> bool
+    ensures { IfSome (outcome_seen outcome.now) (λ words. result ≡ is_message words) }
 {
-    match text {
-        [] => text,
-        [first, rest @ ..] => {
-            if *first == b' ' {
-                text
-            } else {
-                from_space(rest)
-            }
-        }
+    matches!(outcome, Outcome::Messaged { .. } | Outcome::Replied { .. })
+}
+
+/// Whether a transaction was made.
+fn is_made(outcome: &Outcome) -> bool
+    ensures { IfSome (outcome_seen outcome.now) (λ words. result ≡ is_made words) }
+{
+    matches!(outcome, Outcome::Made { .. })
+}
+
+/// Whether an event was refused, or the reply to it refuses.
+fn is_refused(outcome: &Outcome) -> bool
+    ensures { IfSome (outcome_seen outcome.now) (λ words. result ≡ is_refused words) }
+{
+    match outcome {
+        Outcome::Replied { reply, .. } => matches!(reply, Message::Refused { .. }),
+        Outcome::Declined { .. }
+        | Outcome::NameTaken
+        | Outcome::UuidTaken
+        | Outcome::NoNode
+        | Outcome::NoMessage
+        | Outcome::BadMessage
+        | Outcome::OwnIdent => true,
+        _ => false,
     }
-}
-
-/// Whether the words are those of a reply that refuses: `reply PLACE refused ..`.
-fn reply_refuses(words: &[u8]) -> bool
-    ensures { result ≡ reply_refuses words.now }
-{
-    match words.strip_prefix(b"reply ".as_slice()) {
-        Some(told) => from_space(told).starts_with(b" refused "),
-        None => false,
-    }
-}
-
-fn tells_message(words: &[u8]) -> bool
-    ensures { result ≡ tells_message words.now }
-{
-    words.starts_with(b"message ") || words.starts_with(b"reply ")
-}
-
-fn tells_made(words: &[u8]) -> bool
-    ensures { result ≡ tells_made words.now }
-{
-    words.starts_with(b"made ")
-}
-
-fn tells_refused(words: &[u8]) -> bool
-    ensures { result ≡ tells_refused words.now }
-{
-    words.starts_with(b"refused ") || reply_refuses(words)
 }
 
 /// One more, where it is so. A count stands still at its end.
@@ -97,13 +86,13 @@ impl Counts {
         }
     }
 
-    /// Counts what is told of an event.
-    fn count(&mut self, words: &[u8])
-        ensures { (said : model.Words) → words.now ≡ words_text said → PlaceFits said → HasRoom self.old → self.new ≡ counted self.old said }
+    /// Counts what an event came to.
+    fn count(&mut self, outcome: &Outcome)
+        ensures { IfSome (outcome_seen outcome.now) (λ words. HasRoom self.old → self.new ≡ counted self.old words) }
     {
-        let messages = plus_if(self.messages, tells_message(words));
-        let made = plus_if(self.made, tells_made(words));
-        let refused = plus_if(self.refused, tells_refused(words));
+        let messages = plus_if(self.messages, is_message(outcome));
+        let made = plus_if(self.made, is_made(outcome));
+        let refused = plus_if(self.refused, is_refused(outcome));
         *self = Counts {
             messages,
             made,
@@ -111,13 +100,13 @@ impl Counts {
         };
     }
 
-    /// An event happens, and what is told of it is counted.
+    /// An event happens, and what it comes to is counted.
     pub(crate) fn step(&mut self, world: &mut World, event: Event) -> Result<(), NoMemory>
         requires { IsCounted event }
         ensures { (es : List (model.Event Instr)) → length es + 1 < 2 ^ 32 → Goes es self.old world.old → OnOk result (Goes (es ++ event_seen event ∷ []) self.new world.new) }
     {
-        let words = world.step(event)?;
-        self.count(&words);
+        let outcome = world.step(event)?;
+        self.count(&outcome);
         Ok(())
     }
 

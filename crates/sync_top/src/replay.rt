@@ -7,7 +7,7 @@ use super::command::{Command, LineEnd};
 use std::alloc::Global;
 use sync_data::NoMemory;
 use sync_edits::{Event, LineRefusal, event_of};
-use sync_world::{World, outcome_line};
+use sync_world::World;
 
 /// The event that a line is; a stop is counted from 1.
 fn counted_event(alloc: Global, line: &[u8]) -> Result<Event, LineRefusal>
@@ -35,10 +35,10 @@ impl Command for World {
             Err(LineRefusal::BadLine) => return Err(LineEnd::BadLine),
             Err(LineRefusal::NoMemory) => return Err(LineEnd::NoMemory),
         };
-        let Ok(words) = self.step(event) else {
+        let Ok(outcome) = self.step(event) else {
             return Err(LineEnd::NoMemory);
         };
-        match outcome_line(alloc, number, &words) {
+        match outcome.line(alloc, number) {
             Ok(text) => Ok(text),
             Err(NoMemory) => Err(LineEnd::NoMemory),
         }

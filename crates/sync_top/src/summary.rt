@@ -12,7 +12,8 @@ use std::alloc::Global;
 use sync_data::{Name, NoMemory};
 use sync_dump::dump_lines;
 use sync_gen::client_name;
-use sync_world::{World, put, put_said};
+use sync_words::{put, put_said};
+use sync_world::World;
 
 /// Puts a line of a word and a number.
 fn put_line(alloc: Global, out: &mut Vec<u8>, word: &str, number: u64) -> Result<(), NoMemory>

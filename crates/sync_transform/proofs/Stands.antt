@@ -1,29 +1,35 @@
 -- Where two list instructions stand after they met.
 use Rattle.std.proofs.Common.{◌≡◌, ℕ, ◌+◌, ◌-◌, ◌<◌, ◌≤◌, Bool, true, false, cond, not, ◌&&◌, ◌||◌, List, [], ◌∷◌, length, get_or, set, Option, Some, None, Ok, IfSome, refl, sym, ap, ◌∙◌, subst, arith}
 use Rattle.std.specs.Prelude.{◌==◌, nat_lt, nat_le}
+use Rattle.std.specs.Option.{option_map}
 use Rattle.std.proofs.lemmas.Bool.{ltb-true, ltb-false, leb-true, eqb-false}
 use Rattle.std.proofs.lemmas.Bool.Decides.{nat_tests}
+use Rattle.std.proofs.lemmas.List.Sums.{sum_by-cons}
+use Rattle.sync_data.specs.Spot as places
 use Rattle.sync_data.specs.declared.value.Value.{Value}
+use Rattle.sync_data.specs.declared.value.Value.TheVariants as values
 use Rattle.sync_data.specs.declared.instr.CellName.{CellName}
 use Rattle.sync_data.specs.declared.instr.Instr.{Instr}
 use Rattle.sync_data.specs.declared.instr.Instr.TheVariants as instrs
 use Rattle.sync_data.specs.Payload.{Changes, payload, IsSmall}
-use Rattle.sync_theory.specs.Changesets.{cross_sets, with_lists, later_stamp}
-use Rattle.sync_transform.specs.Sets.{made_by}
-use Rattle.sync_transform.specs.declared.moves.Moves.{Moves}
 use Rattle.sync_base.specs.Effects.{path_of, CellPath, effect_of}
 use Rattle.sync_base.specs.Objects.{object_of}
-use Rattle.sync_index.specs.Touched.{Touched, touches, Covers}
 use Rattle.sync_base.specs.Rules.{top}
-use Rattle.sync_law.specs.Instrs.{meet}
 use Rattle.sync_theory.specs.Lists.{cross}
+use Rattle.sync_theory.specs.Changesets.{cross_sets, with_lists, later_stamp}
+use Rattle.sync_law.specs.Instrs.{meet}
+use Rattle.sync_index.specs.Cells.{cell_in}
+use Rattle.sync_index.specs.Touched.{Touched, touches, may_touch, Covers}
+use Rattle.sync_index.specs.Filters.{spot_of}
+use Rattle.sync_index.specs.Spots.{AllAt, LieAt, Misses}
+use Rattle.sync_transform.specs.Sets.{made_by}
 use Rattle.sync_transform.specs.Places.{longer, Within, place_after}
-use Rattle.sync_transform.specs.Moves.{instr_at, instr_left, moved, moved_first, moved_changes}
+use Rattle.sync_transform.specs.Moves.{instr_at, instr_left, acting, kind_of, action_at, action_in, kind_in, first_cell, moved, moved_first, moved_changes, shown, Move}
 use Rattle.sync_transform.specs.declared.places.Does.{Does}
 use Rattle.sync_transform.specs.declared.places.Does.TheVariants.{Inserts, Erases, Updates}
-use Rattle.sync_transform.specs.declared.moves.Spot.{Spot}
-use Rattle.sync_transform.specs.declared.moves.Spot.TheVariants.{Gap, Element}
-use Rattle.std.proofs.lemmas.List.Sums.{sum_by-cons}
+use Rattle.sync_transform.specs.declared.moves.ListAction.{ListAction}
+use Rattle.sync_transform.specs.declared.moves.ListAction.TheVariants.{Insert, Erase, Update}
+use Rattle.sync_transform.specs.declared.moves.Moves.{Moves}
 use Rattle.sync_transform.proofs.Rows.{grows, pair}
 
 -- ---- what is left lies in the list after the other
@@ -54,112 +60,245 @@ within_some l d e p q n r f g h = subst (WithinIf d (longer e n)) h (within_afte
 abbrev cell_of : CellPath → CellName
 cell_of p = record { table = p.0.0; key = p.0.1; column = p.1 }
 
-pub one_cell : (c k : CellName) → path_of c ≡ path_of k → c ≡ k
+one_cell : (c k : CellName) → path_of c ≡ path_of k → c ≡ k
 one_cell c k e = ap cell_of e
 
 below_top : (d e : Does) (n : ℕ) → n < top → (grows d e && (n == top)) ≡ false
 below_top d e n h = elim (grows d e) as (λ b. (b && (n == top)) ≡ false) [ true ↦ grind (arith, nat_tests, h) | false ↦ refl ]
 
-pub both_stand : (l : Bool) (a b : Instr) (c k : CellName) (v w : Value) (d e : Does) (p q n r s : ℕ) (x y : Spot)
-    → a ≡ instr_at c v d p n → b ≡ instr_at k w e q n → path_of c ≡ path_of k → n < top
+pub both_stand : (l : Bool) (x y : ListAction) (m : Moves) (d e : Does) (p q n r s : ℕ)
+    → ((c : CellName) (v : Value) → acting c v x ≡ instr_at c v d p n) → ((c : CellName) (v : Value) → acting c v y ≡ instr_at c v e q n) → n < top
     → place_after l d p e q ≡ Some r → place_after (not l) e q d p ≡ Some s
-    → moved x (instr_at c v d p n) ≡ instr_at c v d r (longer e n) → moved y (instr_at c w e q n) ≡ instr_at c w e s (longer d n)
-    → meet a b l ≡ Ok (Some (moved x a), Some (moved y b))
-both_stand l a b c k v w d e p q n r s x y is_a is_b same h own other left right =
-    let b_is : b ≡ instr_at c w e q n = is_b ∙ ap (λ z. instr_at z w e q n) (sym (one_cell c k same)) in
-    (λ i. meet (is_a i) (b_is i) l)
+    → ((c : CellName) (v : Value) → acting c v m.left ≡ instr_at c v d r (longer e n)) → ((c : CellName) (v : Value) → acting c v m.right ≡ instr_at c v e s (longer d n))
+    → (c : CellName) (v w : Value) → meet (acting c v x) (acting c w y) l ≡ Ok (Some (acting c v m.left), Some (acting c w m.right))
+both_stand l x y m d e p q n r s is_x is_y h own other left right c v w =
+    (λ i. meet (is_x c v i) (is_y c w i) l)
     ∙ pair l c v w d e p q n (below_top d e n h)
     ∙ (λ i. Ok (instr_left c v d (longer e n) (own i), instr_left c w e (longer d n) (other i)))
-    ∙ (λ i. Ok (Some (sym left i), Some (sym right i)))
-    ∙ (λ i. Ok (Some (moved x (sym is_a i)), Some (moved y (sym b_is i))))
+    ∙ (λ i. Ok (Some (sym (left c v) i), Some (sym (right c w) i)))
+
+-- ---- what doesn't change by where an instruction stands
+module _ {A : Type 0} (f : Instr → A)
+    (inserts : (c : CellName) (v : Value) (s t : places.Spot) → f (acting c v (Insert s)) ≡ f (acting c v (Insert t)))
+    (erases : (c : CellName) (s t : places.Spot) → f (acting c values.Null (Erase s)) ≡ f (acting c values.Null (Erase t)))
+    (updates : (c : CellName) (v : Value) (s t : places.Spot) → f (acting c v (Update s)) ≡ f (acting c v (Update t))) where
+  pub same_elsewhere : (a : ListAction) (i : Instr) → f (moved a i) ≡ f i
+  same_elsewhere (Insert s) (instrs.AddTable i) = refl
+  same_elsewhere (Insert s) (instrs.AddColumn i) = refl
+  same_elsewhere (Insert s) (instrs.CreateObject i) = refl
+  same_elsewhere (Insert s) (instrs.EraseObject i) = refl
+  same_elsewhere (Insert s) (instrs.Update i) = refl
+  same_elsewhere (Insert s) (instrs.AddInteger i) = refl
+  same_elsewhere (Insert s) (instrs.ListUpdate i) = refl
+  same_elsewhere (Insert s) (instrs.ListInsert i) = inserts i.cell i.value s i.spot
+  same_elsewhere (Insert s) (instrs.ListErase i) = refl
+  same_elsewhere (Insert s) (instrs.SetInsert i) = refl
+  same_elsewhere (Insert s) (instrs.SetErase i) = refl
+  same_elsewhere (Insert s) (instrs.DictUpdate i) = refl
+  same_elsewhere (Insert s) (instrs.Clear i) = refl
+  same_elsewhere (Erase s) (instrs.AddTable i) = refl
+  same_elsewhere (Erase s) (instrs.AddColumn i) = refl
+  same_elsewhere (Erase s) (instrs.CreateObject i) = refl
+  same_elsewhere (Erase s) (instrs.EraseObject i) = refl
+  same_elsewhere (Erase s) (instrs.Update i) = refl
+  same_elsewhere (Erase s) (instrs.AddInteger i) = refl
+  same_elsewhere (Erase s) (instrs.ListUpdate i) = refl
+  same_elsewhere (Erase s) (instrs.ListInsert i) = refl
+  same_elsewhere (Erase s) (instrs.ListErase i) = erases i.cell s i.spot
+  same_elsewhere (Erase s) (instrs.SetInsert i) = refl
+  same_elsewhere (Erase s) (instrs.SetErase i) = refl
+  same_elsewhere (Erase s) (instrs.DictUpdate i) = refl
+  same_elsewhere (Erase s) (instrs.Clear i) = refl
+  same_elsewhere (Update s) (instrs.AddTable i) = refl
+  same_elsewhere (Update s) (instrs.AddColumn i) = refl
+  same_elsewhere (Update s) (instrs.CreateObject i) = refl
+  same_elsewhere (Update s) (instrs.EraseObject i) = refl
+  same_elsewhere (Update s) (instrs.Update i) = refl
+  same_elsewhere (Update s) (instrs.AddInteger i) = refl
+  same_elsewhere (Update s) (instrs.ListUpdate i) = updates i.cell i.value s i.spot
+  same_elsewhere (Update s) (instrs.ListInsert i) = refl
+  same_elsewhere (Update s) (instrs.ListErase i) = refl
+  same_elsewhere (Update s) (instrs.SetInsert i) = refl
+  same_elsewhere (Update s) (instrs.SetErase i) = refl
+  same_elsewhere (Update s) (instrs.DictUpdate i) = refl
+  same_elsewhere (Update s) (instrs.Clear i) = refl
+
+pub moved_small : (a : ListAction) (is : List Instr) → IsSmall is → IsSmall (moved_first a is)
+moved_small a [] h = h
+moved_small a (i ∷ is) h =
+    let e = same_elsewhere payload (λ c v s t. refl) (λ c s t. refl) (λ c v s t. refl) a i in
+    (h.0, omega (arith, h.1, e, sum_by-cons payload i is, sum_by-cons payload (moved a i) is))
+
+object_stays : (a : ListAction) (i : Instr) → object_of (effect_of (moved a i)) ≡ object_of (effect_of i)
+object_stays = same_elsewhere (λ i. object_of (effect_of i)) (λ c v s t. refl) (λ c s t. refl) (λ c v s t. refl)
+
+pub shown_covered : (t : Touched) (o : Option ListAction) (is : List Instr) → Covers t is → Covers t (shown o is)
+shown_covered t None is h = h
+shown_covered t (Some a) [] h = h
+shown_covered t (Some a) (i ∷ is) h = (ap (touches t) (object_stays a i) ∙ h.0, h.1)
+
+pub shown_missed : (t : Touched) (o : Option ListAction) (is : List Instr) → Misses t is → Misses t (shown o is)
+shown_missed t None is h = h
+shown_missed t (Some a) [] h = h
+shown_missed t (Some a) (i ∷ is) h = (ap (touches t) (object_stays a i) ∙ h.0, h.1)
+
+all_back : (t : ℕ) (o : Option ListAction) (is : List Instr) → AllAt t (shown o is) → AllAt t is
+all_back t None is h = h
+all_back t (Some a) [] h = h
+all_back t (Some a) (i ∷ is) h = (ap (option_map (λ o. spot_of o.1)) (sym (object_stays a i)) ∙ h.0, h.1)
+
+pub lie_back : (t : Option ℕ) (o : Option ListAction) (is : List Instr) → LieAt t (shown o is) → LieAt t is
+lie_back None o is h = tt
+lie_back (Some t) o is h = all_back t o is h
+
+pub shown_cell : (o : Option ListAction) (is : List Instr) → first_cell (shown o is) ≡ first_cell is
+shown_cell None is = refl
+shown_cell (Some a) [] = refl
+shown_cell (Some a) (i ∷ is) = same_elsewhere (λ i. cell_in (effect_of i)) (λ c v s t. refl) (λ c s t. refl) (λ c v s t. refl) a i
+
+pub shown_kind : (o : Option ListAction) (is : List Instr) → kind_in (shown o is) ≡ kind_in is
+shown_kind None is = refl
+shown_kind (Some a) [] = refl
+shown_kind (Some a) (i ∷ []) = same_elsewhere (λ i. option_map kind_of (action_at i)) (λ c v s t. refl) (λ c s t. refl) (λ c v s t. refl) a i
+shown_kind (Some a) (i ∷ j ∷ is) = refl
+
+-- ---- one list instruction
+some_is : {A : Type 0} {x y : A} → ◌≡◌ {A = Option A} (Some x) (Some y) → x ≡ y
+some_is e = cc
+
+record Acted (i : Instr) (a : ListAction) : Type 0 where
+  cell : CellName
+  value : Value
+  does : ListAction
+  is : i ≡ acting cell value does
+  same : does ≡ a
+
+acted : (i : Instr) (a : ListAction) → action_at i ≡ Some a → Acted i a
+acted (instrs.AddTable i) a e = cc
+acted (instrs.AddColumn i) a e = cc
+acted (instrs.CreateObject i) a e = cc
+acted (instrs.EraseObject i) a e = cc
+acted (instrs.Update i) a e = cc
+acted (instrs.AddInteger i) a e = cc
+acted (instrs.ListUpdate i) a e = record { cell = i.cell; value = i.value; does = Update i.spot; is = refl; same = some_is e }
+acted (instrs.ListInsert i) a e = record { cell = i.cell; value = i.value; does = Insert i.spot; is = refl; same = some_is e }
+acted (instrs.ListErase i) a e = record { cell = i.cell; value = values.Null; does = Erase i.spot; is = refl; same = some_is e }
+acted (instrs.SetInsert i) a e = cc
+acted (instrs.SetErase i) a e = cc
+acted (instrs.DictUpdate i) a e = cc
+acted (instrs.Clear i) a e = cc
+
+record One (list : List Instr) (a : ListAction) : Type 0 where
+  cell : CellName
+  value : Value
+  is : list ≡ acting cell value a ∷ []
+
+one : (is : List Instr) (a : ListAction) → action_in is ≡ Some a → One is a
+one [] a e = cc
+one (i ∷ []) a e = let f = acted i a e in record { cell = f.cell; value = f.value; is = ap (λ j. j ∷ []) (f.is ∙ ap (acting f.cell f.value) f.same) }
+one (i ∷ j ∷ is) a e = cc
+
+moved_acting : (c : CellName) (v : Value) (a b : ListAction) → kind_of a ≡ kind_of b → moved b (acting c v a) ≡ acting c v b
+moved_acting c v (Insert s) (Insert t) e = refl
+moved_acting c v (Insert s) (Erase t) e = cc
+moved_acting c v (Insert s) (Update t) e = cc
+moved_acting c v (Erase s) (Insert t) e = cc
+moved_acting c v (Erase s) (Erase t) e = refl
+moved_acting c v (Erase s) (Update t) e = cc
+moved_acting c v (Update s) (Insert t) e = cc
+moved_acting c v (Update s) (Erase t) e = cc
+moved_acting c v (Update s) (Update t) e = refl
+
+action_of : (c : CellName) (v : Value) (a : ListAction) → action_at (acting c v a) ≡ Some a
+action_of c v (Insert s) = refl
+action_of c v (Erase s) = refl
+action_of c v (Update s) = refl
+
+cell_there : (c : CellName) (v : Value) (a : ListAction) → cell_in (effect_of (acting c v a)) ≡ Some (path_of c)
+cell_there c v (Insert s) = refl
+cell_there c v (Erase s) = refl
+cell_there c v (Update s) = refl
+
+moved_one : (is : List Instr) (a b : ListAction) (f : One is a) → kind_of a ≡ kind_of b → moved_first b is ≡ acting f.cell f.value b ∷ []
+moved_one is a b f e = ap (moved_first b) f.is ∙ ap (λ i. i ∷ []) (moved_acting f.cell f.value a b e)
+
+-- ---- shown as it stands
+shown_as : (is : List Instr) (o : Option ListAction) → action_in is ≡ o → shown o is ≡ is
+shown_as is None e = refl
+shown_as is (Some a) e = let f = one is a e in moved_one is a a f refl ∙ sym f.is
+
+pub shown_itself : (is : List Instr) → shown (action_in is) is ≡ is
+shown_itself is = shown_as is (action_in is) refl
+
+-- the action of the instruction that is written is of the kind that is kept
+record Kinded (is : List Instr) (a : ListAction) : Type 0 where
+  written : ListAction
+  told : action_in is ≡ Some written
+  kind : kind_of written ≡ kind_of a
+
+kinded : (is : List Instr) (a : ListAction) (o : Option ListAction) → action_in is ≡ o → kind_in is ≡ Some (kind_of a) → Kinded is a
+kinded is a None told e = let f : option_map kind_of None ≡ Some (kind_of a) = sym (ap (option_map kind_of) told) ∙ e in cc
+kinded is a (Some w) told e = record { written = w; told = told; kind = some_is (sym (ap (option_map kind_of) told) ∙ e) }
+
+none_told : (o : Option ListAction) → option_map kind_of o ≡ None → o ≡ None
+none_told None e = refl
+none_told (Some a) e = cc
+
+pub shown_action : (o : Option ListAction) (is : List Instr) → kind_in is ≡ option_map kind_of o → action_in (shown o is) ≡ o
+shown_action None is e = none_told (action_in is) e
+shown_action (Some a) is e =
+    let k = kinded is a (action_in is) refl e in
+    let f = one is k.written k.told in
+    ap action_in (moved_one is k.written a f k.kind) ∙ action_of f.cell f.value a
+
+pub moved_over : (o : Option ListAction) (b : ListAction) (is : List Instr) → kind_in is ≡ option_map kind_of o → kind_in (shown o is) ≡ Some (kind_of b) → moved_first b is ≡ moved_first b (shown o is)
+moved_over None b is e g = refl
+moved_over (Some a) b is e g =
+    let k = kinded is a (action_in is) refl e in
+    let f = one is k.written k.told in
+    let same : kind_of a ≡ kind_of b = some_is (sym (shown_kind (Some a) is ∙ e) ∙ g) in
+    moved_one is k.written b f (k.kind ∙ same)
+    ∙ sym (ap (moved_first b) (moved_one is k.written a f k.kind) ∙ ap (λ i. i ∷ []) (moved_acting f.cell f.value a b same))
+
+pub shown_twice : (o : Option ListAction) (is : List Instr) → kind_in is ≡ option_map kind_of o → shown o (shown o is) ≡ shown o is
+shown_twice None is e = refl
+shown_twice (Some a) is e = sym (moved_over (Some a) a is e (shown_kind (Some a) is ∙ e))
+
+pub kind_told : (is : List Instr) (a b : ListAction) → action_in is ≡ Some a → kind_of b ≡ kind_of a → kind_in is ≡ Some (kind_of b)
+kind_told is a b e k = ap (option_map kind_of) e ∙ ap Some (sym k)
 
 -- ---- lists of one
-pub only : {A : Type 0} (xs : List A) (x : A) → length xs ≡ 1 → x ≡ get_or xs 0 x → xs ≡ x ∷ []
-only [] x h e = absurd (omega (arith, h))
-only (y ∷ []) x h e = ap (λ z. z ∷ []) (sym e)
-only (y ∷ z ∷ xs) x h e = absurd (omega (arith, h))
-
-pub ones_cross : (l : Bool) (a b x y : Instr) → meet a b l ≡ Ok (Some x, Some y) → cross (λ a b. meet a b l) (a ∷ []) (b ∷ []) ≡ Ok (x ∷ [], y ∷ [])
+ones_cross : (l : Bool) (a b x y : Instr) → meet a b l ≡ Ok (Some x, Some y) → cross (λ a b. meet a b l) (a ∷ []) (b ∷ []) ≡ Ok (x ∷ [], y ∷ [])
 ones_cross l a b x y h = rw h
 
-pub sets_cross : (r : Option Moves) (own other : ℕ) (p q : Changes) (a b : Instr) (l : Bool) → l ≡ later_stamp p.ms own q.ms other → p.instrs ≡ a ∷ [] → q.instrs ≡ b ∷ [] → IfSome r (λ s. meet a b l ≡ Ok (Some (moved s.left a), Some (moved s.right b)))
+pub lists_cross : (l : Bool) (x y : ListAction) (m : Moves) (is js : List Instr) → Move x y l m → action_in is ≡ Some x → action_in js ≡ Some y → first_cell is ≡ first_cell js
+    → cross (λ a b. meet a b l) is js ≡ Ok (moved_first m.left is, moved_first m.right js)
+lists_cross l x y m is js move is_x is_y same =
+    let f = one is x is_x in
+    let g = one js y is_y in
+    let paths : path_of f.cell ≡ path_of g.cell = some_is (sym (ap first_cell f.is ∙ cell_there f.cell f.value x) ∙ same ∙ ap first_cell g.is ∙ cell_there g.cell g.value y) in
+    let cell = one_cell f.cell g.cell paths in
+    let is_g : js ≡ acting f.cell g.value y ∷ [] = g.is ∙ ap (λ c. acting c g.value y ∷ []) (sym cell) in
+    (λ i. cross (λ a b. meet a b l) (f.is i) (is_g i))
+    ∙ ones_cross l (acting f.cell f.value x) (acting f.cell g.value y) (acting f.cell f.value m.left) (acting f.cell g.value m.right) (move.met f.cell f.value g.value)
+    ∙ (λ i. Ok (sym (moved_one is x m.left f (sym move.left)) i, (acting (cell i) g.value m.right) ∷ []))
+    ∙ (λ i. Ok (moved_first m.left is, sym (moved_one js y m.right g (sym move.right)) i))
+
+pub some_map : {A : Type 0} {P Q : A → Type 0} → ((a : A) → P a → Q a) → (r : Option A) → IfSome r P → IfSome r Q
+some_map f None h = tt
+some_map f (Some a) h = f a h
+
+-- changesets of one list instruction each
+pub moves_cross : (r : Option Moves) (x y : ListAction) (own other : ℕ) (p q : Changes) (l : Bool) → l ≡ later_stamp p.ms own q.ms other → action_in p.instrs ≡ Some x → action_in q.instrs ≡ Some y → first_cell p.instrs ≡ first_cell q.instrs → IfSome r (Move x y l)
     → IfSome r (λ s. (m n : ℕ) → cross_sets meet (made_by own m p) (made_by other n q) ≡ Ok (made_by own m (moved_changes s.left p), made_by other n (moved_changes s.right q)))
-sets_cross None own other p q a b l later is_a is_b h = tt
-sets_cross (Some s) own other p q a b l later is_a is_b h = λ m n.
-    ap (with_lists (made_by own m p) (made_by other n q)) ((λ i. cross (λ a b. meet a b (sym later i)) (is_a i) (is_b i)) ∙ ones_cross l a b (moved s.left a) (moved s.right b) h)
-    ∙ (λ i. Ok (made_by own m (record { ms = p.ms; instrs = moved_first s.left (sym is_a i) }), made_by other n (record { ms = q.ms; instrs = moved_first s.right (sym is_b i) })))
+moves_cross r x y own other p q l later is_x is_y same h =
+    some_map (λ s move m n. ap (with_lists (made_by own m p) (made_by other n q)) ((λ i. cross (λ a b. meet a b (sym later i)) p.instrs q.instrs) ∙ lists_cross l x y s p.instrs q.instrs move is_x is_y same)) r h
 
--- the first of a list, where there is one, is written
-pub first_moved : (s : Spot) (xs : List Instr) (x y : Instr) → 0 < length xs → x ≡ get_or xs 0 x → y ≡ moved s x → set xs 0 y ≡ moved_first s xs
-first_moved s [] x y h e g = absurd (omega (arith, h))
-first_moved s (z ∷ xs) x y h e g = ap (λ i. i ∷ xs) (g ∙ ap (moved s) e)
+-- ---- the first of a list, where there is one, is written
+pub first_moved : (a : ListAction) (xs : List Instr) (x y : Instr) → 0 < length xs → x ≡ get_or xs 0 x → y ≡ moved a x → set xs 0 y ≡ moved_first a xs
+first_moved a [] x y h e g = absurd (omega (arith, h))
+first_moved a (z ∷ xs) x y h e g = ap (λ i. i ∷ xs) (g ∙ ap (moved a) e)
 
-pub none_moved : (s : Spot) (xs : List Instr) → length xs ≡ 0 → xs ≡ moved_first s xs
-none_moved s [] h = refl
-none_moved s (x ∷ xs) h = absurd (omega (arith, h))
-
--- ---- what an instruction carries doesn't change by its place
-carries : (s : Spot) (i : Instr) → payload (moved s i) ≡ payload i
-carries (Gap s) (instrs.AddTable i) = refl
-carries (Gap s) (instrs.AddColumn i) = refl
-carries (Gap s) (instrs.CreateObject i) = refl
-carries (Gap s) (instrs.EraseObject i) = refl
-carries (Gap s) (instrs.Update i) = refl
-carries (Gap s) (instrs.AddInteger i) = refl
-carries (Gap s) (instrs.ListUpdate i) = refl
-carries (Gap s) (instrs.ListInsert i) = refl
-carries (Gap s) (instrs.ListErase i) = refl
-carries (Gap s) (instrs.SetInsert i) = refl
-carries (Gap s) (instrs.SetErase i) = refl
-carries (Gap s) (instrs.DictUpdate i) = refl
-carries (Gap s) (instrs.Clear i) = refl
-carries (Element s) (instrs.AddTable i) = refl
-carries (Element s) (instrs.AddColumn i) = refl
-carries (Element s) (instrs.CreateObject i) = refl
-carries (Element s) (instrs.EraseObject i) = refl
-carries (Element s) (instrs.Update i) = refl
-carries (Element s) (instrs.AddInteger i) = refl
-carries (Element s) (instrs.ListUpdate i) = refl
-carries (Element s) (instrs.ListInsert i) = refl
-carries (Element s) (instrs.ListErase i) = refl
-carries (Element s) (instrs.SetInsert i) = refl
-carries (Element s) (instrs.SetErase i) = refl
-carries (Element s) (instrs.DictUpdate i) = refl
-carries (Element s) (instrs.Clear i) = refl
-
-pub moved_small : (s : Spot) (is : List Instr) → IsSmall is → IsSmall (moved_first s is)
-moved_small s [] h = h
-moved_small s (i ∷ is) h = (h.0, let e = carries s i in omega (arith, h.1, e, sum_by-cons payload i is, sum_by-cons payload (moved s i) is))
-
--- nor does its object
-object_stays : (s : Spot) (i : Instr) → object_of (effect_of (moved s i)) ≡ object_of (effect_of i)
-object_stays (Gap s) (instrs.AddTable i) = refl
-object_stays (Gap s) (instrs.AddColumn i) = refl
-object_stays (Gap s) (instrs.CreateObject i) = refl
-object_stays (Gap s) (instrs.EraseObject i) = refl
-object_stays (Gap s) (instrs.Update i) = refl
-object_stays (Gap s) (instrs.AddInteger i) = refl
-object_stays (Gap s) (instrs.ListUpdate i) = refl
-object_stays (Gap s) (instrs.ListInsert i) = refl
-object_stays (Gap s) (instrs.ListErase i) = refl
-object_stays (Gap s) (instrs.SetInsert i) = refl
-object_stays (Gap s) (instrs.SetErase i) = refl
-object_stays (Gap s) (instrs.DictUpdate i) = refl
-object_stays (Gap s) (instrs.Clear i) = refl
-object_stays (Element s) (instrs.AddTable i) = refl
-object_stays (Element s) (instrs.AddColumn i) = refl
-object_stays (Element s) (instrs.CreateObject i) = refl
-object_stays (Element s) (instrs.EraseObject i) = refl
-object_stays (Element s) (instrs.Update i) = refl
-object_stays (Element s) (instrs.AddInteger i) = refl
-object_stays (Element s) (instrs.ListUpdate i) = refl
-object_stays (Element s) (instrs.ListInsert i) = refl
-object_stays (Element s) (instrs.ListErase i) = refl
-object_stays (Element s) (instrs.SetInsert i) = refl
-object_stays (Element s) (instrs.SetErase i) = refl
-object_stays (Element s) (instrs.DictUpdate i) = refl
-object_stays (Element s) (instrs.Clear i) = refl
-
-pub moved_covered : (t : Touched) (s : Spot) (is : List Instr) → Covers t is → Covers t (moved_first s is)
-moved_covered t s [] h = h
-moved_covered t s (i ∷ is) h = (ap (touches t) (object_stays s i) ∙ h.0, h.1)
+pub none_moved : (a : ListAction) (xs : List Instr) → length xs ≡ 0 → xs ≡ moved_first a xs
+none_moved a [] h = refl
+none_moved a (x ∷ xs) h = absurd (omega (arith, h))

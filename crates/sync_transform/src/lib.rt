@@ -8,9 +8,11 @@ mod pairs;
 mod places;
 mod row;
 mod sets;
+mod shifted;
 mod slots;
 
 pub use crossing::{CrossMismatch, cross, cross_indexed};
-pub use moves::{Moves, Spot, moved_to, sets_move};
+pub use moves::{ListAction, Moves, action_in, both_move, same_first_cell, shown};
 pub use pairs::meet;
-pub use sets::{cross_sets, cross_sets_indexed, stays_apart};
+pub use sets::{cross_sets, cross_sets_indexed, is_later, stays_apart};
+pub use shifted::Shifted;

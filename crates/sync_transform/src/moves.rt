@@ -1,149 +1,164 @@
-ghost use Rattle.std.specs.Prelude.{◌≡◌, ◌<◌, ℕ, Some, Ok, IfSome};
+ghost use Rattle.std.specs.Prelude.{◌≡◌, ◌<◌, IfOk, IfSome, IsTrue};
+ghost use Rattle.std.specs.Option.{option_map};
 ghost use Rattle.sync_data.specs.declared.value.Value.{Value};
 ghost use Rattle.sync_data.specs.declared.instr.CellName.{CellName};
-ghost use Rattle.sync_theory.specs.Changesets.{cross_sets as crossed_sets, later_stamp};
+ghost use Rattle.sync_base.specs.Effects.{CellPath, path_of};
 ghost use Rattle.sync_base.specs.Rules.{top};
-ghost use Rattle.sync_law.specs.Instrs.{meet};
 ghost use Rattle.sync_transform.specs.Places.{Within};
-ghost use Rattle.sync_transform.specs.Moves.{instr_at, value_in, moved, moved_first, moved_changes};
-ghost use Rattle.sync_transform.specs.Sets.{made_by};
+ghost use Rattle.sync_transform.specs.Moves.{acting, instr_at, kind_of, action_at, action_in, first_cell, moved, moved_first, moved_changes, shown_changes, Move};
 
 use super::places::{Does, length_after, place_after};
-use super::sets::is_later;
-use sync_base::{Between, CellName, Changeset, Ident, Inside, Instr, Stamp, same_cell};
+use std::alloc::Global;
+use std::mem;
+use sync_base::{Between, CellName, Changeset, Inside, Instr, NoMemory, same_cell};
+use sync_index::cell_of;
 
-/// Where an instruction of a list stands: in a gap of the list, or at an element.
+/// What an instruction of a list does, and where: in a gap of the list, or at an element.
 #[derive(Clone, Copy)]
-pub enum Spot {
-    Gap(Between),
-    Element(Inside),
+pub enum ListAction {
+    Insert(Between),
+    Erase(Inside),
+    Update(Inside),
 }
 
-/// Where two instructions of a list stand after they met.
+/// What two instructions of a list do after they met.
 #[derive(Clone, Copy)]
 pub struct Moves {
-    pub left: Spot,
-    pub right: Spot,
+    pub left: ListAction,
+    pub right: ListAction,
 }
 
-/// An instruction of a list but for its value.
-#[derive(Clone, Copy)]
-struct InList<'a> {
-    does: Does,
-    cell: &'a CellName,
-    place: u32,
-    prior: u32,
+#[inline(always)]
+fn parts(action: ListAction) -> (Does, u32, u32)
+    ensures is { (c : CellName) (v : Value) → acting c v action ≡ instr_at c v result.0 result.1 result.2 }
+    ensures kind { kind_of action ≡ result.0 }
+    ensures within { Within result.0 result.1 result.2 }
+{
+    match action {
+        ListAction::Insert(gap) => (Does::Inserts, gap.place(), gap.prior()),
+        ListAction::Erase(element) => (Does::Erases, element.place(), element.prior()),
+        ListAction::Update(element) => (Does::Updates, element.place(), element.prior()),
+    }
 }
 
-fn in_list(instr: &Instr) -> Option<InList<'_>>
-    ensures is { IfSome result (λ l. instr.now ≡ instr_at l.cell.now (value_in instr.now) l.does l.place l.prior) }
-    ensures within { IfSome result (λ l. Within l.does l.place l.prior) }
+#[inline(always)]
+fn action_of(does: Does, place: u32, prior: u32) -> ListAction
+    requires { Within does place prior }
+    ensures is { (c : CellName) (v : Value) → acting c v result ≡ instr_at c v does place prior }
+    ensures kind { kind_of result ≡ does }
+{
+    match does {
+        Does::Inserts => ListAction::Insert(Between::new(place, prior).unwrap()),
+        Does::Erases => ListAction::Erase(Inside::new(place, prior).unwrap()),
+        Does::Updates => ListAction::Update(Inside::new(place, prior).unwrap()),
+    }
+}
+
+/// What two instructions of one list do after they met, where both stay. None for all others, and where they can't be merged.
+#[inline(always)]
+pub fn both_move(left: ListAction, right: ListAction, left_later: bool) -> Option<Moves>
+    ensures { IfSome result (Move left right left_later) }
+{
+    let (does, place, length) = parts(left);
+    let (other_does, other_place, other_length) = parts(right);
+    if length != other_length || length >= u32::MAX {
+        return None;
+    }
+    let own = place_after(left_later, does, place, other_does, other_place)?;
+    let other = place_after(!left_later, other_does, other_place, does, place)?;
+    Some(Moves {
+        left: action_of(does, own, length_after(other_does, length)),
+        right: action_of(other_does, other, length_after(does, length)),
+    })
+}
+
+fn action_at(instr: &Instr) -> Option<ListAction>
+    ensures { result ≡ action_at instr.now }
 {
     match instr {
-        Instr::ListInsert(insert) => Some(InList {
-            does: Does::Inserts,
-            cell: &insert.cell,
-            place: insert.spot.place(),
-            prior: insert.spot.prior(),
-        }),
-        Instr::ListErase(erase) => Some(InList {
-            does: Does::Erases,
-            cell: &erase.cell,
-            place: erase.spot.place(),
-            prior: erase.spot.prior(),
-        }),
-        Instr::ListUpdate(update) => Some(InList {
-            does: Does::Updates,
-            cell: &update.cell,
-            place: update.spot.place(),
-            prior: update.spot.prior(),
-        }),
+        Instr::ListInsert(insert) => Some(ListAction::Insert(insert.spot)),
+        Instr::ListErase(erase) => Some(ListAction::Erase(erase.spot)),
+        Instr::ListUpdate(update) => Some(ListAction::Update(update.spot)),
         _ => None,
     }
 }
 
-/// Where two instructions of one list stand after they met, where both stay. None for all others, and where they can't be
-/// merged.
-fn both_move(left: &Instr, right: &Instr, left_later: bool) -> Option<Moves>
-    ensures { IfSome result (λ m. meet left.now right.now left_later ≡ Ok (Some (moved m.left left.now), Some (moved m.right right.now))) }
+/// What a changeset of one list instruction does; none for all others.
+pub fn action_in(changes: &Changeset) -> Option<ListAction>
+    ensures { result ≡ action_in changes.now.instrs }
 {
-    let left = in_list(left)?;
-    let right = in_list(right)?;
-    let length = left.prior;
-    if length != right.prior || length >= u32::MAX || !same_cell(left.cell, right.cell) {
-        return None;
-    }
-    let own = place_after(left_later, left.does, left.place, right.does, right.place)?;
-    let other = place_after(!left_later, right.does, right.place, left.does, left.place)?;
-    Some(Moves {
-        left: spot_of(left.does, own, length_after(right.does, length)),
-        right: spot_of(right.does, other, length_after(left.does, length)),
-    })
-}
-
-fn spot_of(does: Does, place: u32, prior: u32) -> Spot
-    requires { Within does place prior }
-    ensures { (c : CellName) (v : Value) (p n : ℕ) → moved result (instr_at c v does p n) ≡ instr_at c v does place prior }
-{
-    match does {
-        Does::Inserts => Spot::Gap(Between::new(place, prior).unwrap()),
-        Does::Erases => Spot::Element(Inside::new(place, prior).unwrap()),
-        Does::Updates => Spot::Element(Inside::new(place, prior).unwrap()),
+    match changes.instrs() {
+        [instr] => action_at(instr),
+        _ => None,
     }
 }
 
-/// Where the instructions of two changesets of one list instruction each stand after these crossed, where both stay. None for
-/// all others, and where they can't cross. It takes no memory.
-pub fn sets_move(
-    left: &Changeset,
-    left_ident: Ident,
-    right: &Changeset,
-    right_ident: Ident,
-) -> Option<Moves>
-    ensures { IfSome result (λ s. (m n : ℕ) → crossed_sets meet (made_by left_ident m left.now) (made_by right_ident n right.now) ≡ Ok (made_by left_ident m (moved_changes s.left left.now), made_by right_ident n (moved_changes s.right right.now))) }
+fn first_cell(changes: &Changeset) -> Option<&CellName>
+    ensures { option_map {U = CellPath} (λ cell. path_of cell.now) result ≡ first_cell changes.now.instrs }
 {
-    let left_later = is_later(
-        Stamp {
-            ms: left.ms(),
-            ident: left_ident,
-        },
-        Stamp {
-            ms: right.ms(),
-            ident: right_ident,
-        },
-    );
-    let (lefts, rights) = (left.instrs(), right.instrs());
-    if lefts.len() != 1 || rights.len() != 1 {
-        return None;
+    match changes.instrs() {
+        [] => None,
+        [first, ..] => cell_of(first),
     }
-    both_move(&lefts[0], &rights[0], left_later)
 }
 
-/// The changeset with its first instruction at that spot, where that is one of a list. It takes no memory.
-pub fn moved_to(changes: Changeset, spot: Spot) -> Changeset
-    ensures { result ≡ moved_changes spot changes }
+/// Whether the first instructions of two changesets change one cell.
+pub fn same_first_cell(left: &Changeset, right: &Changeset) -> bool
+    ensures { IsTrue result → first_cell left.now.instrs ≡ first_cell right.now.instrs }
+{
+    match (first_cell(left), first_cell(right)) {
+        (Some(left), Some(right)) => same_cell(left, right),
+        _ => false,
+    }
+}
+
+/// A copy of a changeset with its first instruction doing this, where an action is told and that does it elsewhere.
+pub fn shown(changes: &Changeset, action: Option<ListAction>) -> Result<Changeset, NoMemory>
+    ensures { IfOk result (λ made. made ≡ shown_changes action changes.now) }
+{
+    let copy = changes.copy()?;
+    match action {
+        Some(action) => Ok(moved_to(copy, action)),
+        None => Ok(copy),
+    }
+}
+
+/// The changeset with its first instruction doing this, where that does it elsewhere. It takes no memory.
+pub(crate) fn moved_to(changes: Changeset, action: ListAction) -> Changeset
+    ensures { result ≡ moved_changes action changes }
 {
     let ms = changes.ms();
     let mut instrs = changes.into_instrs();
-    move_first(&mut instrs, spot);
+    move_first(&mut instrs, action);
     Changeset::checked(ms, instrs).unwrap()
 }
 
-fn move_first(instrs: &mut Vec<Instr>, spot: Spot)
-    ensures { instrs.new.items ≡ moved_first spot instrs.old.items }
+/// The same where it is.
+pub(crate) fn write(alloc: Global, changes: &mut Changeset, action: Option<ListAction>)
+    ensures { changes.new ≡ shown_changes action changes.old }
 {
-    if !instrs.is_empty() {
-        put_at(&mut instrs[0], spot);
+    if let Some(action) = action {
+        let nothing = Changeset::checked(changes.ms(), Vec::new(alloc)).unwrap();
+        let written = mem::replace(changes, nothing);
+        *changes = moved_to(written, action);
     }
 }
 
-fn put_at(instr: &mut Instr, spot: Spot)
-    ensures { instr.new ≡ moved spot instr.old }
+fn move_first(instrs: &mut Vec<Instr>, action: ListAction)
+    ensures { instrs.new.items ≡ moved_first action instrs.old.items }
 {
-    match (instr, spot) {
-        (Instr::ListInsert(insert), Spot::Gap(gap)) => insert.spot = gap,
-        (Instr::ListErase(erase), Spot::Element(element)) => erase.spot = element,
-        (Instr::ListUpdate(update), Spot::Element(element)) => update.spot = element,
+    if !instrs.is_empty() {
+        put_at(&mut instrs[0], action);
+    }
+}
+
+fn put_at(instr: &mut Instr, action: ListAction)
+    ensures { instr.new ≡ moved action instr.old }
+{
+    match (instr, action) {
+        (Instr::ListInsert(insert), ListAction::Insert(gap)) => insert.spot = gap,
+        (Instr::ListErase(erase), ListAction::Erase(element)) => erase.spot = element,
+        (Instr::ListUpdate(update), ListAction::Update(element)) => update.spot = element,
         _ => {}
     }
 }

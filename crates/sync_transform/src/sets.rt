@@ -1,4 +1,4 @@
-ghost use Rattle.std.specs.Prelude.{◌≡◌, ◌≢◌, ℕ, Bool, true, List, IsTrue, Some, Ok, Err, IfOk, IfErr};
+ghost use Rattle.std.specs.Prelude.{◌≡◌, ◌≢◌, ℕ, Bool, true, List, Option, IsTrue, Some, Ok, Err, IfOk, IfErr};
 ghost use Rattle.std.specs.Option.{option_copied};
 ghost use Rattle.sync_data.specs.Payload.{IsSmall};
 ghost use Rattle.sync_data.specs.declared.instr.Instr.{Instr};
@@ -11,6 +11,8 @@ ghost use Rattle.sync_index.specs.Touched.{Covers};
 ghost use Rattle.sync_index.specs.Spots.{LieAt, Misses};
 ghost use Rattle.sync_transform.specs.Indexes.{IsCovered};
 ghost use Rattle.sync_transform.specs.Sets.{made_by};
+ghost use Rattle.sync_transform.specs.Moves.{shown};
+ghost use Rattle.sync_transform.specs.declared.moves.ListAction.{ListAction};
 
 use super::crossing::{CrossMismatch, cross_all};
 use sync_base::{Changeset, Ident, Instr, Stamp};
@@ -92,13 +94,13 @@ fn instrs_of(changes: Changeset) -> Vec<Instr>
 }
 
 /// Whether the index tells that a changeset meets nothing of what it is of: the two cross each other as they are, on
-/// whichever side they stand. Where the spot at which all its objects lie is known and the index tells by that alone, the
+/// whichever side they stand, also where its one list instruction is shifted. Where the spot at which all its objects lie is known and the index tells by that alone, the
 /// changeset isn't looked at. It takes no memory.
 #[inline(always)]
 pub fn stays_apart(spot: Option<u8>, changes: &Changeset, index: &Index) -> bool
     requires { LieAt spot changes.now.instrs }
-    ensures left { IsTrue result → (others : List Instr) → Covers index.now others → (later : Bool) → crossed (λ a b. meet a b later) changes.now.instrs others ≡ Ok (changes.now.instrs, others) }
-    ensures right { IsTrue result → (others : List Instr) → Covers index.now others → (later : Bool) → crossed (λ a b. meet a b later) others changes.now.instrs ≡ Ok (others, changes.now.instrs) }
+    ensures left { IsTrue result → (action : Option ListAction) (others : List Instr) → Covers index.now others → (later : Bool) → crossed (λ a b. meet a b later) (shown action changes.now.instrs) others ≡ Ok (shown action changes.now.instrs, others) }
+    ensures right { IsTrue result → (action : Option ListAction) (others : List Instr) → Covers index.now others → (later : Bool) → crossed (λ a b. meet a b later) others (shown action changes.now.instrs) ≡ Ok (others, shown action changes.now.instrs) }
 {
     index.passes_over(spot) || touches_nothing(changes, index)
 }
@@ -114,7 +116,8 @@ fn touches_nothing(changes: &Changeset, index: &Index) -> bool
     true
 }
 
-pub(crate) fn is_later(left: Stamp, right: Stamp) -> bool
+/// Whether the left stamp is the later one.
+pub fn is_later(left: Stamp, right: Stamp) -> bool
     ensures { result ≡ later_stamp left.ms left.ident right.ms right.ident }
 {
     sync_law::stamps_tell();

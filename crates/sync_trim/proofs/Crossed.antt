@@ -2,7 +2,6 @@
 use Rattle.std.proofs.Common.{◌≡◌, ℕ, zero, suc, ◌+◌, ◌-◌, ◌<◌, ◌≤◌, Bool, true, false, List, [], ◌∷◌, ◌++◌, map, drop, Option, Some, None, refl, sym, ap, ◌∙◌, arith}
 use Rattle.std.specs.Prelude.{nat_lt, if◌then◌else◌, max}
 use Rattle.std.proofs.lemmas.Bool.{le-ltb, lt-ltb}
-use denote.Bor.{Bor}
 use Rattle.std.specs.Option.{option_map}
 use Rattle.sync_theory.specs.Changesets.{Changeset}
 use Rattle.sync_data.specs.declared.entry.Entry.{Entry}
@@ -80,8 +79,8 @@ crossed_idents_left f c xs (g ∷ gs) =
     ∙ ap (λ l. (if is_live g then crossed_of the_profile c f xs (pairs_from (max f g.last) g.reciprocal) else []) ++ l) (crossed_idents_left f (suc c) xs gs)
 
 -- ---- a pair that is read
-pub got_some : (r : Option (ℕ × Bor Entry)) (o : Option Pair) (v : ℕ) (e : Bor Entry) → option_map {U = Pair} (λ p. (p.0, entry_of p.1.now)) r ≡ o → r ≡ Some (v, e) → ◌≡◌ {A = Option Pair} (Some (v, entry_of e.now)) o
-got_some r o v e says is = sym (ap (option_map {U = Pair} (λ p. (p.0, entry_of p.1.now))) is) ∙ says
+pub got_some : (r : Option (ℕ × Entry)) (o : Option Pair) (v : ℕ) (e : Entry) → option_map {U = Pair} (λ p. (p.0, entry_of p.1)) r ≡ o → r ≡ Some (v, e) → ◌≡◌ {A = Option Pair} (Some (v, entry_of e)) o
+got_some r o v e says is = sym (ap (option_map {U = Pair} (λ p. (p.0, entry_of p.1))) is) ∙ says
 
-pub got_none : (r : Option (ℕ × Bor Entry)) (o : Option Pair) → option_map {U = Pair} (λ p. (p.0, entry_of p.1.now)) r ≡ o → r ≡ None → o ≡ None
-got_none r o says is = sym says ∙ ap (option_map {U = Pair} (λ p. (p.0, entry_of p.1.now))) is
+pub got_none : (r : Option (ℕ × Entry)) (o : Option Pair) → option_map {U = Pair} (λ p. (p.0, entry_of p.1)) r ≡ o → r ≡ None → o ≡ None
+got_none r o says is = sym says ∙ ap (option_map {U = Pair} (λ p. (p.0, entry_of p.1))) is

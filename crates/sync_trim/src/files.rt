@@ -1,10 +1,12 @@
 // The bytes of the files: journals of the records.
-ghost use Rattle.std.specs.Prelude.{◌≡◌, ◌++◌, ◌∷◌, [], List, ℕ, map, false, IfOk, OnOk};
+ghost use Rattle.std.specs.Prelude.{◌≡◌, ◌++◌, ◌∷◌, [], List, ℕ, All, Some, map, false, IfOk, OnOk};
 ghost use Rattle.sync_journal.specs.Files.{AreBytes, IsFile};
+ghost use Rattle.sync_model.specs.Each.{Each};
 ghost use Rattle.sync_model.specs.Starts.{started};
 ghost use Rattle.sync_model.specs.Trimmed.{trim_records};
 ghost use Rattle.sync_exchange.specs.Profile.{the_profile};
-ghost use Rattle.sync_exchange.specs.Seen.{client_bytes, server_bytes};
+ghost use Rattle.sync_exchange.specs.Seen.{client_bytes, read_client, read_server, server_bytes};
+ghost use Rattle.sync_records.specs.Limits.{IsClientRecord, IsServerRecord};
 ghost use Rattle.sync_records.specs.Spelling.{client_spelling, server_spelling};
 ghost use Rattle.sync_server.specs.Kept.{parts};
 ghost use Rattle.sync_server.specs.Serving.{is_closed, kept_of};
@@ -33,7 +35,8 @@ fn put_server_records(
     file: &mut JournalBytes,
     records: &[ServerRecord],
 ) -> Result<(), NoMemory>
-    ensures { (before : List (List ℕ)) → AreBytes before file.old → OnOk result (AreBytes (before ++ map server_spelling records.now) file.new) }
+    ensures put { (before : List (List ℕ)) → AreBytes before file.old → OnOk result (AreBytes (before ++ map server_spelling records.now) file.new) }
+    ensures are { OnOk result (All IsServerRecord records.now) }
 {
     for record in records {
         let bytes = record.record_bytes(alloc)?;
@@ -47,7 +50,8 @@ fn put_client_records(
     file: &mut JournalBytes,
     records: &[ClientRecord],
 ) -> Result<(), NoMemory>
-    ensures { (before : List (List ℕ)) → AreBytes before file.old → OnOk result (AreBytes (before ++ map client_spelling records.now) file.new) }
+    ensures put { (before : List (List ℕ)) → AreBytes before file.old → OnOk result (AreBytes (before ++ map client_spelling records.now) file.new) }
+    ensures are { OnOk result (All IsClientRecord records.now) }
 {
     for record in records {
         let bytes = record.record_bytes(alloc)?;
@@ -78,6 +82,8 @@ fn end(file: JournalBytes) -> Result<Vec<u8>, NoMemory>
 pub fn trimmed_file<D: Disk>(alloc: Global, server: &Server<D>) -> Result<Vec<u8>, NoMemory>
     requires open_ { is_closed server.now ≡ false }
     ensures file { IfOk result (λ bytes. IsFile (map server_bytes (trim_records the_profile (parts (kept_of server.now)))) bytes.items) }
+    // Each record is read back from its bytes.
+    ensures back { OnOk result (Each (λ r. read_server (server_bytes r) ≡ Some r) (trim_records the_profile (parts (kept_of server.now)))) }
 {
     let records = trimmed(alloc, server)?;
     let mut file = new(alloc)?;
@@ -90,6 +96,8 @@ pub fn trimmed_file<D: Disk>(alloc: Global, server: &Server<D>) -> Result<Vec<u8
 pub fn started_file<D: Disk>(alloc: Global, server: &Server<D>, id: Id) -> Result<Vec<u8>, NoMemory>
     requires open_ { is_closed server.now ≡ false }
     ensures file { IfOk result (λ bytes. IsFile (map client_bytes (started the_profile id (parts (kept_of server.now)).second (parts (kept_of server.now)).len (parts (kept_of server.now)).objects)) bytes.items) }
+    // Each record is read back from its bytes.
+    ensures back { OnOk result (Each (λ r. read_client (client_bytes r) ≡ Some r) (started the_profile id (parts (kept_of server.now)).second (parts (kept_of server.now)).len (parts (kept_of server.now)).objects)) }
 {
     let records = started(alloc, server, id)?;
     let mut file = new(alloc)?;

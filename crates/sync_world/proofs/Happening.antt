@@ -1,5 +1,5 @@
 -- What events make of an exchange.
-use Rattle.std.proofs.Common.{◌≡◌, ℕ, zero, suc, Bool, true, false, ◌||◌, List, [], ◌∷◌, ◌++◌, map, slice_set, Option, None, Some, Result, Ok, Err, Vec, Global, refl, sym, ◌∙◌, ap, subst}
+use Rattle.std.proofs.Common.{◌≡◌, ℕ, zero, suc, Bool, true, false, ◌||◌, List, [], ◌∷◌, ◌++◌, map, slice_set, Option, None, Some, Result, Ok, Err, refl, sym, ◌∙◌, ap, subst}
 use Rattle.std.specs.Prelude.{IfOk, bytes_eq}
 use Rattle.sync_data.specs.declared.memory.NoMemory.{NoMemory}
 use Rattle.sync_data.specs.declared.instr.Instr.{Instr}
@@ -13,10 +13,13 @@ use Rattle.sync_model.proofs.Limits.{each_append, each_take}
 use Rattle.sync_model.proofs.Lists.{at_put, map_put, seek_found}
 use Rattle.sync_model.proofs.Holding.{cut_by}
 use Rattle.sync_exchange.specs.Profile.{the_profile}
-use Rattle.sync_client.specs.Refusals.{refusal_seen, IfSeen}
+use Rattle.sync_client.specs.Refusals.{refusal_seen}
 use Rattle.sync_client.specs.declared.refusal.ClientRefusal.{ClientRefusal as CodeRefusal}
+use Rattle.std.specs.Option.{option_map}
+use Rattle.sync_words.specs.Outcomes.{outcome_seen}
+use Rattle.sync_words.specs.declared.outcome.Outcome.{Outcome as CodeOutcome}
 use Rattle.sync_world.specs.Calls.{CallEnds, IsCalled, left}
-use Rattle.sync_world.specs.Holding.{AreBoth, AreNames, Happens, Holds, HoldsEach, HoldsNode, IsText, SaysCalled, Stands}
+use Rattle.sync_world.specs.Holding.{AreBoth, AreNames, Happens, Holds, HoldsEach, HoldsNode, ComesTo, SaysCalled, Stands}
 use Rattle.sync_world.specs.Messages.{AreSpelled}
 use Rattle.sync_world.specs.Nodes.{FitsClient, HoldsClient, HoldsServer, ReadsBack, StandReads}
 use Rattle.sync_world.specs.declared.node.Called.{Called}
@@ -26,11 +29,11 @@ use Rattle.sync_world.specs.declared.world.World.{World as CodeWorld}
 use Rattle.sync_world.proofs.Moves.{armed_other, each_at, each_put, held_put, name_differs, new_name, not_server, other_way, same_nodes}
 
 -- these words, and this world
-pub said : (v : World) (x : Words) (result : Result (Vec ℕ Global) NoMemory) (new : CodeWorld) → IsText x result → (IfOk result (λ text. Holds v new)) → Happens (says v x) result new
+pub said : (v : World) (x : Words) (result : Result CodeOutcome NoMemory) (new : CodeWorld) → ComesTo x result → (IfOk result (λ text. Holds v new)) → Happens (says v x) result new
 said v x (Ok text) new is h = (is, h)
 said v x (Err e) new is h = tt
 
-pub said_all : (v : World) (x : Words) (result : Result (Vec ℕ Global) NoMemory) (new : CodeWorld) → IsText x result → Holds v new → Happens (says v x) result new
+pub said_all : (v : World) (x : Words) (result : Result CodeOutcome NoMemory) (new : CodeWorld) → ComesTo x result → Holds v new → Happens (says v x) result new
 said_all v x (Ok text) new is h = (is, h)
 said_all v x (Err e) new is h = tt
 
@@ -94,20 +97,20 @@ module _ (w : World) (old : CodeWorld) (h : Stands w old) (i : ℕ) (n : Node) (
 
     -- a call is done: its words, and the world with the client's records
     pub call_done : (say : A → Words) → ((v : World) (a : A) → words v (Ok a) ≡ says v (say a)) → ((v : World) (why : ClientRefusal) → words v (Err why) ≡ says v (Words.Declined why))
-        → (answer : Called A) (result : Result (Vec ℕ Global) NoMemory) (new : CodeWorld) (c : CodeNode) → Replaces old new i c → c.name ≡ n.name
-        → CallEnds did n.records (stopped (w.stops n.name) did.records) answer c → SaysCalled say answer result → Each FitsClient did.records
-        → IsReached the_profile (Ended (stopped (w.stops n.name) did.records)).world → Happens (Ended (stopped (w.stops n.name) did.records)) result new
-    call_done say ok err answer result new c is name ends text fit reached = on (stopped (w.stops n.name) did.records) refl answer ends.said ends.client text reached
+        → (answer : Called A) (outcome : CodeOutcome) (new : CodeWorld) (c : CodeNode) → Replaces old new i c → c.name ≡ n.name
+        → CallEnds did n.records (stopped (w.stops n.name) did.records) answer c → SaysCalled say answer outcome → Each FitsClient did.records
+        → IsReached the_profile (Ended (stopped (w.stops n.name) did.records)).world → Happens (Ended (stopped (w.stops n.name) did.records)) (Ok outcome) new
+    call_done say ok err answer outcome new c is name ends text fit reached = on (stopped (w.stops n.name) did.records) refl answer ends.said ends.client text reached
       where
-        answered : (o : Outcome) (x : Words) → o ≡ says (client_moved w i n did.records) x → HoldsClient (n.records ++ did.records) None c.stop c.client → IsText x result → IsReached the_profile o.world → Happens o result new
+        answered : (o : Outcome) (x : Words) → o ≡ says (client_moved w i n did.records) x → HoldsClient (n.records ++ did.records) None c.stop c.client → outcome_seen outcome ≡ Some x → IsReached the_profile o.world → Happens o (Ok outcome) new
         answered o x same holds t r =
-            subst (λ q. Happens q result new) (sym same) (said_all (client_moved w i n did.records) x result new t (record { reached = subst (λ q. IsReached the_profile q.world) same r; stands = moved did.records new c is name holds fit }))
+            subst (λ q. Happens q (Ok outcome) new) (sym same) (said_all (client_moved w i n did.records) x (Ok outcome) new t (record { reached = subst (λ q. IsReached the_profile q.world) same r; stands = moved did.records new c is name holds fit }))
 
-        declined : (why : CodeRefusal) (x : ClientRefusal) → refusal_seen why ≡ Some x → IfSeen (refusal_seen why) (λ v. IsText (Words.Declined v) result) → IsText (Words.Declined x) result
-        declined why x seen t = subst (λ o. IfSeen o (λ v. IsText (Words.Declined v) result)) seen t
+        declined : (why : CodeRefusal) (x : ClientRefusal) → refusal_seen why ≡ Some x → outcome_seen outcome ≡ option_map Words.Declined (refusal_seen why) → outcome_seen outcome ≡ Some (Words.Declined x)
+        declined why x seen t = t ∙ ap (option_map Words.Declined) seen
 
-        on : (stand : Option (List ClientRecord)) → stopped (w.stops n.name) did.records ≡ stand → (answer : Called A) → IsCalled did stand answer → HoldsClient (n.records ++ left did.records stand) None c.stop c.client → SaysCalled say answer result
-            → IsReached the_profile (Ended stand).world → Happens (Ended stand) result new
+        on : (stand : Option (List ClientRecord)) → stopped (w.stops n.name) did.records ≡ stand → (answer : Called A) → IsCalled did stand answer → HoldsClient (n.records ++ left did.records stand) None c.stop c.client → SaysCalled say answer outcome
+            → IsReached the_profile (Ended stand).world → Happens (Ended stand) (Ok outcome) new
         on None e (called.Answered a) s holds t r = answered (Ended None) (say a) (ap (words (client_moved w i n did.records)) s ∙ ok (client_moved w i n did.records) a) holds t r
         on None e (called.Declined why) s holds t r = answered (Ended None) (Words.Declined s.0) (ap (words (client_moved w i n did.records)) s.2 ∙ err (client_moved w i n did.records) s.0) holds (declined why s.0 s.1 t) r
         on None e called.Stopped s holds t r = absurd s
@@ -115,11 +118,11 @@ module _ (w : World) (old : CodeWorld) (h : Stands w old) (i : ℕ) (n : Node) (
         on (Some rs) e (called.Declined why) s holds t r = absurd s
         on (Some rs) e called.Stopped s holds t r =
             let cut = cut_by (w.stops n.name) did.records rs e in
-            said_all (client_moved w i n rs) Words.Stopped result new t (record { reached = r; stands = moved rs new c is name holds (subst (Each FitsClient) cut.1 (each_take cut.0 fit)) })
+            said_all (client_moved w i n rs) Words.Stopped (Ok outcome) new t (record { reached = r; stands = moved rs new c is name holds (subst (Each FitsClient) cut.1 (each_take cut.0 fit)) })
 
 -- ---- by a client's name
 module _ {A : Type 0} (w : World) (name : Name) (call : Client Instr State → ClientStep A) (words : World → Result A ClientRefusal → Outcome) where
-  pub called_none : seek (has_name name) w.clients ≡ None → (result : Result (Vec ℕ Global) NoMemory) (new : CodeWorld) → IsText Words.NoNode result → Holds w new → Happens (client_calls the_profile w name call words) result new
+  pub called_none : seek (has_name name) w.clients ≡ None → (result : Result CodeOutcome NoMemory) (new : CodeWorld) → ComesTo Words.NoNode result → Holds w new → Happens (client_calls the_profile w name call words) result new
   called_none none result new t h = subst (λ o. Happens (client_called the_profile w call words o) result new) (sym none) (said_all w Words.NoNode result new t h)
 
   pub called_one : (i : ℕ) (n : Node) → seek (has_name name) w.clients ≡ Some (i, n) → (P : Outcome → Type 0) → P (client_calls the_profile w name call words)
@@ -135,16 +138,16 @@ module _ {A : Type 0} (w : World) (old : CodeWorld) (h : Holds w old) (name : Na
     (ok : (v : World) (a : A) → words v (Ok a) ≡ says v (say a)) (err : (v : World) (why : ClientRefusal) → words v (Err why) ≡ says v (Words.Declined why))
     (fit : (c : Client Instr State) → Each FitsClient (call c).records) (reached : IsReached the_profile (client_calls the_profile w name call words).world)
     (reads : (v : World) (j : ℕ) (m : Node) → IsReached the_profile v → at v.clients j ≡ Some m → Each FitsClient m.records → ReadsBack m.records) where
-  pub call_happens : (i : ℕ) (n : Node) → seek (has_name name) w.clients ≡ Some (i, n) → (answer : Called A) (result : Result (Vec ℕ Global) NoMemory) (new : CodeWorld) (c : CodeNode) → Replaces old new i c → c.name ≡ n.name
+  pub call_happens : (i : ℕ) (n : Node) → seek (has_name name) w.clients ≡ Some (i, n) → (answer : Called A) (outcome : CodeOutcome) (new : CodeWorld) (c : CodeNode) → Replaces old new i c → c.name ≡ n.name
       → (StandReads n.records (stopped (w.stops n.name) (call (client_of the_profile n.records)).records) → CallEnds (call (client_of the_profile n.records)) n.records (stopped (w.stops n.name) (call (client_of the_profile n.records)).records) answer c)
-      → SaysCalled say answer result → Happens (client_calls the_profile w name call words) result new
-  call_happens i n sought answer result new c is same ends text =
+      → SaysCalled say answer outcome → Happens (client_calls the_profile w name call words) (Ok outcome) new
+  call_happens i n sought answer outcome new c is same ends text =
       let here : at w.clients i ≡ Some n = (seek_found (has_name name) w.clients (i, n) sought).here in
       let did : ClientStep A = call (client_of the_profile n.records) in
       let r = called_one w name call words i n sought (λ o. IsReached the_profile o.world) reached in
       let fits = fit (client_of the_profile n.records) in
-      one_called w name call words i n sought (λ o. Happens o result new)
-      (call_done w old h.stands i n here did words say ok err answer result new c is same (ends (stand_reads w old h.stands i n here did words fits reads r)) text fits r)
+      one_called w name call words i n sought (λ o. Happens o (Ok outcome) new)
+      (call_done w old h.stands i n here did words say ok err answer outcome new c is same (ends (stand_reads w old h.stands i n here did words fits reads r)) text fits r)
 
 -- ---- a client that is opened again, or armed
 put_same : {A : Type 0} (xs : List A) (i : ℕ) (x : A) → at xs i ≡ Some x → put xs i x ≡ xs

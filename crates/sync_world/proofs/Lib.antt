@@ -1,5 +1,3 @@
-pub mod Entries
-pub mod Pieces
 pub mod Stops
 pub mod Calls
 pub mod Back

@@ -8,7 +8,7 @@ use Rattle.sync_model.specs.Worlds.{Node, Stop, at}
 use Rattle.sync_exchange.specs.Profile.{the_profile}
 use Rattle.sync_client.specs.Clients.{IsClientOf}
 use Rattle.sync_world.specs.Holding.{AreBoth, HoldsEach, HoldsNode}
-use Rattle.sync_world.specs.Reports.{client_text, clients_text}
+use Rattle.sync_words.specs.Reports.{client_text, clients_text}
 use Rattle.sync_world.specs.declared.node.Node.{Node as CodeNode}
 use Rattle.sync_world.proofs.Moves.{held_at}
 

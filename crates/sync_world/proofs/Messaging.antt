@@ -1,5 +1,5 @@
 -- A client makes a message.
-use Rattle.std.proofs.Common.{◌≡◌, ℕ, suc, ◌<◌, ◌≤◌, ◌*◌, Bool, true, false, ◌==◌, if◌then◌else◌, List, [], ◌∷◌, ◌++◌, length, map, slice_set, Option, None, Some, IfSome, Result, Ok, Err, Vec, Global, refl, sym, ◌∙◌, ap, subst, arith}
+use Rattle.std.proofs.Common.{◌≡◌, ℕ, suc, ◌<◌, ◌≤◌, ◌*◌, Bool, true, false, ◌==◌, if◌then◌else◌, List, [], ◌∷◌, ◌++◌, length, map, slice_set, Option, None, Some, IfSome, Result, Ok, Err, refl, sym, ◌∙◌, ap, subst, arith}
 use Rattle.std.specs.Prelude.{IfOk, OnOk}
 use Rattle.sync_data.specs.declared.memory.NoMemory.{NoMemory}
 use Rattle.sync_data.specs.declared.instr.Instr.{Instr}
@@ -16,7 +16,8 @@ use Rattle.sync_exchange.specs.Seen.{message_seen}
 use Rattle.sync_client.specs.Refusals.{refusal_seen, IfSeen}
 use Rattle.sync_client.specs.Sending.{Sends}
 use Rattle.sync_client.specs.declared.refusal.ClientRefusal.{ClientRefusal as CodeRefusal}
-use Rattle.sync_world.specs.Holding.{Happens, Holds, IsText, Stands}
+use Rattle.sync_words.specs.declared.outcome.Outcome.{Outcome as CodeOutcome}
+use Rattle.sync_world.specs.Holding.{Happens, Holds, ComesTo, Stands}
 use Rattle.sync_world.specs.Messages.{AreSpelled}
 use Rattle.sync_world.specs.Nodes.{FitsClient, HoldsClient}
 use Rattle.sync_world.specs.Sending.{IsKept, SentFrom, Tells}
@@ -57,7 +58,7 @@ module _ (w : World) (old : CodeWorld) (h : Stands w old) (i : ℕ) (n : Node) (
   fits = subst (Each FitsClient) (sym quiet) no_more
 
   -- the message has its number, or the refusal is told
-  pub sends : (mid new : CodeWorld) (c : CodeNode) (sent : Result CodeMessage CodeRefusal) (result : Result (Vec ℕ Global) NoMemory) → Replaces old mid i c → c.name ≡ n.name → HoldsClient n.records None c.stop c.client
+  pub sends : (mid new : CodeWorld) (c : CodeNode) (sent : Result CodeMessage CodeRefusal) (result : Result CodeOutcome NoMemory) → Replaces old mid i c → c.name ≡ n.name → HoldsClient n.records None c.stop c.client
       → Sends did sent → SentFrom sent mid result new → IsReached the_profile (client_ends w i n did message_words (stopped (w.stops n.name) did.records)).world
       → Happens (client_ends w i n did message_words (stopped (w.stops n.name) did.records)) result new
   unfolding fits
@@ -74,8 +75,8 @@ module _ (w : World) (old : CodeWorld) (h : Stands w old) (i : ℕ) (n : Node) (
       with_message : (m : CodeMessage) → Stands v mid → IsKept m Words.Messaged mid result new → OnOk result (Stands (record v { messages = v.messages ++ message_seen m ∷ [] }) new)
       with_message m stands kept = go result kept.kept
         where
-          go : (r : Result (Vec ℕ Global) NoMemory) → ((ms : List Message) → AreSpelled ms (lists mid.messages.items) → OnOk r (AreSpelled (ms ++ message_seen m ∷ []) (lists new.messages.items))) → OnOk r (Stands (record v { messages = v.messages ++ message_seen m ∷ [] }) new)
-          go (Ok text) all = record {
+          go : (r : Result CodeOutcome NoMemory) → ((ms : List Message) → AreSpelled ms (lists mid.messages.items) → OnOk r (AreSpelled (ms ++ message_seen m ∷ []) (lists new.messages.items))) → OnOk r (Stands (record v { messages = v.messages ++ message_seen m ∷ [] }) new)
+          go (Ok outcome) all = record {
             server = subst (λ hub. Rattle.sync_world.specs.Nodes.HoldsServer v.server (v.stops Rattle.sync_model.specs.Worlds.server_name) hub.stop hub.server) (sym kept.others.hub) stands.server;
             clients = subst (λ cs. Rattle.sync_world.specs.Holding.HoldsEach v.stops v.clients cs.items) (sym kept.others.clients) stands.clients;
             named = stands.named;
@@ -91,16 +92,16 @@ module _ (w : World) (old : CodeWorld) (h : Stands w old) (i : ℕ) (n : Node) (
       ok m o same stands kept r =
           subst (λ x. IsReached the_profile (message_words v x).world → Happens (message_words v x) result new) (sym same) (λ r. done result (kept.said v.messages stands.messages) (with_message m stands kept) r) r
         where
-          done : (q : Result (Vec ℕ Global) NoMemory) → IsText (Words.Messaged (suc (length v.messages))) q → OnOk q (Stands (record v { messages = v.messages ++ message_seen m ∷ [] }) new) → IsReached the_profile (record v { messages = v.messages ++ message_seen m ∷ [] })
+          done : (q : Result CodeOutcome NoMemory) → ComesTo (Words.Messaged (suc (length v.messages))) q → OnOk q (Stands (record v { messages = v.messages ++ message_seen m ∷ [] }) new) → IsReached the_profile (record v { messages = v.messages ++ message_seen m ∷ [] })
               → Happens (messaged v (message_seen m)) q new
-          done (Ok text) t s r = (t, record { reached = r; stands = s })
+          done (Ok outcome) t s r = (t, record { reached = r; stands = s })
           done (Err e) t s r = tt
 
       declined : (o : Option ClientRefusal) → Tells o result → IfSeen o (λ x. did.answer ≡ Err x) → Stands v new → IsReached the_profile (message_words v did.answer).world → Happens (message_words v did.answer) result new
       declined None t s stands r = none result t
         where
-          none : (q : Result (Vec ℕ Global) NoMemory) → IfOk q (λ text. ⊥) → Happens (message_words v did.answer) q new
-          none (Ok text) t = absurd t
+          none : (q : Result CodeOutcome NoMemory) → IfOk q (λ outcome. ⊥) → Happens (message_words v did.answer) q new
+          none (Ok outcome) t = absurd t
           none (Err e) t = tt
       declined (Some x) t s stands r =
           subst (λ a. IsReached the_profile (message_words v a).world → Happens (message_words v a) result new) (sym s) (λ r. said_all v (Words.Declined x) result new t (record { reached = r; stands = stands })) r

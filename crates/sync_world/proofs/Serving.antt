@@ -1,5 +1,5 @@
 -- What the server's reply makes of an exchange.
-use Rattle.std.proofs.Common.{◌≡◌, ℕ, suc, List, [], ◌∷◌, ◌++◌, length, Option, None, Some, Result, Vec, Global, refl, sym, ◌∙◌, ap, subst}
+use Rattle.std.proofs.Common.{◌≡◌, ℕ, suc, List, [], ◌∷◌, ◌++◌, length, Option, None, Some, Result, refl, sym, ◌∙◌, ap, subst}
 use Rattle.sync_data.specs.declared.memory.NoMemory.{NoMemory}
 use Rattle.sync_journal.specs.Records.{lists}
 use Rattle.sync_messages.specs.declared.message.Message.{Message as CodeMessage}
@@ -11,7 +11,8 @@ use Rattle.sync_model.proofs.Limits.{each_append, each_take}
 use Rattle.sync_model.proofs.Holding.{cut_by}
 use Rattle.sync_exchange.specs.Profile.{the_profile}
 use Rattle.sync_exchange.specs.Seen.{message_seen}
-use Rattle.sync_world.specs.Holding.{Happens, Holds, IsText, Stands}
+use Rattle.sync_words.specs.declared.outcome.Outcome.{Outcome as CodeOutcome}
+use Rattle.sync_world.specs.Holding.{Happens, Holds, ComesTo, Stands}
 use Rattle.sync_world.specs.Messages.{AreSpelled}
 use Rattle.sync_world.specs.Nodes.{FitsServer, HoldsServer, ServerReadsBack, ServerStandReads}
 use Rattle.sync_world.specs.Serves.{ServeDone}
@@ -43,8 +44,8 @@ module _ (w : World) (old : CodeWorld) (h : Stands w old) (did : ServerStep) (fi
       reads (server_moved w rs) r (each_append h.server_fits (subst (Each FitsServer) cut.1 (each_take cut.0 fit)))
 
   -- it is replied to
-  pub replied : (stand : Option (List ServerRecord)) (reply : CodeMessage) (result : Result (Vec ℕ Global) NoMemory) (new : CodeWorld) → ServeDone did w.server stand (Some reply) new.hub → new.clients ≡ old.clients → new.injected ≡ old.injected
-      → AreSpelled (w.messages ++ message_seen reply ∷ []) (lists new.messages.items) → IsText (Words.Replied (suc (length w.messages)) (message_seen reply)) result
+  pub replied : (stand : Option (List ServerRecord)) (reply : CodeMessage) (result : Result CodeOutcome NoMemory) (new : CodeWorld) → ServeDone did w.server stand (Some reply) new.hub → new.clients ≡ old.clients → new.injected ≡ old.injected
+      → AreSpelled (w.messages ++ message_seen reply ∷ []) (lists new.messages.items) → ComesTo (Words.Replied (suc (length w.messages)) (message_seen reply)) result
       → IsReached the_profile (server_ends w did stand).world → Happens (server_ends w did stand) result new
   replied None reply result new done clients injected kept text reached =
       subst (λ a. IsReached the_profile (record (server_moved w did.records) { messages = w.messages ++ a ∷ [] }) → Happens (says (record (server_moved w did.records) { messages = w.messages ++ a ∷ [] }) (Words.Replied (suc (length w.messages)) a)) result new) (sym done.said)
@@ -54,8 +55,8 @@ module _ (w : World) (old : CodeWorld) (h : Stands w old) (did : ServerStep) (fi
   replied (Some rs) reply result new done clients injected kept text reached = absurd done.said
 
   -- or it stops
-  pub stops : (stand : Option (List ServerRecord)) → stopped (w.stops server_name) did.records ≡ stand → (result : Result (Vec ℕ Global) NoMemory) (new : CodeWorld) → ServeDone did w.server stand None new.hub → new.clients ≡ old.clients → new.injected ≡ old.injected
-      → new.messages ≡ old.messages → IsText Words.Stopped result → IsReached the_profile (server_ends w did stand).world → Happens (server_ends w did stand) result new
+  pub stops : (stand : Option (List ServerRecord)) → stopped (w.stops server_name) did.records ≡ stand → (result : Result CodeOutcome NoMemory) (new : CodeWorld) → ServeDone did w.server stand None new.hub → new.clients ≡ old.clients → new.injected ≡ old.injected
+      → new.messages ≡ old.messages → ComesTo Words.Stopped result → IsReached the_profile (server_ends w did stand).world → Happens (server_ends w did stand) result new
   stops None is result new done clients injected messages text reached = absurd done.said
   stops (Some rs) is result new done clients injected messages text reached =
       let cut = cut_by (w.stops server_name) did.records rs is in

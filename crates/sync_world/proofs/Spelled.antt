@@ -6,7 +6,8 @@ use Rattle.sync_messages.proofs.Messages.{is_read}
 use Rattle.sync_model.specs.Messages.{Message}
 use Rattle.sync_model.specs.Worlds.{World, at, message_at}
 use Rattle.sync_exchange.specs.Seen.{message_seen}
-use Rattle.sync_world.specs.Messages.{AreSpelled, IsSpelled, message_read, numbered}
+use Rattle.sync_world.specs.Messages.{AreSpelled, IsSpelled, numbered}
+use Rattle.sync_words.specs.Messages.{message_read}
 
 pub spelled_more : (ms : List Message) (bs : List (List ℕ)) (m : Message) (b : List ℕ) → AreSpelled ms bs → IsSpelled m b → AreSpelled (ms ++ m ∷ []) (bs ++ b ∷ [])
 spelled_more [] [] m b all one = (one, tt)

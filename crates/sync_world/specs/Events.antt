@@ -6,7 +6,7 @@ use Rattle.sync_disk.specs.declared.leaves.Leaves.TheVariants as leaves
 use Rattle.sync_edits.specs.declared.event.Event.{Event as CodeEvent}
 use Rattle.sync_edits.specs.declared.event.Event.TheVariants as events
 use Rattle.sync_model.specs.Worlds.{Event, Leaves}
-use Rattle.sync_world.specs.Messages.{message_read}
+use Rattle.sync_words.specs.Messages.{message_read}
 
 abbrev pub leaves_seen : CodeLeaves → Leaves
 leaves_seen leaves.Drop = Leaves.Drop

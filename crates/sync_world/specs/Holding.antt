@@ -1,17 +1,18 @@
 -- Which world of the model an exchange is.
-use Rattle.std.specs.Prelude.{◌≡◌, ℕ, Bool, false, if◌then◌else◌, List, [], ◌∷◌, map, bytes_eq, Option, None, Some, Result, Ok, Err, IfOk, Vec}
+use Rattle.std.specs.Prelude.{◌≡◌, ℕ, Bool, false, if◌then◌else◌, List, [], ◌∷◌, map, bytes_eq, Option, None, Some, Result, Ok, Err, IfOk}
 use Rattle.std.specs.List.{list_any}
-use Rattle.std.specs.declared.alloc.Global.{Global}
+use Rattle.std.specs.Option.{option_map}
 use Rattle.sync_data.specs.declared.memory.NoMemory.{NoMemory}
 use Rattle.sync_journal.specs.Records.{lists}
 use Rattle.sync_model.specs.Bytes.{Name}
 use Rattle.sync_model.specs.Each.{Each}
 use Rattle.sync_model.specs.Worlds.{IsReached, Node, Outcome, Stop, Words, World, has_name, is_node, seek, server_name}
 use Rattle.sync_exchange.specs.Profile.{the_profile}
-use Rattle.sync_client.specs.Refusals.{refusal_seen, IfSeen}
+use Rattle.sync_client.specs.Refusals.{refusal_seen}
 use Rattle.sync_world.specs.Messages.{AreSpelled}
 use Rattle.sync_world.specs.Nodes.{FitsClient, FitsServer, HoldsClient, HoldsServer}
-use Rattle.sync_world.specs.Words.{words_text}
+use Rattle.sync_words.specs.Outcomes.{outcome_seen}
+use Rattle.sync_words.specs.declared.outcome.Outcome.{Outcome as CodeOutcome}
 use Rattle.sync_client.specs.Clients.{IsClientOf, IsStored, replica_of}
 use Rattle.sync_client.specs.declared.client.Client.{Client}
 use Rattle.sync_server.specs.Kept.{parts}
@@ -75,20 +76,20 @@ pub record Holds (w : World) (self : CodeWorld) : Type 0 where
   pub reached : IsReached the_profile w
   pub stands : Stands w self
 
--- the text of these words, unless memory ran out
-abbrev pub IsText : Words → Result (Vec ℕ Global) NoMemory → Type 0
-IsText words result = IfOk result (λ text. text.items ≡ words_text words)
+-- the outcome is this one of the model, unless memory ran out
+abbrev pub ComesTo : Words → Result CodeOutcome NoMemory → Type 0
+ComesTo words result = IfOk result (λ outcome. outcome_seen outcome ≡ Some words)
 
--- an event is answered by its words, and the world is that after it, unless memory ran out
-abbrev pub Happens : Outcome → Result (Vec ℕ Global) NoMemory → CodeWorld → Type 0
-Happens o (Ok text) new = (text.items ≡ words_text o.words) × Holds o.world new
+-- an event comes to its outcome, and the world is that after it, unless memory ran out
+abbrev pub Happens : Outcome → Result CodeOutcome NoMemory → CodeWorld → Type 0
+Happens o (Ok outcome) new = (outcome_seen outcome ≡ Some o.words) × Holds o.world new
 Happens o (Err e) new = Unit {0}
 
--- what is said of a call
-abbrev pub SaysCalled : {A : Type 0} → (A → Words) → Called A → Result (Vec ℕ Global) NoMemory → Type 0
-SaysCalled say (called.Answered a) result = IsText (say a) result
-SaysCalled say (called.Declined why) result = IfSeen (refusal_seen why) (λ w. IsText (Words.Declined w) result)
-SaysCalled say called.Stopped result = IsText Words.Stopped result
+-- the outcome of a call
+abbrev pub SaysCalled : {A : Type 0} → (A → Words) → Called A → CodeOutcome → Type 0
+SaysCalled say (called.Answered a) outcome = outcome_seen outcome ≡ Some (say a)
+SaysCalled say (called.Declined why) outcome = outcome_seen outcome ≡ option_map Words.Declined (refusal_seen why)
+SaysCalled say called.Stopped outcome = outcome_seen outcome ≡ Some Words.Stopped
 
 -- of a file that is brought to form 2
 abbrev pub upgrade_said : Bool → Words

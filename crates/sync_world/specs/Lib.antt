@@ -1,5 +1,3 @@
-pub mod Reports
-pub mod Words
 pub mod Disks
 pub mod Messages
 pub mod Events

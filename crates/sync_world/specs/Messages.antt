@@ -1,14 +1,13 @@
 -- The messages of an exchange, which are kept as their bytes.
 use Rattle.std.specs.Prelude.{◌≡◌, ℕ, zero, suc, List, [], ◌∷◌, Option, None, Some, Result, Ok, Err}
-use Rattle.std.specs.Option.{option_map}
 use Rattle.sync_data.specs.declared.memory.NoMemory.{NoMemory}
 use Rattle.sync_messages.specs.Spelling.{message_spelling}
-use Rattle.sync_messages.specs.Reading.{message_in}
 use Rattle.sync_messages.specs.Whole.{IsMessage}
 use Rattle.sync_messages.specs.declared.message.Message.{Message as CodeMessage}
 use Rattle.sync_model.specs.Messages.{Message}
 use Rattle.sync_model.specs.Worlds.{at}
 use Rattle.sync_exchange.specs.Seen.{message_seen}
+use Rattle.sync_words.specs.Messages.{message_read}
 
 -- the bytes of a message
 pub record IsSpelled (m : Message) (bytes : List ℕ) : Type 0 where
@@ -40,10 +39,6 @@ Reads meant (Err e) = Unit {0}
 
 abbrev pub ReadsAt : List Message → ℕ → Result (Option CodeMessage) NoMemory → Type 0
 ReadsAt ms number result = Reads (numbered ms number) result
-
--- what bytes are as a message, where they are one
-abbrev pub message_read : List ℕ → Option Message
-message_read bytes = option_map message_seen (message_in bytes)
 
 abbrev pub ReadsBytes : List ℕ → Result (Option CodeMessage) NoMemory → Type 0
 ReadsBytes bytes result = Reads (message_read bytes) result

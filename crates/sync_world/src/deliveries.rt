@@ -7,18 +7,18 @@ ghost use Rattle.sync_exchange.specs.Profile.{the_profile};
 ghost use Rattle.sync_exchange.specs.Seen.{message_seen};
 ghost use Rattle.sync_messages.specs.Whole.{IsMessage};
 ghost use Rattle.sync_world.specs.Holding.{given_ids, id_of};
-ghost use Rattle.sync_world.specs.Messages.{message_read};
+ghost use Rattle.sync_words.specs.Messages.{message_read};
 
 use crate::edits::took;
 use crate::laws::worlds_read_back;
 use crate::messages;
 use crate::node::Node;
-use crate::words::{Fixed, fixed_words, reply_words};
 use crate::world::World;
 use sync_data::{Blob, Ident, Name, NoMemory};
 use sync_disk::MemoryDisk;
 use sync_messages::Message;
 use sync_server::Server;
+use sync_words::Outcome;
 
 /// Whether the server gave the ident to that client.
 fn is_of(node: &Node, server: &Server<MemoryDisk>, ident: Ident) -> bool
@@ -43,7 +43,7 @@ impl World {
     ghost use Rattle.sync_world.specs.Holding.{Happens, Holds, Stands};
 
     /// The server takes a message.
-    fn serve(&mut self, message: Message) -> Result<Vec<u8>, NoMemory>
+    fn serve(&mut self, message: Message) -> Result<Outcome, NoMemory>
         ensures { (w : model.World) → Stands w self.old → server_opens the_profile no_server w.server ≡ true → IsMessage message → model.IsReached the_profile (model.server_called the_profile w (message_seen message)).world
             → Happens (model.server_called the_profile w (message_seen message)) result self.new }
     {
@@ -51,15 +51,15 @@ impl World {
         match self.hub.take(self.alloc, message) {
             Ok(Some(reply)) => {
                 let place = messages::keep(self.alloc, &mut self.messages, &reply)?;
-                reply_words(self.alloc, place, &reply)
+                Ok(Outcome::Replied { place, reply })
             }
-            Ok(None) => fixed_words(self.alloc, Fixed::Stopped),
+            Ok(None) => Ok(Outcome::Stopped),
             Err(NoMemory) => Err(NoMemory),
         }
     }
 
     /// A message that was made comes to a node.
-    pub(crate) fn deliver(&mut self, number: u32, to: &Name) -> Result<Vec<u8>, NoMemory>
+    pub(crate) fn deliver(&mut self, number: u32, to: &Name) -> Result<Outcome, NoMemory>
         ensures { (w : model.World) → Holds w self.old → Happens (model.happens the_profile w (model.Delivers number to.now)) result self.new }
     {
         if to.text() == "server" {
@@ -69,31 +69,31 @@ impl World {
         }
     }
 
-    fn deliver_to_server(&mut self, number: u32) -> Result<Vec<u8>, NoMemory>
+    fn deliver_to_server(&mut self, number: u32) -> Result<Outcome, NoMemory>
         ensures { (w : model.World) → Holds w self.old → Happens (model.happens the_profile w (model.Delivers number model.server_name)) result self.new }
     {
         worlds_read_back();
         match messages::find(self.alloc, self.messages.as_slice(), number) {
             Ok(Some(message)) => self.serve(message),
-            Ok(None) => fixed_words(self.alloc, Fixed::NoMessage),
+            Ok(None) => Ok(Outcome::NoMessage),
             Err(NoMemory) => Err(NoMemory),
         }
     }
 
-    fn deliver_to_client(&mut self, number: u32, to: &Name) -> Result<Vec<u8>, NoMemory>
+    fn deliver_to_client(&mut self, number: u32, to: &Name) -> Result<Outcome, NoMemory>
         ensures { (w : model.World) → Holds w self.old → bytes_eq to.now model.server_name ≡ false → Happens (model.happens the_profile w (model.Delivers number to.now)) result self.new }
     {
         worlds_read_back();
         let Some(place) = self.find(to) else {
-            return fixed_words(self.alloc, Fixed::NoNode);
+            return Ok(Outcome::NoNode);
         };
         let message = match messages::find(self.alloc, self.messages.as_slice(), number) {
             Ok(Some(message)) => message,
-            Ok(None) => return fixed_words(self.alloc, Fixed::NoMessage),
+            Ok(None) => return Ok(Outcome::NoMessage),
             Err(NoMemory) => return Err(NoMemory),
         };
         match self.clients[place].take(self.alloc, message) {
-            Ok(called) => took(self.alloc, called),
+            Ok(called) => Ok(took(called)),
             Err(NoMemory) => Err(NoMemory),
         }
     }
@@ -133,17 +133,17 @@ impl World {
     }
 
     /// Any bytes come to the server.
-    pub(crate) fn inject(&mut self, bytes: &Blob) -> Result<Vec<u8>, NoMemory>
+    pub(crate) fn inject(&mut self, bytes: &Blob) -> Result<Outcome, NoMemory>
         ensures { (w : model.World) → Holds w self.old → Happens (model.happens the_profile w (model.Injects (message_read bytes.now))) result self.new }
     {
         worlds_read_back();
         let message = match messages::read(self.alloc, bytes.bytes()) {
             Ok(Some(message)) => message,
-            Ok(None) => return fixed_words(self.alloc, Fixed::BadMessage),
+            Ok(None) => return Ok(Outcome::BadMessage),
             Err(NoMemory) => return Err(NoMemory),
         };
         if self.names_own(&message) {
-            return fixed_words(self.alloc, Fixed::OwnIdent);
+            return Ok(Outcome::OwnIdent);
         }
         match self.note(&message) {
             Ok(()) => {}

@@ -7,54 +7,53 @@ ghost use Rattle.sync_world.specs.Holding.{SaysCalled, id_of, subscribe_said, up
 use crate::laws::worlds_read_back;
 use crate::node::{Called, Node};
 use crate::tables::tables_keep;
-use crate::words::{Fixed, client_words, declined_words, fixed_words, made_words, took_words};
 use crate::world::World;
-use std::alloc::Global;
 use sync_data::{Id, Instr, Listed, Name, NoMemory};
 use sync_subset::Subset;
+use sync_words::Outcome;
 
-/// The words of a transaction.
-fn made(alloc: Global, called: Called<u32>) -> Result<Vec<u8>, NoMemory>
+/// What a transaction came to.
+fn made(called: Called<u32>) -> Outcome
     ensures { SaysCalled model.Made called result }
 {
     match called {
-        Called::Answered(number) => made_words(alloc, number),
-        Called::Declined(why) => declined_words(alloc, &why),
-        Called::Stopped => fixed_words(alloc, Fixed::Stopped),
+        Called::Answered(number) => Outcome::Made { number },
+        Called::Declined(why) => Outcome::Declined { why },
+        Called::Stopped => Outcome::Stopped,
     }
 }
 
-/// The words of a message that was taken.
-pub(crate) fn took(alloc: Global, called: Called<u32>) -> Result<Vec<u8>, NoMemory>
+/// What a message that was taken came to.
+pub(crate) fn took(called: Called<u32>) -> Outcome
     ensures { SaysCalled model.Took called result }
 {
     match called {
-        Called::Answered(cursor) => took_words(alloc, cursor),
-        Called::Declined(why) => declined_words(alloc, &why),
-        Called::Stopped => fixed_words(alloc, Fixed::Stopped),
+        Called::Answered(cursor) => Outcome::Took { cursor },
+        Called::Declined(why) => Outcome::Declined { why },
+        Called::Stopped => Outcome::Stopped,
     }
 }
 
-/// The words of a file that is brought to form 2.
-fn upgraded(alloc: Global, called: Called<bool>) -> Result<Vec<u8>, NoMemory>
+/// What bringing a file to form 2 came to.
+fn upgraded(called: Called<bool>) -> Outcome
     ensures { SaysCalled upgrade_said called result }
 {
     match called {
-        Called::Answered(true) => fixed_words(alloc, Fixed::Upgraded),
-        Called::Answered(false) => fixed_words(alloc, Fixed::Current),
-        Called::Declined(why) => declined_words(alloc, &why),
-        Called::Stopped => fixed_words(alloc, Fixed::Stopped),
+        Called::Answered(true) => Outcome::Upgraded,
+        Called::Answered(false) => Outcome::Current,
+        Called::Declined(why) => Outcome::Declined { why },
+        Called::Stopped => Outcome::Stopped,
     }
 }
 
-/// The words of a client that has its tables.
-fn subscribed(alloc: Global, called: Called<()>) -> Result<Vec<u8>, NoMemory>
+/// What naming a client's tables came to.
+fn subscribed(called: Called<()>) -> Outcome
     ensures { SaysCalled subscribe_said called result }
 {
     match called {
-        Called::Answered(()) => fixed_words(alloc, Fixed::Subscribed),
-        Called::Declined(why) => declined_words(alloc, &why),
-        Called::Stopped => fixed_words(alloc, Fixed::Stopped),
+        Called::Answered(()) => Outcome::Subscribed,
+        Called::Declined(why) => Outcome::Declined { why },
+        Called::Stopped => Outcome::Stopped,
     }
 }
 
@@ -83,20 +82,22 @@ impl World {
     ghost use Rattle.sync_world.specs.Holding.{Happens, Holds, Stands};
 
     /// A client comes in.
-    pub(crate) fn join(&mut self, name: Name, id: Id) -> Result<Vec<u8>, NoMemory>
+    pub(crate) fn join(&mut self, name: Name, id: Id) -> Result<Outcome, NoMemory>
         ensures { (w : model.World) → Holds w self.old → Happens (model.joins the_profile w name id) result self.new }
     {
         worlds_read_back();
         if self.is_node(&name) {
-            return fixed_words(self.alloc, Fixed::NameTaken);
+            return Ok(Outcome::NameTaken);
         }
         if self.has_id(&id) || self.has_injected(&id) {
-            return fixed_words(self.alloc, Fixed::UuidTaken);
+            return Ok(Outcome::UuidTaken);
         }
-        let words = client_words(self.alloc, &name)?;
-        let node = Node::new(self.alloc, name, id)?;
+        let Ok(kept) = name.clone() else {
+            return Err(NoMemory);
+        };
+        let node = Node::new(self.alloc, kept, id)?;
         match self.clients.push(node) {
-            Ok(()) => Ok(words),
+            Ok(()) => Ok(Outcome::Joined { name }),
             Err(_) => Err(NoMemory),
         }
     }
@@ -121,44 +122,44 @@ impl World {
         name: &Name,
         ms: u64,
         edits: Listed<Instr>,
-    ) -> Result<Vec<u8>, NoMemory>
+    ) -> Result<Outcome, NoMemory>
         ensures { (w : model.World) → Holds w self.old → Happens (model.happens the_profile w (model.Edits name.now ms edits)) result self.new }
     {
         worlds_read_back();
         let Some(place) = self.find(name) else {
-            return fixed_words(self.alloc, Fixed::NoNode);
+            return Ok(Outcome::NoNode);
         };
         match self.clients[place].commit(self.alloc, ms, edits.into_vec()) {
-            Ok(called) => made(self.alloc, called),
+            Ok(called) => Ok(made(called)),
             Err(NoMemory) => Err(NoMemory),
         }
     }
 
     /// A client's file is brought to form 2.
-    pub(crate) fn upgrade(&mut self, name: &Name) -> Result<Vec<u8>, NoMemory>
+    pub(crate) fn upgrade(&mut self, name: &Name) -> Result<Outcome, NoMemory>
         ensures { (w : model.World) → Holds w self.old → Happens (model.happens the_profile w (model.Upgrades name.now)) result self.new }
     {
         worlds_read_back();
         let Some(place) = self.find(name) else {
-            return fixed_words(self.alloc, Fixed::NoNode);
+            return Ok(Outcome::NoNode);
         };
         match self.clients[place].upgrade(self.alloc) {
-            Ok(called) => upgraded(self.alloc, called),
+            Ok(called) => Ok(upgraded(called)),
             Err(NoMemory) => Err(NoMemory),
         }
     }
 
     /// A client names its tables.
-    pub(crate) fn subscribe(&mut self, name: &Name, tables: Subset) -> Result<Vec<u8>, NoMemory>
+    pub(crate) fn subscribe(&mut self, name: &Name, tables: Subset) -> Result<Outcome, NoMemory>
         ensures { (w : model.World) → Holds w self.old → Happens (model.happens the_profile w (model.Subscribes name.now tables)) result self.new }
     {
         worlds_read_back();
         tables_keep(&tables);
         let Some(place) = self.find(name) else {
-            return fixed_words(self.alloc, Fixed::NoNode);
+            return Ok(Outcome::NoNode);
         };
         match self.clients[place].subscribe(self.alloc, tables) {
-            Ok(called) => subscribed(self.alloc, called),
+            Ok(called) => Ok(subscribed(called)),
             Err(NoMemory) => Err(NoMemory),
         }
     }

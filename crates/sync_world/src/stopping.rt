@@ -5,16 +5,16 @@ ghost use Rattle.sync_world.specs.Events.{leaves_seen};
 
 use crate::laws::worlds_read_back;
 use crate::stop::Stop;
-use crate::words::{Fixed, fixed_words};
 use crate::world::World;
 use sync_data::{Name, NoMemory};
 use sync_disk::Leaves;
+use sync_words::Outcome;
 
 impl World {
     ghost use Rattle.sync_world.specs.Holding.{Happens, Holds};
 
     /// A node is opened again.
-    pub(crate) fn restart(&mut self, name: &Name) -> Result<Vec<u8>, NoMemory>
+    pub(crate) fn restart(&mut self, name: &Name) -> Result<Outcome, NoMemory>
         ensures { (w : model.World) → Holds w self.old → Happens (model.happens the_profile w (model.Restarts name.now)) result self.new }
     {
         if name.text() == "server" {
@@ -22,26 +22,26 @@ impl World {
         }
         worlds_read_back();
         let Some(place) = self.find(name) else {
-            return fixed_words(self.alloc, Fixed::NoNode);
+            return Ok(Outcome::NoNode);
         };
         match self.clients[place].restart(self.alloc) {
-            Ok(()) => fixed_words(self.alloc, Fixed::Opened),
+            Ok(()) => Ok(Outcome::Opened),
             Err(NoMemory) => Err(NoMemory),
         }
     }
 
-    fn restart_server(&mut self) -> Result<Vec<u8>, NoMemory>
+    fn restart_server(&mut self) -> Result<Outcome, NoMemory>
         ensures { (w : model.World) → Holds w self.old → Happens (model.happens the_profile w (model.Restarts model.server_name)) result self.new }
     {
         worlds_read_back();
         match self.hub.restart(self.alloc) {
-            Ok(()) => fixed_words(self.alloc, Fixed::Opened),
+            Ok(()) => Ok(Outcome::Opened),
             Err(NoMemory) => Err(NoMemory),
         }
     }
 
     /// A node's disk is to stop.
-    pub(crate) fn arm(&mut self, name: &Name, at: u32, leaves: Leaves) -> Result<Vec<u8>, NoMemory>
+    pub(crate) fn arm(&mut self, name: &Name, at: u32, leaves: Leaves) -> Result<Outcome, NoMemory>
         requires { 1 ≤ at }
         ensures { (w : model.World) → Holds w self.old → Happens (model.happens the_profile w (model.Stops name.now at (leaves_seen leaves))) result self.new }
     {
@@ -51,17 +51,17 @@ impl World {
         }
         worlds_read_back();
         let Some(place) = self.find(name) else {
-            return fixed_words(self.alloc, Fixed::NoNode);
+            return Ok(Outcome::NoNode);
         };
         self.clients[place].arm(stop);
-        fixed_words(self.alloc, Fixed::Armed)
+        Ok(Outcome::Armed)
     }
 
-    fn arm_server(&mut self, stop: Stop) -> Result<Vec<u8>, NoMemory>
+    fn arm_server(&mut self, stop: Stop) -> Result<Outcome, NoMemory>
         ensures { (w : model.World) → Holds w self.old → Happens (model.happens the_profile w (model.Stops model.server_name stop.at (leaves_seen stop.leaves))) result self.new }
     {
         worlds_read_back();
         self.hub.arm(stop);
-        fixed_words(self.alloc, Fixed::Armed)
+        Ok(Outcome::Armed)
     }
 }

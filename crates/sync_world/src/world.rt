@@ -1,7 +1,7 @@
 ghost use Rattle.std.specs.Prelude.{◌≡◌, ◌<◌, ◌++◌, length, List, map, None, Option, IfNone, IfOk, IfSome, OnOk};
 ghost use Rattle.sync_model.specs.Bytes.{Name as ModelName};
 ghost use Rattle.sync_model.specs.Reports.{node_line, report_of};
-ghost use Rattle.sync_world.specs.Reports.{clients_text, report_text};
+ghost use Rattle.sync_words.specs.Reports.{clients_text, report_text};
 ghost use Rattle.std.specs.List.{position};
 ghost use Rattle.sync_world.specs.Holding.{HoldsEach, named};
 ghost use Rattle.sync_model.specs.Worlds as model;
@@ -11,13 +11,13 @@ ghost use Rattle.sync_server.specs.Serving.{IsServerOf, IsStored};
 use crate::hub::Hub;
 use crate::laws::worlds_read_back;
 use crate::node::Node;
-use crate::report::{put_client, put_server};
 use std::alloc::Global;
 use sync_client::Client;
 use sync_data::{Id, Name, NoMemory};
 use sync_disk::{Disk, MemoryDisk};
 use sync_edits::Event;
 use sync_server::Server;
+use sync_words::{Outcome, put_client, put_server};
 
 /// An exchange: a server and clients over disks in memory, all messages that were made, and the uuids that injected Binds
 /// named.
@@ -68,8 +68,8 @@ impl World {
         })
     }
 
-    /// What an event comes to, in words (docs/FORMATS.md, "Outcome lines"). After `NoMemory` the world isn't used again.
-    pub fn step(&mut self, event: Event) -> Result<Vec<u8>, NoMemory>
+    /// What an event comes to. After `NoMemory` the world isn't used again.
+    pub fn step(&mut self, event: Event) -> Result<Outcome, NoMemory>
         requires { IsCounted event }
         ensures { (w : model.World) → Holds w self.old → Happens (model.happens the_profile w (event_seen event)) result self.new }
     {

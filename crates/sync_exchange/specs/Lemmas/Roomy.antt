@@ -253,7 +253,8 @@ instrs_strings : (is : List Instr) → AllByRecursion IsWhole is → AllByRecurs
 instrs_strings [] h = tt
 instrs_strings (i ∷ is) h = subst (AllByRecursion IsString) (sym (Rattle.sync_exchange.specs.Lemmas.Strings.fields_append (instr_fields i) (flat_map instr_fields is))) (all_append IsString (strings_in i) (flat_map strings_in_field (flat_map instr_fields is)) h.0.strings (instrs_strings is h.1))
 
-spelled_short : (is : List Instr) → AreInstrs is → length (spelling is) ≤ 16777216
+-- eleven bytes beside the instructions
+pub spelled_short : (is : List Instr) → AreInstrs is → length (spelling is) ≤ payload_all is + 80 * length is + 11
 unfolding spelling
 spelled_short is v =
     let whole = whole_each is v in
@@ -264,7 +265,6 @@ spelled_short is v =
     omega (
       arith,
       v.small.0,
-      v.small.1,
       body,
       instrs_cost is whole,
       table_size (strings_of (flat_map instr_fields is)),
@@ -278,4 +278,4 @@ spelled_short is v =
 
 -- so a message bears it
 pub real_roomy : IsRoomy the_profile
-real_roomy = record { some = omega arith; fits = λ is small. spelled_short is (small_instrs is small) }
+real_roomy = record { some = omega arith; fits = λ is small. let v = small_instrs is small in omega (arith, spelled_short is v, v.small.0, v.small.1) }

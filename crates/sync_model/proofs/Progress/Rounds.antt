@@ -131,7 +131,7 @@ module _ {I S : Type 0} (p : Profile I S) {Fits Bounded Old : S → Type 0} (law
           (λ a. inr (takes p law built (IsException armed unnamed old) armed (λ a. a) w0 name place nd0 not_server arms arms_server h3 (suc (suc n)) (Stored st.ident (count (after_all p s (serve_changes p s st.ident (to_upload p st)).records) st.ident)) (replied ∙ ap (λ z. Some z) a.0) (answers st.cursor) (took_stored st (count (after_all p s (serve_changes p s st.ident (to_upload p st)).records) st.ident) f.id f.born) rest r
           (λ why e. absurd (no_answer st.cursor why e))
           (λ j v4 e h4. then_ v4 (after_all p s (serve_changes p s st.ident (to_upload p st)).records) h4 (record { ids = x.ids; more = x.more; log = x.log; counts = x.counts; others = x.others; answer = inl (refl, a.1) }) a.1)))
-          (λ b. let t = subst IsUploadFair b.2 fair in inl (λ spot. subst (λ z. Q (Replied spot z)) (sym b.2) (t.0, t.1, t.2, hinders unnamed old t.0 t.3 t.4)))
+          (λ b. let t = subst IsUploadFair b.2 fair in inl (λ spot. subst (λ z. Q (Replied spot z)) (sym b.2) (t.0, t.1, t.2, hinders unnamed old t.0 t.3.0 t.3.1)))
           x.answer
 
   -- ---- it asks for what is new

@@ -10,7 +10,7 @@ pub returns-in-Ok-clause-done : goal.returns-in-Ok-clause-done
 returns-in-Ok-clause-done g c = λ records stands.
     let did = commit the_profile (client_of the_profile records) c.args.ms c.args.edits.items in
     said_ok made_words c.args.number did records c.commit.new.self c.in-Ok.made c.say.result (c.in-Ok.ensures.step records stands.client) (c.in-Ok.ensures.stored records stands.client stands.stored)
-    (c.say.ensures.said (made_words c.in-Ok.made) c.made_words.ensures)
+    c.say.ensures.said
 
 pub returns-in-Err-clause-done : goal.returns-in-Err-clause-done
 returns-in-Err-clause-done g c = λ records stands.

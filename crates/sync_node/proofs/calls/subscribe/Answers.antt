@@ -10,7 +10,7 @@ pub returns-in-Ok-clause-done : goal.returns-in-Ok-clause-done
 returns-in-Ok-clause-done g c = λ records stands.
     let did = subscribe (client_of the_profile records) c.args.tables in
     said_ok subscribe_words c.args.number did records c.subscribe.new.self tt c.say.result (c.in-Ok.ensures.step records stands.client) (c.in-Ok.ensures.stored records stands.client stands.stored)
-    (c.say.ensures.said (subscribe_words tt) c.fixed_words.ensures)
+    c.say.ensures.said
 
 pub returns-in-Err-clause-done : goal.returns-in-Err-clause-done
 returns-in-Err-clause-done g c = λ records stands.

@@ -10,7 +10,7 @@ pub returns-in-Ok-clause-done : goal.returns-in-Ok-clause-done
 returns-in-Ok-clause-done g c = λ records stands.
     let did = take the_profile (client_of the_profile records) (message_seen c.args.message) in
     said_ok took_words c.args.number did records c.take.new.self c.in-Ok.cursor c.say.result (c.in-Ok.ensures.step records stands.client) (c.in-Ok.ensures.stored records stands.client stands.stored)
-    (c.say.ensures.said (took_words c.in-Ok.cursor) c.took_words.ensures)
+    c.say.ensures.said
 
 pub returns-in-Err-clause-done : goal.returns-in-Err-clause-done
 returns-in-Err-clause-done g c = λ records stands.

@@ -7,7 +7,7 @@ use Rattle.sync_node.specs.Runs.{noting_runs}
 use Rattle.sync_model.specs.Clients.{client_of}
 use Rattle.sync_model.specs.Resets.{recover_frame}
 use Rattle.sync_exchange.specs.Profile.{the_profile}
-use Rattle.sync_world.specs.Messages.{message_read}
+use Rattle.sync_words.specs.Messages.{message_read}
 use Rattle.sync_node.specs.Steps.{is_message}
 use Rattle.sync_node.specs.Items.{frames_of}
 use Rattle.sync_node.specs.Opening.{client_file}

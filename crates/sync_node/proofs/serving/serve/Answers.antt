@@ -3,7 +3,7 @@ use Rattle.sync_disk.specs.Disk.{Rose}
 use Rattle.sync_io.specs.declared.status.Status.TheVariants as statuses
 use Rattle.sync_exchange.specs.Seen.{server_bytes}
 use Rattle.sync_node.specs.Runs.{no_notes, runs}
-use Rattle.sync_world.specs.Messages.{message_read}
+use Rattle.sync_words.specs.Messages.{message_read}
 use Rattle.sync_node.specs.Steps.{is_message, serve_step}
 use Rattle.sync_node.specs.Items.{frames_of}
 use Rattle.sync_node.specs.Opening.{server_file}

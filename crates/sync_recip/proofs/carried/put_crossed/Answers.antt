@@ -17,6 +17,6 @@ loop-one-preserved c =
       versions = c.put_one.ensures.versions ∙ c.loop-one.invariant.versions;
       entries = ap (crossed_entries (reverse rest)) c.put_one.ensures.entries ∙ ap (λ l. crossed_entries l before) (sym turned) ∙ c.loop-one.invariant.entries;
       within = subst (λ n. AllWithin n (reverse rest)) (sym c.put_one.auto.kept) within.1;
-      left = subst (AllLeft (reverse rest)) (sym (ap lists_in c.put_one.ensures.entries ∙ lists_with one.place one.entry before)) left.1;
+      left = subst (AllLeft (reverse rest)) (sym (ap lists_in c.put_one.ensures.entries ∙ lists_with one.place one.became before)) left.1;
       listed = λ front size h. c.put_one.ensures.listed front size (c.loop-one.invariant.listed front size h);
     }

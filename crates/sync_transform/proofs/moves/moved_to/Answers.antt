@@ -6,4 +6,4 @@ use Rattle.sync_transform.proofs.moves.moved_to.Goals as goal
 
 pub unwrap-requires : goal.unwrap-requires
 unwrap-requires c =
-    c.checked.ensures.good.1 (subst IsSmall (sym (c.move_first.ensures ∙ ap (moved_first c.args.spot) c.into_instrs-instrs.ensures.listed)) (moved_small c.args.spot c.args.changes.instrs c.into_instrs-instrs.ensures.small))
+    c.checked.ensures.good.1 (subst IsSmall (sym (c.move_first.ensures ∙ ap (moved_first c.args.action) c.into_instrs-instrs.ensures.listed)) (moved_small c.args.action c.args.changes.instrs c.into_instrs-instrs.ensures.small))

@@ -23,7 +23,7 @@ loop-place-preserved g c =
     let now = map server_seen c.loop-place.records.items in
     elim c.match-get.branch [
       | in-Some+then-from-version+in_ok-put_crossed w ↦ λ floor above below.
-          let q : Pair = (w.in-Some.version, entry_of w.in-Some.crossed.now) in
+          let q : Pair = (w.in-Some.version, entry_of w.in-Some.crossed) in
           let first = at_some list place q (sym (get_at list place) ∙ sym (got_some c.get.result (slice_get list place) w.in-Some.version w.in-Some.crossed c.get.ensures w.in-Some.is)) in
           let left = crossed_left ident kept.floor floor from kept.entries (drop (place + 1) list) in
           let made = crossed_record the_profile ident q (item_from kept.floor kept.entries q.0) in
@@ -33,7 +33,7 @@ loop-place-preserved g c =
           ∙ ap (λ l. now ++ l) (sym (crossed ident kept.floor floor from kept.entries (drop place list) (drop (place + 1) list) q first w.if-from-version.true above below))
           ∙ c.loop-place.invariant floor above below
       | in-Some+else-from-version w ↦ λ floor above below.
-          let q : Pair = (w.in-Some.version, entry_of w.in-Some.crossed.now) in
+          let q : Pair = (w.in-Some.version, entry_of w.in-Some.crossed) in
           let first = at_some list place q (sym (get_at list place) ∙ sym (got_some c.get.result (slice_get list place) w.in-Some.version w.in-Some.crossed c.get.ensures w.in-Some.is)) in
           ap (λ r. map server_seen r.items ++ crossed_left ident kept.floor floor from kept.entries (drop (place + 1) list)) w.records-is
           ∙ ap (λ l. now ++ l) (sym (passed ident kept.floor floor from kept.entries (drop place list) (drop (place + 1) list) q first w.if-from-version.false))

@@ -1,5 +1,6 @@
 use Rattle.std.proofs.Common.{◌-◌, sym, ◌∙◌, ap, subst, arith}
-use Rattle.sync_world.specs.Messages.{Reads, message_read}
+use Rattle.sync_world.specs.Messages.{Reads}
+use Rattle.sync_words.specs.Messages.{message_read}
 use Rattle.sync_world.proofs.Spelled.{none_at, numbered_at, reads_it, spelled_at}
 use Rattle.sync_world.proofs.messages.find.Goals as goal
 

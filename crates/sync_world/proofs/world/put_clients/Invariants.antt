@@ -4,7 +4,7 @@ use Rattle.sync_model.specs.Reports.{node_line}
 use Rattle.sync_model.specs.Worlds.{Node, Stop}
 use Rattle.sync_exchange.specs.Profile.{the_profile}
 use Rattle.sync_world.specs.Holding.{HoldsEach}
-use Rattle.sync_world.specs.Reports.{clients_text}
+use Rattle.sync_words.specs.Reports.{clients_text}
 use Rattle.sync_world.proofs.world.put_clients.Given as goal
 
 -- what was put, and what the rest gives, is what all gives

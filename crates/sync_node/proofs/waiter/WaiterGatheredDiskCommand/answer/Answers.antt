@@ -6,7 +6,7 @@ use Rattle.sync_exchange.specs.Seen.{message_seen, server_bytes}
 use Rattle.sync_node.specs.Landed.{ServerLanded, landed_server_keeps}
 use Rattle.sync_node.specs.Runs.{AnswersSo, LeavesSome, records_in}
 use Rattle.sync_node.specs.Steps.{kept_or, replied, serve_step}
-use Rattle.sync_world.specs.Messages.{message_read}
+use Rattle.sync_words.specs.Messages.{message_read}
 use Rattle.sync_server.specs.Kept.{parts}
 use Rattle.sync_server.specs.Serving.{kept_of}
 use Rattle.sync_node.proofs.Exits.{leaves_old}

@@ -2,7 +2,7 @@ use Rattle.std.proofs.Common.{sym, subst, ap, ◌∙◌, arith}
 use Rattle.sync_rivals.specs.Lists.{Lists, StaysAt, put_list}
 use Rattle.sync_rebase.specs.declared.carried.Became.TheVariants.{Changed}
 use Rattle.sync_rebase.specs.Settling.{FitsAt, put_became, currents}
-use Rattle.sync_rebase.proofs.Places.{set_is_became, fits_within, fits_time, fits_stays, lists_became}
+use Rattle.sync_rebase.proofs.Places.{set_is_became, fits_within, fits_suits, fits_stays, lists_became}
 use Rattle.sync_rebase.proofs.list.PendingList.change_at.Goals as goal
 
 pub index-requires : goal.index-requires
@@ -16,7 +16,7 @@ index_mut-unsent-requires c =
     omega (arith, there, c.self.inside.items.ok.0)
 
 pub rebase-requires : goal.rebase-requires
-rebase-requires c = fits_time c.self.inside.items.items c.args.place (Changed c.args.current) c.index_mut-unsent.result.now (subst (FitsAt c.args.place (Changed c.args.current)) (sym c.self.view_is) c.requires) c.index_mut-unsent.ensures.value
+rebase-requires c = fits_suits c.self.inside.items.items c.args.place (Changed c.args.current) c.index_mut-unsent.result.now (subst (FitsAt c.args.place (Changed c.args.current)) (sym c.self.view_is) c.requires) c.index_mut-unsent.ensures.value
 
 pub invariant_of-self : goal.invariant_of-self
 invariant_of-self c =

@@ -9,12 +9,10 @@ use Rattle.sync_rebase.proofs.list.PendingList.list_more.Goals as goal
 pub loop-preserved : goal.loop-preserved
 loop-preserved c =
     let us = c.loop.self-inside.items.items in
-    let instrs = c.instrs.ensures.listed ∙ ap (λ x. x.instrs) c.current.ensures.changes in
     let size = ap length (c.loop.invariant.same ∙ sym c.self.view_is) in
     let within : c.listed-place.result < length us = omega (arith, c.if-place-count.false, c.len-count.ensures, size, c.self.inside.items.ok.0) in
     let at = stands_at (λ (u : Unsent Instr). u.current) us c.listed-place.result c.index.result.now within c.index.ensures in
     record {
       same = c.loop.invariant.same;
-      listed = c.list.ensures (currents us) c.loop.invariant.listed
-          (subst (λ n. StandsAt n c.instrs.result.now (currents us)) c.listed-place.ensures (subst (λ l. StandsAt c.listed-place.result l (currents us)) (sym instrs) at));
+      listed = c.list.ensures c.index.result.now.current (currents us) c.listed-in-loop.ensures c.loop.invariant.listed (subst (λ n. StandsAt n c.index.result.now.current (currents us)) c.listed-place.ensures at);
     }

@@ -19,11 +19,11 @@ returns-then-found-version c =
     sym (at_other c.args.version ks c.count_below-place.result rising split.below split.above c.index-kept-place.result c.if-place-kept.false c.index-kept-place.is c.if-found-version.true)
     ∙ ap (entry_at c.args.version) (ap (map pair_of) c.as_slice-kept.ensures.value ∙ c.self.view_is)
 
-pub returns : goal.returns
-returns c =
+pub returns-in-Ok : goal.returns-in-Ok
+returns-in-Ok c =
     let ks = c.as_slice-kept.result.now in
     let rising = subst (λ l. IsRising (versions l)) (sym c.as_slice-kept.ensures.value) c.self.invariant.0 in
     let split = c.count_below-place.ensures in
-    ap (λ e. Some (entry_of e)) c.entry.ensures
+    ap (λ e. Some (entry_of e)) c.in-Ok.ensures
     ∙ sym (at_found c.args.version ks c.count_below-place.result rising split.below split.above c.index-kept-place.result c.if-place-kept.false c.index-kept-place.is c.if-found-version.false)
     ∙ ap (entry_at c.args.version) (ap (map pair_of) c.as_slice-kept.ensures.value ∙ c.self.view_is)

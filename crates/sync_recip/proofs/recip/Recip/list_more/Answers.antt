@@ -1,6 +1,5 @@
 use Rattle.std.proofs.Common.{◌≡◌, ◌<◌, length, map, sym, ap, ◌∙◌, subst, arith}
 use Rattle.std.proofs.lemmas.List.{length-map}
-use Rattle.sync_data.specs.declared.entry.Entry.{Entry}
 use Rattle.sync_rivals.specs.Lists.{StandsAt}
 use Rattle.sync_recip.specs.Lists.{kept_entry, lists_in, pair_of}
 use Rattle.sync_recip.proofs.Turns.{stands_kept}
@@ -10,12 +9,11 @@ pub loop-preserved : goal.loop-preserved
 loop-preserved c =
     let ks = c.loop.self-inside.kept.items in
     let lists = lists_in (map kept_entry ks) in
-    let instrs = c.instrs.ensures.listed ∙ ap (λ (e : Entry). e.changes.instrs) c.entry-entry.ensures in
     let size : length ks ≡ length c.self.inside.kept.items = sym (length-map ks pair_of) ∙ ap length (c.loop.invariant.same ∙ sym c.self.view_is) ∙ length-map c.self.inside.kept.items pair_of in
     let within : c.listed-place.result < length ks = omega (arith, c.if-place-count.false, c.len-count.ensures, size, c.self.inside.kept.ok.0) in
     let at = stands_kept ks c.listed-place.result c.index.result.now within c.index.ensures in
     record {
       same = c.loop.invariant.same;
       rising = c.loop.invariant.rising;
-      listed = c.list.ensures lists c.loop.invariant.listed (subst (λ n. StandsAt n c.instrs.result.now lists) c.listed-place.ensures (subst (λ l. StandsAt c.listed-place.result l lists) (sym instrs) at));
+      listed = c.list.ensures (kept_entry c.index.result.now).instrs lists c.instrs.ensures c.loop.invariant.listed (subst (λ n. StandsAt n (kept_entry c.index.result.now).instrs lists) c.listed-place.ensures at);
     }

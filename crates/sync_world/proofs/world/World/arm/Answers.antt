@@ -1,9 +1,10 @@
-use Rattle.std.proofs.Common.{Bool, if◌then◌else◌, Some, refl, sym, ◌∙◌, subst}
+use Rattle.std.proofs.Common.{Bool, if◌then◌else◌, Ok, Some, refl, sym, ◌∙◌, subst}
 use Rattle.std.specs.Vec.{with_item}
 use Rattle.sync_model.specs.Worlds.{Armed, IsReached, NoNode, Stop, Stops, arm, has_name, says}
 use Rattle.sync_model.proofs.Bytes.{bytes_same}
 use Rattle.sync_model.proofs.Lists.{seek_found}
 use Rattle.sync_exchange.specs.Profile.{the_profile}
+use Rattle.sync_words.specs.declared.outcome.Outcome.TheVariants as outcomes
 use Rattle.sync_world.specs.Events.{leaves_seen}
 use Rattle.sync_world.specs.Holding.{Happens, HoldsNode}
 use Rattle.sync_world.specs.declared.world.World.{World}
@@ -24,6 +25,6 @@ returns c w h =
     let one : HoldsNode f.0 (Some s) c.arm.new.self = record { name = c.arm.ensures.name ∙ held.name; client = c.arm.ensures.client f.0.records (w.stops f.0.name) held.client } in
     let node = is_one w name (place, f.0) f.1 in
     let after = subst (λ (b : Bool). IsReached the_profile (if b then says (record w { stops = arm name (Some s) w.stops }) Armed else says w NoNode).world) node (c.worlds_read_back.ensures.steps w (Stops name c.args.at (leaves_seen c.args.leaves)) h.reached) in
-    subst (λ (b : Bool). Happens (if b then says (record w { stops = arm name (Some s) w.stops }) Armed else says w NoNode) c.fixed_words-2.result self) (sym node)
-    (said_all (record w { stops = arm name (Some s) w.stops }) Armed c.fixed_words-2.result self c.fixed_words-2.ensures
+    subst (λ (b : Bool). Happens (if b then says (record w { stops = arm name (Some s) w.stops }) Armed else says w NoNode) (Ok outcomes.Armed) self) (sym node)
+    (said_all (record w { stops = arm name (Some s) w.stops }) Armed (Ok outcomes.Armed) self refl
     (record { reached = after; stands = client_armed w old h.stands place f.0 sought.here self c.arm.new.self (record { clients = refl; hub = refl; messages = refl; injected = refl }) name (Some s) (bytes_same name f.0.name sought.passes) one }))

@@ -1,4 +1,4 @@
-use Rattle.std.proofs.Common.{◌≡◌, Bool, Option, if◌then◌else◌, refl, sym, ◌∙◌, ap, subst}
+use Rattle.std.proofs.Common.{◌≡◌, Bool, Option, Ok, if◌then◌else◌, refl, sym, ◌∙◌, ap, subst}
 use Rattle.std.specs.Vec.{with_item}
 use Rattle.sync_journal.specs.Records.{lists}
 use Rattle.sync_messages.specs.declared.message.Message.{Message as CodeMessage}
@@ -35,6 +35,6 @@ returns-in-Ok c w h other =
     ∙ ap (delivers the_profile w to) (message_numbered w n ∙ it.0)
     ∙ ap (λ (b : Bool). if b then server_called the_profile w m else calls) other in
     let reached = subst (λ (o : Outcome). IsReached the_profile o.world) is (c.worlds_read_back.ensures.steps w (Delivers n to) h.reached) in
-    subst (λ (o : Outcome). Happens o c.took.result self) (sym is)
+    subst (λ (o : Outcome). Happens o (Ok c.took.result) self) (sym is)
     (call_happens w old h to (λ k. take_message the_profile k m) took_words (λ k. Took k) (λ v a. refl) (λ v why. refl) (λ k. take_fits k m (message_fits c.in-Ok-Some.message it.1)) reached c.worlds_read_back.ensures.client place f.0 f.1
     c.in-Ok.called c.took.result self c.take.new.self (record { clients = refl; hub = refl; messages = refl; injected = refl }) (c.in-Ok.ensures.name ∙ held.name) (λ reads. c.in-Ok.ensures.ends f.0.records (w.stops f.0.name) held.client reads) c.took.ensures)

@@ -7,7 +7,8 @@ use Rattle.sync_model.specs.Worlds.{Injects, IsReached, OwnIdent, injects, named
 use Rattle.sync_exchange.specs.Profile.{the_profile}
 use Rattle.sync_exchange.specs.Seen.{message_seen}
 use Rattle.sync_world.specs.Holding.{Happens}
-use Rattle.sync_world.specs.Messages.{IsIt, message_read}
+use Rattle.sync_world.specs.Messages.{IsIt}
+use Rattle.sync_words.specs.Messages.{message_read}
 use Rattle.sync_world.proofs.Serving.{named_server}
 use Rattle.sync_world.proofs.world.World.inject.Goals as goal
 

@@ -1,4 +1,4 @@
-use Rattle.std.proofs.Common.{◌≡◌, Bool, false, ◌||◌, if◌then◌else◌, [], ◌∷◌, ◌++◌, Option, map, sym, ◌∙◌, ap, subst}
+use Rattle.std.proofs.Common.{◌≡◌, Bool, false, ◌||◌, if◌then◌else◌, [], ◌∷◌, ◌++◌, Ok, Option, map, refl, sym, ◌∙◌, ap, subst}
 use Rattle.std.proofs.lemmas.List.{map-append}
 use Rattle.std.specs.Prelude.{bytes_eq}
 use Rattle.sync_model.specs.Clients.{Born}
@@ -6,9 +6,9 @@ use Rattle.sync_model.specs.Each.{no_more, and_each}
 use Rattle.sync_model.specs.Worlds.{IsReached, Joined, Joins, NameTaken, Node, Outcome, Stop, UuidTaken, has_id, is_node, is_there, joins, says, seek}
 use Rattle.sync_model.proofs.Limits.{each_append}
 use Rattle.sync_exchange.specs.Profile.{the_profile}
-use Rattle.sync_world.specs.Holding.{AreNames, Holds, HoldsEach}
+use Rattle.sync_world.specs.Holding.{AreNames, Happens, Holds, HoldsEach}
 use Rattle.sync_world.specs.Nodes.{HoldsClient}
-use Rattle.sync_world.specs.Words.{words_text}
+use Rattle.sync_words.specs.declared.outcome.Outcome.TheVariants as outcomes
 use Rattle.sync_world.proofs.Joining.{still_unarmed}
 use Rattle.sync_world.proofs.Moves.{held_more, names_more, new_name}
 use Rattle.sync_world.specs.declared.world.World.{World}
@@ -27,6 +27,7 @@ returns-in-Ok c w h =
     ap (λ (b : Bool). if b then says w NameTaken else (if is_there (seek (has_id the_profile id) w.clients) || is_there (seek (λ u. bytes_eq id u) w.injected) then says w UuidTaken else says v (Joined name))) free
     ∙ ap (λ (b : Bool). if b || is_there (seek (λ u. bytes_eq id u) w.injected) then says w UuidTaken else says v (Joined name)) unknown
     ∙ ap (λ (b : Bool). if b then says w UuidTaken else says v (Joined name)) unnamed in
+    let kept = c.in-Ok-kept.ensures in
     let new = new_name w name free in
     let client = subst (λ (s : Option Stop). HoldsClient (Born id ∷ []) s c.in_ok-node.node.stop c.in_ok-node.node.client) (sym (h.stands.unarmed name free)) c.in_ok-node.ensures.client in
     let self : World = record { alloc = c.args.self.now.alloc; hub = c.args.self.now.hub; clients = c.push.new.self; messages = c.args.self.now.messages; injected = c.args.self.now.injected } in
@@ -34,7 +35,7 @@ returns-in-Ok c w h =
       reached = subst (λ (o : Outcome). IsReached the_profile o.world) is (c.worlds_read_back.ensures.steps w (Joins name id) h.reached);
       stands = record {
         server = h.stands.server;
-        clients = subst (HoldsEach w.stops (w.clients ++ one ∷ [])) (sym c.in-Ok.ensures.items) (held_more w.stops w.clients c.args.self.now.clients.items one c.in_ok-node.node h.stands.clients (record { name = c.in_ok-node.ensures.name; client = client }));
+        clients = subst (HoldsEach w.stops (w.clients ++ one ∷ [])) (sym c.in-Ok.ensures.items) (held_more w.stops w.clients c.args.self.now.clients.items one c.in_ok-node.node h.stands.clients (record { name = c.in_ok-node.ensures.name ∙ kept; client = client }));
         named = subst AreNames (sym (map-append (λ (n : Node). n.name) w.clients (one ∷ []))) (names_more (map (λ (n : Node). n.name) w.clients) name h.stands.named new.0 new.1);
         server_fits = h.stands.server_fits;
         clients_fit = each_append h.stands.clients_fit (and_each (and_each c.new.ensures.id no_more) no_more);
@@ -43,4 +44,4 @@ returns-in-Ok c w h =
         unarmed = λ k none. h.stands.unarmed k (still_unarmed w k one none);
       };
     } in
-    subst (λ (o : Outcome). (c.in_ok-words.words.items ≡ words_text o.words) × Holds o.world self) (sym is) (c.in_ok-words.ensures, after)
+    subst (λ (o : Outcome). Happens o (Ok (outcomes.Joined name)) self) (sym is) (refl, after)

@@ -1,7 +1,8 @@
-use Rattle.std.proofs.Common.{Bool, if◌then◌else◌, refl, sym, ◌∙◌, subst}
+use Rattle.std.proofs.Common.{Bool, if◌then◌else◌, Ok, refl, sym, ◌∙◌, subst}
 use Rattle.std.specs.Vec.{with_item}
 use Rattle.sync_model.specs.Worlds.{NoNode, Opened, has_name, says}
 use Rattle.sync_model.proofs.Lists.{seek_found}
+use Rattle.sync_words.specs.declared.outcome.Outcome.TheVariants as outcomes
 use Rattle.sync_world.specs.Holding.{Happens, HoldsNode}
 use Rattle.sync_world.specs.declared.world.World.{World}
 use Rattle.sync_world.proofs.Happening.{again, is_one, said_all}
@@ -19,6 +20,6 @@ returns-in-Ok c w h =
     let self : World = record { alloc = old.alloc; hub = old.hub; clients = with_item old.clients place c.restart.new.self; messages = old.messages; injected = old.injected } in
     let back = c.worlds_read_back.ensures.client w place f.0 h.reached here (each_at w.clients place f.0 h.stands.clients_fit here) in
     let one : HoldsNode f.0 (w.stops f.0.name) c.restart.new.self = record { name = c.in-Ok.ensures.name ∙ held.name; client = c.in-Ok.ensures.client f.0.records (w.stops f.0.name) held.client back } in
-    subst (λ (b : Bool). Happens (says w (if b then Opened else NoNode)) c.fixed_words-in-Ok.result self) (sym (is_one w name (place, f.0) f.1))
-    (said_all w Opened c.fixed_words-in-Ok.result self c.fixed_words-in-Ok.ensures
+    subst (λ (b : Bool). Happens (says w (if b then Opened else NoNode)) (Ok outcomes.Opened) self) (sym (is_one w name (place, f.0) f.1))
+    (said_all w Opened (Ok outcomes.Opened) self refl
     (record { reached = h.reached; stands = again w old h.stands place f.0 here self c.restart.new.self (record { clients = refl; hub = refl; messages = refl; injected = refl }) one }))
