@@ -128,6 +128,7 @@ def _load():
         ("retire", ctypes.c_int, [number]),
         ("take", ctypes.c_int, [text, size]),
         ("dump", ctypes.c_int, []),
+        ("changed", ctypes.c_int, []),
         ("object", ctypes.c_int, [text]),
         ("standing", ctypes.c_int, [ctypes.POINTER(_Place)]),
         ("number", number, []),
@@ -308,12 +309,15 @@ class _Open:
             self._call(_library.realm_take, message, len(message))
             return self._taken()
 
-    def lines(self):
-        """All tables, columns and objects as they are now, one after the other: docs/FORMATS.md, "Report and dump"."""
+    def _lines(self, function):
         with self._lock:
-            self._call(_library.realm_dump)
+            self._call(function)
             text = self._bytes().decode()
         return (_decode(line)[0] for line in text.split("\n")[:-1])
+
+    def lines(self):
+        """All tables, columns and objects as they are now, one after the other: docs/FORMATS.md, "Report and dump"."""
+        return self._lines(_library.realm_dump)
 
     def objects(self, table=None):
         """The objects as they are now, each with its table, key and cells, in order."""
@@ -368,6 +372,11 @@ class Client(_Open):
         ms = time.time_ns() // 1_000_000 if ms is None else ms
         return self._line(f'{{"ms":{ms:d},"edits":{_encode(edits)}}}')
 
+    def changed(self):
+        """What the last commit or take may have changed, for a screen to draw anew: a dict for each place, with its "table" and, as the place
+        has them, its "key" and its "column" (docs/FORMATS.md, "Places")."""
+        return self._lines(_library.realm_changed)
+
     def transaction(self, ms=None):
         """A transaction that is committed at the end of a `with`, unless an exception leaves it. It has its number afterwards."""
         return Transaction(self, ms)
@@ -388,12 +397,14 @@ class Client(_Open):
             return self._bytes()
 
     def sync(self, send):
-        """Sends what the server lacks and takes what the client lacks. `send` hands a message over, and answers the reply. Where it
-        fails, all of this may be done again."""
-        is_last = False
+        """Sends what the server lacks and takes what the client lacks, and answers the places that may have changed. `send` hands a
+        message over, and answers the reply. Where it fails, all of this may be done again."""
+        places, is_last = [], False
         while not is_last:
             message, is_last = self._next()
             self.take(send(message))
+            places += self.changed()
+        return places
 
 
 class Server(_Open):
