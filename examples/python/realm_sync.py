@@ -117,7 +117,10 @@ class _Place(ctypes.Structure):
 
 def _load():
     beside = os.path.join(os.path.dirname(os.path.abspath(__file__)), "..", "..", "build", "librealm_sync.so")
-    library = ctypes.CDLL(os.environ.get("REALM_SYNC_LIBRARY", beside))
+    path = os.environ.get("REALM_SYNC_LIBRARY", beside)
+    if not os.path.exists(path):
+        raise ImportError(f"no {os.path.normpath(path)}: examples/c/library.sh builds it, or REALM_SYNC_LIBRARY names it")
+    library = ctypes.CDLL(path)
     node, size, text, number = ctypes.c_void_p, ctypes.c_size_t, ctypes.c_char_p, ctypes.c_uint32
     for name, answer, arguments in (
         ("open_client", ctypes.c_int, [text]),
