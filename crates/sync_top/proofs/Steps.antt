@@ -30,8 +30,8 @@ pub counts_are : (old new : Counts) (said : Words) → new.messages ≡ old.mess
 counts_are old new said messages made refused = counts_same new (counted old said) messages made refused
 
 -- what is said of words is said of an outcome that the model has
-pub of_seen : {P : Words → Type 0} (o : Option Words) (said : Words) → o ≡ Some said → IfSome o P → P said
-of_seen {P} o said is all = subst (λ (x : Option Words). IfSome x P) is all
+pub of_seen : (P : Words → Type 0) (o : Option Words) (said : Words) → o ≡ Some said → IfSome o P → P said
+of_seen P o said is all = subst (λ (x : Option Words). IfSome x P) is all
 
 -- what is done in a turn is what was drawn for it
 pub turned_is : (number x draws : ℕ) (turn : Turn) (kind : TurnKind) (w : World) → turn ≡ (turn_of number x).0 → draws ≡ (turn_of number x).1 → turn.kind ≡ kind
