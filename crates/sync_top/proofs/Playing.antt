@@ -1,5 +1,5 @@
 -- An exchange under way: an event more, what a client does at once, and a part of the plan more.
-use Rattle.std.proofs.Common.{◌≡◌, ◌<◌, ◌≤◌, ◌+◌, ◌^◌, ℕ, suc, Bool, true, false, cond, List, [], ◌∷◌, ◌++◌, length, length-append, drop, add-one, append_assoc, append-nil, get_or, refl, sym, ap, subst, ◌∙◌, arith}
+use Rattle.std.proofs.Common.{◌≡◌, ◌<◌, ◌≤◌, ◌+◌, ◌^◌, ℕ, Bool, true, false, cond, List, [], ◌∷◌, ◌++◌, length, length-append, drop, add-one, append_assoc, append-nil, get_or, refl, sym, ap, subst, ◌∙◌, arith}
 use Rattle.std.proofs.Math.Seq.{drop-cons}
 use Rattle.std.proofs.lemmas.List.Sums.{sum_by-append}
 use Rattle.std.specs.List.{count_by}
@@ -10,7 +10,7 @@ use Rattle.sync_gen.specs.declared.turns.TurnKind.{TurnKind}
 use Rattle.sync_gen.specs.declared.turns.TurnKind.TheVariants as kinds
 use Rattle.sync_gen.specs.Clients.{name_of}
 use Rattle.sync_model.specs.Bytes.{Name}
-use Rattle.sync_model.specs.Worlds.{Event, Words, World, empty_world, happens, server_name}
+use Rattle.sync_model.specs.Worlds.{Event, World, empty_world, happens, server_name}
 use Rattle.sync_world.specs.Holding.{Holds}
 use Rattle.sync_world.specs.declared.world.World.{World as CodeWorld}
 use Rattle.sync_top.specs.declared.counts.Counts.{Counts}

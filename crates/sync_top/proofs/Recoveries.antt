@@ -1,5 +1,5 @@
 -- Runs of commands over an heir's file are moves of a recovery.
-use Rattle.std.proofs.Common.{◌≡◌, ◌<◌, ◌≤◌, ◌+◌, ◌-◌, ⊎_elim, ℕ, zero, suc, List, [], ◌∷◌, ◌++◌, Option, None, Some, IfSome, refl, sym, ap, ap₂, subst, ◌∙◌, arith, append_assoc, append-nil, length, map, take}
+use Rattle.std.proofs.Common.{◌≡◌, ◌<◌, ◌≤◌, ◌+◌, ◌-◌, ⊎_elim, ℕ, List, [], ◌∷◌, ◌++◌, Option, None, Some, IfSome, refl, sym, ap, subst, ◌∙◌, arith, append_assoc, append-nil, length, map, take}
 use Rattle.std.proofs.Math.Seq.{take-append-add, take-length, take-nil}
 use Rattle.std.proofs.lemmas.Bool.{cases_lt}
 use Rattle.std.proofs.lemmas.List.{take-append-le}
@@ -16,7 +16,7 @@ use Rattle.sync_model.specs.Each.{Each, no_more, and_each}
 use Rattle.sync_model.specs.Messages.{Message}
 use Rattle.sync_model.specs.Recovery.{HeirMove, IsMove, heir_after, heir_moves}
 use Rattle.sync_model.specs.Recovery as model
-use Rattle.sync_model.specs.Resets.{recover, recover_frame, recover_frames}
+use Rattle.sync_model.specs.Resets.{recover_frame, recover_frames}
 use Rattle.sync_model.specs.Servers.{ServerRecord}
 use Rattle.sync_model.proofs.Limits.{each_append}
 use Rattle.sync_model.proofs.Own.{after_append}

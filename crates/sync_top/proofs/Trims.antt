@@ -1,5 +1,5 @@
 -- A server over its trimmed file answers as one over the whole file, and its own file stays its own.
-use Rattle.std.proofs.Common.{◌≡◌, ◌<◌, ◌≤◌, ◌+◌, ◌-◌, ◌⊎◌, inl, inr, ⊎_elim, ℕ, zero, suc, Bool, true, false, ◌==◌, eqb-true, List, [], ◌∷◌, ◌++◌, Option, None, Some, Result, Ok, Err, IfSome, refl, sym, ap, ap₂, subst, subst₂, ◌∙◌, arith, append_assoc, append-nil, length, map, take}
+use Rattle.std.proofs.Common.{◌≡◌, ◌<◌, ◌≤◌, ◌+◌, ◌-◌, inl, inr, ⊎_elim, ℕ, zero, suc, Bool, true, false, ◌==◌, eqb-true, List, [], ◌∷◌, ◌++◌, Option, None, Some, Ok, IfSome, refl, sym, ap, ap₂, subst, subst₂, ◌∙◌, arith, append_assoc, append-nil, length, map, take}
 use Rattle.std.proofs.Math.Seq.{take-append-add, take-nil}
 use Rattle.std.proofs.lemmas.Bool.{cases_lt}
 use Rattle.std.proofs.lemmas.List.{take-append-le}
@@ -10,7 +10,7 @@ use Rattle.sync_theory.specs.Changesets.{Changeset}
 use Rattle.sync_model.specs.Fronts.{file_gives}
 use Rattle.sync_model.specs.Messages.{Change, Message, Bind, Ident, Upload, Ask, Download, Refused, Stored, Ask2, Retire, Retired, AskTables}
 use Rattle.sync_model.specs.Parts.{Given, Parts, after_parts, as_before, ask_by, at_ident, parts_open, serve_by}
-use Rattle.sync_model.specs.Servers.{ServerRecord, ServerStep, Trimmed, refuses, download, download_first, download_tables}
+use Rattle.sync_model.specs.Servers.{ServerRecord, ServerStep, download, download_first, download_tables}
 use Rattle.sync_model.specs.Trimmed.{keeps_nothing, keeps_trimmed, KeptBy}
 use Rattle.sync_model.specs.Trims.{KeptLess, Spans, is_trimmed, trimmed}
 use Rattle.sync_model.proofs.Alike.{IsLow, LowChange, parts_floor, served_high, served_same}
@@ -27,7 +27,7 @@ use Rattle.sync_node.specs.Items.{Items, Over, Bad, Limit, Next}
 use Rattle.sync_node.specs.Runs.{Answer, Run, added, answered, onto}
 use Rattle.sync_node.specs.ServerTexts.{IsOwn, trimmed_by}
 use Rattle.sync_node.specs.Steps.{kept_by, kept_or, replied}
-use Rattle.sync_top.specs.Trims.{AnyBelow, AsksFrom, IsBelowFloor, IsServedAlike, NoneBelowFloor, ReachesBelow, RefusesBelow, ServesAlike, StaysAbove, StaysOwn, served}
+use Rattle.sync_top.specs.Trims.{AnyBelow, AsksFrom, IsServedAlike, NoneBelowFloor, ReachesBelow, RefusesBelow, ServesAlike, StaysAbove, StaysOwn, served}
 
 -- ---- what a file gives, as its server serves
 abbrev Gives : List ServerRecord → Type 0

@@ -1,21 +1,18 @@
 -- A server over its trimmed file answers as one over the whole file.
-use Rattle.std.specs.Prelude.{◌≡◌, ◌<◌, ◌⊎◌, ℕ, List, [], ◌∷◌, ◌++◌, take, Option, None, Some, Ok, Err, IfSome}
+use Rattle.std.specs.Prelude.{◌≡◌, ◌<◌, ◌⊎◌, ℕ, List, [], ◌∷◌, ◌++◌, take, Option, Some, Ok, Err, IfSome}
 use Rattle.sync_data.specs.declared.instr.Instr.{Instr}
 use Rattle.sync_base.specs.States.{State}
 use Rattle.sync_disk.specs.Disk.{Told}
-use Rattle.sync_journal.specs.Records.{records_of}
-use Rattle.sync_journal.specs.Records.Reading.{Good}
 use Rattle.sync_model.specs.Messages.{Change, Message, Upload, Ask, Ask2, AskTables, Refused}
 use Rattle.sync_model.specs.Parts.{Given, Parts, at_ident, merge_by, serve_by}
 use Rattle.sync_model.specs.Servers.{ServerRecord, Trimmed}
 use Rattle.sync_model.specs.Trims.{BelowFloor}
 use Rattle.sync_exchange.specs.Profile.{the_profile}
-use Rattle.sync_exchange.specs.Seen.{server_bytes}
 use Rattle.sync_words.specs.Messages.{message_read}
 use Rattle.sync_node.specs.Frames.{frame}
 use Rattle.sync_node.specs.Items.{Items, Over, Bad, Limit, Next, frames_of}
 use Rattle.sync_node.specs.Opening.{server_file}
-use Rattle.sync_node.specs.Runs.{Answer, LeavesSome, Run, added, no_notes, run_from}
+use Rattle.sync_node.specs.Runs.{Answer, Run, added, no_notes, run_from}
 use Rattle.sync_node.specs.ServerTexts.{IsOwn, trimmed_by}
 use Rattle.sync_node.specs.Steps.{kept_by, serve_step}
 
