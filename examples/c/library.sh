@@ -14,8 +14,10 @@ archive=$top/crates/sync_host_c/out/libsync_host_c.a
 heap=$(dirname "$(rt doc)")/c/liblibc_c.a
 
 (cd "$top/crates/sync_host_c" && rt lib) >"$out/rt.log" 2>&1 || { tail -n 20 "$out/rt.log" >&2; exit 1; }
-# Nodes may be used by several threads at once since the archive has no data that can be written.
-if nm --defined-only "$archive" | grep -E ' [bBcCdDsSuG] '; then
+# Nodes may be used by several threads at once since the archive has no data that can be written: no section of some size with a W among
+# its flags, but for constants that the linker fills in.
+if readelf -SW "$archive" | sed 's/^ *\[ *[0-9]*\] *//' |
+    awk '$7 ~ /W/ && $5 !~ /^0+$/ && $1 !~ /^\.data\.rel\.ro/ { print $1, $5; found = 1 } END { exit !found }' >&2; then
     echo "library.sh: the archive has data that can be written" >&2
     exit 1
 fi

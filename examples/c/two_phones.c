@@ -84,12 +84,17 @@ int main(int count, char **words) {
     sync_with(&first, &server);
     sync_with(&second, &server);
     sync_with(&first, &server);
+
+    /* What the last message may have changed is what a screen draws anew. */
+    size_t len;
+    expect(realm_changed(&first), "changed", &first);
+    const uint8_t *places = realm_bytes(&first, &len);
+    printf("first phone, to draw anew:\n%.*s", (int)len, (const char *)places);
     print_objects("first phone, afterwards", &first);
     print_objects("second phone, afterwards", &second);
     print_objects("server", &server);
 
     /* One object is read by its table and key. */
-    size_t len;
     expect(realm_object(&first, "{\"table\":\"notes\",\"key\":1}"), "object", &first);
     const uint8_t *line = realm_bytes(&first, &len);
     printf("note 1: %.*s", (int)len, (const char *)line);

@@ -117,7 +117,10 @@ class _Place(ctypes.Structure):
 
 def _load():
     beside = os.path.join(os.path.dirname(os.path.abspath(__file__)), "..", "..", "build", "librealm_sync.so")
-    library = ctypes.CDLL(os.environ.get("REALM_SYNC_LIBRARY", beside))
+    path = os.environ.get("REALM_SYNC_LIBRARY", beside)
+    if not os.path.exists(path):
+        raise ImportError(f"no {os.path.normpath(path)}: examples/c/library.sh builds it, or REALM_SYNC_LIBRARY names it")
+    library = ctypes.CDLL(path)
     node, size, text, number = ctypes.c_void_p, ctypes.c_size_t, ctypes.c_char_p, ctypes.c_uint32
     for name, answer, arguments in (
         ("open_client", ctypes.c_int, [text]),
@@ -128,6 +131,7 @@ def _load():
         ("retire", ctypes.c_int, [number]),
         ("take", ctypes.c_int, [text, size]),
         ("dump", ctypes.c_int, []),
+        ("changed", ctypes.c_int, []),
         ("object", ctypes.c_int, [text]),
         ("standing", ctypes.c_int, [ctypes.POINTER(_Place)]),
         ("number", number, []),
@@ -308,12 +312,15 @@ class _Open:
             self._call(_library.realm_take, message, len(message))
             return self._taken()
 
-    def lines(self):
-        """All tables, columns and objects as they are now, one after the other: docs/FORMATS.md, "Report and dump"."""
+    def _lines(self, function):
         with self._lock:
-            self._call(_library.realm_dump)
+            self._call(function)
             text = self._bytes().decode()
         return (_decode(line)[0] for line in text.split("\n")[:-1])
+
+    def lines(self):
+        """All tables, columns and objects as they are now, one after the other: docs/FORMATS.md, "Report and dump"."""
+        return self._lines(_library.realm_dump)
 
     def objects(self, table=None):
         """The objects as they are now, each with its table, key and cells, in order."""
@@ -368,6 +375,11 @@ class Client(_Open):
         ms = time.time_ns() // 1_000_000 if ms is None else ms
         return self._line(f'{{"ms":{ms:d},"edits":{_encode(edits)}}}')
 
+    def changed(self):
+        """What the last commit or take may have changed, for a screen to draw anew: a dict for each place, with its "table" and, as the place
+        has them, its "key" and its "column" (docs/FORMATS.md, "Places")."""
+        return self._lines(_library.realm_changed)
+
     def transaction(self, ms=None):
         """A transaction that is committed at the end of a `with`, unless an exception leaves it. It has its number afterwards."""
         return Transaction(self, ms)
@@ -388,12 +400,14 @@ class Client(_Open):
             return self._bytes()
 
     def sync(self, send):
-        """Sends what the server lacks and takes what the client lacks. `send` hands a message over, and answers the reply. Where it
-        fails, all of this may be done again."""
-        is_last = False
+        """Sends what the server lacks and takes what the client lacks, and answers the places that may have changed. `send` hands a
+        message over, and answers the reply. Where it fails, all of this may be done again."""
+        places, is_last = [], False
         while not is_last:
             message, is_last = self._next()
             self.take(send(message))
+            places += self.changed()
+        return places
 
 
 class Server(_Open):

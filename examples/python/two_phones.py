@@ -47,8 +47,9 @@ with tempfile.TemporaryDirectory() as folder, Server() as server:
     # What was answered is in the file.
     with Client(file) as phone, Client() as third:
         third.born("00000000-0000-4000-8000-000000000003")
-        phone.sync(server.take)
+        places = phone.sync(server.take)
         third.sync(server.take)
+        print("phone, to draw anew:", sorted({place["column"] for place in places}))
         print("phone, afterwards:", list(phone.objects("notes")))
         print("equal:", list(phone.lines()) == list(third.lines()) == list(server.lines()))
         print("note 1:", phone.object("notes", 1)["cells"], "note 2:", phone.object("notes", 2))

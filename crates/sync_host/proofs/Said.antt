@@ -25,6 +25,12 @@ if_told replies.Closed P h = tt
 if_told replies.NoMemory P h = tt
 if_told reply P h = h
 
+-- and what follows from what is told
+pub told_then : (reply : Reply) (P Q : Type 0) → (P → Q) → IfTold reply P → IfTold reply Q
+told_then replies.Closed P Q f h = tt
+told_then replies.NoMemory P Q f h = tt
+told_then reply P Q f h = f h
+
 untold : (reply : Reply) (P : Type 0) → Declines None reply → IfTold reply P
 untold reply P (inl closed) = subst (λ (r : Reply). IfTold r P) (sym closed) tt
 untold reply P (inr none) = subst (λ (r : Reply). IfTold r P) (sym none) tt

@@ -9,3 +9,5 @@ pub mod Opened
 pub mod Shown
 pub mod Telling
 pub mod Landed
+pub mod Objects
+pub mod Standing

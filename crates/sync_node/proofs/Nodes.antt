@@ -87,8 +87,8 @@ declined_some number None result known says = absurd (known refl)
 declined_some number (Some w) result known says = says
 
 -- what is said of a text is said of the outcome's
-pub of_text : {P : List ℕ → Type 0} (o : Option (List ℕ)) (text : List ℕ) → o ≡ Some text → IfSome o P → P text
-of_text {P} o text is all = subst (λ (x : Option (List ℕ)). IfSome x P) is all
+pub of_text : (P : List ℕ → Type 0) (o : Option (List ℕ)) (text : List ℕ) → o ≡ Some text → IfSome o P → P text
+of_text P o text is all = subst (λ (x : Option (List ℕ)). IfSome x P) is all
 
 pub plain_seen : (why : CodeRefusal) → (why ≡ codes.DiskFault → ⊥) → (why ≡ codes.NoMemory → ⊥) → (why ≡ codes.Closed → ⊥) → refusal_seen why ≡ None → ⊥
 plain_seen codes.Closed a b c e = c refl

@@ -20,7 +20,7 @@ use Rattle.sync_node.specs.Opening.{HoldsThose, IsOpenStatus, OpenedClient, Open
 use Rattle.sync_node.specs.Texts.{TellsBad}
 
 -- records are read as themselves
-all_again : (rs : List ServerRecord) → all_read (map (λ r. Some r) rs) ≡ rs
+pub all_again : (rs : List ServerRecord) → all_read (map (λ r. Some r) rs) ≡ rs
 all_again [] = refl
 all_again (r ∷ rs) = ap (λ xs. r ∷ xs) (all_again rs)
 

@@ -8,11 +8,14 @@ pub mod Places
 pub mod Planning
 pub mod Playing
 pub mod Plays
+pub mod Recoveries
 pub mod RunLemmas
 pub mod Shown
 pub mod Steps
 pub mod Summing
 pub mod Synced
 pub mod Tells
+pub mod Trims
 pub mod Validity
 pub mod Whole
+mod Equal

@@ -1,8 +1,8 @@
 -- The plan: its clients are there, and it has few parts.
 use Rattle.std.proofs.Common.{◌≡◌, ◌+◌, ◌*◌, ℕ, zero, suc, List, [], ◌∷◌, ◌++◌, length, length-append, map, refl, arith}
-use Rattle.sync_top.specs.declared.plan.Move.{Move}
-use Rattle.sync_top.specs.declared.plan.Move.TheVariants as moves
-use Rattle.sync_top.specs.Plans.{AreClients, AreMoves, clients, plan, round, rounds, turns}
+use Rattle.gen_law.specs.declared.plan.Move.{Move}
+use Rattle.gen_law.specs.declared.plan.Move.TheVariants as moves
+use Rattle.gen_law.specs.Plans.{AreClients, AreMoves, clients, plan, round, rounds, turns}
 
 pub all_clients : AreClients clients
 all_clients =

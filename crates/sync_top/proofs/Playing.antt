@@ -14,12 +14,12 @@ use Rattle.sync_model.specs.Worlds.{Event, Words, World, empty_world, happens, s
 use Rattle.sync_world.specs.Holding.{Holds}
 use Rattle.sync_world.specs.declared.world.World.{World as CodeWorld}
 use Rattle.sync_top.specs.declared.counts.Counts.{Counts}
-use Rattle.sync_top.specs.declared.plan.Move.{Move}
-use Rattle.sync_top.specs.declared.plan.Move.TheVariants as moves
+use Rattle.gen_law.specs.declared.plan.Move.{Move}
+use Rattle.gen_law.specs.declared.plan.Move.TheVariants as moves
 use Rattle.sync_top.specs.declared.progress.Progress.{Progress}
 use Rattle.sync_top.specs.Counting.{Goes, HasRoom, counted}
-use Rattle.sync_top.specs.Generated.{after, answered, done_by, events_by, exchanged, joined, move_events, newest_to, told, words_by, world_by}
-use Rattle.sync_top.specs.Plans.{AreMoves, IsMove}
+use Rattle.gen_law.specs.Generated.{after, answered, done_by, events_by, exchanged, joined, move_events, newest_to, told, words_by, world_by}
+use Rattle.gen_law.specs.Plans.{AreMoves, IsMove}
 use Rattle.sync_top.specs.Playing.{PlayedSoFar, Plays}
 use Rattle.sync_top.specs.Telling.{is_made, is_message, is_refused, one_if}
 use Rattle.sync_top.proofs.Tells.{happens_tells}

@@ -12,9 +12,9 @@ use Rattle.sync_model.specs.Bytes.{Name, Uuid}
 use Rattle.sync_model.specs.Worlds.{Event, empty_world}
 use Rattle.sync_world.specs.declared.world.World.{World as CodeWorld}
 use Rattle.sync_top.specs.declared.counts.Counts.{Counts}
-use Rattle.sync_top.specs.declared.plan.Move.TheVariants as moves
+use Rattle.gen_law.specs.declared.plan.Move.TheVariants as moves
 use Rattle.sync_top.specs.Counting.{Goes}
-use Rattle.sync_top.specs.Generated.{done_by, exchanged, move_events, objects_of, world_by}
+use Rattle.gen_law.specs.Generated.{done_by, exchanged, move_events, objects_of, world_by}
 use Rattle.sync_node.specs.Texts.{write_status}
 use Rattle.sync_top.specs.Playing.{Writes}
 use Rattle.sync_top.proofs.Playing.{joined_goes}

@@ -9,9 +9,9 @@ use Rattle.sync_gen.specs.declared.turns.Turn.{Turn}
 use Rattle.sync_gen.specs.declared.turns.TurnKind.{TurnKind}
 use Rattle.sync_model.specs.Worlds.{Words, World}
 use Rattle.sync_top.specs.declared.counts.Counts.{Counts}
-use Rattle.sync_top.specs.declared.plan.Move.TheVariants as moves
+use Rattle.gen_law.specs.declared.plan.Move.TheVariants as moves
 use Rattle.sync_top.specs.Counting.{counted}
-use Rattle.sync_top.specs.Generated.{done_by, move_events}
+use Rattle.gen_law.specs.Generated.{done_by, move_events}
 use Rattle.sync_top.specs.Telling.{is_made, is_message, is_refused, one_if}
 
 pub on_ok : {P Q : Type 0} (r : Result (Unit {0}) NoMemory) → OnOk r P → (P → Q) → OnOk r Q
@@ -30,8 +30,8 @@ pub counts_are : (old new : Counts) (said : Words) → new.messages ≡ old.mess
 counts_are old new said messages made refused = counts_same new (counted old said) messages made refused
 
 -- what is said of words is said of an outcome that the model has
-pub of_seen : {P : Words → Type 0} (o : Option Words) (said : Words) → o ≡ Some said → IfSome o P → P said
-of_seen {P} o said is all = subst (λ (x : Option Words). IfSome x P) is all
+pub of_seen : (P : Words → Type 0) (o : Option Words) (said : Words) → o ≡ Some said → IfSome o P → P said
+of_seen P o said is all = subst (λ (x : Option Words). IfSome x P) is all
 
 -- what is done in a turn is what was drawn for it
 pub turned_is : (number x draws : ℕ) (turn : Turn) (kind : TurnKind) (w : World) → turn ≡ (turn_of number x).0 → draws ≡ (turn_of number x).1 → turn.kind ≡ kind

@@ -16,7 +16,7 @@ use Rattle.sync_model.specs.Bytes.{Name}
 use Rattle.sync_model.specs.Clients.{ClientRecord, client_of}
 use Rattle.sync_model.specs.Worlds.{World, has_name, seek}
 use Rattle.sync_world.specs.Holding.{IsClient}
-use Rattle.sync_top.specs.Generated.{node_objects, objects_of}
+use Rattle.gen_law.specs.Generated.{node_objects, objects_of}
 use Rattle.sync_top.specs.Summaries.{equals, history_in, server_dump, sought_equals}
 
 -- ---- a client's objects

@@ -10,7 +10,7 @@ use Rattle.sync_model.specs.Worlds.{Edits, Event, IsReached, Made, World, empty_
 use Rattle.sync_exchange.specs.Profile.{the_profile}
 use Rattle.sync_top.specs.Runs.{Passes, run_from}
 use Rattle.sync_top.specs.Exchange.{answers, report, events_of}
-use Rattle.sync_top.specs.Generated.{after, world_by}
+use Rattle.gen_law.specs.Generated.{after, world_by}
 use Rattle.sync_top.specs.Synced.{AgreeWhereQuiet, AllCatchUp, IsSynced, first}
 use Rattle.sync_top.proofs.Born.{events_born}
 use Rattle.sync_top.proofs.Events.{events_left, first_left}

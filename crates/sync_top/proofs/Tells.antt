@@ -1,12 +1,12 @@
--- What is told of events, as the model has them: how many messages there are afterwards, and the number of a reply.
-use Rattle.std.proofs.Common.{◌≡◌, ◌+◌, ℕ, suc, Bool, true, false, List, [], ◌∷◌, ◌++◌, length, length-append, Option, None, Some, Result, Ok, Err, refl, sym, ap, ◌∙◌, add-zero, if◌then◌else◌, bytes_eq}
+-- What is told of events, as the model has them: how many messages there are afterwards.
+use Rattle.std.proofs.Common.{◌≡◌, ◌+◌, ℕ, Bool, true, false, List, [], ◌∷◌, ◌++◌, length, length-append, Option, None, Some, Result, Ok, Err, refl, sym, ap, ◌∙◌, add-zero, if◌then◌else◌, bytes_eq}
 use Rattle.sync_model.specs.Bytes.{Name}
 use Rattle.sync_model.specs.Messages.{Message}
 use Rattle.sync_model.specs.Clients.{Client, ClientRecord, ClientRefusal, ClientStep, client_of, commit, upgrade, subscribe, bind, upload, ask, take as take_message}
 use Rattle.sync_model.specs.Profile.{Profile}
 use Rattle.sync_model.specs.Servers.{ServerRecord, ServerStep, server_of, serve}
 use Rattle.sync_model.specs.Worlds.{Event, Node, Outcome, Words, World, client_called, client_calls, client_ends, client_moved, delivers, happens, has_name, injects, is_node, made_words, message_at, message_words, messaged, named_by, names_own, reply_words, says, seek, server_called, server_ends, server_moved, server_name, stopped, subscribe_words, took_words, upgrade_words}
-use Rattle.sync_top.specs.Telling.{IsPlace, Tells, is_message, one_if}
+use Rattle.sync_top.specs.Telling.{Tells, is_message, one_if}
 
 -- ---- one outcome or another
 either : {w : World} (b : Bool) (x y : Outcome) → Tells w x → Tells w y → Tells w (if b then x else y)
@@ -60,8 +60,8 @@ served_tells : (w v : World) → v.messages ≡ w.messages → (did : ServerStep
 served_tells w v same did None = reply_tells w (server_moved v did.records) did.answer same
 served_tells w v same did (Some stand) = record { messages = none (server_moved v stand) w same }
 
-nothing_tells : (w : World) (x : Words) → is_message x ≡ false → IsPlace (suc (length w.messages)) x → Tells w (says w x)
-nothing_tells w x untold place = record { messages = sym (add-zero (length w.messages)) ∙ ap (λ b. length w.messages + one_if b) (sym untold) }
+nothing_tells : (w : World) (x : Words) → is_message x ≡ false → Tells w (says w x)
+nothing_tells w x untold = record { messages = sym (add-zero (length w.messages)) ∙ ap (λ b. length w.messages + one_if b) (sym untold) }
 
 named_same : (w : World) (m : Message) → (named_by w m).messages ≡ w.messages
 named_same w (Message.Bind u) = refl
@@ -77,12 +77,12 @@ named_same w (Message.Retired c by number) = refl
 named_same w (Message.AskTables c cursor settled second tables) = refl
 
 restarts_tells : (w : World) (there : Bool) → Tells w (says w (if there then Words.Opened else Words.NoNode))
-restarts_tells w true = nothing_tells w Words.Opened refl tt
-restarts_tells w false = nothing_tells w Words.NoNode refl tt
+restarts_tells w true = nothing_tells w Words.Opened refl
+restarts_tells w false = nothing_tells w Words.NoNode refl
 
 module _ {I S : Type 0} (p : Profile I S) where
   called_tells : {A : Type 0} (w : World) (call : Client I S → ClientStep A) (words : World → Result A ClientRefusal → Outcome) → AnswerTells w words → (q : Option (ℕ × Node)) → Tells w (client_called p w call words q)
-  called_tells w call words tells None = nothing_tells w Words.NoNode refl tt
+  called_tells w call words tells None = nothing_tells w Words.NoNode refl
   called_tells w call words tells (Some q) = ends_tells w q.0 q.1 (call (client_of p q.1.records)) words tells (stopped (w.stops q.1.name) (call (client_of p q.1.records)).records)
 
   calls_tells : {A : Type 0} (w : World) (name : Name) (call : Client I S → ClientStep A) (words : World → Result A ClientRefusal → Outcome) → AnswerTells w words → Tells w (client_calls p w name call words)
@@ -92,16 +92,16 @@ module _ {I S : Type 0} (p : Profile I S) where
   server_tells w v same m = served_tells w v same (serve p (server_of p v.server) m) (stopped (v.stops server_name) (serve p (server_of p v.server) m).records)
 
   delivers_tells : (w : World) (to : Name) (o : Option Message) → Tells w (delivers p w to o)
-  delivers_tells w to None = nothing_tells w Words.NoMessage refl tt
+  delivers_tells w to None = nothing_tells w Words.NoMessage refl
   delivers_tells w to (Some m) = either (bytes_eq to server_name) (server_called p w m) (client_calls p w to (λ c. take_message p c m) took_words) (server_tells w w refl m) (calls_tells w to (λ c. take_message p c m) took_words (took_tells w))
 
   injects_tells : (w : World) (o : Option Message) → Tells w (injects p w o)
-  injects_tells w None = nothing_tells w Words.BadMessage refl tt
-  injects_tells w (Some m) = either (names_own p w m) (says w Words.OwnIdent) (server_called p (named_by w m) m) (nothing_tells w Words.OwnIdent refl tt) (server_tells w (named_by w m) (named_same w m) m)
+  injects_tells w None = nothing_tells w Words.BadMessage refl
+  injects_tells w (Some m) = either (names_own p w m) (says w Words.OwnIdent) (server_called p (named_by w m) m) (nothing_tells w Words.OwnIdent refl) (server_tells w (named_by w m) (named_same w m) m)
 
   joins_tells : (w : World) (name : Name) (records : List ClientRecord) (taken known : Bool) → Tells w (if taken then says w Words.NameTaken else if known then says w Words.UuidTaken else says (record w { clients = w.clients ++ record { name = name; records = records } ∷ [] }) (Words.Joined name))
-  joins_tells w name records true known = nothing_tells w Words.NameTaken refl tt
-  joins_tells w name records false true = nothing_tells w Words.UuidTaken refl tt
+  joins_tells w name records true known = nothing_tells w Words.NameTaken refl
+  joins_tells w name records false true = nothing_tells w Words.UuidTaken refl
   joins_tells w name records false false = record { messages = sym (add-zero (length w.messages)) }
 
   pub happens_tells : (w : World) (e : Event I) → Tells w (happens p w e)
@@ -113,7 +113,7 @@ module _ {I S : Type 0} (p : Profile I S) where
   happens_tells w (Event.Asks name) = calls_tells w name ask message_words (message_tells w)
   happens_tells w (Event.Upgrades name) = calls_tells w name upgrade upgrade_words (upgrade_tells w)
   happens_tells w (Event.Subscribes name tables) = calls_tells w name (λ c. subscribe c tables) subscribe_words (subscribe_tells w)
-  happens_tells w (Event.Delivers message to) = either (is_node w to) (delivers p w to (message_at w message)) (says w Words.NoNode) (delivers_tells w to (message_at w message)) (nothing_tells w Words.NoNode refl tt)
+  happens_tells w (Event.Delivers message to) = either (is_node w to) (delivers p w to (message_at w message)) (says w Words.NoNode) (delivers_tells w to (message_at w message)) (nothing_tells w Words.NoNode refl)
   happens_tells w (Event.Restarts node) = restarts_tells w (is_node w node)
-  happens_tells w (Event.Stops node k leaves) = either (is_node w node) _ (says w Words.NoNode) (record { messages = sym (add-zero (length w.messages)) }) (nothing_tells w Words.NoNode refl tt)
+  happens_tells w (Event.Stops node k leaves) = either (is_node w node) _ (says w Words.NoNode) (record { messages = sym (add-zero (length w.messages)) }) (nothing_tells w Words.NoNode refl)
   happens_tells w (Event.Injects m) = injects_tells w m

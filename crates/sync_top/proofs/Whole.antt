@@ -10,12 +10,12 @@ use Rattle.sync_model.specs.Worlds.{Event, World, empty_world}
 use Rattle.sync_world.specs.Holding.{Holds}
 use Rattle.sync_world.specs.declared.world.World.{World as CodeWorld}
 use Rattle.sync_top.specs.declared.counts.Counts.{Counts}
-use Rattle.sync_top.specs.declared.plan.Move.{Move}
+use Rattle.gen_law.specs.declared.plan.Move.{Move}
 use Rattle.sync_top.specs.declared.progress.Progress.{Progress}
 use Rattle.sync_top.specs.Counting.{Goes}
-use Rattle.sync_top.specs.Generated.{events_by, events_of, words_by, world_by}
+use Rattle.gen_law.specs.Generated.{events_by, events_of, words_by, world_by}
 use Rattle.sync_top.specs.Jobs.{most_turns}
-use Rattle.sync_top.specs.Plans.{AreMoves, clients, plan}
+use Rattle.gen_law.specs.Plans.{AreMoves, clients, plan}
 use Rattle.sync_top.specs.Summaries.{equals, history_in, summary_by, summary_of, summary_text}
 use Rattle.sync_top.specs.Telling.{is_made, is_refused}
 use Rattle.sync_top.proofs.Planning.{plan_length, plan_moves}

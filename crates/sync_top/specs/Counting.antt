@@ -5,7 +5,7 @@ use Rattle.sync_model.specs.Worlds.{Event, Words, empty_world}
 use Rattle.sync_world.specs.Holding.{Holds}
 use Rattle.sync_world.specs.declared.world.World.{World as CodeWorld}
 use Rattle.sync_top.specs.declared.counts.Counts.{Counts}
-use Rattle.sync_top.specs.Generated.{words_by, world_by}
+use Rattle.gen_law.specs.Generated.{words_by, world_by}
 use Rattle.sync_top.specs.Telling.{is_made, is_message, is_refused, one_if}
 
 abbrev pub counted : Counts → Words → Counts

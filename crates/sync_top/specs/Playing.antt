@@ -8,11 +8,11 @@ use Rattle.sync_io.specs.declared.status.Status.{Status}
 use Rattle.sync_io.specs.declared.status.Status.TheVariants as statuses
 use Rattle.sync_model.specs.Worlds.{Event, World, empty_world}
 use Rattle.sync_world.specs.declared.world.World.{World as CodeWorld}
-use Rattle.sync_top.specs.declared.plan.Move.{Move}
+use Rattle.gen_law.specs.declared.plan.Move.{Move}
 use Rattle.sync_top.specs.declared.progress.Progress.{Progress}
 use Rattle.sync_top.specs.Counting.{Goes}
-use Rattle.sync_top.specs.Generated.{events_by, world_by}
-use Rattle.sync_top.specs.Plans.{AreMoves}
+use Rattle.gen_law.specs.Generated.{events_by, world_by}
+use Rattle.gen_law.specs.Plans.{AreMoves}
 
 -- these events come next, and so is drawn
 pub record Plays (made : List (Event Instr) × ℕ) (before : List (Event Instr)) (now : Progress) (world : CodeWorld) : Type 0 where

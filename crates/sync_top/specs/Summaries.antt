@@ -10,8 +10,8 @@ use Rattle.sync_model.specs.Clients.{client_of}
 use Rattle.sync_model.specs.Servers.{server_objects, server_of}
 use Rattle.sync_model.specs.Worlds.{Event, Node, World, empty_world, has_name, seek}
 use Rattle.sync_words.specs.Words.{said}
-use Rattle.sync_top.specs.Generated.{events_of, words_by, world_by}
-use Rattle.sync_top.specs.Plans.{clients}
+use Rattle.gen_law.specs.Generated.{events_of, words_by, world_by}
+use Rattle.gen_law.specs.Plans.{clients}
 use Rattle.sync_top.specs.Telling.{is_made, is_refused}
 
 -- ---- the nodes at the end
@@ -34,6 +34,10 @@ sought_equals w (Some q) = node_equals w q.1
 unfoldable pub equals : World → Name → Bool
 equals w name = sought_equals w (seek (has_name name) w.clients)
 
+-- how many of the clients are so
+abbrev pub equal_in : World → ℕ
+equal_in w = count_by (λ c. equals w (name_of c)) clients
+
 -- ---- the text
 abbrev pub line : List ℕ → ℕ → List ℕ
 line word number = said word (number ∷ []) ++ codes "\n"
@@ -45,7 +49,7 @@ summary_text seed count made history refused equal =
 -- what is written of an exchange of these events
 abbrev pub summary_by : (seed count : ℕ) → List (Event Instr) → List ℕ
 summary_by seed count es =
-    summary_text seed count (count_by is_made (words_by empty_world es)) (history_in (world_by empty_world es)) (count_by is_refused (words_by empty_world es)) (count_by (λ c. equals (world_by empty_world es) (name_of c)) clients)
+    summary_text seed count (count_by is_made (words_by empty_world es)) (history_in (world_by empty_world es)) (count_by is_refused (words_by empty_world es)) (equal_in (world_by empty_world es))
 
 -- the summary of a seed and a number of turns
 unfoldable pub summary_of : (seed count : ℕ) → List ℕ

@@ -5,8 +5,8 @@ ghost use Rattle.sync_gen.specs.Clients.{name_of};
 ghost use Rattle.sync_world.specs.Events.{IsCounted, event_seen};
 ghost use Rattle.sync_words.specs.Outcomes.{outcome_seen};
 ghost use Rattle.sync_top.specs.Counting.{Goes, HasRoom, counted};
-ghost use Rattle.sync_top.specs.Generated.{exchanged, newest_to, world_by};
-ghost use Rattle.sync_top.specs.Plans.{IsClient};
+ghost use Rattle.gen_law.specs.Generated.{exchanged, newest_to, world_by};
+ghost use Rattle.gen_law.specs.Plans.{IsClient};
 ghost use Rattle.sync_top.specs.Telling.{is_made, is_message, is_refused, one_if};
 
 use std::alloc::Global;

@@ -2,7 +2,7 @@ ghost use Rattle.std.specs.Prelude.{◌≡◌, ◌≢◌, ◌≤◌, IfOk, OnOk}
 ghost use Rattle.sync_io.specs.Faults.{HasRisen};
 ghost use Rattle.sync_model.specs.Worlds as model;
 ghost use Rattle.sync_world.specs.Holding.{Holds};
-ghost use Rattle.sync_top.specs.Generated.{events_of, world_by};
+ghost use Rattle.gen_law.specs.Generated.{events_of, world_by};
 ghost use Rattle.sync_top.specs.Jobs.{most_turns};
 ghost use Rattle.sync_top.specs.Playing.{Writes};
 ghost use Rattle.sync_top.specs.Summaries.{summary_of};

@@ -1,6 +1,7 @@
 ghost use Rattle.std.specs.Prelude.{◌≡◌, ◌∷◌, ◌++◌, [], map, IfOk, OnOk};
-ghost use Rattle.sync_top.specs.Plans.{plan, round, rounds, turns};
+ghost use Rattle.gen_law.specs.Plans.{plan, round, rounds, turns};
 
+use gen_law::Move;
 use std::alloc::Global;
 use sync_data::NoMemory;
 
@@ -9,21 +10,6 @@ pub(crate) const EVERY_CLIENT: [u32; 8] = [1, 2, 3, 4, 5, 6, 7, 8];
 
 /// How often every client pushes and pulls at the end.
 const ROUNDS: u32 = 64;
-
-/// A part of a generated exchange.
-#[derive(Clone, Copy, Debug, PartialEq, Eq)]
-pub enum Move {
-    /// The client comes in, and gets its ident.
-    Join { client: u32 },
-    /// The first client makes the table and its columns.
-    Found,
-    /// The client uploads what it has unsent, and takes the reply.
-    Push { client: u32 },
-    /// The client asks for the history, and takes it.
-    Pull { client: u32 },
-    /// The turn of this number: what is drawn for it is done.
-    Turn { number: u32 },
-}
 
 fn add(plan: &mut Vec<Move>, next: Move) -> Result<(), NoMemory>
     ensures { OnOk result (plan.new.items ≡ plan.old.items ++ next ∷ []) }

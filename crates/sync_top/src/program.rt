@@ -7,18 +7,21 @@ ghost use Rattle.sync_model.specs.Worlds as model;
 ghost use Rattle.sync_world.specs.Holding.{Holds};
 ghost use Rattle.sync_top.specs.Commands.{Does, IsFileFor, IsInputFor, ReadsNothing};
 ghost use Rattle.sync_top.specs.Exchange.{IsValidInput, answers, events_of, report};
-ghost use Rattle.sync_top.specs.Generated.{events_of as drawn_events, world_by};
+ghost use Rattle.gen_law.specs.Ends.{AllCaughtUp};
+ghost use Rattle.gen_law.specs.Generated.{events_of as drawn_events, world_by};
 ghost use Rattle.sync_top.specs.Jobs.{AsksFor, IsFileCommand, most_turns};
 ghost use Rattle.sync_top.specs.Playing.{Writes};
+ghost use Rattle.sync_top.specs.Recoveries.{SavesAtAnyEnd};
 ghost use Rattle.sync_top.specs.Runs.{FollowsTold, IsDoneOrNoMemory, Leaves, Passes, run_from, runs};
 ghost use Rattle.sync_top.specs.Statuses.{IsJobStatus};
-ghost use Rattle.sync_top.specs.Summaries.{summary_of};
+ghost use Rattle.sync_top.specs.Summaries.{equal_in, summary_of};
 ghost use Rattle.sync_top.specs.Synced.{IsSynced, first};
+ghost use Rattle.sync_top.specs.Trims.{ServesOwn, TrimsAlike};
 
 use super::files::run_file;
 use super::generated::generate;
 use super::job::{FileCommand, Job, job_of};
-use super::laws::exchanges_hold;
+use super::laws::{exchanges_hold, generated_end_equal, recoveries_hold, trims_hold};
 use super::lines::run_lines;
 use std::alloc::Global;
 use sync_disk::Disk;
@@ -51,8 +54,16 @@ fn run_job<S: Source, K: Sink, D: Disk>(
         → Holds (world_by model.empty_world (drawn_events seed count)) world.new }
     ensures generated_headline { (seed count : ℕ) → job ≡ Job.Generate seed count
         → IsSynced (drawn_events seed count) (world_by model.empty_world (drawn_events seed count)) }
+    ensures caught_up { (seed count : ℕ) → job ≡ Job.Generate seed count
+        → AllCaughtUp (world_by model.empty_world (drawn_events seed count)) }
+    ensures equal { (seed count : ℕ) → job ≡ Job.Generate seed count
+        → equal_in (world_by model.empty_world (drawn_events seed count)) ≡ 8 }
     ensures file { (command : FileCommand) → job ≡ Job.File command
         → Does D.content D.images D.moment D.images_since command (S.left source.old) result disk.old disk.new (K.taken sink.old) (K.taken sink.new) }
+    ensures trims { job ≡ Job.File FileCommand.Trim → TrimsAlike (D.content disk.old) }
+    ensures own { job ≡ Job.File FileCommand.Serve → ServesOwn (D.content disk.old) (S.left source.old) }
+    ensures saves { (command : FileCommand) → job ≡ Job.File command
+        → SavesAtAnyEnd D.content D.images command (S.left source.old) disk.old disk.new }
     ensures disk_aside { job ≡ Job.Replay → disk.new ≡ disk.old }
     ensures all_aside { (seed count : ℕ) → job ≡ Job.Generate seed count → (source.new ≡ source.old) × (disk.new ≡ disk.old) }
     ensures world_aside { (command : FileCommand) → job ≡ Job.File command → world.new ≡ world.old }
@@ -83,9 +94,14 @@ fn run_job<S: Source, K: Sink, D: Disk>(
         }
         Job::Generate { seed, count } => {
             exchanges_hold();
+            generated_end_equal();
             generate(alloc, seed, count, sink, world)
         }
-        Job::File { command } => run_file(alloc, command, source, sink, disk),
+        Job::File { command } => {
+            trims_hold();
+            recoveries_hold();
+            run_file(alloc, command, source, sink, disk)
+        }
     }
 }
 
@@ -132,9 +148,26 @@ pub fn run<S: Source, K: Sink, D: Disk>(
     ensures generated_headline { (seed count : ℕ) → AsksFor (Job.Generate seed count) (map string_bytes words.now)
         → IsSynced (drawn_events seed count) (world_by model.empty_world (drawn_events seed count)) }
 
+    // In the end all eight clients have the whole history, nothing unsent and the server's objects, and the number written as
+    // `equal` is 8.
+    ensures caught_up { (seed count : ℕ) → AsksFor (Job.Generate seed count) (map string_bytes words.now)
+        → AllCaughtUp (world_by model.empty_world (drawn_events seed count)) }
+    ensures equal { (seed count : ℕ) → AsksFor (Job.Generate seed count) (map string_bytes words.now)
+        → equal_in (world_by model.empty_world (drawn_events seed count)) ≡ 8 }
+
     // A command over a file does what is written of it.
     ensures file { (command : FileCommand) → AsksFor (Job.File command) (map string_bytes words.now)
         → Does D.content D.images D.moment D.images_since command (S.left source.old) result disk.old disk.new (K.taken sink.old) (K.taken sink.new) }
+
+    // Over the file that `trim` writes, `serve` answers as over the whole one, up to the first message that reaches below the
+    // floor. A file that a server wrote itself stays so: that is all that `trims` asks of it.
+    ensures trims { AsksFor (Job.File FileCommand.Trim) (map string_bytes words.now) → TrimsAlike (D.content disk.old) }
+    ensures own { AsksFor (Job.File FileCommand.Serve) (map string_bytes words.now) → ServesOwn (D.content disk.old) (S.left source.old) }
+
+    // An heir's file: however runs are repeated and wherever this one ends, each change of the old client is integrated, or saved
+    // once without what is listed as dropped, and never both.
+    ensures saves { (command : FileCommand) → AsksFor (Job.File command) (map string_bytes words.now)
+        → SavesAtAnyEnd D.content D.images command (S.left source.old) disk.old disk.new }
 
     // What isn't the command's stays as it was.
     ensures disk_aside { AsksFor Job.Replay (map string_bytes words.now) → disk.new ≡ disk.old }

@@ -4,12 +4,12 @@ ghost use Rattle.sync_gen.specs.Edits.{edit_of};
 ghost use Rattle.sync_model.specs.Worlds as model;
 ghost use Rattle.sync_world.specs.Holding.{Holds};
 ghost use Rattle.sync_top.specs.Counting.{Goes};
-ghost use Rattle.sync_top.specs.Generated.{done_by, events_by, move_events, objects_of};
-ghost use Rattle.sync_top.specs.Plans.{AreMoves, IsClient, IsMove};
+ghost use Rattle.gen_law.specs.Generated.{done_by, events_by, move_events, objects_of};
+ghost use Rattle.gen_law.specs.Plans.{AreMoves, IsClient, IsMove};
 ghost use Rattle.sync_top.specs.Playing.{PlaysPart};
 
 use super::counts::Counts;
-use super::plan::Move;
+use gen_law::Move;
 use std::alloc::Global;
 use sync_base::Instr;
 use sync_data::{Listed, Name, NoMemory};

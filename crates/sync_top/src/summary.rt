@@ -2,7 +2,7 @@ ghost use Rattle.std.specs.Prelude.{◌≡◌, ◌&&◌, ◌++◌, ◌<◌, ◌^
 ghost use Rattle.sync_gen.specs.Clients.{name_of};
 ghost use Rattle.sync_model.specs.Worlds as model;
 ghost use Rattle.sync_world.specs.Holding.{Holds};
-ghost use Rattle.sync_top.specs.Plans.{AreClients, clients};
+ghost use Rattle.gen_law.specs.Plans.{AreClients, clients};
 ghost use Rattle.sync_top.specs.Summaries.{equals, history_in, line, server_dump, summary_text};
 
 use super::counts::Counts;

@@ -70,11 +70,14 @@ fn put_past_of<D: Disk>(
     ensures { OnOk result ((floor : ℕ) → (parts (kept_of server.now)).floor ≤ floor → floor ≤ from → map server_seen records.new.items ≡ map server_seen records.old.items ++ crossed_of the_profile ident floor (drop (floor - (parts (kept_of server.now)).floor) (parts (kept_of server.now)).entries) (pairs_from from list.now)) }
 {
     for place in 0..list.len() {
-        if let Some((version, crossed)) = list.get(place)? {
-            if from <= version {
-                put_crossed(alloc, records, server, ident, version, &crossed)?;
-            }
+        let found = list.get(place)?;
+        let Some((version, crossed)) = found else {
+            continue;
+        };
+        if version < from {
+            continue;
         }
+        put_crossed(alloc, records, server, ident, version, &crossed)?;
     }
     Ok(())
 }

@@ -16,4 +16,4 @@ returns-in-Ok g c = λ records is.
 pub returns-in-Err : goal.returns-in-Err
 returns-in-Err g c = λ records is.
     said_err word (take the_profile (client_of the_profile records) (message_seen c.args.message)) records c.args.client.now c.take.new.self (refusal_seen c.in-Err.refusal) c.decline.result (c.in-Err.ensures.step records is.client) (c.in-Err.ensures.stored records is.client is.stored)
-    (asked_where g.D.strokes (take the_profile (client_of the_profile records) (message_seen c.args.message)).records (journal_of c.args.client.now) (journal_of c.take.new.self) c.in-Err.refusal (c.in-Err.ensures.strokes records is.client is.stored)) c.decline.ensures
+    (asked_where g.D.Disk.strokes (take the_profile (client_of the_profile records) (message_seen c.args.message)).records (journal_of c.args.client.now) (journal_of c.take.new.self) c.in-Err.refusal (c.in-Err.ensures.strokes records is.client is.stored)) c.decline.ensures

@@ -15,4 +15,4 @@ returns-in-Ok g c = λ records is.
 pub returns-in-Err : goal.returns-in-Err
 returns-in-Err g c = λ records is.
     said_err nothing (upgrade (client_of the_profile records)) records c.args.client.now c.upgrade.new.self (refusal_seen c.in-Err.refusal) c.decline.result (c.in-Err.ensures.step records is.client) (c.in-Err.ensures.stored records is.client is.stored)
-    (asked_where g.D.strokes (upgrade (client_of the_profile records)).records (journal_of c.args.client.now) (journal_of c.upgrade.new.self) c.in-Err.refusal (c.in-Err.ensures.strokes records is.client is.stored)) c.decline.ensures
+    (asked_where g.D.Disk.strokes (upgrade (client_of the_profile records)).records (journal_of c.args.client.now) (journal_of c.upgrade.new.self) c.in-Err.refusal (c.in-Err.ensures.strokes records is.client is.stored)) c.decline.ensures

@@ -11,7 +11,7 @@ pub returns-in-Ok-clause-done : goal.returns-in-Ok-clause-done
 returns-in-Ok-clause-done g c = λ records stands.
     let did = upgrade (client_of the_profile records) in
     said_ok upgrade_words c.args.number did records c.upgrade.new.self c.in-Ok.is_new c.say.result (c.in-Ok.ensures.step records stands.client) (c.in-Ok.ensures.stored records stands.client stands.stored)
-    (of_text (outcome_text c.upgraded.result) (upgrade_words c.in-Ok.is_new) c.upgraded.ensures c.say.ensures.said)
+    (of_text _ (outcome_text c.upgraded.result) (upgrade_words c.in-Ok.is_new) c.upgraded.ensures c.say.ensures.said)
 
 pub returns-in-Err-clause-done : goal.returns-in-Err-clause-done
 returns-in-Err-clause-done g c = λ records stands.

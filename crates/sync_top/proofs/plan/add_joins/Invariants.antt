@@ -1,5 +1,5 @@
 use Rattle.std.proofs.Common.{◌≡◌, ◌++◌, drop, map}
-use Rattle.sync_top.specs.declared.plan.Move.TheVariants as moves
+use Rattle.gen_law.specs.declared.plan.Move.TheVariants as moves
 use Rattle.sync_top.proofs.plan.add_joins.Given as goal
 
 abbrev pub invariant-loop-client : goal.invariant-loop-client

@@ -1,5 +1,5 @@
 use Rattle.std.proofs.Common.{◌≡◌, ◌++◌, drop}
-use Rattle.sync_top.specs.Plans.{round}
+use Rattle.gen_law.specs.Plans.{round}
 use Rattle.sync_top.proofs.plan.add_round.Given as goal
 
 abbrev pub invariant-loop-each : goal.invariant-loop-each

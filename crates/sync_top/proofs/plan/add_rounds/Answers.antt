@@ -1,6 +1,6 @@
 use Rattle.std.proofs.Common.{add-one, arith, rules}
 use Rattle.std.proofs.lemmas.Grind.{common_steps}
-use Rattle.sync_top.specs.Plans.{rounds}
+use Rattle.gen_law.specs.Plans.{rounds}
 use Rattle.sync_top.proofs.plan.add_rounds.Goals as goal
 
 pub loop-before-init : goal.loop-before-init

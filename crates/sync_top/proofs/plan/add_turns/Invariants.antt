@@ -1,5 +1,5 @@
 use Rattle.std.proofs.Common.{◌≡◌, ◌++◌}
-use Rattle.sync_top.specs.Plans.{turns}
+use Rattle.gen_law.specs.Plans.{turns}
 use Rattle.sync_top.proofs.plan.add_turns.Given as goal
 
 abbrev pub invariant-loop-before : goal.invariant-loop-before

@@ -1,7 +1,7 @@
 use Rattle.std.proofs.Common.{List, ◌++◌, [], ◌∷◌, ap, map, ◌∙◌}
-use Rattle.sync_top.specs.declared.plan.Move.{Move}
-use Rattle.sync_top.specs.declared.plan.Move.TheVariants as moves
-use Rattle.sync_top.specs.Plans.{clients, plan, rounds, turns}
+use Rattle.gen_law.specs.declared.plan.Move.{Move}
+use Rattle.gen_law.specs.declared.plan.Move.TheVariants as moves
+use Rattle.gen_law.specs.Plans.{clients, plan, rounds, turns}
 use Rattle.sync_top.proofs.plan.plan_of.Goals as goal
 
 pub returns : goal.returns

@@ -1,4 +1,5 @@
 use Rattle.std.proofs.Common.{map, None, Some, refl, string_bytes}
+use Rattle.sync_top.specs.declared.job.FileCommand.TheVariants as commands
 use Rattle.sync_top.specs.declared.job.Job.TheVariants as jobs
 use Rattle.sync_top.proofs.Asked.{asked_is, few_turns, has_number, is_asked, none_asked, not_bad_words}
 use Rattle.sync_top.proofs.program.run.Goals as goal
@@ -34,6 +35,12 @@ returns-in-Some-clause-generates g c = λ seed count asks. c.run_job.ensures.gen
 
 pub returns-in-Some-clause-generated_headline : goal.returns-in-Some-clause-generated_headline
 returns-in-Some-clause-generated_headline g c = λ seed count asks. c.run_job.ensures.generated_headline seed count (asked_is (Some c.in-Some.job) (map string_bytes c.args.words.now) c.in-Some.ensures c.in-Some.job (jobs.Generate seed count) refl asks)
+
+pub returns-in-Some-clause-caught_up : goal.returns-in-Some-clause-caught_up
+returns-in-Some-clause-caught_up g c = λ seed count asks. c.run_job.ensures.caught_up seed count (asked_is (Some c.in-Some.job) (map string_bytes c.args.words.now) c.in-Some.ensures c.in-Some.job (jobs.Generate seed count) refl asks)
+
+pub returns-in-Some-clause-equal : goal.returns-in-Some-clause-equal
+returns-in-Some-clause-equal g c = λ seed count asks. c.run_job.ensures.equal seed count (asked_is (Some c.in-Some.job) (map string_bytes c.args.words.now) c.in-Some.ensures c.in-Some.job (jobs.Generate seed count) refl asks)
 
 pub returns-in-Some-clause-file : goal.returns-in-Some-clause-file
 returns-in-Some-clause-file g c = λ command asks. c.run_job.ensures.file command (asked_is (Some c.in-Some.job) (map string_bytes c.args.words.now) c.in-Some.ensures c.in-Some.job (jobs.File command) refl asks)
@@ -77,6 +84,12 @@ returns-in-None-clause-generates g c = λ seed count asks. absurd (none_asked No
 pub returns-in-None-clause-generated_headline : goal.returns-in-None-clause-generated_headline
 returns-in-None-clause-generated_headline g c = λ seed count asks. absurd (none_asked None (map string_bytes c.args.words.now) c.in-None.ensures (jobs.Generate seed count) refl asks)
 
+pub returns-in-None-clause-caught_up : goal.returns-in-None-clause-caught_up
+returns-in-None-clause-caught_up g c = λ seed count asks. absurd (none_asked None (map string_bytes c.args.words.now) c.in-None.ensures (jobs.Generate seed count) refl asks)
+
+pub returns-in-None-clause-equal : goal.returns-in-None-clause-equal
+returns-in-None-clause-equal g c = λ seed count asks. absurd (none_asked None (map string_bytes c.args.words.now) c.in-None.ensures (jobs.Generate seed count) refl asks)
+
 pub returns-in-None-clause-file : goal.returns-in-None-clause-file
 returns-in-None-clause-file g c = λ command asks. absurd (none_asked None (map string_bytes c.args.words.now) c.in-None.ensures (jobs.File command) refl asks)
 
@@ -94,3 +107,21 @@ returns-in-Some-clause-unread g c = λ command asks. c.run_job.ensures.unread co
 
 pub returns-in-None-clause-unread : goal.returns-in-None-clause-unread
 returns-in-None-clause-unread g c = λ command asks. absurd (none_asked None (map string_bytes c.args.words.now) c.in-None.ensures (jobs.File command) refl asks)
+
+pub returns-in-Some-clause-trims : goal.returns-in-Some-clause-trims
+returns-in-Some-clause-trims g c = λ asks. c.run_job.ensures.trims (asked_is (Some c.in-Some.job) (map string_bytes c.args.words.now) c.in-Some.ensures c.in-Some.job (jobs.File commands.Trim) refl asks)
+
+pub returns-in-None-clause-trims : goal.returns-in-None-clause-trims
+returns-in-None-clause-trims g c = λ asks. absurd (none_asked None (map string_bytes c.args.words.now) c.in-None.ensures (jobs.File commands.Trim) refl asks)
+
+pub returns-in-Some-clause-own : goal.returns-in-Some-clause-own
+returns-in-Some-clause-own g c = λ asks. c.run_job.ensures.own (asked_is (Some c.in-Some.job) (map string_bytes c.args.words.now) c.in-Some.ensures c.in-Some.job (jobs.File commands.Serve) refl asks)
+
+pub returns-in-None-clause-own : goal.returns-in-None-clause-own
+returns-in-None-clause-own g c = λ asks. absurd (none_asked None (map string_bytes c.args.words.now) c.in-None.ensures (jobs.File commands.Serve) refl asks)
+
+pub returns-in-Some-clause-saves : goal.returns-in-Some-clause-saves
+returns-in-Some-clause-saves g c = λ command asks. c.run_job.ensures.saves command (asked_is (Some c.in-Some.job) (map string_bytes c.args.words.now) c.in-Some.ensures c.in-Some.job (jobs.File command) refl asks)
+
+pub returns-in-None-clause-saves : goal.returns-in-None-clause-saves
+returns-in-None-clause-saves g c = λ command asks. absurd (none_asked None (map string_bytes c.args.words.now) c.in-None.ensures (jobs.File command) refl asks)

@@ -3,7 +3,7 @@ use Rattle.std.specs.List.{count_by}
 use Rattle.sync_gen.specs.Clients.{name_of}
 use Rattle.sync_model.specs.Worlds.{World}
 use Rattle.sync_world.specs.Holding.{Holds}
-use Rattle.sync_top.specs.Plans.{AreClients}
+use Rattle.gen_law.specs.Plans.{AreClients}
 use Rattle.sync_top.specs.Summaries.{equals, server_dump}
 use Rattle.sync_top.proofs.summary.equal_among.Given as goal
 

@@ -11,7 +11,32 @@ use Rattle.sync_server.specs.Serving.{kept_of}
 use Rattle.sync_trim.proofs.Crossed.{Pair, crossed, crossed_left, got_none, got_some, passed}
 use Rattle.sync_trim.proofs.Pieces.{at_some, none_next, get_at}
 use Rattle.sync_trim.proofs.past.put_past_of.Goals as goal
-use Rattle.sync_trim.proofs.past.put_past_of.Goals.{in-Some+then-from-version+in_ok-put_crossed, in-Some+else-from-version, in_default}
+
+pub loop-place-preserved-in_default : goal.loop-place-preserved-in_default
+loop-place-preserved-in_default g c =
+    let kept = parts (kept_of c.args.server.now) in
+    let place = c.loop-place.place in
+    let list = c.args.list.now in
+    let ident = c.args.ident in
+    let from = c.args.from in
+    let now = map server_seen c.loop-place.records.items in
+    λ floor above below.
+    ap (λ l. now ++ crossed_left ident kept.floor floor from kept.entries l) (sym (none_next list place (sym (get_at list place) ∙ got_none c.in_ok-found.found (slice_get list place) c.in_ok-found.ensures c.in_default.is)))
+    ∙ c.loop-place.invariant floor above below
+
+pub loop-place-preserved-then-version-from : goal.loop-place-preserved-then-version-from
+loop-place-preserved-then-version-from g c =
+    let kept = parts (kept_of c.args.server.now) in
+    let place = c.loop-place.place in
+    let list = c.args.list.now in
+    let ident = c.args.ident in
+    let from = c.args.from in
+    let now = map server_seen c.loop-place.records.items in
+    let q : Pair = (c.in-Some.version, entry_of c.in-Some.crossed) in
+    let first = at_some list place q (sym (get_at list place) ∙ sym (got_some c.in_ok-found.found (slice_get list place) c.in-Some.version c.in-Some.crossed c.in_ok-found.ensures c.in-Some.is)) in
+    λ floor above below.
+    ap (λ l. now ++ l) (sym (passed ident kept.floor floor from kept.entries (drop place list) (drop (place + 1) list) q first c.if-version-from.true))
+    ∙ c.loop-place.invariant floor above below
 
 pub loop-place-preserved : goal.loop-place-preserved
 loop-place-preserved g c =
@@ -21,25 +46,12 @@ loop-place-preserved g c =
     let ident = c.args.ident in
     let from = c.args.from in
     let now = map server_seen c.loop-place.records.items in
-    elim c.match-get.branch [
-      | in-Some+then-from-version+in_ok-put_crossed w ↦ λ floor above below.
-          let q : Pair = (w.in-Some.version, entry_of w.in-Some.crossed) in
-          let first = at_some list place q (sym (get_at list place) ∙ sym (got_some c.get.result (slice_get list place) w.in-Some.version w.in-Some.crossed c.get.ensures w.in-Some.is)) in
-          let left = crossed_left ident kept.floor floor from kept.entries (drop (place + 1) list) in
-          let made = crossed_record the_profile ident q (item_from kept.floor kept.entries q.0) in
-          ap (λ r. map server_seen r.items ++ left) w.records-is
-          ∙ ap (λ l. l ++ left) w.in_ok-put_crossed.ensures
-          ∙ append_assoc now made left
-          ∙ ap (λ l. now ++ l) (sym (crossed ident kept.floor floor from kept.entries (drop place list) (drop (place + 1) list) q first w.if-from-version.true above below))
-          ∙ c.loop-place.invariant floor above below
-      | in-Some+else-from-version w ↦ λ floor above below.
-          let q : Pair = (w.in-Some.version, entry_of w.in-Some.crossed) in
-          let first = at_some list place q (sym (get_at list place) ∙ sym (got_some c.get.result (slice_get list place) w.in-Some.version w.in-Some.crossed c.get.ensures w.in-Some.is)) in
-          ap (λ r. map server_seen r.items ++ crossed_left ident kept.floor floor from kept.entries (drop (place + 1) list)) w.records-is
-          ∙ ap (λ l. now ++ l) (sym (passed ident kept.floor floor from kept.entries (drop place list) (drop (place + 1) list) q first w.if-from-version.false))
-          ∙ c.loop-place.invariant floor above below
-      | in_default w ↦ λ floor above below.
-          ap (λ r. map server_seen r.items ++ crossed_left ident kept.floor floor from kept.entries (drop (place + 1) list)) w.records-is
-          ∙ ap (λ l. now ++ crossed_left ident kept.floor floor from kept.entries l) (sym (none_next list place (sym (get_at list place) ∙ got_none c.get.result (slice_get list place) c.get.ensures w.in_default.is)))
-          ∙ c.loop-place.invariant floor above below
-    ]
+    let q : Pair = (c.in-Some.version, entry_of c.in-Some.crossed) in
+    let first = at_some list place q (sym (get_at list place) ∙ sym (got_some c.in_ok-found.found (slice_get list place) c.in-Some.version c.in-Some.crossed c.in_ok-found.ensures c.in-Some.is)) in
+    λ floor above below.
+    let left = crossed_left ident kept.floor floor from kept.entries (drop (place + 1) list) in
+    let made = crossed_record the_profile ident q (item_from kept.floor kept.entries q.0) in
+    ap (λ l. l ++ left) c.in_ok-put_crossed.ensures
+    ∙ append_assoc now made left
+    ∙ ap (λ l. now ++ l) (sym (crossed ident kept.floor floor from kept.entries (drop place list) (drop (place + 1) list) q first c.if-version-from.false above below))
+    ∙ c.loop-place.invariant floor above below

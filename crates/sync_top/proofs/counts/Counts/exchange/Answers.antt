@@ -3,7 +3,7 @@ use Rattle.sync_gen.specs.Clients.{name_of}
 use Rattle.sync_model.specs.Worlds.{empty_world, server_name}
 use Rattle.sync_world.specs.Events.{event_seen}
 use Rattle.sync_top.specs.Counting.{Goes}
-use Rattle.sync_top.specs.Generated.{newest_to, world_by}
+use Rattle.gen_law.specs.Generated.{newest_to, world_by}
 use Rattle.sync_top.proofs.Playing.{delivered_to, exchange_goes, one_longer, sent_by}
 use Rattle.sync_top.proofs.Steps.{on_ok}
 use Rattle.sync_top.proofs.counts.Counts.exchange.Goals as goal

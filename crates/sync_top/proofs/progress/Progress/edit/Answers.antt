@@ -3,7 +3,7 @@ use Rattle.sync_gen.specs.Edits.{edit_of}
 use Rattle.sync_model.specs.Worlds.{empty_world}
 use Rattle.sync_top.specs.declared.counts.Counts.{Counts}
 use Rattle.sync_top.specs.Counting.{Goes}
-use Rattle.sync_top.specs.Generated.{objects_of, world_by}
+use Rattle.gen_law.specs.Generated.{objects_of, world_by}
 use Rattle.sync_top.proofs.Plays.{edit_plays}
 use Rattle.sync_top.proofs.Steps.{on_ok}
 use Rattle.sync_top.proofs.progress.Progress.edit.Goals as goal

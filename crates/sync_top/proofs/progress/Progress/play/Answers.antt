@@ -1,8 +1,8 @@
 use Rattle.std.proofs.Common.{sym, subst}
 use Rattle.std.specs.Result.{OnOk}
 use Rattle.sync_model.specs.Worlds.{empty_world}
-use Rattle.sync_top.specs.declared.plan.Move.{Move}
-use Rattle.sync_top.specs.Generated.{move_events, world_by}
+use Rattle.gen_law.specs.declared.plan.Move.{Move}
+use Rattle.gen_law.specs.Generated.{move_events, world_by}
 use Rattle.sync_top.specs.Playing.{Plays}
 use Rattle.sync_top.proofs.progress.Progress.play.Goals as goal
 

@@ -3,7 +3,7 @@ use Rattle.std.specs.Result.{OnOk}
 use Rattle.sync_data.specs.declared.instr.Instr.{Instr}
 use Rattle.sync_gen.specs.declared.turns.TurnKind.TheVariants as kinds
 use Rattle.sync_model.specs.Worlds.{Event, empty_world}
-use Rattle.sync_top.specs.Generated.{world_by}
+use Rattle.gen_law.specs.Generated.{world_by}
 use Rattle.sync_top.specs.Playing.{Plays}
 use Rattle.sync_top.proofs.Steps.{turned_is}
 use Rattle.sync_top.proofs.progress.Progress.turn.Goals as goal

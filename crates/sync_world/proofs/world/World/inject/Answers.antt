@@ -1,4 +1,4 @@
-use Rattle.std.proofs.Common.{Bool, Option, if◌then◌else◌, sym, ◌∙◌, ap, subst}
+use Rattle.std.proofs.Common.{Bool, Ok, Option, if◌then◌else◌, refl, sym, ◌∙◌, ap, subst}
 use Rattle.sync_messages.specs.declared.message.Message.{Message as CodeMessage}
 use Rattle.sync_model.specs.Files.{server_opens}
 use Rattle.sync_model.specs.Messages.{Message}
@@ -9,6 +9,7 @@ use Rattle.sync_exchange.specs.Seen.{message_seen}
 use Rattle.sync_world.specs.Holding.{Happens}
 use Rattle.sync_world.specs.Messages.{IsIt}
 use Rattle.sync_words.specs.Messages.{message_read}
+use Rattle.sync_words.specs.declared.outcome.Outcome.TheVariants as outcomes
 use Rattle.sync_world.proofs.Serving.{named_server}
 use Rattle.sync_world.proofs.world.World.inject.Goals as goal
 
@@ -25,3 +26,13 @@ returns c w h =
     subst (λ (o : Option Message). Happens (injects the_profile w o) c.serve.result c.serve.new.self) (sym is)
     (subst (λ (b : Bool). Happens (if b then says w OwnIdent else server_called the_profile (named_by w m) m) c.serve.result c.serve.new.self) (sym other)
     (c.serve.ensures (named_by w m) (c.in-Ok.ensures w h.stands) opens it.1 reached))
+
+pub returns-then-names_own : goal.returns-then-names_own
+returns-then-names_own c w h =
+    let self = c.args.self.now in
+    let m = message_seen c.in-Ok-Some.message in
+    let it = subst (λ (o : Option CodeMessage). IsIt (message_read c.bytes.result.now) o) c.in-Ok-Some.field-0-is c.in-Ok-Some.ensures in
+    let is = sym (ap message_read c.bytes.ensures) ∙ it.0 in
+    let own = sym (c.names_own.ensures w h.stands (c.worlds_read_back.ensures.opens w h.reached)) ∙ c.if-names_own.true in
+    subst (λ (o : Option Message). Happens (injects the_profile w o) (Ok outcomes.OwnIdent) self) (sym is)
+    (subst (λ (b : Bool). Happens (if b then says w OwnIdent else server_called the_profile (named_by w m) m) (Ok outcomes.OwnIdent) self) (sym own) (refl, h))

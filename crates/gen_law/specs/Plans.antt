@@ -1,7 +1,7 @@
 -- The plan of a generated exchange: what its clients do, in order.
 use Rattle.std.specs.Prelude.{◌≤◌, ℕ, zero, suc, List, [], ◌∷◌, ◌++◌, map}
-use Rattle.sync_top.specs.declared.plan.Move.{Move}
-use Rattle.sync_top.specs.declared.plan.Move.TheVariants as moves
+use Rattle.gen_law.specs.declared.plan.Move.{Move}
+use Rattle.gen_law.specs.declared.plan.Move.TheVariants as moves
 
 -- all clients, by their numbers
 abbrev pub clients : List ℕ

@@ -13,9 +13,9 @@ use Rattle.sync_gen.specs.Turns.{turn_of}
 use Rattle.sync_gen.specs.declared.turns.Turn.{Turn}
 use Rattle.sync_gen.specs.declared.turns.TurnKind.{TurnKind}
 use Rattle.sync_gen.specs.declared.turns.TurnKind.TheVariants as kinds
-use Rattle.sync_top.specs.declared.plan.Move.{Move}
-use Rattle.sync_top.specs.declared.plan.Move.TheVariants as moves
-use Rattle.sync_top.specs.Plans.{plan}
+use Rattle.gen_law.specs.declared.plan.Move.{Move}
+use Rattle.gen_law.specs.declared.plan.Move.TheVariants as moves
+use Rattle.gen_law.specs.Plans.{plan}
 
 -- ---- what events make of a world
 -- the world after an event, and what is told of it

@@ -1,0 +1,3 @@
+pub mod Plans
+pub mod Generated
+pub mod Ends

@@ -1,0 +1,35 @@
+use Rattle.std.proofs.Common.{◌≡◌, true, IfSome, sym, ap, subst}
+use Rattle.sync_model.specs.Clients.{client_of}
+use Rattle.sync_exchange.specs.Profile.{the_profile}
+use Rattle.sync_host.specs.Steps.{IfTold, SentSo, errand}
+use Rattle.sync_host.specs.Verbs.{is_call}
+use Rattle.sync_host.specs.declared.verb.Verb.{Verb}
+use Rattle.sync_host.proofs.hosted.HostedClient.answer.Goals as goal
+
+pub returns-in-Line : goal.returns-in-Line
+returns-in-Line c = let call : is_call c.args.verb ≡ true = ap is_call c.in-Line.is in record {
+  line = λ is. c.line.ensures.step;
+  take = λ is. absurd (cc);
+  changes_by_line = λ is records stands. c.line.ensures.told records;
+  changes_by_take = λ is. absurd (cc);
+  unchanged = λ is. absurd (cc);
+  sends = λ records is. subst (λ (verb : Verb). IfSome (errand verb c.args.body.now c.args.self.now.stored (client_of the_profile records)) (λ did. IfTold c.line.result (SentSo did.answer c.line.result))) (sym c.in-Line.is) tt;
+  dumps = λ is. absurd (cc);
+  changes = λ is. absurd (cc);
+  tells = λ is. absurd (cc);
+  stands = λ is. absurd (cc);
+}
+
+pub returns-in-Take : goal.returns-in-Take
+returns-in-Take c = let call : is_call c.args.verb ≡ true = ap is_call c.in-Take.is in record {
+  line = λ is. absurd (cc);
+  take = λ is. c.take.ensures.step;
+  changes_by_line = λ is. absurd (cc);
+  changes_by_take = λ is records stands. c.take.ensures.told records;
+  unchanged = λ is. absurd (cc);
+  sends = λ records is. subst (λ (verb : Verb). IfSome (errand verb c.args.body.now c.args.self.now.stored (client_of the_profile records)) (λ did. IfTold c.take.result (SentSo did.answer c.take.result))) (sym c.in-Take.is) tt;
+  dumps = λ is. absurd (cc);
+  changes = λ is. absurd (cc);
+  tells = λ is. absurd (cc);
+  stands = λ is. absurd (cc);
+}
