@@ -3,9 +3,11 @@ pub mod Loans
 pub mod Items
 pub mod Runs
 pub mod Exits
-pub mod Nodes
+pub mod Calls
+pub mod Ends
 pub mod Recoverers
 pub mod Opened
 pub mod Shown
 pub mod Telling
 pub mod Landed
+pub mod Waiting

@@ -1,3 +1,4 @@
+pub mod Commands
 pub mod FrameItems
 pub mod Frames
 pub mod Heirs

@@ -47,17 +47,6 @@ pub(crate) fn read_status(before: u64, refusal: ReadRefusal) -> Status
 impl Lines {
     ghost use Rattle.sync_node.specs.Readers.{IsReady, LineRead, lines_ahead};
 
-    /// A reader that has read nothing.
-    pub fn new(alloc: Global) -> Result<Lines, NoMemory>
-        ensures ready { IfOk result IsReady }
-        ensures ahead { IfOk result (λ made. (left : Option (List ℕ)) → lines_ahead made left ≡ lines_of left) }
-    {
-        match LineReader::new(alloc) {
-            Ok(reader) => Ok(Lines { reader, count: 0 }),
-            Err(_) => Err(NoMemory),
-        }
-    }
-
     /// The next line, blank or not.
     fn next_line<S: Source>(&mut self, source: &mut S) -> Result<Option<Vec<u8>>, Status>
         requires { IsReady self.old }
@@ -84,11 +73,24 @@ impl Lines {
 impl ItemReader for Lines {
     ghost use Rattle.sync_node.specs.Readers.{IsReady, lines_ahead};
 
+    ghost items_of = { lines_of };
+
     ghost ahead = { lines_ahead };
 
     ghost count = { λ lines. lines.count };
 
     ghost ready = { IsReady };
+
+    fn new(alloc: Global) -> Result<Lines, NoMemory> {
+        match LineReader::new(alloc) {
+            Ok(reader) => Ok(Lines { reader, count: 0 }),
+            Err(_) => Err(NoMemory),
+        }
+    }
+
+    fn is_ahead(&self) -> bool {
+        false
+    }
 
     fn next<S: Source>(&mut self, source: &mut S) -> Result<Option<Item>, Status> {
         'lines: loop {

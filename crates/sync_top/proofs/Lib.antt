@@ -9,7 +9,6 @@ pub mod Planning
 pub mod Playing
 pub mod Plays
 pub mod RunLemmas
-pub mod Shown
 pub mod Spaces
 pub mod Steps
 pub mod Summing

@@ -1,29 +1,11 @@
-use Rattle.std.proofs.Common.{◌≡◌, ap, subst, rules, ◌∙◌}
-use Rattle.sync_journal.specs.Records.{records_of}
-use Rattle.sync_journal.specs.Records.Reading.{Good}
-use Rattle.sync_node.specs.Showing.NodeRecords.{OfClient, OfServer}
+use Rattle.std.proofs.Common.{rules}
+use Rattle.sync_node.specs.Showing.{node_file, shown}
 use Rattle.sync_node.specs.declared.lent.Lent.{Lent}
-use Rattle.sync_node.proofs.Loans.{lent_holds, lent_leaves}
-use Rattle.sync_node.proofs.Shown.{node_of_client, node_of_server}
+use Rattle.sync_node.proofs.Loans.{lent_tells}
 use Rattle.sync_node.proofs.showing.show.Goals as goal
 
-pub returns-clause-client : goal.returns-clause-client
-returns-clause-client g c = λ b told records is file. c.show_node.ensures.writes b (ap g.D.Disk.content c.of.ensures.same ∙ told) (OfClient records) (node_of_client b is records file)
-
-pub returns-clause-server : goal.returns-clause-server
-returns-clause-server g c = λ b told records is file. c.show_node.ensures.writes b (ap g.D.Disk.content c.of.ensures.same ∙ told) (OfServer records) (node_of_server b is records file)
-
-pub returns-clause-bad_file : goal.returns-clause-bad_file
-returns-clause-bad_file g c = λ b told place is. c.show_node.ensures.bad_file b (ap g.D.Disk.content c.of.ensures.same ∙ told) place is
-
-pub returns-clause-kept : goal.returns-clause-kept
-returns-clause-kept g c = λ b told made.
+pub returns-clause-tells : goal.returns-clause-tells
+returns-clause-tells g c =
     let D = g.D.Disk in
-    lent_holds (λ (l : Lent g.row.D.Denot). l.disk.now) D.content D.images b c.show_node.result.disk _ (search rules) (c.show_node.ensures.kept b (ap D.content c.of.ensures.same ∙ told) made)
-
-pub returns-clause-any_moment : goal.returns-clause-any_moment
-returns-clause-any_moment g c = λ records b told crash.
-    let D = g.D.Disk in
-    let same = c.of.ensures.same in
-    lent_leaves (λ (l : Lent g.row.D.Denot). l.disk.now) D.moment D.images_since c.of.result c.show_node.result.disk _ _ (λ f. records_of f ≡ Good records) same (search rules)
-    (c.show_node.ensures.any_moment records b (ap D.content same ∙ told) (λ f left. crash f (subst (λ d. D.images d f) same left)))
+    lent_tells (λ (l : Lent g.row.D.Denot). l.disk.now) D.content D.images D.moment D.images_since node_file shown c.show_node.result.status c.of.result c.show_node.result.disk _ _ _ _ c.of.ensures.same (search rules)
+    c.show_node.ensures.tells

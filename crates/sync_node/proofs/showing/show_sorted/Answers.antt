@@ -1,33 +1,31 @@
-use Rattle.std.proofs.Common.{sym, subst, ◌∙◌}
-use Rattle.sync_node.specs.Showing.{shown}
-use Rattle.sync_node.specs.Texts.{Writes}
-use Rattle.sync_node.proofs.Shown.{bad_of_client, bad_of_server, client_bad, client_ok, server_bad, server_ok}
+use Rattle.std.proofs.Common.{sym, subst}
+use Rattle.sync_node.specs.Commands.{TellsText}
+use Rattle.sync_node.specs.Showing.{file_as, shown}
+use Rattle.sync_node.proofs.Shown.{tells_of_client, tells_of_server}
 use Rattle.sync_node.proofs.showing.show_sorted.Goals as goal
 
-pub returns-then-sorted-clause-writes : goal.returns-then-sorted-clause-writes
-returns-then-sorted-clause-writes g c = λ b told same records file.
-    let f = client_ok b (sym same ∙ c.if-sorted.true) records file in
-    subst (λ r. Writes c.show_client.result.status (shown r) (g.K.Sink.taken c.args.sink.now) (g.K.Sink.taken c.show_client.new.sink)) (sym f.2) (c.show_client.ensures.writes b told f.0 f.1)
+pub returns-then-sorted-clause-tells : goal.returns-then-sorted-clause-tells
+returns-then-sorted-clause-tells g c =
+    let D = g.D.Disk in
+    let ended = c.write_of_client in
+    let old = g.K.Sink.taken c.args.sink.now in
+    let new = g.K.Sink.taken ended.new.sink in
+    subst (λ k. TellsText D.content D.images D.moment D.images_since (file_as k) shown ended.result.status c.args.sorted.disk ended.result.disk old new) (sym c.if-sorted.true)
+    (tells_of_client D.content D.images D.moment D.images_since ended.result.status c.args.sorted.disk ended.result.disk old new ended.ensures.tells)
 
-pub returns-then-sorted-clause-bad_file : goal.returns-then-sorted-clause-bad_file
-returns-then-sorted-clause-bad_file g c = λ b told same place is. bad_of_client b (sym same ∙ c.if-sorted.true) place (c.show_client.ensures.bad_file b told place is)
-
-pub returns-then-sorted-clause-bad_place : goal.returns-then-sorted-clause-bad_place
-returns-then-sorted-clause-bad_place g c = λ b told same place bad. c.show_client.ensures.bad_place b told place (client_bad b (sym same ∙ c.if-sorted.true) place bad)
-
-pub returns-then-sorted-clause-bad_unwritten : goal.returns-then-sorted-clause-bad_unwritten
-returns-then-sorted-clause-bad_unwritten g c = λ b told same place bad. c.show_client.ensures.bad_unwritten b told place (client_bad b (sym same ∙ c.if-sorted.true) place bad)
-
-pub returns-else-sorted-clause-writes : goal.returns-else-sorted-clause-writes
-returns-else-sorted-clause-writes g c = λ b told same records file.
-    let f = server_ok b (sym same ∙ c.if-sorted.false) records file in
-    subst (λ r. Writes c.write_of_server.result.status (shown r) (g.K.Sink.taken c.args.sink.now) (g.K.Sink.taken c.write_of_server.new.sink)) (sym f.2) (c.write_of_server.ensures.writes b told f.0 f.1)
-
-pub returns-else-sorted-clause-bad_file : goal.returns-else-sorted-clause-bad_file
-returns-else-sorted-clause-bad_file g c = λ b told same place is. bad_of_server b (sym same ∙ c.if-sorted.false) place (c.write_of_server.ensures.bad_file b told place is)
-
-pub returns-else-sorted-clause-bad_place : goal.returns-else-sorted-clause-bad_place
-returns-else-sorted-clause-bad_place g c = λ b told same place bad. c.write_of_server.ensures.bad_place b told place (server_bad b (sym same ∙ c.if-sorted.false) place bad)
-
-pub returns-else-sorted-clause-bad_unwritten : goal.returns-else-sorted-clause-bad_unwritten
-returns-else-sorted-clause-bad_unwritten g c = λ b told same place bad. c.write_of_server.ensures.bad_unwritten b told place (server_bad b (sym same ∙ c.if-sorted.false) place bad)
+pub returns-else-sorted-clause-tells : goal.returns-else-sorted-clause-tells
+returns-else-sorted-clause-tells g c =
+    let D = g.D.Disk in
+    let ended = c.write_of_server in
+    let old = g.K.Sink.taken c.args.sink.now in
+    let new = g.K.Sink.taken ended.new.sink in
+    subst (λ k. TellsText D.content D.images D.moment D.images_since (file_as k) shown ended.result.status c.args.sorted.disk ended.result.disk old new) (sym c.if-sorted.false)
+    (tells_of_server D.content D.images D.moment D.images_since ended.result.status c.args.sorted.disk ended.result.disk old new (record {
+      written = ended.ensures.writes;
+      bad_file = ended.ensures.bad_file;
+      bad_place = ended.ensures.bad_place;
+      bad_unwritten = ended.ensures.bad_unwritten;
+      bad_kept = ended.ensures.bad_kept;
+      kept = ended.ensures.kept;
+      any_moment = ended.ensures.any_moment;
+    }))
