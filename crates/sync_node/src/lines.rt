@@ -89,7 +89,10 @@ impl ItemReader for Lines {
     }
 
     fn is_ahead(&self) -> bool {
-        false
+        match self.reader.ahead() {
+            Some(line) => !is_blank(line),
+            None => false,
+        }
     }
 
     fn next<S: Source>(&mut self, source: &mut S) -> Result<Option<Item>, Status> {
