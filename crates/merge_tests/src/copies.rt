@@ -1,6 +1,5 @@
 use std::alloc::Global;
-use std::test::Fail;
-use sync_base::{AddColumn, AddTable, Column, KeyKind, Kind, Name, Shape, Value};
+use sync_base::{AddColumn, AddTable, Column, KeyKind, Kind, Name, NoMemory, Shape, Value};
 use sync_cells::{Cell, Content};
 use sync_schema::Schema;
 
@@ -12,54 +11,69 @@ fn column() -> Column {
     }
 }
 
-fn copy_of(alloc: Global, number: i64) -> Result<Cell, Fail> {
-    let Ok(mut cell) = Cell::default_of(alloc, &column()) else {
-        return Err("no cell".into());
-    };
-    if cell.set(Value::Int(number)).is_err() {
-        return Err("no number".into());
+fn cell_of(alloc: Global, number: i64) -> Option<Cell> {
+    let mut cell = Cell::default_of(alloc, &column()).ok()?;
+    if cell.set(Value::Int(number)).is_ok() {
+        Some(cell)
+    } else {
+        None
     }
-    match cell.copy() {
-        Ok(copy) => Ok(copy),
-        Err(_) => Err("no copy".into()),
+}
+
+fn is_seven(copy: Result<Cell, NoMemory>) -> bool {
+    match copy {
+        Ok(copy) => matches!(copy.content(), Content::One(Value::Int(7))),
+        Err(_) => false,
+    }
+}
+
+fn copies_a_cell(alloc: Global) -> bool {
+    match cell_of(alloc, 7) {
+        Some(cell) => is_seven(cell.copy()),
+        None => false,
     }
 }
 
 #[test]
-fn a_cell_is_copied(rt: HostRuntime) -> Result<(), Fail> {
-    let copy = copy_of(rt.alloc(), 7)?;
-    assert!(rt; matches!(copy.content(), Content::One(Value::Int(7))));
-    Ok(())
+fn a_cell_is_copied(rt: HostRuntime) {
+    assert!(rt; copies_a_cell(rt.alloc()));
 }
 
-fn schema_of(alloc: Global) -> Result<Schema, Fail> {
-    let Ok(mut schema) = Schema::new(alloc) else {
-        return Err("no schema".into());
-    };
+fn name(text: &str) -> Option<Name> {
+    Name::new(text).ok()
+}
+
+fn adds_table(schema: &mut Schema) -> Option<bool> {
     let table = AddTable {
-        table: Name::new("t")?,
+        table: name("t")?,
         key: KeyKind::Int,
     };
+    Some(schema.add_table(table).is_ok())
+}
+
+fn adds_column(schema: &mut Schema) -> Option<bool> {
     let column = AddColumn {
-        table: Name::new("t")?,
-        column: Name::new("n")?,
+        table: name("t")?,
+        column: name("n")?,
         def: column(),
     };
-    if schema.add_table(table).is_err() || schema.add_column(column).is_err() {
-        return Err("no column".into());
-    }
-    Ok(schema)
+    Some(schema.add_column(column).is_ok())
+}
+
+/// Whether the column takes numbers, and no null.
+fn takes_numbers(schema: &Schema) -> Option<bool> {
+    let found = schema.column(&name("t")?, &name("n")?)?;
+    Some(schema.fits(found, &Value::Int(7)) && !schema.fits(found, &Value::Null))
+}
+
+fn copies_a_schema(alloc: Global) -> Option<bool> {
+    let mut schema = Schema::new(alloc).ok()?;
+    let is_made = adds_table(&mut schema)? && adds_column(&mut schema)?;
+    let copy = schema.copy().ok()?;
+    Some(is_made && takes_numbers(&copy)?)
 }
 
 #[test]
-fn a_schema_is_copied(rt: HostRuntime) -> Result<(), Fail> {
-    let Ok(copy) = schema_of(rt.alloc())?.copy() else {
-        return Err("no copy".into());
-    };
-    let Some(found) = copy.column(&Name::new("t")?, &Name::new("n")?) else {
-        return Err("no column".into());
-    };
-    assert!(rt; copy.fits(found, &Value::Int(7)));
-    assert!(rt; !copy.fits(found, &Value::Null));
-    Ok(())
+fn a_schema_is_copied(rt: HostRuntime) {
+    assert!(rt; copies_a_schema(rt.alloc()) == Some(true));
 }

@@ -1,160 +1,215 @@
 use std::alloc::Global;
-use std::test::Fail;
 use sync_data::*;
 
-fn cell(alloc: Global) -> Result<CellName, Fail> {
-    Ok(CellName {
-        table: Name::new("t")?,
-        key: Key::Text(KeyText::new(alloc, "k1")?),
-        column: Name::new("s")?,
-    })
+fn name(text: &str) -> Option<Name> {
+    Name::new(text).ok()
 }
 
-/// An update of table `t`, key 1, column `s` to a text of that many bytes.
-fn update_of(alloc: Global, bytes: usize) -> Result<Instr, Fail> {
-    let text = "x".repeat(alloc, bytes)?;
-    Ok(Instr::Update(Update {
-        cell: CellName {
-            table: Name::new("t")?,
-            key: Key::Int(1),
-            column: Name::new("s")?,
-        },
-        value: Value::Text(Text::new(alloc, text.as_str())?),
+fn key_text(alloc: Global, text: &str) -> Option<KeyText> {
+    KeyText::new(alloc, text).ok()
+}
+
+/// The list with one instruction more.
+fn with(instrs: Vec<Instr>, instr: Instr) -> Option<Vec<Instr>> {
+    let mut instrs = instrs;
+    match instrs.push(instr) {
+        Ok(()) => Some(instrs),
+        Err(_) => None,
+    }
+}
+
+/// Whether they are no changeset, since they are so many and carry so much.
+fn are_too_large(instrs: Vec<Instr>, want: TooLarge) -> bool {
+    match Changeset::checked(7, instrs) {
+        Ok(_) => false,
+        Err(large) => large == want,
+    }
+}
+
+fn table(text: &str) -> Option<Instr> {
+    Some(Instr::AddTable(AddTable {
+        table: name(text)?,
+        key: KeyKind::Int,
     }))
 }
 
-#[test]
-fn a_changeset_has_at_most_65_536_instructions(rt: HostRuntime) -> Result<(), Fail> {
-    let mut instrs = Vec::new(rt.alloc());
-    for _ in 0..65_536 {
-        instrs.push(Instr::AddTable(AddTable {
-            table: Name::new("t")?,
-            key: KeyKind::Int,
-        }))?;
+/// So many tables that are called `t`.
+fn tables(alloc: Global, count: u32) -> Option<Vec<Instr>> {
+    let mut instrs = Vec::new(alloc);
+    for _ in 0..count {
+        instrs = with(instrs, table("t")?)?;
     }
-    let Ok(most) = Changeset::checked(7, instrs) else {
-        return Err("65,536 instructions are refused".into());
-    };
-    let mut instrs = most.into_instrs();
-    instrs.push(Instr::AddTable(AddTable {
-        table: Name::new("tt")?,
-        key: KeyKind::Int,
-    }))?;
-    let refused = Changeset::checked(7, instrs).err();
+    Some(instrs)
+}
+
+/// Whether 65,536 instructions are a changeset, and one more, with a name of two bytes, makes it too large.
+fn has_most_instructions(alloc: Global) -> Option<bool> {
+    let most = Changeset::checked(7, tables(alloc, 65_536)?).ok()?;
+    let more = with(most.into_instrs(), table("tt")?)?;
     let want = TooLarge {
         instrs: 65_537,
         payload: 65_538,
     };
-    assert_eq!(rt; refused, Some(want));
-    Ok(())
+    Some(are_too_large(more, want))
 }
 
 #[test]
-fn a_changeset_carries_at_most_4_194_304_bytes(rt: HostRuntime) -> Result<(), Fail> {
-    let alloc = rt.alloc();
-    let mut instrs = Vec::new(alloc);
-    instrs.push(update_of(alloc, 4_194_302)?)?;
-    assert!(rt; Changeset::checked(7, instrs).is_ok());
-    let mut instrs = Vec::new(alloc);
-    instrs.push(update_of(alloc, 4_194_303)?)?;
-    let refused = Changeset::checked(7, instrs).err();
+fn a_changeset_has_at_most_65_536_instructions(rt: HostRuntime) {
+    assert!(rt; has_most_instructions(rt.alloc()) == Some(true));
+}
+
+/// An update of table `t`, key 1, column `s` to a text of that many bytes.
+fn update_of(alloc: Global, bytes: usize) -> Option<Vec<Instr>> {
+    let text = "x".repeat(alloc, bytes).ok()?;
+    let cell = CellName {
+        table: name("t")?,
+        key: Key::Int(1),
+        column: name("s")?,
+    };
+    let value = Value::Text(Text::new(alloc, text.as_str()).ok()?);
+    with(Vec::new(alloc), Instr::Update(Update { cell, value }))
+}
+
+fn carries_most_bytes(alloc: Global) -> Option<bool> {
+    let most = update_of(alloc, 4_194_302)?;
+    let more = update_of(alloc, 4_194_303)?;
     let want = TooLarge {
         instrs: 1,
         payload: 4_194_305,
     };
-    assert_eq!(rt; refused, Some(want));
-    Ok(())
+    Some(Changeset::checked(7, most).is_ok() && are_too_large(more, want))
 }
 
 #[test]
-fn texts_are_made_and_copied(rt: HostRuntime) -> Result<(), Fail> {
-    let alloc = rt.alloc();
-    assert_eq!(rt; KeyText::new(alloc, "k1")?.copy()?.text(), "k1");
-    assert_eq!(rt; KeyText::new(alloc, "k1")?.clone()?.text(), "k1");
-    assert_eq!(rt; Text::new(alloc, "é")?.copy()?.text(), "é");
-    let blob = Blob::new(alloc, &[0, 255])?.copy()?;
-    assert_eq!(rt; blob.bytes(), [0, 255].as_slice());
-    let listed = Listed::of(vec![in alloc; 3u32, 4]?);
-    assert_eq!(rt; listed.as_slice().len(), 2);
-    assert_eq!(rt; listed.into_vec().len(), 2);
-    Ok(())
+fn a_changeset_carries_at_most_4_194_304_bytes(rt: HostRuntime) {
+    assert!(rt; carries_most_bytes(rt.alloc()) == Some(true));
+}
+
+fn copies_key_texts(alloc: Global) -> Option<bool> {
+    let text = key_text(alloc, "k1")?;
+    let copy = text.copy().ok()?;
+    let clone = text.clone().ok()?;
+    Some(copy.text() == "k1" && clone.text() == "k1")
+}
+
+fn copies_texts(alloc: Global) -> Option<bool> {
+    let text = Text::new(alloc, "é").ok()?.copy().ok()?;
+    let blob = Blob::new(alloc, &[0, 255]).ok()?.copy().ok()?;
+    Some(text.text() == "é" && blob.bytes() == [0, 255].as_slice())
+}
+
+fn lists_numbers(alloc: Global) -> Option<bool> {
+    let listed = Listed::of(vec![in alloc; 3u32, 4].ok()?);
+    Some(listed.as_slice().len() == 2 && listed.into_vec().len() == 2)
+}
+
+#[test]
+fn texts_are_made_and_copied(rt: HostRuntime) {
+    assert!(rt; copies_key_texts(rt.alloc()) == Some(true));
+    assert!(rt; copies_texts(rt.alloc()) == Some(true));
+    assert!(rt; lists_numbers(rt.alloc()) == Some(true));
+}
+
+fn cell(alloc: Global) -> Option<CellName> {
+    Some(CellName {
+        table: name("t")?,
+        key: Key::Text(key_text(alloc, "k1")?),
+        column: name("s")?,
+    })
 }
 
 /// A binding to a link.
-fn binding(alloc: Global) -> Result<Instr, Fail> {
+fn binding(alloc: Global) -> Option<Instr> {
     let cell = cell(alloc)?;
-    let at = KeyText::new(alloc, "at")?;
-    let key = Key::Text(KeyText::new(alloc, "key")?);
-    let table = Name::new("tab")?;
-    let value = Some(Value::Link { table, key });
-    Ok(Instr::DictUpdate(DictUpdate { cell, at, value }))
+    let at = key_text(alloc, "at")?;
+    let key = Key::Text(key_text(alloc, "key")?);
+    let value = Some(link("tab", key)?);
+    Some(Instr::DictUpdate(DictUpdate { cell, at, value }))
 }
 
-#[test]
-fn instructions_and_columns_are_copied(rt: HostRuntime) -> Result<(), Fail> {
-    // 1 + 2 + 1 for the cell, 2 for the dictionary's key, 3 + 3 for the link
-    assert_eq!(rt; binding(rt.alloc())?.copy()?.payload(), 12);
-    assert_eq!(rt; binding(rt.alloc())?.clone()?.payload(), 12);
+/// Whether a copy and a clone carry as many bytes: 1 + 2 + 1 for the cell, 2 for the dictionary's key, 3 + 3 for the link.
+fn copies_instructions(alloc: Global) -> Option<bool> {
+    let binding = binding(alloc)?;
+    let copy = binding.copy().ok()?;
+    let clone = binding.clone().ok()?;
+    Some(copy.payload() == 12 && clone.payload() == 12)
+}
+
+fn copies_columns() -> Option<bool> {
     let column = Column {
-        kind: Kind::Link(Name::new("tab")?),
+        kind: Kind::Link(name("tab")?),
         nullable: true,
         shape: Shape::One,
     };
-    assert!(rt; column.copy()? == column);
-    Ok(())
-}
-
-fn entry(alloc: Global) -> Result<Entry, Fail> {
-    let mut instrs = Vec::new(alloc);
-    instrs.push(binding(alloc)?)?;
-    let changes = Changeset::checked(9, instrs)?;
-    Ok(Entry {
-        origin: 1,
-        number: 2,
-        changes,
-    })
+    Some(column.copy().ok()? == column)
 }
 
 #[test]
-fn entries_are_copied(rt: HostRuntime) -> Result<(), Fail> {
-    let entry = entry(rt.alloc())?;
-    let copy = entry.copy()?;
-    assert_eq!(rt; (copy.origin, copy.number, copy.changes.ms()), (1, 2, 9));
-    assert!(rt; copy.changes == entry.changes);
-    Ok(())
+fn instructions_and_columns_are_copied(rt: HostRuntime) {
+    assert!(rt; copies_instructions(rt.alloc()) == Some(true));
+    assert!(rt; copies_columns() == Some(true));
+}
+
+fn entry(alloc: Global) -> Option<Entry> {
+    let instrs = with(Vec::new(alloc), binding(alloc)?)?;
+    Some(Entry {
+        origin: 1,
+        number: 2,
+        changes: Changeset::checked(9, instrs).ok()?,
+    })
+}
+
+fn copies_entries(alloc: Global) -> Option<bool> {
+    let entry = entry(alloc)?;
+    let copy = entry.copy().ok()?;
+    let is_stamped = copy.origin == 1 && copy.number == 2 && copy.changes.ms() == 9;
+    Some(is_stamped && copy.changes == entry.changes)
+}
+
+#[test]
+fn entries_are_copied(rt: HostRuntime) {
+    assert!(rt; copies_entries(rt.alloc()) == Some(true));
+}
+
+fn text(alloc: Global, text: &str) -> Option<Value> {
+    Some(Value::Text(Text::new(alloc, text).ok()?))
+}
+
+fn link(table: &str, key: Key) -> Option<Value> {
+    let table = name(table)?;
+    Some(Value::Link { table, key })
 }
 
 /// The value at that place of a rising list of fifteen.
-fn rising(alloc: Global, place: usize) -> Result<Value, Fail> {
-    Ok(match place {
-        0 => Value::Null,
-        1 => Value::Int(-2),
-        2 => Value::Int(1),
-        3 => Value::Bool(false),
-        4 => Value::Bool(true),
-        5 => Value::Text(Text::new(alloc, "")?),
-        6 => Value::Text(Text::new(alloc, "ab")?),
-        7 => Value::Text(Text::new(alloc, "b")?),
-        8 => Value::Bytes(Blob::new(alloc, &[200])?),
-        9 => Value::Time(Time::new(-1, -5)?),
-        10 => Value::Time(Time::new(-1, 0)?),
-        11 => Value::Uuid([0; 16]),
-        12 => link("a", Key::Uuid([9; 16]))?,
-        13 => link("b", Key::Int(5))?,
-        _ => link("b", Key::Text(KeyText::new(alloc, "")?))?,
-    })
+fn rising(alloc: Global, place: usize) -> Option<Value> {
+    match place {
+        0 => Some(Value::Null),
+        1 => Some(Value::Int(-2)),
+        2 => Some(Value::Int(1)),
+        3 => Some(Value::Bool(false)),
+        4 => Some(Value::Bool(true)),
+        5 => text(alloc, ""),
+        6 => text(alloc, "ab"),
+        7 => text(alloc, "b"),
+        8 => Some(Value::Bytes(Blob::new(alloc, &[200]).ok()?)),
+        9 => Some(Value::Time(Time::new(-1, -5).ok()?)),
+        10 => Some(Value::Time(Time::new(-1, 0).ok()?)),
+        11 => Some(Value::Uuid([0; 16])),
+        12 => link("a", Key::Uuid([9; 16])),
+        13 => link("b", Key::Int(5)),
+        _ => link("b", Key::Text(key_text(alloc, "")?)),
+    }
 }
 
-fn link(table: &str, key: Key) -> Result<Value, Fail> {
-    let table = Name::new(table)?;
-    Ok(Value::Link { table, key })
+fn rises(alloc: Global, place: usize) -> Option<bool> {
+    let lower = rising(alloc, place)?;
+    let upper = rising(alloc, place.saturating_add(1))?;
+    Some(lower < upper)
 }
 
 #[test]
-fn orders_are_of_kinds_and_then_of_parts(rt: HostRuntime) -> Result<(), Fail> {
+fn orders_are_of_kinds_and_then_of_parts(rt: HostRuntime) {
     for place in 0..14 {
-        let lower = rising(rt.alloc(), place)?;
-        assert!(rt; lower < rising(rt.alloc(), place + 1)?, "{place}");
+        assert!(rt; rises(rt.alloc(), place) == Some(true), "{place}");
     }
-    Ok(())
 }
