@@ -9,10 +9,17 @@ usage: bench/exchanges.py [--only NAME,..] [--sizes N,..] [--turns N,..] [--time
   ends         two clients insert into one list, N times each: one at its end, the other at its start
   one_cell     two clients set one cell, N times each
   two_blocks   as `ends`, but all insertions of a client are one transaction
+  words        two clients type N letters each into one list, in words at drawn places
+  places       as `words`, but each letter at a drawn place of its own
+  revised      as `words`, but one step in six takes back the last letter, and one in six erases or updates a drawn one
+  one_place    two clients type N letters each into one list, both from its start on
+  members      two clients insert N drawn members into one set each, or, one time in four, erase them
+  eight        as `words`, but eight clients type the N letters together
   gen          `gen 1 N`, for the turns N
 
-In all from `apart` to `two_blocks` both clients write while they are apart, with stamps that take turns. Then the second
-uploads, the first takes that and uploads, and both take what is there. Each size is run T times (2 where it is left out), and
+In all from `apart` to `eight` the clients write while they are apart, with stamps that take turns. Then the last one
+uploads, each before it takes that and uploads, and all take what is there. Places and priors are those of the client's own list.
+Sizes are numbers, or FIRST..LAST, doubled from one to the other. Each size is run T times (2 where it is left out), and
 the shortest time counts. The exponent is that of the growth since the size before: 1 where the time grows with the size, 2
 with its square. `--perf` shows, for the last size of each, in which functions the time goes.
 """
@@ -20,6 +27,7 @@ import argparse
 import json
 import math
 import os
+import random
 import subprocess
 import sys
 import tempfile
@@ -29,6 +37,9 @@ TOP = os.path.dirname(os.path.dirname(os.path.abspath(__file__)))
 BUILT = os.path.join(TOP, "crates", "realm_sync", "out", "realm_sync")
 
 MOST_CHANGES = 4096  # of one upload, and entries of one download
+NAMES = "ABCDEFGH"
+LETTERS = "abcdefghijklmnopqrstuvwxyz"
+WORD = 6  # letters that are typed one behind the other
 
 
 def instruction(op, **fields):
@@ -41,7 +52,12 @@ def on_cell(op, column, key=1, **fields):
 
 def schema():
     yield instruction("AddTable", key="Int")
-    for name, kind, nullable, shape in (("n", "Int", False, "One"), ("s", "Text", True, "One"), ("l", "Text", False, "List")):
+    for name, kind, nullable, shape in (
+        ("n", "Int", False, "One"),
+        ("s", "Text", True, "One"),
+        ("l", "Text", False, "List"),
+        ("u", "Int", False, "Set"),
+    ):
         yield instruction("AddColumn", column=name, kind=kind, nullable=nullable, shape=shape)
 
 
@@ -57,7 +73,7 @@ class Script:
     """Event lines, and the order of the history that they lead to."""
 
     def __init__(self):
-        self.lines, self.last_message, self.origins = [], 0, []
+        self.lines, self.last_message, self.origins, self.devices = [], 0, [], []
 
     def event(self, event, **fields):
         self.lines.append(json.dumps({"event": event, **fields}, separators=(",", ":")))
@@ -103,26 +119,28 @@ def objects(size):
     return script
 
 
-def meeting(keys, of_first, of_second):
-    """Two clients with these objects make these transactions while they are apart, and then meet."""
-    script, first, second = Script(), Device("A", 1), Device("B", 2)
-    for device in first, second:
+def meeting(keys, *written):
+    """Clients with these objects make these transactions while they are apart, a list for each of them, and then meet."""
+    script, devices = Script(), [Device(NAMES[number], number + 1) for number in range(len(written))]
+    for device in devices:
         script.comes_in(device)
         script.there_and_back("bind", device)
-    script.commits(first, 1, schema())
+    script.commits(devices[0], 1, schema())
     for start in range(1, keys + 1, 250):
-        script.commits(first, 2, (instruction("CreateObject", key=key) for key in range(start, min(start + 250, keys + 1))))
-    script.uploads_all(first)
-    script.takes_all(first)
-    script.takes_all(second)
-    for device, ms, transactions in (first, 10, of_first), (second, 11, of_second):
+        some = range(start, min(start + 250, keys + 1))
+        script.commits(devices[0], 2, (instruction("CreateObject", key=key) for key in some))
+    script.uploads_all(devices[0])
+    for device in devices:
+        script.takes_all(device)
+    for number, transactions in enumerate(written):
         for place, instructions in enumerate(transactions):
-            script.commits(device, ms + 2 * place, instructions)
-    script.uploads_all(second)
-    script.takes_all(first)
-    script.uploads_all(first)
-    script.takes_all(second)
-    script.takes_all(first)
+            script.commits(devices[number], 10 + number + len(devices) * place, instructions)
+    for device in reversed(devices):
+        script.takes_all(device)
+        script.uploads_all(device)
+    for device in reversed(devices):
+        script.takes_all(device)
+    script.devices = devices
     return script
 
 
@@ -161,7 +179,89 @@ def one_cell(size):
     )
 
 
-EXCHANGES = {each.__name__: each for each in (objects, apart, counter, ends, one_cell, two_blocks)}
+class Typist:
+    """What one client types into its list, a transaction for each step, and how long the list is at that client."""
+
+    def __init__(self, seed):
+        self.draw, self.length, self.place = random.Random(seed), 0, 0
+
+    def step(self, op, place, **fields):
+        prior = self.length
+        self.length += {"ListInsert": 1, "ListErase": -1, "ListUpdate": 0}[op]
+        return [on_cell(op, "l", place=place, prior=prior, **fields)]
+
+    def letter(self, place):
+        """A letter at that place, and the next one may stand behind it."""
+        self.place = place + 1
+        return self.step("ListInsert", place, value=self.draw.choice(LETTERS))
+
+    def anywhere(self):
+        """A place at which an element may be inserted."""
+        return self.draw.randint(0, self.length)
+
+    def words(self, count):
+        for number in range(count):
+            yield self.letter(self.anywhere() if number % WORD == 0 else self.place)
+
+    def places(self, count):
+        for _ in range(count):
+            yield self.letter(self.anywhere())
+
+    def revised(self, count):
+        for number in range(count):
+            if number % WORD == 0:
+                self.place = self.anywhere()
+            way = self.draw.randrange(WORD)
+            if way == 0 and self.place > 0:
+                self.place -= 1
+                yield self.step("ListErase", self.place)
+            elif way == 1 and self.length > 0:
+                yield self.changed(self.draw.randrange(self.length))
+            else:
+                yield self.letter(self.place)
+
+    def changed(self, place):
+        """The element at that place is erased or updated. The next letter goes where it would have gone."""
+        if self.draw.random() < 0.5:
+            return self.step("ListUpdate", place, value=self.draw.choice(LETTERS))
+        self.place -= place < self.place
+        return self.step("ListErase", place)
+
+
+def words(size):
+    return meeting(1, Typist(1).words(size), Typist(2).words(size))
+
+
+def places(size):
+    return meeting(1, Typist(1).places(size), Typist(2).places(size))
+
+
+def revised(size):
+    return meeting(1, Typist(1).revised(size), Typist(2).revised(size))
+
+
+def one_place(size):
+    return meeting(1, ([each] for each in insertions(size, True)), ([each] for each in insertions(size, True)))
+
+
+def members(size):
+    def drawn(seed):
+        draw = random.Random(seed)
+        for _ in range(size):
+            op = "SetErase" if draw.random() < 0.25 else "SetInsert"
+            yield [on_cell(op, "u", value=draw.randrange(size))]
+
+    return meeting(1, drawn(1), drawn(2))
+
+
+def eight(size):
+    return meeting(1, *(Typist(number).words(size // len(NAMES)) for number in range(len(NAMES))))
+
+
+EXCHANGES = {
+    each.__name__: each
+    for each in (objects, apart, counter, ends, one_cell, two_blocks, words, places, revised, one_place, members, eight)
+}
 
 
 class Run:
@@ -183,7 +283,7 @@ class Run:
 
 
 def looks_right(name, size, output, script):
-    """The last report shows what the exchange must come to."""
+    """The last report shows that all that was made is in the history, and that all have the same objects."""
     lines = output.splitlines()
     if name == "gen":
         told = dict(line.split(" ") for line in lines)
@@ -191,8 +291,20 @@ def looks_right(name, size, output, script):
     clients = [line for line in lines if line.startswith("client ")]
     if name == "objects":
         return clients == [f'client "A" 0 0 {size + 1}']
-    whole = len(script.origins)
-    return f"server {whole}" in lines and clients == [f'client "A" 1 {whole} 0', f'client "B" 2 {whole} 0']
+    whole = sum(device.made for device in script.devices)
+    wanted = [f'client "{device.name}" {number} {whole} 0' for number, device in enumerate(script.devices, 1)]
+    return f"server {whole}" in lines and clients == wanted and agree(lines[lines.index(f"server {whole}") :])
+
+
+def agree(report):
+    """Whether each client's objects in the report are the server's."""
+    dumps = [[]]
+    for line in report:
+        if line.startswith("client "):
+            dumps.append([])
+        elif line.startswith("{"):
+            dumps[-1].append(line)
+    return all(dump == dumps[0] for dump in dumps)
 
 
 def profile(program, words, given):
@@ -230,7 +342,11 @@ def measure(name, sizes, options):
 
 
 def numbers(text):
-    return [int(word) for word in text.split(",")]
+    """Numbers with commas between them, or FIRST..LAST, doubled."""
+    if ".." not in text:
+        return [int(word) for word in text.split(",")]
+    first, last = map(int, text.split(".."))
+    return [first << place for place in range(64) if first << place <= last]
 
 
 def main():
