@@ -12,8 +12,6 @@ mod opening;
 mod refusals;
 mod reply;
 mod server;
-#[cfg(test)]
-mod tests;
 mod verb;
 
 pub use host::Host;

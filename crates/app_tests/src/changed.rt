@@ -1,6 +1,7 @@
-use super::*;
+//! What a transaction and a message may change.
+
 use std::alloc::Global;
-use std::test::Fail;
+use sync_changed::{Place, changed_by_edits, changed_by_message};
 use sync_codec::decode;
 use sync_messages::message_of;
 
@@ -62,30 +63,28 @@ fn are(places: &[Place], wanted: &[(Kind, &str)]) -> bool {
     true
 }
 
-fn edited(alloc: Global) -> Option<Vec<Place>> {
-    match decode(alloc, 7, EDITS) {
-        Ok(changes) => changed_by_edits(alloc, changes.instrs()).ok(),
-        Err(_) => None,
+fn edits_change(alloc: Global) -> bool {
+    let Ok(changes) = decode(alloc, 7, EDITS) else {
+        return false;
+    };
+    match changed_by_edits(alloc, changes.instrs()) {
+        Ok(places) => are(places.as_slice(), &EDITED),
+        Err(_) => false,
     }
 }
 
-fn downloaded(alloc: Global) -> Option<Vec<Place>> {
-    match message_of(alloc, DOWNLOAD) {
-        Ok(message) => changed_by_message(alloc, &message).ok(),
-        Err(_) => None,
+fn a_message_changes(alloc: Global) -> bool {
+    let Ok(message) = message_of(alloc, DOWNLOAD) else {
+        return false;
+    };
+    match changed_by_message(alloc, &message) {
+        Ok(places) => are(places.as_slice(), &DOWNLOADED),
+        Err(_) => false,
     }
 }
 
 #[test]
-fn each_instruction_has_its_place(rt: HostRuntime) -> Result<(), Fail> {
-    let alloc = rt.alloc();
-    let Some(edited) = edited(alloc) else {
-        return Err("the transaction isn't read".into());
-    };
-    let Some(downloaded) = downloaded(alloc) else {
-        return Err("the message isn't read".into());
-    };
-    assert!(rt; are(&edited, &EDITED));
-    assert!(rt; are(&downloaded, &DOWNLOADED));
-    Ok(())
+fn each_instruction_has_its_place(rt: HostRuntime) {
+    assert!(rt; edits_change(rt.alloc()));
+    assert!(rt; a_message_changes(rt.alloc()));
 }

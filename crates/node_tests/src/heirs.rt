@@ -1,10 +1,12 @@
-use super::*;
+//! A client that saves the changes of a retired one.
+
+use crate::spelled::{disk_of, message};
 use std::alloc::Global;
-use std::test::Fail;
 use sync_client::Client;
 use sync_data::Blob;
 use sync_disk::MemoryDisk;
-use sync_messages::{Change, Retired, message_of};
+use sync_heir::{Heir, ResetRefusal, heir};
+use sync_messages::{Change, Retired};
 
 /// Ident 3 for the uuid of ones.
 const NAMED: [u8; 18] = [2, 1, 1, 1, 1, 1, 1, 1, 1, 1, 1, 1, 1, 1, 1, 1, 1, 3];
@@ -18,18 +20,15 @@ const PULLED: [u8; 26] = [
 const MADE: &[u8] = &[1, 2, 1, 116, 3, 97, 103, 101, 1, 2, 0, 1, 3, 0, 0];
 
 fn takes(alloc: Global, client: &mut Client<MemoryDisk>, bytes: &[u8]) -> bool {
-    match message_of(alloc, bytes) {
-        Ok(message) => client.take(message).is_ok(),
-        Err(_) => false,
+    match message(alloc, bytes) {
+        Some(message) => client.take(message).is_ok(),
+        None => false,
     }
 }
 
 /// A client with ident 3 that has taken the entry.
 fn client_three(alloc: Global) -> Option<Client<MemoryDisk>> {
-    let Ok(disk) = MemoryDisk::new(alloc) else {
-        return None;
-    };
-    let Ok(mut client) = Client::open(alloc, disk) else {
+    let Ok(mut client) = Client::open(alloc, disk_of(alloc, &[])?) else {
         return None;
     };
     let born = client.born([1; 16]).is_ok();
@@ -148,15 +147,24 @@ const CASES: [(Case, [u64; 4]); 7] = [
     ),
 ];
 
-#[test]
-fn each_change_is_integrated_known_or_saved(rt: HostRuntime) -> Result<(), Fail> {
-    let alloc = rt.alloc();
-    let Some(mut client) = client_three(alloc) else {
-        return Err("no client".into());
-    };
+/// Whether each case is answered so, and one change was saved.
+fn all_are_told(alloc: Global, client: &mut Client<MemoryDisk>) -> bool {
     for (case, want) in &CASES {
-        assert!(rt; told(alloc, &mut client, case) == Some(*want));
+        if told(alloc, client, case) != Some(*want) {
+            return false;
+        }
     }
-    assert_eq!(rt; client.last(), 1);
-    Ok(())
+    client.last() == 1
+}
+
+fn client_saves(alloc: Global) -> bool {
+    match client_three(alloc) {
+        Some(mut client) => all_are_told(alloc, &mut client),
+        None => false,
+    }
+}
+
+#[test]
+fn each_change_is_integrated_known_or_saved(rt: HostRuntime) {
+    assert!(rt; client_saves(rt.alloc()));
 }

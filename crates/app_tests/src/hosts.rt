@@ -1,4 +1,6 @@
-use super::*;
+//! Requests of a host and their replies.
+
+use sync_host::Host;
 
 /// Room for the replies of the exchange.
 const ROOM: usize = 64;

@@ -1,10 +1,10 @@
-use super::*;
+//! A server that retires an ident, and one whose file begins at a floor.
+
+use crate::spelled::{disk_of, is_spelled, message};
 use std::alloc::Global;
-use std::test::Fail;
 use sync_base::Id;
 use sync_disk::MemoryDisk;
-use sync_journal::Journal;
-use sync_messages::{message_bytes, message_of};
+use sync_server::{Counts, Server};
 
 const A: Id = [10; 16];
 
@@ -54,15 +54,12 @@ const EXCHANGE: [(&[u8], &[u8]); 14] = [
 ];
 
 /// Whether the server answers the message so.
-fn answers(alloc: Global, server: &mut Server<MemoryDisk>, message: &[u8], reply: &[u8]) -> bool {
-    let Ok(message) = message_of(alloc, message) else {
+fn answers(alloc: Global, server: &mut Server<MemoryDisk>, bytes: &[u8], reply: &[u8]) -> bool {
+    let Some(message) = message(alloc, bytes) else {
         return false;
     };
-    let Ok(answer) = server.take(message) else {
-        return false;
-    };
-    match message_bytes(alloc, &answer) {
-        Ok(bytes) => bytes.as_slice() == reply,
+    match server.take(message) {
+        Ok(answer) => is_spelled(alloc, &answer, reply),
         Err(_) => false,
     }
 }
@@ -113,31 +110,40 @@ fn has_history(server: &Server<MemoryDisk>) -> bool {
         && server.past(2, 0).is_none()
 }
 
-fn opened(alloc: Global, disk: MemoryDisk) -> Result<Server<MemoryDisk>, Fail> {
+/// The server of a disk with these records.
+fn server_of(alloc: Global, records: &[&[u8]]) -> Option<Server<MemoryDisk>> {
+    opened(alloc, disk_of(alloc, records)?)
+}
+
+fn opened(alloc: Global, disk: MemoryDisk) -> Option<Server<MemoryDisk>> {
     match Server::open(alloc, disk) {
-        Ok(server) => Ok(server),
-        Err(_) => Err("it isn't opened".into()),
+        Ok(server) => Some(server),
+        Err(_) => None,
+    }
+}
+
+/// Whether the exchange is answered, and the server knows what it must; also the one that is opened over its disk.
+fn is_answered_and_kept(alloc: Global, server: Server<MemoryDisk>) -> bool {
+    let mut server = server;
+    let is_answered = answers_all(alloc, &mut server)
+        && knows_idents(&server)
+        && has_history(&server);
+    match opened(alloc, server.into_disk()) {
+        Some(again) => is_answered && knows_idents(&again) && has_history(&again),
+        None => false,
+    }
+}
+
+fn answers_the_exchange(alloc: Global) -> bool {
+    match server_of(alloc, &[]) {
+        Some(server) => is_answered_and_kept(alloc, server),
+        None => false,
     }
 }
 
 #[test]
-fn an_exchange_is_answered_and_kept(rt: HostRuntime) -> Result<(), Fail> {
-    let alloc = rt.alloc();
-    let Ok(disk) = MemoryDisk::new(alloc) else {
-        return Err("no disk".into());
-    };
-    let mut server = opened(alloc, disk)?;
-    if !answers_all(alloc, &mut server) {
-        return Err("another answer".into());
-    }
-    if !knows_idents(&server) || !has_history(&server) {
-        return Err("it knows otherwise".into());
-    }
-    let again = opened(alloc, server.into_disk())?;
-    if !knows_idents(&again) || !has_history(&again) {
-        return Err("its file says otherwise".into());
-    }
-    Ok(())
+fn an_exchange_is_answered_and_kept(rt: HostRuntime) {
+    assert!(rt; answers_the_exchange(rt.alloc()));
 }
 
 /// The records of a file of which the first entry was left out: the tables q and t and object 1 of t as they were after it, its
@@ -149,33 +155,18 @@ const TRIMMED: [&[u8]; 4] = [
     b"\x0d\x01\x01\0\x01",
 ];
 
-/// A disk with these records.
-fn disk_of(alloc: Global, records: &[&[u8]]) -> Option<MemoryDisk> {
-    let Ok(disk) = MemoryDisk::new(alloc) else {
-        return None;
-    };
-    let Ok((mut journal, _)) = Journal::open(alloc, disk) else {
-        return None;
-    };
-    for bytes in records {
-        if journal.append(bytes).is_err() {
-            return None;
+/// Whether a question from below the floor is refused, and one from the floor on is answered.
+fn answers_from_its_floor(alloc: Global) -> bool {
+    match server_of(alloc, &TRIMMED) {
+        Some(mut server) => {
+            answers(alloc, &mut server, b"\x04\x01\0\0", b"\x06\x01\0\x47\x01")
+                && answers(alloc, &mut server, b"\x04\x01\x01\x01", b"\x05\x01\x01\0")
         }
+        None => false,
     }
-    Some(journal.into_disk())
 }
 
 #[test]
-fn a_trimmed_file_answers_from_its_floor_on(rt: HostRuntime) -> Result<(), Fail> {
-    let alloc = rt.alloc();
-    let Some(disk) = disk_of(alloc, &TRIMMED) else {
-        return Err("no disk".into());
-    };
-    let mut server = opened(alloc, disk)?;
-    let below = answers(alloc, &mut server, b"\x04\x01\0\0", b"\x06\x01\0\x47\x01");
-    let at_it = answers(alloc, &mut server, b"\x04\x01\x01\x01", b"\x05\x01\x01\0");
-    if !below || !at_it {
-        return Err("another answer".into());
-    }
-    Ok(())
+fn a_trimmed_file_answers_from_its_floor_on(rt: HostRuntime) {
+    assert!(rt; answers_from_its_floor(rt.alloc()));
 }

@@ -1,13 +1,11 @@
-ghost use Rattle.std.specs.Prelude.{◌≡◌, false, IfOk};
-ghost use Rattle.sync_server.specs.Serving.{is_closed};
+//! The files that a server with two clients gives: its own without the history that nobody needs, and a new client's.
 
-use super::*;
+use crate::spelled::{disk_of, message};
 use std::alloc::Global;
-use std::test::Fail;
 use sync_disk::MemoryDisk;
-use sync_messages::message_of;
 use sync_records::{ClientRecord, ServerRecord};
 use sync_server::Server;
+use sync_trim::{started, trimmed};
 
 /// Two clients get their idents, client 1 adds a table of six columns and an object, and both have settled that entry.
 const EXCHANGE: [&[u8]; 5] = [
@@ -40,7 +38,7 @@ const STARTED: [&[u8]; 3] = [
 
 fn take_all(alloc: Global, server: &mut Server<MemoryDisk>) -> bool {
     for bytes in EXCHANGE {
-        let Ok(message) = message_of(alloc, bytes) else {
+        let Some(message) = message(alloc, bytes) else {
             return false;
         };
         if server.take(message).is_err() {
@@ -52,10 +50,7 @@ fn take_all(alloc: Global, server: &mut Server<MemoryDisk>) -> bool {
 
 /// The server's file after the exchange.
 fn file_of(alloc: Global) -> Option<MemoryDisk> {
-    let Ok(disk) = MemoryDisk::new(alloc) else {
-        return None;
-    };
-    let Ok(mut server) = Server::open(alloc, disk) else {
+    let Ok(mut server) = Server::open(alloc, disk_of(alloc, &[])?) else {
         return None;
     };
     if take_all(alloc, &mut server) {
@@ -113,14 +108,14 @@ fn gives_files(alloc: Global, disk: MemoryDisk) -> bool {
     spells_server(alloc, &trimmed) && spells_client(alloc, &started)
 }
 
-#[test]
-fn files_begin_with_the_objects(rt: HostRuntime) -> Result<(), Fail> {
-    let alloc = rt.alloc();
-    let Some(disk) = file_of(alloc) else {
-        return Err("a message isn't taken".into());
-    };
-    if !gives_files(alloc, disk) {
-        return Err("the files have other records".into());
+fn gives_its_files(alloc: Global) -> bool {
+    match file_of(alloc) {
+        Some(disk) => gives_files(alloc, disk),
+        None => false,
     }
-    Ok(())
+}
+
+#[test]
+fn files_begin_with_the_objects(rt: HostRuntime) {
+    assert!(rt; gives_its_files(rt.alloc()));
 }

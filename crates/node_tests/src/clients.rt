@@ -1,13 +1,12 @@
 //! A client of some tables, and one whose file begins with a state.
 
+use crate::spelled::{edits, is_spelled, message};
 use std::alloc::Global;
-use std::test::Fail;
 use sync_client::{Client, ClientRefusal};
-use sync_codec::decode;
-use sync_data::{Instr, KeyKind, Name};
+use sync_data::{KeyKind, Name};
 use sync_disk::{Disk, MemoryDisk};
 use sync_journal::{OpenCause, OpenRefusal};
-use sync_messages::{Message, message_bytes, message_of};
+use sync_messages::Message;
 use sync_subset::Subset;
 
 /// AddTable "q", and CreateObject "t" 1, as changesets.
@@ -60,17 +59,6 @@ fn is_bad(alloc: Global, bytes: &[u8], place: u64) -> bool {
     }
 }
 
-/// The instructions of a short changeset.
-fn edits(alloc: Global, bytes: &[u8]) -> Option<Vec<Instr>> {
-    if bytes.len() > 1_000 {
-        return None;
-    }
-    match decode(alloc, 5, bytes) {
-        Ok(changes) => Some(changes.into_instrs()),
-        Err(_) => None,
-    }
-}
-
 /// What a transaction answers.
 fn commits(
     alloc: Global,
@@ -104,19 +92,16 @@ fn subscribes(alloc: Global, client: &mut Client<MemoryDisk>) -> Option<Result<(
 
 /// Takes a message that is spelled so.
 fn takes(alloc: Global, client: &mut Client<MemoryDisk>, bytes: &[u8]) -> bool {
-    match message_of(alloc, bytes) {
-        Ok(message) => client.take(message).is_ok(),
-        Err(_) => false,
+    match message(alloc, bytes) {
+        Some(message) => client.take(message).is_ok(),
+        None => false,
     }
 }
 
 /// Whether the message is made and spelled so.
 fn is_sent(alloc: Global, sent: Result<Message, ClientRefusal>, want: &[u8]) -> bool {
-    let Ok(message) = sent else {
-        return false;
-    };
-    match message_bytes(alloc, &message) {
-        Ok(bytes) => bytes.as_slice() == want,
+    match sent {
+        Ok(message) => is_spelled(alloc, &message, want),
         Err(_) => false,
     }
 }
@@ -162,30 +147,29 @@ fn started_holds(alloc: Global) -> Option<bool> {
 }
 
 #[test]
-fn a_client_of_some_tables(rt: HostRuntime) -> Result<(), Fail> {
-    if subscribed_holds(rt.alloc()) != Some(true) {
-        return Err("another answer".into());
-    }
-    Ok(())
+fn a_client_of_some_tables(rt: HostRuntime) {
+    assert!(rt; subscribed_holds(rt.alloc()) == Some(true));
+}
+
+/// Whether the file is refused in which these bytes stand behind so much of it, and then its rest from another place on.
+fn is_bad_with(alloc: Global, until: usize, bytes: &[u8], from: usize) -> bool {
+    let (Some(front), Some(rest)) = (STARTED.get(..until), STARTED.get(from..)) else {
+        return false;
+    };
+    let mut file = Vec::new(alloc);
+    file.extend_from_slice(front).is_ok()
+        && file.extend_from_slice(bytes).is_ok()
+        && file.extend_from_slice(rest).is_ok()
+        && is_bad(alloc, file.as_slice(), PART_AT)
 }
 
 #[test]
-fn a_file_that_begins_with_a_state(rt: HostRuntime) -> Result<(), Fail> {
+fn a_file_that_begins_with_a_state(rt: HostRuntime) {
     let alloc = rt.alloc();
-    if started_holds(alloc) != Some(true) {
-        return Err("another client".into());
-    }
+    assert!(rt; started_holds(alloc) == Some(true));
     // Without its version: the gate behind the part is closed.
-    let mut open = Vec::new(alloc);
-    open.extend_from_slice(&STARTED[..FLOOR_AT])?;
-    open.push(0)?;
+    assert!(rt; is_bad_with(alloc, FLOOR_AT, &[0], STARTED.len()));
     // With a part of which the state has another list: the object comes before the column.
-    let mut other = Vec::new(alloc);
-    other.extend_from_slice(&STARTED[..INSTRS_AT])?;
-    other.extend_from_slice(&[3, 0, 0, 2, 2, 0, 1, 1, 0, 0])?;
-    other.extend_from_slice(&STARTED[FLOOR_AT..])?;
-    if !is_bad(alloc, open.as_slice(), PART_AT) || !is_bad(alloc, other.as_slice(), PART_AT) {
-        return Err("accepted".into());
-    }
-    Ok(())
+    let other = &[3, 0, 0, 2, 2, 0, 1, 1, 0, 0];
+    assert!(rt; is_bad_with(alloc, INSTRS_AT, other, FLOOR_AT));
 }

@@ -1,11 +1,12 @@
-use super::*;
+//! What an application sends next.
+
 use std::alloc::Global;
-use std::test::Fail;
 use sync_app::Transaction;
 use sync_client::Client;
 use sync_data::{KeyKind, Name};
 use sync_disk::MemoryDisk;
 use sync_messages::{Given, Message, message_of};
+use sync_next::{commit, next_message, take};
 
 /// The client's uuid.
 const ID: [u8; 16] = [7; 16];
@@ -105,13 +106,24 @@ fn is_told(alloc: Global, client: &mut Client<MemoryDisk>) -> bool {
     true
 }
 
-#[test]
-fn a_client_sends_what_is_next(rt: HostRuntime) -> Result<(), Fail> {
-    let alloc = rt.alloc();
-    let disk = MemoryDisk::new(alloc)?;
-    let Ok(mut client) = Client::open(alloc, disk) else {
-        return Err("the file isn't opened".into());
+fn client(alloc: Global) -> Option<Client<MemoryDisk>> {
+    let Ok(disk) = MemoryDisk::new(alloc) else {
+        return None;
     };
-    assert!(rt; is_told(alloc, &mut client));
-    Ok(())
+    match Client::open(alloc, disk) {
+        Ok(client) => Some(client),
+        Err(_) => None,
+    }
+}
+
+fn sends_what_is_next(alloc: Global) -> bool {
+    match client(alloc) {
+        Some(mut client) => is_told(alloc, &mut client),
+        None => false,
+    }
+}
+
+#[test]
+fn a_client_sends_what_is_next(rt: HostRuntime) {
+    assert!(rt; sends_what_is_next(rt.alloc()));
 }
