@@ -1,5 +1,5 @@
 #!/usr/bin/env python3
-"""Measures a snapshot and a recovery by the program `snapshot_bench`, which it builds where needed.
+"""Measures a snapshot and a recovery by the program `store_bench`, which it builds where needed.
 
 `build` makes the changesets of a store's state, `grow` the store of them again, each once; `save` tries 1,000 changes of a client
 that was given up on the objects of its heir and applies what is kept. For each number of objects: seconds, nanoseconds an object
@@ -13,8 +13,8 @@ import subprocess
 import sys
 
 TOP = os.path.dirname(os.path.dirname(os.path.abspath(__file__)))
-CRATE = os.path.join(TOP, "crates", "snapshot_bench")
-PROGRAM = os.path.join(CRATE, "out", "snapshot_bench")
+CRATE = os.path.join(TOP, "crates", "store_bench")
+PROGRAM = os.path.join(CRATE, "out", "store_bench")
 OBJECTS = [12_500, 25_000, 50_000, 100_000]
 CHANGES = 1_000
 WORKS = ["build", "grow", "save"]

@@ -22,9 +22,9 @@ const LIST: u32 = 100_000;
 /// A store with the table `t`: numbers `n`, lists `l`, sets `u` and dictionaries `d` of numbers.
 #[derive(Drop)]
 pub struct Filled {
-    alloc: Global,
-    store: Store,
-    objects: u32,
+    pub(crate) alloc: Global,
+    pub(crate) store: Store,
+    pub(crate) objects: u32,
     seed: u64,
     place: u32,
 }
@@ -50,21 +50,24 @@ impl Filled {
             ("u", Shape::Set),
             ("d", Shape::Dict),
         ] {
-            filled.apply(add_column(column, shape)?)?;
+            filled.apply(add_column(column, Kind::Int, shape)?)?;
         }
         filled.apply(create(GROWING)?)?;
         Ok(filled)
     }
 
-    fn apply(&mut self, instr: Instr) -> Result<(), Failure> {
+    pub(crate) fn apply(&mut self, instr: Instr) -> Result<(), Failure> {
         if instr.payload() > MOST_PAYLOAD {
             return Err(Failure::Refused);
         }
         self.store.apply(instr).ok().ok_or(Failure::Refused)
     }
 
-    /// Creates the objects, and the list that is inserted into.
+    /// Creates the objects, and the list that is inserted into. Objects for a snapshot have cells that aren't the default ones.
     pub fn fill(&mut self, rt: &HostRuntime, work: Work) -> Result<(), Failure> {
+        if work.is_of_snapshots() {
+            return self.fill_cells();
+        }
         self.apply_many(rt, Work::Create, 0, self.objects)?;
         if work.is_of_list() {
             self.apply_many(rt, Work::End, 0, LIST)?;
@@ -72,9 +75,13 @@ impl Filled {
         Ok(())
     }
 
-    /// Applies `count` instructions to the filled store, and answers how many nanoseconds that took.
+    /// Applies `count` instructions or changes to the filled store, or takes a snapshot of it, and answers how many nanoseconds
+    /// that took.
     pub fn measure(&mut self, rt: &HostRuntime, work: Work, count: u32) -> Result<u128, Failure> {
         let first = match work {
+            Work::Build => return self.build_once(rt),
+            Work::Grow => return self.grow_once(rt),
+            Work::Save => return self.save_all(rt, count),
             Work::Create => self.objects,
             _ if work.is_of_list() => LIST,
             _ => 0,
@@ -129,6 +136,7 @@ impl Filled {
             Work::OneSet => member(GROWING, number),
             Work::Dict => self.binding(self.key_of(number)?, number),
             Work::OneDict => self.binding(GROWING, number),
+            Work::Build | Work::Grow | Work::Save => Err(Failure::Words),
         }
     }
 
@@ -197,11 +205,11 @@ fn scattered(number: u32) -> u32 {
     number.wrapping_mul(0x9e37_79b1)
 }
 
-fn name(text: &str) -> Result<Name, Failure> {
+pub(crate) fn name(text: &str) -> Result<Name, Failure> {
     Name::new(text).ok().ok_or(Failure::Words)
 }
 
-fn cell(column: &str, key: i64) -> Result<CellName, Failure> {
+pub(crate) fn cell(column: &str, key: i64) -> Result<CellName, Failure> {
     Ok(CellName {
         table: name("t")?,
         key: Key::Int(key),
@@ -209,19 +217,19 @@ fn cell(column: &str, key: i64) -> Result<CellName, Failure> {
     })
 }
 
-fn create(key: i64) -> Result<Instr, Failure> {
+pub(crate) fn create(key: i64) -> Result<Instr, Failure> {
     Ok(Instr::CreateObject(CreateObject {
         table: name("t")?,
         key: Key::Int(key),
     }))
 }
 
-fn add_column(column: &str, shape: Shape) -> Result<Instr, Failure> {
+pub(crate) fn add_column(column: &str, kind: Kind, shape: Shape) -> Result<Instr, Failure> {
     Ok(Instr::AddColumn(AddColumn {
         table: name("t")?,
         column: name(column)?,
         def: Column {
-            kind: Kind::Int,
+            kind,
             nullable: false,
             shape,
         },

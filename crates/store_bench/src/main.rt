@@ -1,11 +1,13 @@
-//! Nanoseconds of `Store::apply`, for one kind of instruction on a store that is filled first.
+//! Nanoseconds of `Store::apply`, for one kind of instruction on a store that is filled first, and of a snapshot and a recovery.
 //!
 //! `store_bench WORK OBJECTS COUNT` fills a store with OBJECTS objects, and with a list of 100,000 elements where WORK inserts
-//! into one, applies COUNT instructions, and prints `WORK OBJECTS COUNT NANOSECONDS`. Making the instructions isn't counted.
+//! into one, applies COUNT instructions, and prints `WORK OBJECTS COUNT NANOSECONDS`: those of COUNT instructions, of `build` or
+//! `grow` once, or of `save` for COUNT changes. Making the instructions and the changes isn't counted.
 //! Without these words it prints how to call it.
 #![tactic(auto)]
 
 mod filled;
+mod snapshots;
 mod work;
 
 use filled::Filled;

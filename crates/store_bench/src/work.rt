@@ -23,6 +23,12 @@ pub enum Work {
     OneSet,
     /// As `Dict`, but all into one dictionary.
     OneDict,
+    /// The state of the store as changesets.
+    Build,
+    /// The store of these changesets again.
+    Grow,
+    /// Changes of a client that was given up, each tried on the objects and applied.
+    Save,
 }
 
 impl Work {
@@ -40,6 +46,9 @@ impl Work {
             "dict" => Some(Work::Dict),
             "one-set" => Some(Work::OneSet),
             "one-dict" => Some(Work::OneDict),
+            "build" => Some(Work::Build),
+            "grow" => Some(Work::Grow),
+            "save" => Some(Work::Save),
             _ => None,
         }
     }
@@ -47,5 +56,10 @@ impl Work {
     /// Whether it inserts into the long list.
     pub fn is_of_list(self) -> bool {
         matches!(self, Work::End | Work::Front | Work::Near | Work::Random)
+    }
+
+    /// Whether it takes a snapshot of the objects, or changes on which they are tried.
+    pub fn is_of_snapshots(self) -> bool {
+        matches!(self, Work::Build | Work::Grow | Work::Save)
     }
 }

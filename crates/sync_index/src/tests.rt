@@ -1,7 +1,6 @@
 use super::*;
 use About::{Adding, Clearing, Creating, Erasing, Table, Updating};
 use std::alloc::Global;
-use std::test::Fail;
 use sync_base::{
     AddInteger, AddTable, CellName, Clear, CreateObject, EraseObject, Instr, Key, KeyKind, KeyText,
     Name, Update, Value,
@@ -19,60 +18,64 @@ enum About {
     Erasing(&'static str, u8, u8),
 }
 
-fn cell(table: &str, key: Key) -> Result<CellName, Fail> {
-    Ok(CellName {
-        table: Name::new(table)?,
+fn name(text: &str) -> Option<Name> {
+    Name::new(text).ok()
+}
+
+fn cell(table: &str, key: Key) -> Option<CellName> {
+    Some(CellName {
+        table: name(table)?,
         key,
-        column: Name::new("n")?,
+        column: name("n")?,
     })
 }
 
-fn update(table: &str, key: i64) -> Result<Instr, Fail> {
-    Ok(Instr::Update(Update {
+fn update(table: &str, key: i64) -> Option<Instr> {
+    Some(Instr::Update(Update {
         cell: cell(table, Key::Int(key))?,
         value: Value::Int(3),
     }))
 }
 
-fn add(table: &str, key: i64) -> Result<Instr, Fail> {
-    Ok(Instr::AddInteger(AddInteger {
+fn add(table: &str, key: i64) -> Option<Instr> {
+    Some(Instr::AddInteger(AddInteger {
         cell: cell(table, Key::Int(key))?,
         amount: 1,
     }))
 }
 
-fn create(table: &str, key: i64) -> Result<Instr, Fail> {
-    Ok(Instr::CreateObject(CreateObject {
-        table: Name::new(table)?,
+fn create(table: &str, key: i64) -> Option<Instr> {
+    Some(Instr::CreateObject(CreateObject {
+        table: name(table)?,
         key: Key::Int(key),
     }))
 }
 
-fn clear(alloc: Global, table: &str, key: &str) -> Result<Instr, Fail> {
-    let key = Key::Text(KeyText::new(alloc, key)?);
-    Ok(Instr::Clear(Clear {
+fn clear(alloc: Global, table: &str, key: &str) -> Option<Instr> {
+    let key = Key::Text(KeyText::new(alloc, key).ok()?);
+    Some(Instr::Clear(Clear {
         cell: cell(table, key)?,
     }))
 }
 
-fn erase(table: &str, first: u8, last: u8) -> Result<Instr, Fail> {
+fn erase(table: &str, first: u8, last: u8) -> Option<Instr> {
     let mut id = [0; 16];
     id[0] = first;
     id[15] = last;
-    Ok(Instr::EraseObject(EraseObject {
-        table: Name::new(table)?,
+    Some(Instr::EraseObject(EraseObject {
+        table: name(table)?,
         key: Key::Uuid(id),
     }))
 }
 
-fn add_table(name: &str) -> Result<Instr, Fail> {
-    Ok(Instr::AddTable(AddTable {
-        table: Name::new(name)?,
+fn add_table(table: &str) -> Option<Instr> {
+    Some(Instr::AddTable(AddTable {
+        table: name(table)?,
         key: KeyKind::Int,
     }))
 }
 
-fn instr(alloc: Global, about: About) -> Result<Instr, Fail> {
+fn instr(alloc: Global, about: About) -> Option<Instr> {
     match about {
         Table(name) => add_table(name),
         Creating(table, key) => create(table, key),
@@ -83,120 +86,141 @@ fn instr(alloc: Global, about: About) -> Result<Instr, Fail> {
     }
 }
 
-fn list_of(alloc: Global, listed: &[About]) -> Result<Vec<Instr>, Fail> {
+fn put<T: Drop>(list: &mut Vec<T>, item: T) -> bool {
+    list.push(item).is_ok()
+}
+
+fn list_of(alloc: Global, listed: &[About]) -> Option<Vec<Instr>> {
     let mut list = Vec::new(alloc);
     for about in listed {
-        list.push(instr(alloc, *about)?)?;
+        let instr = instr(alloc, *about)?;
+        if !put(&mut list, instr) {
+            return None;
+        }
     }
-    Ok(list)
+    Some(list)
 }
 
-fn index_of(alloc: Global, listed: &[About]) -> Result<Index, Fail> {
-    Ok(Index::of(alloc, &list_of(alloc, listed)?)?)
+fn index_of(alloc: Global, listed: &[About]) -> Option<Index> {
+    let list = list_of(alloc, listed)?;
+    Index::of(alloc, &list).ok()
 }
 
-/// The place of the first instruction of which an index of the list doesn't say what stands beside it.
-fn first_wrong(
-    alloc: Global,
-    listed: &[About],
-    asked: &[(About, bool)],
-) -> Result<Option<usize>, Fail> {
+/// Whether an index of the list says so of an instruction.
+fn says(alloc: Global, index: &Index, about: About, touches: bool) -> bool {
+    match instr(alloc, about) {
+        Some(instr) => index.may_touch(&instr) == touches,
+        None => false,
+    }
+}
+
+/// The place of the first instruction of which an index of the list doesn't say what stands beside it, or how many there are.
+fn first_wrong(alloc: Global, listed: &[About], asked: &[(About, bool)]) -> Option<usize> {
     let index = index_of(alloc, listed)?;
     for (place, (about, touches)) in asked.iter().enumerate() {
-        if index.may_touch(&instr(alloc, *about)?) != *touches {
-            return Ok(Some(place));
+        if !says(alloc, &index, *about, *touches) {
+            return Some(place);
         }
     }
-    Ok(None)
+    Some(asked.len())
 }
+
+/// What is listed, and of which instructions an index says that they may touch it.
+const TOUCHED: [(&[About], &[(About, bool)]); 5] = [
+    // An update is touched by its object alone.
+    (
+        &[Updating("t", 1)],
+        &[
+            (Creating("t", 2), false),
+            (Adding("t", 1), true),
+            (Adding("u", 1), false),
+            (Table("t"), false),
+        ],
+    ),
+    // Objects of many tables.
+    (
+        &[
+            Creating("t", 1),
+            Updating("u", 2),
+            Adding("t", 3),
+            Clearing("t", "k"),
+        ],
+        &[
+            (Updating("t", 1), true),
+            (Updating("t", 2), false),
+            (Updating("t", 3), true),
+            (Updating("u", 1), false),
+            (Updating("u", 2), true),
+            (Clearing("t", "k"), true),
+            (Clearing("t", ""), false),
+        ],
+    ),
+    // Keys of one last byte are told apart.
+    (
+        &[Erasing("t", 1, 7), Creating("t", 1), Clearing("t", "ak")],
+        &[
+            (Erasing("t", 1, 7), true),
+            (Erasing("t", 2, 7), false),
+            (Erasing("t", 1, 8), false),
+            (Creating("t", 257), false),
+            (Clearing("t", "bk"), false),
+        ],
+    ),
+    // Instructions of the schema touch each other.
+    (
+        &[Table("t")],
+        &[(Table("u"), true), (Creating("t", 1), false)],
+    ),
+    (&[], &[(Table("t"), false), (Creating("t", 1), false)]),
+];
 
 #[test]
-fn an_update_is_touched_by_its_object_alone(rt: HostRuntime) -> Result<(), Fail> {
-    let asked = [
-        (Creating("t", 2), false),
-        (Adding("t", 1), true),
-        (Adding("u", 1), false),
-        (Table("t"), false),
-    ];
-    assert_eq!(rt; first_wrong(rt.alloc(), &[Updating("t", 1)], &asked)?, None);
-    Ok(())
+fn an_index_says_what_may_touch_its_list(rt: HostRuntime) {
+    for (place, (listed, asked)) in TOUCHED.iter().enumerate() {
+        assert!(rt;
+            first_wrong(rt.alloc(), *listed, *asked) == Some(asked.len()),
+            "{place}"
+        );
+    }
 }
 
-#[test]
-fn objects_of_many_tables_are_found(rt: HostRuntime) -> Result<(), Fail> {
-    let listed = [
-        Creating("t", 1),
-        Updating("u", 2),
-        Adding("t", 3),
-        Clearing("t", "k"),
-    ];
-    let asked = [
-        (Updating("t", 1), true),
-        (Updating("t", 2), false),
-        (Updating("t", 3), true),
-        (Updating("u", 1), false),
-        (Updating("u", 2), true),
-        (Clearing("t", "k"), true),
-        (Clearing("t", ""), false),
-    ];
-    assert_eq!(rt; first_wrong(rt.alloc(), &listed, &asked)?, None);
-    Ok(())
+/// An index of the first list says so of the spot of another.
+fn passes(alloc: Global, index: &Index, list: &[About], passes: bool) -> bool {
+    match list_of(alloc, list) {
+        Some(list) => index.passes_over(shared_spot(&list)) == passes,
+        None => false,
+    }
 }
 
-#[test]
-fn keys_of_one_last_byte_are_told_apart(rt: HostRuntime) -> Result<(), Fail> {
-    let listed = [Erasing("t", 1, 7), Creating("t", 1), Clearing("t", "ak")];
-    let asked = [
-        (Erasing("t", 1, 7), true),
-        (Erasing("t", 2, 7), false),
-        (Erasing("t", 1, 8), false),
-        (Creating("t", 257), false),
-        (Clearing("t", "bk"), false),
-    ];
-    assert_eq!(rt; first_wrong(rt.alloc(), &listed, &asked)?, None);
-    Ok(())
-}
-
-#[test]
-fn schema_instructions_touch_each_other(rt: HostRuntime) -> Result<(), Fail> {
-    let asked = [(Table("u"), true), (Creating("t", 1), false)];
-    assert_eq!(rt; first_wrong(rt.alloc(), &[Table("t")], &asked)?, None);
-    let never = [(Table("t"), false), (Creating("t", 1), false)];
-    assert_eq!(rt; first_wrong(rt.alloc(), &[], &never)?, None);
-    Ok(())
-}
-
-/// The place of the first list of which an index of another doesn't say whether it passes it over by its spot alone.
-fn first_not_told(
-    alloc: Global,
-    listed: &[About],
-    asked: &[(&[About], bool)],
-) -> Result<Option<usize>, Fail> {
+/// The place of the first list of which an index of another doesn't say whether it passes it over by its spot alone, or how many
+/// there are.
+fn first_not_told(alloc: Global, listed: &[About], asked: &[(&[About], bool)]) -> Option<usize> {
     let index = index_of(alloc, listed)?;
-    for (place, (list, passes)) in asked.iter().enumerate() {
-        if index.passes_over(shared_spot(&list_of(alloc, *list)?)) != *passes {
-            return Ok(Some(place));
+    for (place, (list, wanted)) in asked.iter().enumerate() {
+        if !passes(alloc, &index, *list, *wanted) {
+            return Some(place);
         }
     }
-    Ok(None)
+    Some(asked.len())
 }
 
+/// Lists, and whether an index of an update of the object 1 and a clear of a text key passes them over.
+const PASSED: [(&[About], bool); 8] = [
+    (&[Updating("t", 2)], true),
+    (
+        &[Adding("u", 258), Creating("t", 2), Erasing("t", 1, 2)],
+        true,
+    ),
+    (&[Clearing("t", "b")], true),
+    (&[Updating("t", 257)], false),
+    (&[Clearing("t", "bk")], false),
+    (&[Updating("t", 2), Updating("t", 3)], false),
+    (&[Updating("t", 2), Table("t")], false),
+    (&[], false),
+];
+
 #[test]
-fn lists_at_unmarked_spots_are_passed_over(rt: HostRuntime) -> Result<(), Fail> {
-    let asked: [(&[About], bool); 8] = [
-        (&[Updating("t", 2)], true),
-        (
-            &[Adding("u", 258), Creating("t", 2), Erasing("t", 1, 2)],
-            true,
-        ),
-        (&[Clearing("t", "b")], true),
-        (&[Updating("t", 257)], false),
-        (&[Clearing("t", "bk")], false),
-        (&[Updating("t", 2), Updating("t", 3)], false),
-        (&[Updating("t", 2), Table("t")], false),
-        (&[], false),
-    ];
+fn lists_at_unmarked_spots_are_passed_over(rt: HostRuntime) {
     let listed = [Updating("t", 1), Clearing("t", "ak")];
-    assert_eq!(rt; first_not_told(rt.alloc(), &listed, &asked)?, None);
-    Ok(())
+    assert!(rt; first_not_told(rt.alloc(), &listed, &PASSED) == Some(PASSED.len()));
 }

@@ -1,68 +1,33 @@
+//! A store as changesets, the store of these again, and changes of a client that was given up.
 use super::Failure;
-use std::alloc::Global;
+use super::filled::{Filled, add_column, cell, create, name};
 use std::time::Instant;
-use sync_base::{
-    AddColumn, AddTable, Between, CellName, Changeset, Column, CreateObject, Instr, Key, KeyKind,
-    Kind, ListInsert, Name, Shape, Update, Value,
-};
-use sync_data::{MOST_PAYLOAD, Text};
+use sync_base::{Between, Changeset, Instr, Key, Kind, ListInsert, Shape, Update, Value};
+use sync_data::Text;
 use sync_reset::saved;
 use sync_snapshot::{build, grown};
-use sync_store::Store;
-
-/// A store with the table `t`: a number `n`, a text `s` and a list `l` of numbers, in as many objects as were asked for.
-#[derive(Drop)]
-pub struct Filled {
-    alloc: Global,
-    store: Store,
-    objects: u32,
-}
 
 impl Filled {
-    /// The store with so many objects.
-    pub fn new(alloc: Global, objects: u32) -> Result<Filled, Failure> {
-        let store = Store::new(alloc).ok().ok_or(Failure::Memory)?;
-        let mut filled = Filled {
-            alloc,
-            store,
-            objects,
-        };
-        filled.apply(Instr::AddTable(AddTable {
-            table: name("t")?,
-            key: KeyKind::Int,
-        }))?;
-        filled.apply(add_column("n", Kind::Int, Shape::One)?)?;
-        filled.apply(add_column("s", Kind::Text, Shape::One)?)?;
-        filled.apply(add_column("l", Kind::Int, Shape::List)?)?;
-        for number in 0..objects {
-            filled.add_object(number)?;
+    /// Creates the objects, each with a number, a text and a list of one number.
+    pub(crate) fn fill_cells(&mut self) -> Result<(), Failure> {
+        self.apply(add_column("s", Kind::Text, Shape::One)?)?;
+        for number in 0..self.objects {
+            self.add_object(number)?;
         }
-        Ok(filled)
+        Ok(())
     }
 
-    /// An object whose three cells aren't the default ones.
     fn add_object(&mut self, number: u32) -> Result<(), Failure> {
-        self.apply(Instr::CreateObject(CreateObject {
-            table: name("t")?,
-            key: Key::Int(number as i64),
-        }))?;
+        self.apply(create(number as i64)?)?;
         self.apply(update(number, number as i64 + 1)?)?;
+        let text = Text::new(self.alloc, "a text of some words")
+            .ok()
+            .ok_or(Failure::Memory)?;
         self.apply(Instr::Update(Update {
-            cell: cell("s", number)?,
-            value: Value::Text(
-                Text::new(self.alloc, "a text of some words")
-                    .ok()
-                    .ok_or(Failure::Memory)?,
-            ),
+            cell: cell("s", number as i64)?,
+            value: Value::Text(text),
         }))?;
         self.apply(insertion(number, 0)?)
-    }
-
-    fn apply(&mut self, instr: Instr) -> Result<(), Failure> {
-        if instr.payload() > MOST_PAYLOAD {
-            return Err(Failure::Refused);
-        }
-        self.store.apply(instr).ok().ok_or(Failure::Refused)
     }
 
     /// Nanoseconds of one run of `build`.
@@ -128,39 +93,15 @@ impl Filled {
 
 fn update(number: u32, value: i64) -> Result<Instr, Failure> {
     Ok(Instr::Update(Update {
-        cell: cell("n", number)?,
+        cell: cell("n", number as i64)?,
         value: Value::Int(value),
     }))
 }
 
 fn insertion(number: u32, prior: u32) -> Result<Instr, Failure> {
     Ok(Instr::ListInsert(ListInsert {
-        cell: cell("l", number)?,
+        cell: cell("l", number as i64)?,
         spot: Between::new(prior, prior).ok().ok_or(Failure::Words)?,
         value: Value::Int(number as i64),
-    }))
-}
-
-fn name(text: &str) -> Result<Name, Failure> {
-    Name::new(text).ok().ok_or(Failure::Words)
-}
-
-fn cell(column: &str, number: u32) -> Result<CellName, Failure> {
-    Ok(CellName {
-        table: name("t")?,
-        key: Key::Int(number as i64),
-        column: name(column)?,
-    })
-}
-
-fn add_column(column: &str, kind: Kind, shape: Shape) -> Result<Instr, Failure> {
-    Ok(Instr::AddColumn(AddColumn {
-        table: name("t")?,
-        column: name(column)?,
-        def: Column {
-            kind,
-            nullable: false,
-            shape,
-        },
     }))
 }
