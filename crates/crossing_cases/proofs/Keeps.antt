@@ -59,7 +59,7 @@ carry_keeps x (d ∷ es) y fs e a = go (cross_sets meet x d) refl e
     other : IsOther d
     other = All-head IsOther d es a
 
-    further : (q : Changeset Instr × Changeset Instr) (r : Result (Changeset Instr × List (Changeset Instr)) Stuck) → (∀ (gs : List (Changeset Instr)) → carry (cross_sets meet) q.0 es ≡ Ok (y, gs) → All IsOther gs) → carry (cross_sets meet) q.0 es ≡ r → carry_put q.1 r ≡ Ok (y, fs) → IsOther q.1 → All IsOther fs
+    further : (q : Changeset Instr × Changeset Instr) (r : Result (Changeset Instr × List (Changeset Instr)) Stuck) → ((gs : List (Changeset Instr)) → carry (cross_sets meet) q.0 es ≡ Ok (y, gs) → All IsOther gs) → carry (cross_sets meet) q.0 es ≡ r → carry_put q.1 r ≡ Ok (y, fs) → IsOther q.1 → All IsOther fs
     further q (Err m) rec is f ok = cc
     further q (Ok r) rec is f ok =
         let both = got f in

@@ -43,7 +43,8 @@ impl Lengths {
 
     fn set(&mut self, key: &Key, length: u32) {
         if let Key::Int(key) = key
-            && let Some(place) = self.of.get_mut(*key as usize)
+            && let Ok(key) = usize::try_from(*key)
+            && let Some(place) = self.of.get_mut(key)
         {
             *place = length;
         }

@@ -4,7 +4,7 @@ ghost use Rattle.std.specs.Prelude.{◌≡◌, ◌≢◌};
 use crate::ROUNDS;
 use crate::drawn::{Drawn, put};
 use crate::lengths::Lengths;
-use crate::pairs::{Crossed, OWN, Stuck, over_entries};
+use crate::pairs::{Comes, Crossed, OWN, Stuck, over_entries};
 use std::alloc::Global;
 use std::marker::Model;
 use sync_base::{Changeset, Entry};
@@ -116,41 +116,48 @@ impl Server {
     /// The client takes some entries, and so its base moves on.
     fn move_on(&mut self, drawn: &mut Drawn) {
         let before = self.first();
-        self.base = self.base.saturating_add(drawn.below(9)).min(self.kept.next);
-        if let Some(taken) = self.plain.get(before..self.first()) {
+        let next = self.kept.next;
+        self.base = self.base.saturating_add(drawn.below(9)).min(next);
+        let behind = self.first();
+        if let Some(taken) = self.plain.get(before..behind) {
             for entry in taken {
                 self.mine.follow(&entry.changes);
             }
         }
     }
 
+    /// What a change of the client comes to by pairs.
+    fn by_pairs(&self, alloc: Global, changes: &Changeset) -> Comes {
+        let first = self.first();
+        over_entries(alloc, changes, self.plain.get(first..)?)
+    }
+
     /// A change of the client comes. Whether it comes out as crossing by pairs.
     fn take(&mut self, alloc: Global, drawn: &mut Drawn) -> Option<bool> {
         let mut mine = self.mine;
         let changes = drawn.changes(alloc, &mut mine)?;
-        let entries = self.plain.get(self.first()..)?;
-        match over_entries(alloc, &changes, entries)? {
+        let comes = self.by_pairs(alloc, &changes)?;
+        let is_so = match comes {
             Ok(crossed) => {
                 self.mine = mine;
                 self.theirs.follow(&crossed.carried);
-                Some(self.crosses(alloc, changes, crossed)? && self.kept.has(&self.plain))
+                self.crosses(alloc, changes, crossed)
             }
-            Err(stuck) => Some(self.refuses(alloc, changes, stuck) && self.kept.has(&self.plain)),
-        }
+            Err(stuck) => self.refuses(alloc, changes, stuck),
+        };
+        Some(is_so && self.kept.has(&self.plain))
     }
 
     /// Whether the change is carried so. The plain entries are what came of them.
-    fn crosses(&mut self, alloc: Global, changes: Changeset, crossed: Crossed) -> Option<bool> {
+    fn crosses(&mut self, alloc: Global, changes: Changeset, crossed: Crossed) -> bool {
         let Crossed { carried, list } = crossed;
-        let mut place = self.first();
-        for changes in list {
-            let entry = self.plain.get_mut(place)?;
-            entry.changes = changes;
-            place = place.saturating_add(1);
+        let first = self.first();
+        if let Some(entries) = self.plain.get_mut(first..) {
+            put_changes(entries, list);
         }
         match self.kept.take(alloc, self.base, changes) {
-            Ok(changes) => Some(changes == carried),
-            Err(_) => Some(false),
+            Ok(changes) => changes == carried,
+            Err(_) => false,
         }
     }
 
@@ -164,6 +171,17 @@ impl Server {
             Ok(_) => false,
             Err(refusal) => refusal == want,
         }
+    }
+}
+
+/// Each entry gets the changes that stand at its place.
+fn put_changes(entries: &mut [Entry], list: Vec<Changeset>) {
+    let mut place: usize = 0;
+    for changes in list {
+        if let Some(entry) = entries.get_mut(place) {
+            entry.changes = changes;
+        }
+        place = place.saturating_add(1);
     }
 }
 

@@ -17,7 +17,7 @@ pub struct Crossed {
 /// Where a crossing is stuck: at which changeset of the list, at which place of the client's own changeset, and why.
 #[derive(Clone, Copy)]
 pub struct Stuck {
-    pub at: usize,
+    pub at: u32,
     pub place: u32,
     pub kind: Mismatch,
 }
@@ -33,10 +33,12 @@ pub fn over_unsent(alloc: Global, unsent: &[Changeset], entry: &Entry) -> Comes 
     }
     let mut carried = entry.changes.copy().ok()?;
     let mut list = Vec::new(alloc);
-    for (at, left) in unsent.iter().enumerate() {
+    let mut at: u32 = 0;
+    for left in unsent {
         match cross_sets(left.copy().ok()?, OWN, carried, origin) {
             Ok((left, right)) => {
                 carried = right;
+                at = at.saturating_add(1);
                 if !put(&mut list, left) {
                     return None;
                 }
@@ -57,7 +59,8 @@ pub fn over_unsent(alloc: Global, unsent: &[Changeset], entry: &Entry) -> Comes 
 pub fn over_entries(alloc: Global, changes: &Changeset, entries: &[Entry]) -> Comes {
     let mut carried = changes.copy().ok()?;
     let mut list = Vec::new(alloc);
-    for (at, entry) in entries.iter().enumerate() {
+    let mut at: u32 = 0;
+    for entry in entries {
         let origin = entry.origin;
         if origin == OWN {
             return None;
@@ -65,6 +68,7 @@ pub fn over_entries(alloc: Global, changes: &Changeset, entries: &[Entry]) -> Co
         match cross_sets(carried, OWN, entry.changes.copy().ok()?, origin) {
             Ok((left, right)) => {
                 carried = left;
+                at = at.saturating_add(1);
                 if !put(&mut list, right) {
                     return None;
                 }

@@ -89,7 +89,7 @@ impl Client {
     /// Whether the entry is refused with the number of that changeset.
     fn refuses(&mut self, alloc: Global, entry: &Entry, stuck: Stuck) -> bool {
         let want = RebaseRefusal::Mismatch {
-            number: self.first.saturating_add(stuck.at as u32),
+            number: self.first.saturating_add(stuck.at),
             kind: stuck.kind,
         };
         match self.list.take_entry(alloc, OWN, entry) {
