@@ -5,11 +5,11 @@ usage: bench/files.py [--changes N] [--times T] [--folder FOLDER] [--program PAT
 
 A client makes N transactions of one addition each (1,000 where it is left out, 4,096 at most), a server takes them in one
 upload, and another client takes them in one download. What a message or a line adds is durable before it is answered: two
-writes and two syncs of the file for each. The same run is timed over files in FOLDER (beside this script where it is left
-out), and over files in memory (/dev/shm), where a sync costs nothing: the difference is what the syncs cost. The line `bare`
-makes two writes and two syncs for each change, without the program. Each run is made T times (3 where it is left out), and
-the shortest time counts, less that of the same command without an input. Where `strace` is there it counts the syncs of each
-command, those of opening the file among them.
+writes and two syncs of the file for each message, or for the lines that one read gave. The same run is timed over files in
+FOLDER (beside this script where it is left out), and over files in memory (/dev/shm), where a sync costs nothing: the
+difference is what the syncs cost. The line `bare` makes two writes and two syncs for each change, without the program. Each
+run is made T times (3 where it is left out), and the shortest time counts, less that of the same command without an input.
+Where `strace` is there it counts the syncs of each command, those of opening the file among them.
 """
 import argparse
 import os

@@ -1,14 +1,14 @@
 #!/usr/bin/env python3
 """Fuzzes the C library: arbitrary requests and messages over a live server and two clients (examples/c/fuzz.c), by libFuzzer.
 
-Two processes share a corpus: one with AddressSanitizer and UndefinedBehaviorSanitizer over the header, which makes a quarter of the
-executions, and a faster one without. A crash, an input that takes 20 seconds, a process of more than 1 GB, an allocation of more than
+Processes share a corpus: one with AddressSanitizer and UndefinedBehaviorSanitizer over the header, and faster ones without, one where no
+other number is asked for. Each makes its share of the executions. A crash, an input that takes 100 seconds, a process of more than 1 GB, an allocation of more than
 256 MB at once, or a leak ends it with status 1; the input lies in the folder then. The corpus stays, and the next run begins with it. The
 last lines tell how many executions there were, and how many of the archive's basic blocks were visited.
 
 It takes clang with libFuzzer (Debian: clang, libclang-rt-14-dev), binutils, and what examples/c/library.sh takes.
 
-usage: bench/fuzz.py [--runs N] [--minutes M] [--folder FOLDER] [--nice N]
+usage: bench/fuzz.py [--runs N] [--minutes M] [--plain P] [--folder FOLDER] [--nice N]
 """
 import argparse
 import bisect
@@ -18,7 +18,7 @@ import subprocess
 import sys
 
 TOP = os.path.dirname(os.path.dirname(os.path.abspath(__file__)))
-LIMITS = ["-max_len=1024", "-timeout=20", "-rss_limit_mb=1024", "-malloc_limit_mb=256", "-len_control=20"]
+LIMITS = ["-max_len=1024", "-timeout=100", "-rss_limit_mb=1024", "-malloc_limit_mb=256", "-len_control=20"]
 
 WORDS = """uuid upgrade ms edits op table key column kind nullable shape target value amount place prior at tables bytes secs nanos link
 AddTable AddColumn CreateObject EraseObject Update AddInteger ListInsert ListUpdate ListErase SetInsert SetErase DictUpdate DictErase
@@ -153,25 +153,30 @@ def main():
     parser = argparse.ArgumentParser()
     parser.add_argument("--runs", type=int, default=10_000_000)
     parser.add_argument("--minutes", type=int, default=0, help="ends it after so long, whatever has been run")
+    parser.add_argument("--plain", type=int, default=1, help="how many processes run without sanitizers, beside the one with them")
     parser.add_argument("--folder", type=os.path.abspath, default=os.path.join(TOP, "build", "fuzz"))
     parser.add_argument("--nice", type=int, default=15)
     options = parser.parse_args()
     os.makedirs(options.folder, exist_ok=True)
-    sanitized, plain = programs = build(options.folder)
+    sanitized, plain = build(options.folder)
     corpus = write_inputs(options.folder)
-    quarter = options.runs // 4
-    running = [start(sanitized, corpus, options, quarter), start(plain, corpus, options, options.runs - quarter)]
+    # The sanitizers take most of a process's time, so theirs makes half as many executions as another one.
+    share = options.runs // (2 * options.plain + 1)
+    processes = [(sanitized, "", share), *((plain, f".{number}", 2 * share + 1) for number in range(options.plain))]
+    running = [start(program, corpus, options, runs, name) for program, name, runs in processes]
     statuses = [it.wait() for it in running]
     # Once more over the whole corpus, for the blocks that it visits.
     statuses.append(start(plain, corpus, options, 0, ".last").wait())
-    logs = [told(it) for it in programs]
-    for status, log in zip(statuses, [*logs, told(plain, ".last")]):
+    logs = [told(program, name) for program, name, _ in processes]
+    last = told(plain, ".last")
+    for status, log in zip(statuses, [*logs, last]):
         print(log[-3000:] if status else "", end="")
-    print("executions:", *(f"{number_in(it, 'number_of_executed_units:'):,}" for it in logs), "(sanitized, plain)")
+    counts = [number_in(it, "number_of_executed_units:") for it in logs]
+    print(f"executions: {sum(counts):,}, of which {counts[0]:,} with sanitizers")
     print("seconds:", *(number_in(it, r"Done \d+ runs in") for it in logs))
     print("most memory, MB:", *(number_in(it, "peak_rss_mb:") for it in logs))
     print("inputs kept:", len(os.listdir(corpus)))
-    print(re.findall(r"blocks: .*", told(plain, ".last"))[-1])
+    print(re.findall(r"blocks: .*", last)[-1])
     print("crashes, hangs and leaks:", "none" if not any(statuses) else "see above")
     sys.exit(1 if any(statuses) else 0)
 

@@ -499,7 +499,8 @@ REALM_SYNC_API int realm_dump(realm_node *node) { return realm_ask_of(node, 'D',
 REALM_SYNC_API int realm_object(realm_node *node, const char *name) { return realm_ask_of(node, 'O', name, strlen(name)); }
 
 /* What the last realm_line, realm_commit or realm_take may have changed of a client's objects, a line of JSON for each place:
- * docs/FORMATS.md, "Places". What none of them covers is as it was. */
+ * docs/FORMATS.md, "Places". What none of them covers is as it was; of a list with "front" and "back" so many of its first and its last
+ * elements, as the least of each says. */
 REALM_SYNC_API int realm_changed(realm_node *node) { return realm_ask_of(node, 'C', NULL, 0); }
 
 /* Where it stands. */

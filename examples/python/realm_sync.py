@@ -377,7 +377,8 @@ class Client(_Open):
 
     def changed(self):
         """What the last commit or take may have changed, for a screen to draw anew: a dict for each place, with its "table" and, as the place
-        has them, its "key" and its "column" (docs/FORMATS.md, "Places")."""
+        has them, its "key" and its "column"; of a list "front" and "back", how many first and last elements are as they were
+        (docs/FORMATS.md, "Places", and `kept_ends`)."""
         return self._lines(_library.realm_changed)
 
     def transaction(self, ms=None):
@@ -408,6 +409,17 @@ class Client(_Open):
             self.take(send(message))
             places += self.changed()
         return places
+
+
+def kept_ends(places, table, key, column):
+    """How many elements at the beginning and at the end of that list are as they were, by places that `changed` or `sync` told; None where
+    all of it is. A screen keeps those rows: `rows[front:len(rows) - back] = elements[front:len(elements) - back]`."""
+    ends = None
+    for place in places:
+        if place["table"] == table and place.get("key", key) == key and place.get("column", column) == column:
+            here = place.get("front", 0), place.get("back", 0)
+            ends = here if ends is None else tuple(map(min, ends, here))
+    return ends
 
 
 class Server(_Open):

@@ -1,10 +1,10 @@
 #!/usr/bin/env python3
 """retarget.py MODULE.bc OUT.wasm: compiles the LLVM module that the toolchain made for x86-64 to WebAssembly.
 
-The module is taken as text, its target is changed from x86-64 to wasm64 (both are 64-bit little endian, with the same sizes
-and alignments), and it is compiled and linked with `heap.c`, `wide.c` and `start.c`. binaryen then lowers the 64-bit memory to a
-32-bit one, so that any browser runs it. It stops at whatever it doesn't know: a foreign function, an intrinsic of x86,
-inline assembly, an indirect call.
+The module is taken as text, what `main` never reaches is dropped, its target is changed from x86-64 to wasm64 (both are 64-bit
+little endian, with the same sizes and alignments), and it is compiled and linked with `heap.c`, `wide.c` and `start.c`. binaryen
+then lowers the 64-bit memory to a 32-bit one, so that any browser runs it. It stops at whatever it doesn't know: a foreign
+function, an intrinsic of x86, inline assembly, an indirect call.
 """
 import os
 import re
@@ -32,6 +32,11 @@ STACK = 1 << 20
 NAME = r'@(?:"((?:[^"\\]|\\.)*)"|([\w.$-]+))'
 CALL = r'^ +(?:%(?:"[^"\n]*"|[\w.$-]+) = )?(?:(?:tail|musttail|notail) )?(?:call|invoke|callbr) '
 ASSEMBLY = r'\basm (?:sideeffect |alignstack |inteldialect |unwind )*"'
+# Assembly of no instruction, which keeps the compiler from moving reads and writes over an atomic operation. The module has one thread,
+# and is compiled without atomics: such an operation is a plain one there, and nothing else sees in which order memory is written.
+FENCE = re.compile(r'^ +call void asm sideeffect "", "~\{memory\}"\(\)[^\n]*\n', flags=re.M)
+FUNCTION = re.compile(rf"^define [^@\n]*{NAME}\([^\n]*\n(?:[^}}\n][^\n]*\n|\n)*}}\n", flags=re.M)
+DECLARED = re.compile(rf"^declare [^@\n]*{NAME}\(.*\n", flags=re.M)
 # What is refused wherever it stands. A call is indirect where the line has no name of a function with arguments behind it.
 FORMS = {
     "foreign variable": r"^@\S+ = external\b",
@@ -55,9 +60,31 @@ def toolchain():
     return os.path.join(os.path.dirname(rt.strip()), "toolchain", "bin")
 
 
+def name_of(found):
+    """The name that a match of `NAME` found as its first one."""
+    return found[1] or found[2]
+
+
+def named(text):
+    """All names of functions and variables that a text has."""
+    return {quoted or plain for quoted, plain in re.findall(NAME, text)}
+
+
+def reachable(text):
+    """The module without the functions that neither `main` nor a variable reaches, and without their declarations: the toolchain puts
+    what starts threads into each module with an atomic operation."""
+    bodies = {name_of(it): it[0] for it in FUNCTION.finditer(text)}
+    found, new = set(), {"main"} | named(FUNCTION.sub("", DECLARED.sub("", text)))
+    while new:
+        found |= new
+        new = set().union(*(named(bodies[it]) for it in new if it in bodies)) - found
+    kept = FUNCTION.sub(lambda it: it[0] if name_of(it) in found else "", text)
+    return DECLARED.sub(lambda it: it[0] if name_of(it) in found else "", kept)
+
+
 def declared(text):
     """The names that the module declares and doesn't define."""
-    return {quoted or plain for quoted, plain in re.findall(rf"^declare [^@\n]*{NAME}\(", text, flags=re.M)}
+    return {name_of(it) for it in DECLARED.finditer(text)}
 
 
 def line_at(text, place):
@@ -94,7 +121,7 @@ def compile_module(clang, module, room):
     """Compiles the module to an object file for wasm64, by way of its text."""
     run(clang, "-x", "ir", module, "-S", "-emit-llvm", "-Xclang", "-disable-llvm-passes", "-o", f"{room}/module.ll")
     with open(f"{room}/module.ll", encoding="utf-8") as it:
-        text = it.read()
+        text = reachable(FENCE.sub("", it.read()))
     if refusals(text):
         stop("; ".join(refusals(text)))
     functions = len(re.findall(r"^define ", text, flags=re.M))

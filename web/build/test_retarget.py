@@ -15,6 +15,7 @@ define internal void @"f<T>"(ptr %0) {
   ret void
 }
 define i32 @main() {
+  %1 = call { i64, i64 } @rattle_alloc(i64 8, i64 8)
   ret i32 0
 }
 """
@@ -44,6 +45,18 @@ class Refusals(unittest.TestCase):
                 found = retarget.refusals(PLAIN + line + "\n")
                 self.assertEqual(len(found), 1)
                 self.assertTrue(found[0].startswith(why), found)
+
+    def test_what_main_never_reaches_is_dropped(self):
+        thread = 'declare i32 @fork()\ndefine internal void @"+threads::start"() {\n  %1 = call i32 @fork()\n  ret void\n}\n'
+        self.assertEqual(retarget.reachable(PLAIN + thread), PLAIN)
+        from_table = PLAIN.replace("[ptr @main,", '[ptr @"+threads::start",') + thread
+        self.assertEqual(retarget.reachable(from_table), from_table)
+
+    def test_a_fence_of_the_compiler_is_no_instruction(self):
+        fence = '  call void asm sideeffect "", "~{memory}"()\n'
+        self.assertEqual(retarget.FENCE.sub("", PLAIN.replace("  ret void\n", fence + "  ret void\n")), PLAIN)
+        other = PLAIN + '  call void asm sideeffect "nop", "~{memory}"()\n'
+        self.assertEqual(retarget.FENCE.sub("", other), other)
 
     def test_a_module_has_a_main(self):
         self.assertEqual(retarget.refusals(PLAIN.replace("@main()", "@other()")), ["no main"])

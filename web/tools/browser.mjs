@@ -21,6 +21,9 @@ export async function serve(folder) {
   return { origin: `http://127.0.0.1:${server.address().port}`, close: () => server.close() };
 }
 
+/** How long Chromium may take to reply, on a busy machine. */
+const SECONDS = 120;
+
 /** A started Chromium, with `send(method, parameters)` to its one page. */
 export class Browser {
   static async start(binary = process.env.CHROMIUM ?? 'chromium') {
@@ -32,6 +35,7 @@ export class Browser {
     browser.process = spawn(binary, [...words, 'about:blank'], { stdio: ['ignore', 'ignore', 'ignore', 'pipe', 'pipe'] });
     browser.process.on('error', (error) => browser.fail(error));
     browser.process.on('exit', () => browser.fail(new Error('the browser ended')));
+    for (const pipe of browser.process.stdio.slice(3)) pipe.on('error', (error) => browser.fail(error));
     browser.listen(browser.process.stdio[4]);
     const { targetInfos } = await browser.send('Target.getTargets');
     const { targetId } = targetInfos.find((target) => target.type === 'page');
@@ -44,12 +48,15 @@ export class Browser {
 
   constructor() {
     this.waiting = new Map();
+    /** Why nothing more comes from the browser, once that is so. */
+    this.fault = null;
     this.count = 0;
     this.faults = [];
     this.requests = [];
   }
 
   fail(error) {
+    this.fault ??= error;
     for (const { fail } of this.waiting.values()) fail(error);
     this.waiting.clear();
   }
@@ -76,10 +83,16 @@ export class Browser {
   }
 
   send(method, params = {}) {
+    if (this.fault) return Promise.reject(this.fault);
     this.count += 1;
     const message = { id: this.count, method, params, ...(this.session && { sessionId: this.session }) };
     return new Promise((done, fail) => {
-      this.waiting.set(message.id, { done, fail });
+      const late = setTimeout(() => fail(new Error(`the browser has not replied to ${method} after ${SECONDS} s`)), SECONDS * 1000);
+      const settled = (then) => (value) => {
+        clearTimeout(late);
+        then(value);
+      };
+      this.waiting.set(message.id, { done: settled(done), fail: settled(fail) });
       this.process.stdio[3].write(`${JSON.stringify(message)}\0`);
     });
   }
@@ -134,10 +147,14 @@ export class Browser {
   }
 
   async close() {
-    const ended = new Promise((done) => this.process.once('exit', done));
-    this.session = undefined;
-    await Promise.race([this.send('Browser.close').catch(() => {}), ended]);
-    await ended;
-    fs.rmSync(this.room, { recursive: true, force: true });
+    if (!this.fault) {
+      const ended = new Promise((done) => this.process.once('exit', done));
+      const late = setTimeout(() => this.process.kill('SIGKILL'), SECONDS * 1000);
+      this.session = undefined;
+      this.send('Browser.close').catch(() => {});
+      await ended;
+      clearTimeout(late);
+    }
+    fs.rmSync(this.room, { recursive: true, force: true, maxRetries: 5 });
   }
 }

@@ -27,7 +27,7 @@ function command(words, input) {
 function commandsOf(script) {
   const folder = fs.mkdtempSync(path.join(os.tmpdir(), 'compare-'));
   const record = path.join(folder, 'record');
-  const env = { ...process.env, REALM_SYNC: native, RECORD: record };
+  const env = { ...process.env, PROGRAM: native, RECORD: record };
   execFileSync('sh', [path.join(top, script), fileURLToPath(new URL('record.mjs', import.meta.url))], { env, stdio: ['ignore', 'ignore', 'pipe'] });
   const lines = fs.readFileSync(record, 'utf8').trimEnd().split('\n');
   fs.rmSync(folder, { recursive: true });
@@ -79,7 +79,9 @@ async function compare(all, where, run) {
   return differing;
 }
 
+const start = Date.now();
 const all = cases();
+console.log(`native: ${all.flatMap(({ commands }) => commands).length} commands in ${Math.round((Date.now() - start) / 1000)} s`);
 const server = await serve(top);
 const browser = await Browser.start();
 let differing;
@@ -90,5 +92,6 @@ try {
   await browser.close();
   server.close();
 }
-console.log(differing === 0 ? 'compare: all the same' : `compare: ${differing} differ`);
+const seconds = Math.round((Date.now() - start) / 1000);
+console.log(differing === 0 ? `compare: all the same, after ${seconds} s` : `compare: ${differing} differ`);
 process.exit(differing === 0 ? 0 : 1);

@@ -12,13 +12,17 @@ pub(crate) struct NotMade;
 pub(crate) fn changeset(alloc: Global, count: u32) -> Result<Changeset, NotMade> {
     let mut instrs = Vec::new(alloc);
     for number in 0..count {
-        let instr = instr(alloc, number)?;
-        let Ok(()) = instrs.push(instr) else {
-            return Err(NotMade);
-        };
+        put(&mut instrs, instr(alloc, number)?)?;
     }
     match Changeset::checked(1_700_000_000_000, instrs) {
         Ok(changes) => Ok(changes),
+        Err(_) => Err(NotMade),
+    }
+}
+
+fn put<T: Drop>(list: &mut Vec<T>, item: T) -> Result<(), NotMade> {
+    match list.push(item) {
+        Ok(()) => Ok(()),
         Err(_) => Err(NotMade),
     }
 }

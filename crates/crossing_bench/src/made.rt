@@ -66,9 +66,14 @@ pub(crate) fn update(alloc: Global, key: u32, ms: u64) -> Result<Changeset, Fail
     changeset(alloc, Instr::Update(update), ms)
 }
 
+fn put<T: Drop>(list: &mut Vec<T>, item: T) -> Result<(), Failure> {
+    list.push(item)?;
+    Ok(())
+}
+
 fn changeset(alloc: Global, instr: Instr, ms: u64) -> Result<Changeset, Failure> {
     let mut instrs = Vec::with_capacity(alloc, 1)?;
-    instrs.push(instr)?;
+    put(&mut instrs, instr)?;
     match Changeset::checked(ms, instrs) {
         Ok(changes) => Ok(changes),
         Err(_) => Err(Failure::Crossing),

@@ -40,28 +40,48 @@ fn main(rt: HostRuntime) -> ExitCode {
 }
 
 fn run(rt: &HostRuntime) -> Result<(), Failure> {
-    let mut words = env::args(rt)?;
-    let _program = words.next();
-    let (Some(kind), Some(count)) = (words.next(), words.next()) else {
-        println!(rt; "usage: crossing_bench KIND COUNT")?;
-        return Ok(());
-    };
-    let count = number(count.as_str())?;
-    let (runs, nanos) = match kind.as_str() {
-        "lists" => lists::measured(rt, count)?,
-        "unsent-apart" => unsent::measured(rt, count, 2)?,
-        "unsent-touched" => unsent::measured(rt, count, 1)?,
-        "entries-apart" => entries::measured(rt, count, 2)?,
-        "entries-touched" => entries::measured(rt, count, 1)?,
-        "entries-list" => entries::measured_list(rt, count)?,
-        "disjoint" => exchanges::measured(rt, count, About::Apart)?,
-        "counter" => exchanges::measured(rt, count, About::Counter)?,
-        "update" => exchanges::measured(rt, count, About::Update)?,
-        "ends" => exchanges::measured(rt, count, About::Ends)?,
-        _ => return Err(Failure::Words),
-    };
+    let words = words_of(rt)?;
+    match words.as_slice() {
+        [kind, count] => tell(rt, kind.as_str(), number(count.as_str())?),
+        _ => {
+            println!(rt; "usage: crossing_bench KIND COUNT")?;
+            Ok(())
+        }
+    }
+}
+
+// The words behind the program's name.
+fn words_of(rt: &HostRuntime) -> Result<Vec<String>, Failure> {
+    let mut words = Vec::new(rt.alloc());
+    let mut given = env::args(rt)?;
+    let _program = given.next();
+    for word in given {
+        words.push(word)?;
+    }
+    Ok(words)
+}
+
+fn tell(rt: &HostRuntime, kind: &str, count: u32) -> Result<(), Failure> {
+    let (runs, nanos) = measured(rt, kind, count)?;
     println!(rt; "{kind} {count}: {runs} runs in {nanos} nanoseconds")?;
     Ok(())
+}
+
+// The runs and the nanoseconds of that kind.
+fn measured(rt: &HostRuntime, kind: &str, count: u32) -> Result<(u64, u128), Failure> {
+    match kind {
+        "lists" => lists::measured(rt, count),
+        "unsent-apart" => unsent::measured(rt, count, 2),
+        "unsent-touched" => unsent::measured(rt, count, 1),
+        "entries-apart" => entries::measured(rt, count, 2),
+        "entries-touched" => entries::measured(rt, count, 1),
+        "entries-list" => entries::measured_list(rt, count),
+        "disjoint" => exchanges::measured(rt, count, About::Apart),
+        "counter" => exchanges::measured(rt, count, About::Counter),
+        "update" => exchanges::measured(rt, count, About::Update),
+        "ends" => exchanges::measured(rt, count, About::Ends),
+        _ => Err(Failure::Words),
+    }
 }
 
 // A number of at most 60,000.

@@ -2,6 +2,8 @@ mod disks;
 mod files;
 mod hosts;
 mod journals;
+mod locks;
+mod outboxes;
 mod sinks;
 mod sources;
 mod statuses;

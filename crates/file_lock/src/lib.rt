@@ -3,9 +3,6 @@
 //! those that ask for it, and goes with the process that holds it, also where that is killed.
 #![tactic(auto)]
 
-#[cfg(test)]
-mod tests;
-
 use std::fs::{File, OpenFile, OpenOptions, TryLockError};
 use std::rt::Files;
 

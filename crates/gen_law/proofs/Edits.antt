@@ -1,5 +1,5 @@
 -- Each edit that is drawn is a light instruction on a list that is far from the greatest length.
-use Rattle.std.proofs.Common.{◌≡◌, ℕ, zero, suc, ◌+◌, ◌/◌, ◌^◌, ◌<◌, ◌≤◌, Bool, true, false, ◌&&◌, not, List, [], ◌∷◌, Option, Some, None, refl, ap, arith, if◌then◌else◌, ◌==◌, eqb-true, length, nat_le, nat_lt}
+use Rattle.std.proofs.Common.{◌≡◌, ℕ, zero, suc, ◌+◌, ◌/◌, ◌^◌, ◌<◌, ◌≤◌, Bool, true, false, ◌&&◌, not, List, [], ◌∷◌, Option, Some, None, refl, ap, subst, arith, if◌then◌else◌, ◌==◌, eqb-true, length, nat_le, nat_lt}
 use Rattle.std.specs.Prelude.{codes, decimal}
 use Rattle.std.specs.Option.{option_and_then}
 use Rattle.std.specs.Str.{is_utf8}
@@ -168,33 +168,65 @@ pub below : (k x : ℕ) → 0 < k → (draw k x).0 < k
 unfolding draw
 below k x some = mod_below (next x / 2 ^ 33) k some
 
-either : (b : Bool) (d e : Drawing Instr) (x : ℕ) → (b ≡ true → Fits (d x).0) → (b ≡ false → Fits (e x).0) → Fits ((if b then d else e) x).0
-either true d e x f g = f refl
-either false d e x f g = g refl
+either : (P : Instr → Type 0) (b : Bool) (d e : Drawing Instr) (x : ℕ) → (b ≡ true → P (d x).0) → (b ≡ false → P (e x).0) → P ((if b then d else e) x).0
+either P true d e x f g = f refl
+either P false d e x f g = g refl
 
 split : (a b : Bool) → (a && b) ≡ false → a ≡ true → b ≡ false
 split true b e f = e
 split false b e f = cc
 
+right : (a b : Bool) → (a && b) ≡ true → b ≡ true
+right true b e = e
+right false b e = cc
+
 some_length : (length : ℕ) → (length == 0) ≡ false → 0 < length
 some_length zero e = cc
 some_length (suc n) e = omega arith
 
-by_choice : (k l o x : ℕ) → k < 16 → l < 2147483648 → Fits (edit_by k l o x).0
-by_choice k l o x lt few =
-    either (o == 0) (number_updated k) _ x (λ e. numbers k (draw 1000 x).0 lt (below 1000 x (omega arith))) (λ e0.
-    either (o == 1) (number_raised k) _ x (λ e. raises k (draw 1000 x).0 lt (below 1000 x (omega arith))) (λ e1.
-    either (o == 2) (text_updated k) _ x (λ e. texts k (draw 1000 x).0 lt (below 1000 x (omega arith))) (λ e2.
-    either (nat_le o 4) (element_inserted k l) _ x (λ e. inserts k l (draw (l + 1) x).0 (draw 1000 (draw (l + 1) x).1).0 lt few (let h = below (l + 1) x (omega arith) in omega arith) (below 1000 (draw (l + 1) x).1 (omega arith))) (λ e3.
-    either (nat_le o 6 && l == 0) (given (list_insert k 0 0 0)) _ x (λ e. inserts k 0 0 0 lt (omega arith) (omega arith) (omega arith)) (λ e4.
-    either (o == 5) (element_erased k l) _ x (λ e. removes k l (draw l x).0 lt few (below l x (not_empty 5 e e4 (omega arith)))) (λ e5.
-    either (o == 6) (element_updated k l) _ x (λ e. replaces k l (draw l x).0 (draw 1000 (draw l x).1).0 lt few (below l x (not_empty 6 e e4 (omega arith))) (below 1000 (draw l x).1 (omega arith))) (λ e6.
-    either (o == 7) (member_inserted k) _ x (λ e. includes k (draw 20 x).0 lt (below 20 x (omega arith))) (λ e7.
-    either (o == 8) (member_erased k) _ x (λ e. excludes k (draw 20 x).0 lt (below 20 x (omega arith))) (λ e8.
-    either ((draw 4 x).0 == 0) (given (erase_object k)) (link_updated k) (draw 4 x).1 (λ e. erases k lt) (λ e. links k (draw 16 (draw 4 x).1).0 lt (below 16 (draw 4 x).1 (omega arith))))))))))))
+-- what holds of each edit that may be drawn for an object with a list of this length
+pub record OfEach (P : Instr → Type 0) (k l : ℕ) : Type 0 where
+  pub numbers : (n : ℕ) → n < 1000 → P (update k (codes "n") (integer n))
+  pub raises : (n : ℕ) → n < 1000 → P (add_integer k n)
+  pub texts : (n : ℕ) → n < 1000 → P (update k (codes "s") (text_of n))
+  pub inserts : (place n : ℕ) → place ≤ l → n < 1000 → P (list_insert k l place n)
+  pub removes : (place : ℕ) → place < l → P (list_erase k l place)
+  pub replaces : (place n : ℕ) → place < l → n < 1000 → P (list_update k l place n)
+  pub includes : (n : ℕ) → n < 20 → P (set_insert k n)
+  pub excludes : (n : ℕ) → n < 20 → P (set_erase k n)
+  pub erases : P (erase_object k)
+  pub links : (n : ℕ) → n < 16 → P (update k (codes "k") (link_to n))
+
+-- holds of the one that is drawn
+pub by_choice : (P : Instr → Type 0) (k l : ℕ) → OfEach P k l → (o x : ℕ) → P (edit_by k l o x).0
+by_choice P k l each o x =
+    either P (o == 0) (number_updated k) _ x (λ e. each.numbers (draw 1000 x).0 (below 1000 x (omega arith))) (λ e0.
+    either P (o == 1) (number_raised k) _ x (λ e. each.raises (draw 1000 x).0 (below 1000 x (omega arith))) (λ e1.
+    either P (o == 2) (text_updated k) _ x (λ e. each.texts (draw 1000 x).0 (below 1000 x (omega arith))) (λ e2.
+    either P (nat_le o 4) (element_inserted k l) _ x (λ e. each.inserts (draw (l + 1) x).0 (draw 1000 (draw (l + 1) x).1).0 (let h = below (l + 1) x (omega arith) in omega arith) (below 1000 (draw (l + 1) x).1 (omega arith))) (λ e3.
+    either P (nat_le o 6 && l == 0) (given (list_insert k 0 0 0)) _ x (λ e. subst (λ n. P (list_insert k n 0 0)) (eqb-true l 0 (right (nat_le o 6) (l == 0) e)) (each.inserts 0 0 (omega arith) (omega arith))) (λ e4.
+    either P (o == 5) (element_erased k l) _ x (λ e. each.removes (draw l x).0 (below l x (not_empty 5 e e4 (omega arith)))) (λ e5.
+    either P (o == 6) (element_updated k l) _ x (λ e. each.replaces (draw l x).0 (draw 1000 (draw l x).1).0 (below l x (not_empty 6 e e4 (omega arith))) (below 1000 (draw l x).1 (omega arith))) (λ e6.
+    either P (o == 7) (member_inserted k) _ x (λ e. each.includes (draw 20 x).0 (below 20 x (omega arith))) (λ e7.
+    either P (o == 8) (member_erased k) _ x (λ e. each.excludes (draw 20 x).0 (below 20 x (omega arith))) (λ e8.
+    either P ((draw 4 x).0 == 0) (given (erase_object k)) (link_updated k) (draw 4 x).1 (λ e. each.erases) (λ e. each.links (draw 16 (draw 4 x).1).0 (below 16 (draw 4 x).1 (omega arith))))))))))))
   where
     not_empty : (n : ℕ) → (o == n) ≡ true → (nat_le o 6 && l == 0) ≡ false → n ≤ 6 → 0 < l
     not_empty n e f le = some_length l (split (nat_le o 6) (l == 0) f (le-leb o 6 (let h = eqb-true o n e in omega arith)))
+
+fits_each : (k l : ℕ) → k < 16 → l < 2147483648 → OfEach Fits k l
+fits_each k l lt few = record {
+  numbers = λ n. numbers k n lt;
+  raises = λ n. raises k n lt;
+  texts = λ n. texts k n lt;
+  inserts = λ place n le. inserts k l place n lt few le;
+  removes = λ place. removes k l place lt few;
+  replaces = λ place n le. replaces k l place n lt few le;
+  includes = λ n. includes k n lt;
+  excludes = λ n. excludes k n lt;
+  erases = erases k lt;
+  links = λ n. links k n lt;
+}
 
 short_list : (c : Cell) (n : ℕ) → short_length c ≡ Some n → n < 2147483648
 short_list (One v) n e = cc
@@ -219,4 +251,4 @@ drawn_edit s x = on (length_in s (draw 16 x).0) refl
 
     on : (o : Option ℕ) → length_in s (draw 16 x).0 ≡ o → Fits (edit_at (draw 16 x).0 o (draw 16 x).1).0
     on None o_is = creates (draw 16 x).0 key
-    on (Some l) o_is = by_choice (draw 16 x).0 l (draw 10 (draw 16 x).1).0 (draw 10 (draw 16 x).1).1 key (short_there (cell_at s (table, key_of (draw 16 x).0) (codes "l")) l o_is)
+    on (Some l) o_is = by_choice Fits (draw 16 x).0 l (fits_each (draw 16 x).0 l key (short_there (cell_at s (table, key_of (draw 16 x).0) (codes "l")) l o_is)) (draw 10 (draw 16 x).1).0 (draw 10 (draw 16 x).1).1

@@ -106,7 +106,7 @@ pub record There (w : World) (name : Name) : Type 0 where
   pub found : seek (has_name name) w.clients ≡ Some (place, node)
   pub apart : bytes_eq name server_name ≡ false
 
-place_of_client : (c : ℕ) → IsClient c → (i : ℕ) × (at clients i ≡ Some c)
+pub place_of_client : (c : ℕ) → IsClient c → (i : ℕ) × (at clients i ≡ Some c)
 place_of_client zero is = let h = is.0 in absurd (omega arith)
 place_of_client (suc zero) is = (0, refl)
 place_of_client (suc (suc zero)) is = (1, refl)
@@ -132,7 +132,7 @@ if_no : {A : Type 0} (b : Bool) (x y : A) → b ≡ false → (if b then x else 
 if_no true x y e = cc
 if_no false x y e = refl
 
-named_call : {A : Type 0} (c : Client Instr State) (id : Uuid) (did : ClientStep A) → c.id ≡ Some id → c.ident ≢ 0 → if_named c did ≡ did
+pub named_call : {A : Type 0} (c : Client Instr State) (id : Uuid) (did : ClientStep A) → c.id ≡ Some id → c.ident ≢ 0 → if_named c did ≡ did
 named_call c id did born ne = ap (λ o. if_born o (λ id. if c.ident == 0 then refuse NotNamed else did)) born ∙ if_no (c.ident == 0) (refuse NotNamed) did (test_false c.ident 0 ne)
 
 sends : (w : World) (name : Name) (place : ℕ) (nd : Node) → seek (has_name name) w.clients ≡ Some (place, nd) → w.stops nd.name ≡ None → (call : Client Instr State → ClientStep Message) (m : Message) → call (client_of the_profile nd.records) ≡ answers m

@@ -83,7 +83,7 @@ light_k : weight column_k ≤ 3
 unfolding instr_fields
 light_k = is_light column_k (omega arith) refl (three_names 107 (omega arith))
 
-first_weight : sum_by weight first_edits_of ≤ 200
+pub first_weight : sum_by weight first_edits_of ≤ 200
 first_weight = omega (arith, table_light, light_n, light_m, light_s, light_l, light_u, light_k)
 
 pub first_drawn : is_drawn 1 0 first_edits_of ≡ true
@@ -146,7 +146,7 @@ all_own (suc (suc (suc (suc (suc (suc (suc zero))))))) ne le = refl
 all_own (suc (suc (suc (suc (suc (suc (suc (suc zero)))))))) ne le = refl
 all_own (suc (suc (suc (suc (suc (suc (suc (suc (suc c))))))))) ne le = let e : length (ids the_profile (with_clients clients)) ≡ 8 = refl in absurd (omega arith)
 
-good_joined : AreClients clients → Good 0 (with_clients clients)
+pub good_joined : AreClients clients → Good 0 (with_clients clients)
 good_joined are = record {
   reached = reached_all;
   harmless = record {
@@ -160,7 +160,7 @@ good_joined are = record {
 
 -- ---- the first parts of a plan
 
-join_step : (c : ℕ) → c < 10 → (w v : World) → join c w ≡ v → (x : ℕ) → step (moves.Join c) (w, x) ≡ (v, x)
+pub join_step : (c : ℕ) → c < 10 → (w v : World) → join c w ≡ v → (x : ℕ) → step (moves.Join c) (w, x) ≡ (v, x)
 join_step c lt w v e x = ap (λ n. (world_by w (joined n (Event.Joins n (id_of c)) w), x)) (name_is c lt) ∙ ap (λ u. (u, x)) e
 
 next : (c : ℕ) → c < 10 → (cs : List ℕ) (w v : World) → join c w ≡ v → (x : ℕ) (r : World × ℕ) → steps (map moves.Join cs) (v, x) ≡ r → steps (map moves.Join (c ∷ cs)) (w, x) ≡ r

@@ -6,3 +6,12 @@ pub mod Eight
 pub mod Parts
 pub mod First
 pub mod Whole
+pub mod Tables
+pub mod Founding
+pub mod Unrefused
+pub mod Answered
+pub mod Editing
+pub mod Histories
+pub mod Lasting
+pub mod Founded
+pub mod Accepted

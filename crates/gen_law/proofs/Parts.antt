@@ -30,7 +30,7 @@ abbrev pub steps : List Move → World × ℕ → World × ℕ
 steps [] q = q
 steps (m ∷ ms) q = steps ms (step m q)
 
-world_append : (w : World) (es fs : List (Event Instr)) → world_by w (es ++ fs) ≡ world_by (world_by w es) fs
+pub world_append : (w : World) (es fs : List (Event Instr)) → world_by w (es ++ fs) ≡ world_by (world_by w es) fs
 world_append w [] fs = refl
 world_append w (e ∷ es) fs = world_append (after w e) es fs
 
@@ -81,7 +81,7 @@ module _ (lasts : Lasts) where
 
   -- ---- turns
 
-  good_turn : (n : ℕ) (w : World) → Good n w → (c : ℕ) → IsClient c → (kind : TurnKind) (x : ℕ) → Good (suc n) (world_by w (done_by (name_of c) kind w x).0)
+  pub good_turn : (n : ℕ) (w : World) → Good n w → (c : ℕ) → IsClient c → (kind : TurnKind) (x : ℕ) → Good (suc n) (world_by w (done_by (name_of c) kind w x).0)
   good_turn n w g c is kinds.Restart x = good_less n (suc n) (after w (Event.Restarts (name_of c))) (omega arith) (good_after lasts n w (Event.Restarts (name_of c)) g tt refl)
   good_turn n w g c is (kinds.Edit ms) x =
       let e = (edit_of (objects_of w (name_of c)) x).0 in
@@ -91,7 +91,7 @@ module _ (lasts : Lasts) where
   good_turn n w g c is kinds.Push x = let e = uploads n w g c is in good_less n (suc n) (world_by w (exchanged (name_of c) (Event.Uploads (name_of c)) w)) (omega arith) e.good
   good_turn n w g c is kinds.Pull x = let e = asks n w g c is in good_less n (suc n) (world_by w (exchanged (name_of c) (Event.Asks (name_of c)) w)) (omega arith) e.good
 
-  turn_is : (number : ℕ) (n : ℕ) (q : World × ℕ) → Good n q.0 → Good (suc n) (step (moves.Turn number) q).0
+  pub turn_is : (number : ℕ) (n : ℕ) (q : World × ℕ) → Good n q.0 → Good (suc n) (step (moves.Turn number) q).0
   turn_is number n q g = let lt = below 8 q.1 (omega arith) in good_turn n q.0 g (turn_of number q.1).0.client (omega arith, omega arith) (turn_of number q.1).0.kind (turn_of number q.1).1
 
   pub good_turns : (n k : ℕ) (q : World × ℕ) → Good n q.0 → Good (n + k) (steps (turns k) q).0

@@ -31,16 +31,16 @@ abbrev pub HaveObjects : Type 0
 HaveObjects = (w : World) → IsReached the_profile w → (i : ℕ) (nd : Node) → at w.clients i ≡ Some nd → ident_of the_profile w nd ≢ 0 → IsCurrent the_profile w nd
     → (client_of the_profile nd.records).objects ≡ only_by the_profile (subset_of the_profile nd) (server_objects the_profile (server_of the_profile w.server))
 
-all_clients : AreClients clients
+pub all_clients : AreClients clients
 all_clients =
     ((omega arith, omega arith), ((omega arith, omega arith), ((omega arith, omega arith), ((omega arith, omega arith), ((omega arith, omega arith), ((omega arith, omega arith), ((omega arith, omega arith), ((omega arith, omega arith), tt))))))))
 
 -- before the turns
-abbrev first_parts : List Move
+abbrev pub first_parts : List Move
 first_parts = map moves.Join clients ++ moves.Found ∷ [] ++ moves.Push 1 ∷ [] ++ map moves.Pull clients
 
 module _ (lasts : Lasts) (catch_up : CatchUp) (have : HaveObjects) where
-  good_first : (x : ℕ) → Good 1 (steps first_parts (empty_world, x)).0
+  pub good_first : (x : ℕ) → Good 1 (steps first_parts (empty_world, x)).0
   good_first x =
       let a : List Move = map moves.Join clients in
       let to : steps first_parts (empty_world, x) ≡ steps (map moves.Pull clients) (step (moves.Push 1) (step moves.Found (with_clients clients, x))) =

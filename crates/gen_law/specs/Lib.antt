@@ -1,3 +1,4 @@
 pub mod Plans
 pub mod Generated
 pub mod Ends
+pub mod Refusals

@@ -9,11 +9,11 @@ fn key_text(alloc: Global, text: &str) -> Option<KeyText> {
     KeyText::new(alloc, text).ok()
 }
 
-/// The list with one instruction more.
-fn with(instrs: Vec<Instr>, instr: Instr) -> Option<Vec<Instr>> {
-    let mut instrs = instrs;
-    match instrs.push(instr) {
-        Ok(()) => Some(instrs),
+/// The list with one item more.
+fn with<T: Drop>(items: Vec<T>, item: T) -> Option<Vec<T>> {
+    let mut items = items;
+    match items.push(item) {
+        Ok(()) => Some(items),
         Err(_) => None,
     }
 }
@@ -127,19 +127,22 @@ fn binding(alloc: Global) -> Option<Instr> {
     Some(Instr::DictUpdate(DictUpdate { cell, at, value }))
 }
 
-/// Whether the instruction carries so many bytes: 1 + 2 + 1 for the cell, 2 for the dictionary's key, 3 + 3 for the link.
-fn carries<E: Drop>(copy: Result<Instr, E>) -> bool {
-    match copy {
-        Ok(copy) => copy.payload() == 12,
-        Err(_) => false,
+/// Whether each instruction carries so many bytes: 1 + 2 + 1 for the cell, 2 for the dictionary's key, 3 + 3 for the link.
+fn carry(instrs: &[Instr]) -> bool {
+    for instr in instrs {
+        if instr.payload() != 12 {
+            return false;
+        }
     }
+    true
 }
 
-fn copies_instructions(alloc: Global) -> bool {
-    match binding(alloc) {
-        Some(binding) => carries(binding.copy()) && carries(binding.clone()),
-        None => false,
-    }
+fn copies_instructions(alloc: Global) -> Option<bool> {
+    let made = with(Vec::new(alloc), binding(alloc)?)?;
+    let first = made.first()?;
+    let copies = with(Vec::new(alloc), first.copy().ok()?)?;
+    let copies = with(copies, first.clone().ok()?)?;
+    Some(copies.len() == 2 && carry(&copies))
 }
 
 fn copies_columns() -> Option<bool> {
@@ -153,7 +156,7 @@ fn copies_columns() -> Option<bool> {
 
 #[test]
 fn instructions_and_columns_are_copied(rt: HostRuntime) {
-    assert!(rt; copies_instructions(rt.alloc()));
+    assert!(rt; copies_instructions(rt.alloc()) == Some(true));
     assert!(rt; copies_columns() == Some(true));
 }
 

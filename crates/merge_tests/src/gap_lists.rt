@@ -1,95 +1,164 @@
+//! How a list with a gap treats its elements, and a growth that is refused.
+
 ghost use Rattle.std.specs.Prelude.{◌≡◌, ℕ};
 
 use gap_list::{Full, GapList, NoMemory};
-use std::alloc::AllocError;
+use std::alloc::{AllocError, Global};
 use std::marker::Model;
-use std::process::Abort;
 use std::rc::Rc;
-use std::test::*;
 
-// A list that has a spare place takes the item.
-fn put<T: Drop>(rt: &impl Abort, list: &mut GapList<T>, place: usize, item: T) {
-    assert!(rt; place <= list.len());
-    match list.insert(place, item) {
-        Ok(()) => {}
-        Err(Full(_)) => assert!(rt; false, "full at {place}"),
-    }
+/// Puts the item in, where the list has a spare place.
+fn put<T: Drop>(list: &mut GapList<T>, place: usize, item: T) -> bool {
+    place <= list.len() && list.insert(place, item).is_ok()
 }
 
-#[test]
-fn a_full_list_hands_the_item_back(rt: HostRuntime) -> Result<(), Fail> {
-    let mut list = GapList::new(rt.alloc());
-    match list.insert(0, "x") {
-        Ok(()) => assert!(rt; false),
-        Err(Full(item)) => assert_eq!(rt; item, "x"),
-    }
-    assert_eq!(rt; list.len(), 0);
-    assert!(rt; list.reserve(1).is_ok());
-    put(&rt, &mut list, 0, "x");
-    assert_eq!(rt; list.get(0), Some(&"x"));
-    assert_eq!(rt; list.get(1), None);
-    Ok(())
-}
-
-#[test]
-fn edits_of_a_list_of_three(rt: HostRuntime) -> Result<(), Fail> {
-    let mut list = GapList::new(rt.alloc());
-    assert!(rt; list.reserve(3).is_ok());
-    put(&rt, &mut list, 0, "a");
-    put(&rt, &mut list, 1, "b");
-    put(&rt, &mut list, 2, "c");
-    assert!(rt; list.len() == 3);
-    assert_eq!(rt; list.remove(1), "b");
-    // The place of "b" is spare.
-    put(&rt, &mut list, 0, "d");
-    let copy = match list.make_copy() {
-        Ok(copy) => copy,
-        Err(NoMemory) => return Err(AllocError.into()),
-    };
-    assert!(rt; list.len() == 3);
-    assert_eq!(rt; list.replace(2, "e"), "c");
-    for (place, now, before) in [(0, "d", "d"), (1, "a", "a"), (2, "e", "c")] {
-        assert_eq!(rt; list.get(place), Some(&now), "at {place}");
-        assert_eq!(rt; copy.get(place), Some(&before), "at {place} of the copy");
-    }
-    assert_eq!(rt; copy.len(), 3);
-    Ok(())
-}
-
-// The shared count of each element is one more for each place that holds it.
-#[test]
-fn drops_each_element_once(rt: HostRuntime) -> Result<(), Fail> {
-    let counted = Rc::new(rt.alloc(), 0)?;
-    let mut list: GapList<Rc<i32>> = GapList::new(rt.alloc());
-    drop(list.insert(0, counted.clone()?));
-    assert_eq!(rt; Rc::strong_count(&counted), 1);
-    // Grows from 4 places to 64, with the gap at a new place for each element.
-    for i in 0..40 {
-        assert!(rt; list.reserve(1).is_ok());
-        let len = list.len();
-        assert_eq!(rt; len, i);
-        put(&rt, &mut list, (i * 7) % (len + 1), counted.clone()?);
-        assert!(rt; list.reserve(usize::MAX).is_err());
-        assert_eq!(rt; Rc::strong_count(&counted), i + 2);
-    }
-    for i in 0..30 {
-        let len = list.len();
-        assert!(rt; 0 < len);
-        let place = (i * 5) % len;
-        if i % 3 == 0 {
-            drop(list.replace(place, counted.clone()?));
-        } else {
-            drop(list.remove(place));
+/// Whether the list has these elements, in order.
+fn has_words(list: &GapList<&str>, want: &[&str]) -> bool {
+    for (place, item) in want.iter().enumerate() {
+        if list.get(place) != Some(item) {
+            return false;
         }
-        assert_eq!(rt; Rc::strong_count(&counted), list.len() + 1);
     }
-    assert_eq!(rt; Rc::strong_count(&counted), 21);
-    drop(list);
-    assert_eq!(rt; Rc::strong_count(&counted), 1);
-    Ok(())
+    list.len() == want.len()
 }
 
-// Whether the list has these elements, in order.
+fn is_handed_back(list: &mut GapList<&str>) -> bool {
+    match list.insert(0, "x") {
+        Ok(()) => false,
+        Err(Full(item)) => item == "x",
+    }
+}
+
+/// Whether a list without a spare place hands the item back, and takes it once it has one.
+fn hands_back(alloc: Global) -> bool {
+    let mut list = GapList::new(alloc);
+    is_handed_back(&mut list)
+        && has_words(&list, &[])
+        && list.reserve(1).is_ok()
+        && put(&mut list, 0, "x")
+        && has_words(&list, &["x"])
+}
+
+#[test]
+fn a_full_list_hands_the_item_back(rt: HostRuntime) {
+    assert!(rt; hands_back(rt.alloc()));
+}
+
+fn list_of_three(alloc: Global) -> Option<GapList<&'static str>> {
+    let mut list = GapList::new(alloc);
+    let is_made = list.reserve(3).is_ok()
+        && put(&mut list, 0, "a")
+        && put(&mut list, 1, "b")
+        && put(&mut list, 2, "c");
+    if is_made { Some(list) } else { None }
+}
+
+fn removes(list: &mut GapList<&str>, place: usize, want: &str) -> bool {
+    place < list.len() && list.remove(place) == want
+}
+
+fn replaces(
+    list: &mut GapList<&'static str>,
+    place: usize,
+    item: &'static str,
+    want: &str,
+) -> bool {
+    place < list.len() && list.replace(place, item) == want
+}
+
+/// Whether a list and its copy have what they must after an edit of each kind. The place of what is removed is spare.
+fn is_edited(alloc: Global) -> Option<bool> {
+    let mut list = list_of_three(alloc)?;
+    let is_moved = removes(&mut list, 1, "b") && put(&mut list, 0, "d");
+    let copy = list.make_copy().ok()?;
+    let is_replaced = replaces(&mut list, 2, "e", "c");
+    let are_so = has_words(&list, &["d", "a", "e"]) && has_words(&copy, &["d", "a", "c"]);
+    Some(is_moved && is_replaced && are_so)
+}
+
+#[test]
+fn edits_of_a_list_of_three(rt: HostRuntime) {
+    assert!(rt; is_edited(rt.alloc()) == Some(true));
+}
+
+/// Whether the shared count of the elements is one more for each place that holds one.
+fn is_counted(list: &GapList<Rc<i32>>, counted: &Rc<i32>) -> bool {
+    Rc::strong_count(counted) == list.len() + 1
+}
+
+fn puts_counted(list: &mut GapList<Rc<i32>>, counted: &Rc<i32>, place: usize) -> bool {
+    match counted.clone() {
+        Ok(item) => list.reserve(1).is_ok() && put(list, place, item),
+        Err(_) => false,
+    }
+}
+
+/// Grows from 4 places to 64, with the gap at a new place for each element.
+fn grows(list: &mut GapList<Rc<i32>>, counted: &Rc<i32>) -> bool {
+    for i in 0..40usize {
+        let is_put = puts_counted(list, counted, (i * 7) % (i + 1));
+        if !is_put || list.reserve(usize::MAX).is_ok() || !is_counted(list, counted) {
+            return false;
+        }
+    }
+    true
+}
+
+fn replaces_counted(list: &mut GapList<Rc<i32>>, counted: &Rc<i32>, place: usize) -> bool {
+    match counted.clone() {
+        Ok(item) => {
+            let is_there = place < list.len();
+            if is_there {
+                drop(list.replace(place, item));
+            }
+            is_there
+        }
+        Err(_) => false,
+    }
+}
+
+/// One of three steps replaces an element, the others remove one.
+fn shrinks_at(list: &mut GapList<Rc<i32>>, counted: &Rc<i32>, step: usize) -> bool {
+    if list.len() == 0 {
+        return false;
+    }
+    let place = step % list.len();
+    if step % 3 == 0 {
+        replaces_counted(list, counted, place)
+    } else {
+        drop(list.remove(place));
+        true
+    }
+}
+
+fn shrinks(list: &mut GapList<Rc<i32>>, counted: &Rc<i32>) -> bool {
+    for i in 0..30usize {
+        if !shrinks_at(list, counted, i * 5) || !is_counted(list, counted) {
+            return false;
+        }
+    }
+    true
+}
+
+/// Whether each element is dropped once: those that a full list hands back, those that are replaced or removed, and the rest with the list.
+fn drops_once(alloc: Global) -> Option<bool> {
+    let counted = Rc::new(alloc, 0).ok()?;
+    let mut list: GapList<Rc<i32>> = GapList::new(alloc);
+    drop(list.insert(0, counted.clone().ok()?));
+    let is_kept = is_counted(&list, &counted)
+        && grows(&mut list, &counted)
+        && shrinks(&mut list, &counted)
+        && list.len() == 20;
+    drop(list);
+    Some(is_kept && Rc::strong_count(&counted) == 1)
+}
+
+#[test]
+fn drops_each_element_once(rt: HostRuntime) {
+    assert!(rt; drops_once(rt.alloc()) == Some(true));
+}
+
+/// Whether the list has these elements, in order.
 fn has(list: &GapList<u64>, want: &[u64]) -> bool {
     for (place, item) in want.iter().enumerate() {
         if list.get(place) != Some(item) {
@@ -99,29 +168,42 @@ fn has(list: &GapList<u64>, want: &[u64]) -> bool {
     list.len() == want.len()
 }
 
-#[test]
-fn each_growth_that_is_refused_leaves_the_list(rt: HostRuntime) -> Result<(), Fail> {
-    let mut list = GapList::new(rt.alloc());
-    let mut want = Vec::new(rt.alloc());
-    for item in 0..40 {
-        // More places than there are, and than memory has bytes.
-        for more in [usize::MAX, 1 << 62, 1 << 60] {
-            assert!(rt; list.reserve(more).is_err(), "{more} at {item}");
-            assert!(rt; has(&list, &want), "{more} at {item}");
+/// Whether the list stays where it is to get more places than there are, and than memory has bytes.
+fn stays(list: &mut GapList<u64>, want: &[u64]) -> bool {
+    for more in [usize::MAX, 1 << 62, 1 << 60] {
+        if list.reserve(more).is_ok() || !has(list, want) {
+            return false;
         }
-        let len = list.len();
-        assert!(rt; len < 40);
-        let place = (len * 7) % (len + 1);
-        assert!(rt; list.reserve(1).is_ok());
-        put(&rt, &mut list, place, item);
-        assert!(rt; place <= want.len());
-        want.insert(place, item)?;
-        assert!(rt; has(&list, &want), "{item}");
     }
-    Ok(())
+    true
 }
 
-// An element that counts how many of it live, and whose clone can fail. A clause sees each as 0.
+fn goes_on(list: &mut GapList<u64>, want: &mut Vec<u64>, place: usize, item: u64) -> bool {
+    list.reserve(1).is_ok()
+        && put(list, place, item)
+        && place <= want.len()
+        && want.insert(place, item).is_ok()
+        && has(list, want)
+}
+
+fn stays_at_each_length(alloc: Global) -> bool {
+    let mut list = GapList::new(alloc);
+    let mut want = Vec::new(alloc);
+    for item in 0..40usize {
+        let place = (item * 7) % (item + 1);
+        if !stays(&mut list, &want) || !goes_on(&mut list, &mut want, place, item as u64) {
+            return false;
+        }
+    }
+    true
+}
+
+#[test]
+fn each_growth_that_is_refused_leaves_the_list(rt: HostRuntime) {
+    assert!(rt; stays_at_each_length(rt.alloc()));
+}
+
+/// An element that counts how many of it live, and whose clone can fail. A clause sees each as 0.
 #[derive(Drop)]
 struct Told {
     live: Rc<i32>,
@@ -148,37 +230,58 @@ impl Clone for Told {
     }
 }
 
-// Passes whichever allocation fails: `rt try --test --fail-alloc N` for N from 1 to 40.
-#[test]
-fn a_refused_growth_or_copy_changes_nothing(rt: HostRuntime) -> Result<(), Fail> {
-    let Ok(counted) = Rc::new(rt.alloc(), 0) else {
-        return Ok(());
-    };
-    let mut list: GapList<Told> = GapList::new(rt.alloc());
-    for _ in 0..9 {
-        let len = list.len();
-        if list.reserve(1).is_err() {
-            assert_eq!(rt; list.len(), len);
-            assert_eq!(rt; Rc::strong_count(&counted), len + 1);
-            for place in 0..len {
-                assert!(rt; list.get(place).is_some());
-            }
-        } else if let Ok(block) = Box::new(rt.alloc(), 1) {
-            let live = counted.clone()?;
-            put(&rt, &mut list, len / 2, Told { live, block });
+fn counted_item(alloc: Global, counted: &Rc<i32>) -> Option<Told> {
+    let block = Box::new(alloc, 1).ok()?;
+    let live = counted.clone().ok()?;
+    Some(Told { live, block })
+}
+
+/// Whether the list has all its elements, and no others live.
+fn is_whole(list: &GapList<Told>, counted: &Rc<i32>) -> bool {
+    for place in 0..list.len() {
+        if list.get(place).is_none() {
+            return false;
         }
     }
+    Rc::strong_count(counted) == list.len() + 1
+}
+
+/// Whether an element is added, or the list is as it was.
+fn adds_or_stays(alloc: Global, list: &mut GapList<Told>, counted: &Rc<i32>) -> bool {
+    let len = list.len();
+    if list.reserve(1).is_err() {
+        return list.len() == len && is_whole(list, counted);
+    }
+    match counted_item(alloc, counted) {
+        Some(item) => put(list, len / 2, item),
+        None => true,
+    }
+}
+
+/// Whether a copy has as many elements of its own, or there is none.
+fn copies_or_not(list: &GapList<Told>, counted: &Rc<i32>) -> bool {
     let len = list.len();
     match list.make_copy() {
-        Ok(copy) => {
-            assert_eq!(rt; copy.len(), len);
-            assert_eq!(rt; Rc::strong_count(&counted), 2 * len + 1);
-            drop(copy);
-        }
-        Err(NoMemory) => {}
+        Ok(copy) => copy.len() == len && Rc::strong_count(counted) == 2 * len + 1,
+        Err(NoMemory) => true,
     }
-    assert_eq!(rt; Rc::strong_count(&counted), len + 1);
-    drop(list);
-    assert_eq!(rt; Rc::strong_count(&counted), 1);
-    Ok(())
+}
+
+fn changes_nothing(alloc: Global, counted: &Rc<i32>) -> bool {
+    let mut list: GapList<Told> = GapList::new(alloc);
+    for _ in 0..9 {
+        if !adds_or_stays(alloc, &mut list, counted) {
+            return false;
+        }
+    }
+    copies_or_not(&list, counted) && is_whole(&list, counted)
+}
+
+/// Passes whichever allocation fails: `rt try --test --fail-alloc N` for N from 1 to 40.
+#[test]
+fn a_refused_growth_or_copy_changes_nothing(rt: HostRuntime) {
+    if let Ok(counted) = Rc::new(rt.alloc(), 0) {
+        assert!(rt; changes_nothing(rt.alloc(), &counted));
+        assert!(rt; Rc::strong_count(&counted) == 1);
+    }
 }

@@ -24,6 +24,14 @@ pub(crate) fn draw(rt: &HostRuntime, name: &str, places: &[Place]) -> Result<(),
                     cell.column.text()
                 )?
             }
+            Place::Elements { cell, front, back } => {
+                let number = number_of(&cell.key);
+                println!(rt;
+                    "{name} draws {} {number}: {} behind the first {front}, before the last {back}",
+                    cell.table.text(),
+                    cell.column.text()
+                )?
+            }
         }
     }
     Ok(())

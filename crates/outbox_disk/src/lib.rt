@@ -3,7 +3,5 @@
 
 mod disk;
 mod outbox;
-#[cfg(test)]
-mod tests;
 
 pub use disk::OutboxDisk;

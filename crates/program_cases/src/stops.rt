@@ -20,8 +20,10 @@ struct Case {
     file: Vec<u8>,
     /// The first part of the names of the files that have what is shown of none, one, two and three of the records.
     shown: &'static str,
-    /// Whether each record is answered, or all three at once, which then come to the file together.
+    /// Whether each record comes to the file and is answered by itself, or all three at once.
     each: bool,
+    /// Whether the same command over it again makes it whole.
+    repeats: bool,
 }
 
 /// A stop at a write or sync, and how many of the records were answered before it, and how many stand after the crash.
@@ -50,12 +52,12 @@ fn stop_of(at: u32, leaves: Leaves, records: u32) -> Stop {
     }
 }
 
-/// What is told of the records that were answered.
+/// What is told of the records that were answered. Between their lines stand blank ones.
 fn told(rt: &HostRuntime, case: &Case, stop: Stop) -> Result<Vec<u8>, Failure> {
     let mut text = Vec::new(rt.alloc());
     if case.each {
         for number in 1..=stop.answered as u64 {
-            let line = format!(in rt.alloc(); "{number} made {}\n", number + 1)?;
+            let line = format!(in rt.alloc(); "{} made {}\n", number + number - 1, number + 1)?;
             text.extend_from_slice(line.as_str().as_bytes())?;
         }
     }
@@ -86,7 +88,7 @@ fn is_right(rt: &HostRuntime, case: &Case, stop: Stop) -> Result<bool, Failure> 
     disk.crash();
     let mut right = is_told(alloc, &ended, "DiskFault", &told(rt, case, stop)?)?;
     right &= is_shown(rt, case, &mut disk, stop.stand)?;
-    if !case.each {
+    if case.repeats {
         let again = ran(alloc, &case.words, &case.input, NOTHING, &mut disk)?;
         right &= is_told(alloc, &again, "Done", b"\0\0\0\x03\x07\x01\x04")?;
         right &= is_shown(rt, case, &mut disk, 3)?;
@@ -116,19 +118,37 @@ fn upload(alloc: Global, desk: &mut Desk, input: &[u8]) -> Result<(bool, Vec<u8>
     Ok((right, sent.written))
 }
 
+/// Tries each stop of three transactions of a client.
+fn try_commits(
+    rt: &HostRuntime,
+    tally: &mut Tally,
+    desk: &mut Desk,
+    each: bool,
+) -> Result<(), Failure> {
+    let alloc = rt.alloc();
+    let path = if each {
+        "additions.txt"
+    } else {
+        "additions_at_once.txt"
+    };
+    let commits = Case {
+        words: words_of(alloc, "edit A")?,
+        input: fs::read(rt, path)?,
+        file: desk.bytes(alloc, "A")?,
+        shown: "shown_client",
+        each,
+        repeats: false,
+    };
+    try_case(rt, tally, &commits)
+}
+
 /// Tries each stop of three transactions of a client, and of an upload of them, after the steps of `joined.txt`.
 pub fn try_all(rt: &HostRuntime) -> Result<Tally, Failure> {
     let alloc = rt.alloc();
     let (mut desk, mut tally) = try_file(rt, "joined.txt")?;
-    let commits = Case {
-        words: words_of(alloc, "edit A")?,
-        input: fs::read(rt, "additions.txt")?,
-        file: desk.bytes(alloc, "A")?,
-        shown: "shown_client",
-        each: true,
-    };
-    try_case(rt, &mut tally, &commits)?;
-    let (right, input) = upload(alloc, &mut desk, &commits.input)?;
+    try_commits(rt, &mut tally, &mut desk, true)?;
+    try_commits(rt, &mut tally, &mut desk, false)?;
+    let (right, input) = upload(alloc, &mut desk, &fs::read(rt, "additions_at_once.txt")?)?;
     tally.count(rt, right, "three transactions")?;
     let serves = Case {
         words: words_of(alloc, "serve S")?,
@@ -136,6 +156,7 @@ pub fn try_all(rt: &HostRuntime) -> Result<Tally, Failure> {
         file: desk.bytes(alloc, "S")?,
         shown: "shown_server",
         each: false,
+        repeats: true,
     };
     try_case(rt, &mut tally, &serves)?;
     Ok(tally)

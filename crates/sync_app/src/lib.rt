@@ -7,8 +7,6 @@ mod reading;
 mod refusal;
 mod sketch;
 mod slots;
-#[cfg(test)]
-mod tests;
 mod transaction;
 mod verbs;
 mod wanted;

@@ -1,19 +1,19 @@
 -- Lists of instructions that leave a part of a state as it is: as they cross others, and as they act.
-use Rattle.std.proofs.Common.{◌≡◌, ℕ, Bool, List, [], ◌∷◌, ◌++◌, Option, None, Some, Result, Ok, Err, refl, sym, ◌∙◌}
-use Rattle.std.specs.Prelude.{IfOk, IfSome}
+use Rattle.std.proofs.Common.{ℕ, Bool, List, [], ◌∷◌, ◌++◌, Option, None, Some, Result, Ok, Err, refl, ◌∙◌}
+use Rattle.std.specs.Prelude.{IfOk}
 use Rattle.sync_data.specs.declared.instr.Instr.{Instr}
 use Rattle.sync_base.specs.Footprints.{Part, TableAt, ColumnAt, ObjectAt, CellAt, SameAt}
 use Rattle.sync_base.specs.Lemmas.Reads.{framed}
 use Rattle.sync_base.specs.States.{State}
 use Rattle.sync_exchange.specs.Profile.{the_profile}
 use Rattle.sync_law.specs.Coded.{meet_by_code}
-use Rattle.sync_law.specs.CodedLaw.{applies}
 use Rattle.sync_model.specs.Clients.{state_or}
 use Rattle.sync_model.specs.Profile.{Stuck, cross_changesets}
 use Rattle.sync_model.specs.Profile as profile
 use Rattle.sync_theory.specs.Changesets.{Changeset, is_later, with_lists}
 use Rattle.sync_theory.specs.Grid.{rebase, rebase_one, rebase_put}
-use Rattle.sync_theory.specs.Lists.{and_then, cross, kept, met, row, rowed, run, step_down, step_right}
+use Rattle.sync_theory.specs.Lists.{cross, kept, met, row, rowed, run, step_down, step_right}
+use Rattle.sync_changed.proofs.Keeping.{AllKeep, kept_so}
 use Rattle.sync_changed.proofs.Meeting.{Leaves, LeavesIf, meets}
 
 abbrev pub AllLeave : Part → List Instr → Type 0
@@ -94,20 +94,10 @@ same_then s t u (ColumnAt v c) h k = h ∙ k
 same_then s t u (ObjectAt o) h k = h ∙ k
 same_then s t u (CellAt p) h k = h ∙ k
 
-acted_leaves : (x : Part) (s t : State) (o : Option State) (go : State → Option State) → ((u : State) → o ≡ Some u → IfSome (go u) (λ v. SameAt v t x)) → IfSome (and_then o go) (λ v. SameAt v t x)
-acted_leaves x s t None go h = tt
-acted_leaves x s t (Some u) go h = h u refl
-
-run_leaves : (x : Part) (is : List Instr) (s t : State) → SameAt s t x → AllLeave x is → IfSome (run (profile.act the_profile) is s) (λ u. SameAt u t x)
-run_leaves x [] s t same h = same
-run_leaves x (i ∷ is) s t same h =
-    acted_leaves x s t (profile.act the_profile i s) (run (profile.act the_profile) is)
-    (λ u e. run_leaves x is u t (same_then t s u x ((framed i).changes_alone s u (sym (applies i s) ∙ e) x h.0) same) h.1)
-
-or_same : (x : Part) (s : State) (o : Option State) → IfSome o (λ t. SameAt t s x) → SameAt (state_or s o) s x
-or_same x s None h = same_itself s x
-or_same x s (Some t) h = h
+acting : (x : Part) (is : List Instr) → AllLeave x is → AllKeep (λ t s. SameAt t s x) is
+acting x [] h = tt
+acting x (i ∷ is) h = ((λ s t e. (framed i).changes_alone s t e x h.0), acting x is h.1)
 
 -- what a list leaves, whether it acts or not
 pub leaves : (x : Part) (is : List Instr) (s : State) → AllLeave x is → SameAt (state_or s (run (profile.act the_profile) is s)) s x
-leaves x is s h = or_same x s (run (profile.act the_profile) is s) (run_leaves x is s s (same_itself s x) h)
+leaves x is s h = kept_so (λ t s. SameAt t s x) (λ s. same_itself s x) (λ s t u. same_then s t u x) is s (acting x is h)

@@ -1,12 +1,13 @@
 -- What is left of an instruction may change the same place.
-use Rattle.std.specs.Prelude.{◌≡◌, Bool, true, false, cond, ◌&&◌, ◌==◌, Option, None, Some, Ok, Err, IfOk, refl}
+use Rattle.std.specs.Prelude.{◌≡◌, ℕ, ◌-◌, Bool, true, false, cond, ◌&&◌, ◌==◌, Option, None, Some, Ok, Err, IfOk, refl}
 use Rattle.std.specs.Option.{option_map}
 use Rattle.std.specs.Ordering.{eq_by_cmp}
 use Rattle.std.proofs.Common.{sym, ◌∙◌, ap, subst}
 use Rattle.sync_data.specs.Orders.{name_cmp}
+use Rattle.sync_data.specs.declared.instr.CellName.{CellName}
 use Rattle.sync_data.specs.declared.instr.Instr.{Instr}
 use Rattle.sync_base.specs.declared.answers.Mismatch.{Mismatch}
-use Rattle.sync_base.specs.Effects.{CellPath, Edit, Effect, NewTable, NewColumn, Create, Erase, Change, effect_of, instr_of}
+use Rattle.sync_base.specs.Effects.{cell_name, CellPath, Edit, Effect, Set, Add, Replace, Insert, Remove, Include, Exclude, Bind, Empty, NewTable, NewColumn, Create, Erase, Change, effect_of, instr_of}
 use Rattle.sync_base.specs.Footprints.{Part, TableAt, ColumnAt, ObjectAt, CellAt, changes}
 use Rattle.sync_base.specs.Lemmas.Apart.{changes_there, changes_apart}
 use Rattle.sync_base.specs.Lemmas.Looks.{path_exact}
@@ -18,7 +19,8 @@ use Rattle.sync_base.specs.States.{object_cmp, key_rank_of}
 use Rattle.sync_law.specs.Coded.{coded, meet_by_code}
 use Rattle.sync_law.specs.Instrs.{as_pair}
 use Rattle.sync_changed.specs.declared.place.Place.{Place}
-use Rattle.sync_changed.specs.Places.{covers, place_of}
+use Rattle.sync_changed.specs.declared.place.Place.TheVariants as places
+use Rattle.sync_changed.specs.Places.{covers, edit_place, place_of, told_place}
 
 -- an instruction changes what its place covers
 pub changes_covers : (d : Effect) (x : Part) → changes d x ≡ covers (place_of d) x
@@ -42,6 +44,32 @@ changes_covers (Change p e) (TableAt u) = refl
 changes_covers (Change p e) (ColumnAt u c) = refl
 changes_covers (Change p e) (ObjectAt o) = refl
 changes_covers (Change p e) (CellAt q) = refl
+
+-- with the elements of its lists it covers as much
+elements_cover : (c : CellName) (front back : ℕ) (x : Part) → covers (places.Elements c front back) x ≡ covers (places.Cell c) x
+elements_cover c front back (TableAt u) = refl
+elements_cover c front back (ColumnAt u d) = refl
+elements_cover c front back (ObjectAt o) = refl
+elements_cover c front back (CellAt q) = refl
+
+edit_covers : (p : CellPath) (e : Edit) (x : Part) → covers (edit_place p e) x ≡ covers (places.Cell (cell_name p)) x
+edit_covers p (Replace s v) x = elements_cover (cell_name p) s.place (s.prior - s.place - 1) x
+edit_covers p (Insert s v) x = elements_cover (cell_name p) s.place (s.prior - s.place) x
+edit_covers p (Remove s) x = elements_cover (cell_name p) s.place (s.prior - s.place - 1) x
+edit_covers p (Set v) x = refl
+edit_covers p (Add n) x = refl
+edit_covers p (Include v) x = refl
+edit_covers p (Exclude v) x = refl
+edit_covers p (Bind k v) x = refl
+edit_covers p Empty x = refl
+
+pub told_covers : (exact : Bool) (d : Effect) (x : Part) → covers (told_place exact d) x ≡ covers (place_of d) x
+told_covers true (Change p e) x = edit_covers p e x
+told_covers true (NewTable t k) x = refl
+told_covers true (NewColumn t c def) x = refl
+told_covers true (Create o) x = refl
+told_covers true (Erase o) x = refl
+told_covers false d x = refl
 
 -- ---- the right side of a pair
 abbrev IsAt : Place → Option Effect → Type 0

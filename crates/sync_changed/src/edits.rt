@@ -1,44 +1,75 @@
-ghost use Rattle.std.specs.Prelude.{◌≡◌, ◌++◌, ◌∷◌, [], ℕ, List, false, map, IfOk, OnOk};
-ghost use Rattle.sync_base.specs.Effects.{effect_of};
+ghost use Rattle.std.specs.Prelude.{◌≡◌, ◌-◌, ◌++◌, ◌∷◌, [], ℕ, List, true, false, map, IfOk, OnOk};
+ghost use Rattle.sync_base.specs.Effects.{CellPath, effect_of};
 ghost use Rattle.sync_base.specs.Footprints.{Part, SameAt};
 ghost use Rattle.sync_exchange.specs.Profile.{the_profile};
 ghost use Rattle.sync_model.specs.Clients as model;
-ghost use Rattle.sync_changed.specs.Places.{is_told, place_of, places_in};
+ghost use Rattle.sync_changed.specs.Ends.{SameEndsAt, all_spare};
+ghost use Rattle.sync_changed.specs.Places.{is_told, place_of, places_in, told_place};
 
 use super::place::Place;
 use std::alloc::Global;
-use sync_base::{CellName, Instr, Key, Name, NoMemory};
+use sync_base::{Between, CellName, Inside, Instr, Key, Name, NoMemory};
 
 /// What a transaction of these instructions may change of a client's objects: a place for each, in order. All else is as it
-/// was, once it is committed or refused.
+/// was, once it is committed or refused: of a list the elements before each place that is told of it, and behind each.
 pub fn changed_by_edits(alloc: Global, edits: &[Instr]) -> Result<Vec<Place>, NoMemory>
-    ensures places { IfOk result (λ places. places.items ≡ places_in edits.now) }
+    ensures places { IfOk result (λ places. places.items ≡ places_in true edits.now) }
     ensures told { IfOk result (λ places. (records : List model.ClientRecord) (ms : ℕ) (x : Part) → is_told places.items x ≡ false
         → SameAt (model.client_of the_profile (records ++ (model.commit the_profile (model.client_of the_profile records) ms edits.now).records)).objects (model.client_of the_profile records).objects x) }
+    ensures ends { IfOk result (λ places. (records : List model.ClientRecord) (ms front back : ℕ) (list : CellPath) → all_spare front back list places.items ≡ true
+        → SameEndsAt front back list (model.client_of the_profile (records ++ (model.commit the_profile (model.client_of the_profile records) ms edits.now).records)).objects (model.client_of the_profile records).objects) }
 {
     places_of(alloc, edits)
 }
 
 fn places_of(alloc: Global, edits: &[Instr]) -> Result<Vec<Place>, NoMemory>
-    ensures { IfOk result (λ places. places.items ≡ places_in edits.now) }
+    ensures { IfOk result (λ places. places.items ≡ places_in true edits.now) }
 {
     let mut places = Vec::new(alloc);
-    put_places(&mut places, edits)?;
+    put_places(&mut places, edits, true)?;
     Ok(places)
 }
 
-/// Puts the places that instructions may change.
-pub(crate) fn put_places(places: &mut Vec<Place>, edits: &[Instr]) -> Result<(), NoMemory>
-    ensures { OnOk result (places.new.items ≡ places.old.items ++ places_in edits.now) }
+/// Puts the places that instructions may change; `exact`: of lists the elements.
+pub(crate) fn put_places(
+    places: &mut Vec<Place>,
+    edits: &[Instr],
+    exact: bool,
+) -> Result<(), NoMemory>
+    ensures { OnOk result (places.new.items ≡ places.old.items ++ places_in exact edits.now) }
 {
     for instr in edits {
-        let place = place_of(instr)?;
+        let place = told_place(instr, exact)?;
         put(places, place)?;
     }
     Ok(())
 }
 
-/// The place that an instruction may change.
+/// The place that an instruction may change; `exact`: of a list the element.
+fn told_place(instr: &Instr, exact: bool) -> Result<Place, NoMemory>
+    ensures { IfOk result (λ place. place ≡ told_place exact (effect_of instr.now)) }
+{
+    if !exact {
+        return place_of(instr);
+    }
+    match instr {
+        Instr::ListUpdate(i) => element(&i.cell, i.spot),
+        Instr::ListInsert(i) => gap(&i.cell, i.spot),
+        Instr::ListErase(i) => element(&i.cell, i.spot),
+        Instr::AddTable(_)
+        | Instr::AddColumn(_)
+        | Instr::CreateObject(_)
+        | Instr::EraseObject(_)
+        | Instr::Update(_)
+        | Instr::AddInteger(_)
+        | Instr::SetInsert(_)
+        | Instr::SetErase(_)
+        | Instr::DictUpdate(_)
+        | Instr::Clear(_) => place_of(instr),
+    }
+}
+
+/// The table, column, object or cell that an instruction may change.
 fn place_of(instr: &Instr) -> Result<Place, NoMemory>
     ensures { IfOk result (λ place. place ≡ place_of (effect_of instr.now)) }
 {
@@ -75,6 +106,30 @@ fn cell(name: &CellName) -> Result<Place, NoMemory>
     ensures { IfOk result (λ place. place ≡ Place.Cell name.now) }
 {
     Ok(Place::Cell(name.copy()?))
+}
+
+/// An element that is replaced or removed.
+fn element(name: &CellName, spot: Inside) -> Result<Place, NoMemory>
+    ensures { IfOk result (λ place. place ≡ Place.Elements name.now spot.place (spot.prior - spot.place - 1)) }
+{
+    let front = spot.place();
+    Ok(Place::Elements {
+        cell: name.copy()?,
+        front,
+        back: spot.prior() - front - 1,
+    })
+}
+
+/// A gap into which an element is put.
+fn gap(name: &CellName, spot: Between) -> Result<Place, NoMemory>
+    ensures { IfOk result (λ place. place ≡ Place.Elements name.now spot.place (spot.prior - spot.place)) }
+{
+    let front = spot.place();
+    Ok(Place::Elements {
+        cell: name.copy()?,
+        front,
+        back: spot.prior() - front,
+    })
 }
 
 /// Puts an item at the end of a list.

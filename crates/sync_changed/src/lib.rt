@@ -4,8 +4,6 @@
 mod edits;
 mod message;
 mod place;
-#[cfg(test)]
-mod tests;
 
 pub use edits::changed_by_edits;
 pub use message::changed_by_message;

@@ -17,10 +17,10 @@ use Rattle.sync_exchange.specs.Seen.{client_bytes, client_kept, client_seen, rea
 use Rattle.sync_client.specs.declared.replica.Replica.{Replica}
 use Rattle.sync_client.specs.Keeping.{Keeps}
 use Rattle.sync_data.specs.declared.memory.NoMemory.{NoMemory}
-use Rattle.sync_client.specs.declared.opening.ReadRefusal.{ReadRefusal}
-use Rattle.sync_client.specs.declared.opening.ReadRefusal.TheVariants as refusals
+use Rattle.sync_journal.specs.declared.opening.ReadRefusal.{ReadRefusal}
+use Rattle.sync_journal.specs.declared.opening.ReadRefusal.TheVariants as refusals
 use Rattle.sync_client.specs.Opening.{Admits, Admitted, IsEmpty, IsPast}
-use Rattle.sync_client.specs.Reading.{Next, ReadAll, ReadOn, ReadSome, Reads, ReadsOn, ReadsOne, read_puts}
+use Rattle.sync_client.specs.Reading.{Next, ReadAll, ReadOn, ReadSome, ReadsFile, ReadsOn, ReadsOne, read_puts}
 use Rattle.sync_client.specs.Seen.{no_past, seen}
 use Rattle.sync_client.proofs.Calls.{keeps_next}
 
@@ -125,7 +125,7 @@ reads_stop file place bad count left now s there stop =
     s.reads ∙ ap (read_puts s.records) stop ∙ puts_fault s.records count ∙ ap (λ n. Err n) e
 
 -- the loop over a file
-pub reads_refused : (file : List (List ℕ)) (place : ℕ) (left : List (List ℕ)) (behind : ℕ → List (List ℕ)) (now new : Replica) (why : ReadRefusal) (s : ReadSoFar file place left now) → ReadsOn s.records new left behind place (Err why) → Reads file new (Err why)
+pub reads_refused : (file : List (List ℕ)) (place : ℕ) (left : List (List ℕ)) (behind : ℕ → List (List ℕ)) (now new : Replica) (why : ReadRefusal) (s : ReadSoFar file place left now) → ReadsOn s.records new left behind place (Err why) → ReadsFile file (Err why)
 reads_refused file place left behind now new (refusals.BadRecord bad) s r = reads_stop file place bad r.0 left now s r.1 r.2
 reads_refused file place left behind now new refusals.NoMemory s r = tt
 

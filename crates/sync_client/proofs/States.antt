@@ -18,8 +18,8 @@ use Rattle.sync_model.proofs.Opening.{client_opens_on}
 use Rattle.sync_model.proofs.Own.{after_append, if_true}
 use Rattle.sync_exchange.specs.Profile.{the_profile}
 use Rattle.sync_exchange.specs.Seen.{client_bytes, read_client}
-use Rattle.sync_client.specs.declared.opening.ReadRefusal.{ReadRefusal}
-use Rattle.sync_client.specs.declared.opening.ReadRefusal.TheVariants as reads
+use Rattle.sync_journal.specs.declared.opening.ReadRefusal.{ReadRefusal}
+use Rattle.sync_journal.specs.declared.opening.ReadRefusal.TheVariants as reads
 use Rattle.sync_client.specs.declared.replica.Replica.{Replica}
 use Rattle.sync_client.specs.Keeping.{Keeps}
 use Rattle.sync_snapshot.specs.Grown.{lists_of}

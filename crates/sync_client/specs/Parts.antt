@@ -14,8 +14,8 @@ use Rattle.sync_exchange.specs.Seen.{client_bytes, read_client}
 use Rattle.sync_snapshot.specs.Grown.{lists_of}
 use Rattle.sync_client.specs.declared.beginning.Found.{Found}
 use Rattle.sync_client.specs.declared.beginning.Found.TheVariants as founds
-use Rattle.sync_client.specs.declared.opening.ReadRefusal.{ReadRefusal}
-use Rattle.sync_client.specs.declared.opening.ReadRefusal.TheVariants as reads
+use Rattle.sync_journal.specs.declared.opening.ReadRefusal.{ReadRefusal}
+use Rattle.sync_journal.specs.declared.opening.ReadRefusal.TheVariants as reads
 use Rattle.sync_client.specs.declared.replica.Replica.{Replica}
 
 -- each of these bodies is a list of instructions that the form allows

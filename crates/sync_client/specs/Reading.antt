@@ -5,8 +5,8 @@ use Rattle.sync_model.specs.Clients.{ClientRecord, client_of, no_client}
 use Rattle.sync_model.specs.Files.{client_admits, client_reads, read_one, read_put}
 use Rattle.sync_exchange.specs.Profile.{the_profile}
 use Rattle.sync_exchange.specs.Seen.{client_bytes, read_client}
-use Rattle.sync_client.specs.declared.opening.ReadRefusal.{ReadRefusal}
-use Rattle.sync_client.specs.declared.opening.ReadRefusal.TheVariants as refusals
+use Rattle.sync_journal.specs.declared.opening.ReadRefusal.{ReadRefusal}
+use Rattle.sync_journal.specs.declared.opening.ReadRefusal.TheVariants as refusals
 use Rattle.sync_client.specs.declared.replica.Replica.{Replica}
 use Rattle.sync_client.specs.Keeping.{Keeps}
 
@@ -52,7 +52,7 @@ pub record ReadAll (file : List (List ℕ)) (new : Replica) : Type 0 where
   pub spelled : map client_bytes records ≡ file
   pub keeps : Keeps records new
 
-abbrev pub Reads : List (List ℕ) → Replica → Result (Unit {0}) ReadRefusal → Type 0
-Reads file new (Ok u) = ReadAll file new
-Reads file new (Err (refusals.BadRecord place)) = client_reads the_profile read_client (no_client the_profile) file ≡ Err place
-Reads file new (Err refusals.NoMemory) = Unit {0}
+abbrev pub ReadsFile : List (List ℕ) → Result Replica ReadRefusal → Type 0
+ReadsFile file (Ok new) = ReadAll file new
+ReadsFile file (Err (refusals.BadRecord place)) = client_reads the_profile read_client (no_client the_profile) file ≡ Err place
+ReadsFile file (Err refusals.NoMemory) = Unit {0}

@@ -10,11 +10,11 @@ ghost use Rattle.sync_client.specs.Reading.{ReadsOn};
 ghost use Rattle.sync_client.specs.Seen.{Past, seen};
 
 use crate::entries::changes_of;
-use crate::opening::{LONGEST, ReadRefusal};
 use crate::refusal::ClientRefusal;
 use crate::replica::Replica;
 use std::alloc::Global;
 use sync_data::{Changeset, NoMemory};
+use sync_journal::{LONGEST, ReadRefusal};
 use sync_records::{ClientRecord, RecordRefusal};
 use sync_snapshot::{GrowRefusal, grown};
 
@@ -170,10 +170,7 @@ impl Replica {
         ensures closes { Closes self.old self.new (lists_of run.now) bytes.now result }
         ensures within { IfOk result (λ refused. IfSome refused (λ number. number ≤ length run.now)) }
     {
-        let floor = match floor_of(alloc, bytes) {
-            Ok(floor) => floor,
-            Err(refusal) => return Err(refusal),
-        };
+        let floor = floor_of(alloc, bytes)?;
         match grown(alloc, run) {
             Ok(objects) => match floor {
                 Some(version) => {

@@ -8,6 +8,7 @@ ghost use Rattle.sync_exchange.specs.Profile.{the_profile};
 ghost use Rattle.sync_exchange.specs.Seen.{client_bytes, client_seen};
 ghost use Rattle.sync_journal.specs.Records.{StandsForPrefix};
 ghost use Rattle.sync_journal.specs.Stands.{Stands, disk_of};
+ghost use Rattle.sync_journal.specs.Uses.{UsesDisk};
 ghost use Rattle.sync_client.specs.Refusals.{refusal_seen, IfSeen};
 
 use crate::refusal::ClientRefusal;
@@ -105,10 +106,7 @@ impl<D: Disk> Client<D> {
         ensures stays_open { OnOk result (is_closed self.new ≡ false) }
         ensures closes { OnErr result (is_closed self.new ≡ true) }
         ensures refused { IfErr result (λ why. (why ≡ ClientRefusal.DiskFault) ⊎ (why ≡ ClientRefusal.NoMemory)) }
-        ensures later { D.faults (disk_of (journal_of self.old)) ≤ D.faults (disk_of (journal_of self.new)) }
-        ensures fault { IsErrOf result ClientRefusal.DiskFault → Rose (D.faults (disk_of (journal_of self.old))) (D.faults (disk_of (journal_of self.new))) }
-        ensures origin { D.origin (disk_of (journal_of self.new)) ≡ D.origin (disk_of (journal_of self.old)) }
-        ensures told { Told (D.content (disk_of (journal_of self.old))) (λ b. (c : List ℕ) × (D.content (disk_of (journal_of self.new)) ≡ Some c)) }
+        ensures disk { UsesDisk D.content D.faults D.origin (IsErrOf result ClientRefusal.DiskFault) (journal_of self.old) (journal_of self.new) }
     {
         let Ok(body) = Blob::new(self.alloc, made.body.as_slice()) else {
             self.closed = true;
@@ -224,10 +222,7 @@ impl<D: Disk> Client<D> {
         ensures stays_open { OnOk result (is_closed self.new ≡ false) }
         ensures closes { IsErrOf result ClientRefusal.DiskFault ⊎ IsErrOf result ClientRefusal.NoMemory → is_closed self.new ≡ true }
         ensures refused { IfErr result (λ why. (why ≡ ClientRefusal.DiskFault) ⊎ (why ≡ ClientRefusal.NoMemory)) }
-        ensures later { D.faults (disk_of (journal_of self.old)) ≤ D.faults (disk_of (journal_of self.new)) }
-        ensures fault { IsErrOf result ClientRefusal.DiskFault → Rose (D.faults (disk_of (journal_of self.old))) (D.faults (disk_of (journal_of self.new))) }
-        ensures origin { D.origin (disk_of (journal_of self.new)) ≡ D.origin (disk_of (journal_of self.old)) }
-        ensures told { Told (D.content (disk_of (journal_of self.old))) (λ b. (c : List ℕ) × (D.content (disk_of (journal_of self.new)) ≡ Some c)) }
+        ensures disk { UsesDisk D.content D.faults D.origin (IsErrOf result ClientRefusal.DiskFault) (journal_of self.old) (journal_of self.new) }
     {
         let Ok(bytes) = added.record_bytes(self.alloc) else {
             self.closed = true;

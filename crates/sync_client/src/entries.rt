@@ -9,7 +9,6 @@ ghost use Rattle.sync_client.specs.Entries.{IsRead, IsUnread, RefusesActing, Ref
 ghost use Rattle.sync_client.specs.Refusals.{rebase_refusal, IsPlain};
 ghost use Rattle.sync_rebase.specs.Taking.{IsHead};
 
-use crate::let_go::let_go;
 use crate::refusal::ClientRefusal;
 use crate::replica::Replica;
 use std::alloc::Global;
@@ -130,11 +129,8 @@ impl Replica {
             Ok(carried) => carried,
             Err(refusal) => return Err(self.carry_refusal(refusal)),
         };
-        match self.apply_carried(carried.changes()) {
-            Ok(()) => {}
-            Err(refusal) => return Err(refusal),
-        }
-        let_go(self.unsent.settle(carried));
+        self.apply_carried(carried.changes())?;
+        drop(self.unsent.settle(carried));
         self.cursor += 1;
         Ok(())
     }
@@ -150,10 +146,7 @@ impl Replica {
         ensures refused { IfErr result (RefusesOther self.old self.new entry.now) }
         ensures plain { IfErr result IsPlain }
     {
-        match self.apply_carried(&entry.changes) {
-            Ok(()) => {}
-            Err(refusal) => return Err(refusal),
-        }
+        self.apply_carried(&entry.changes)?;
         self.cursor += 1;
         Ok(())
     }

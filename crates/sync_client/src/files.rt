@@ -1,21 +1,18 @@
-ghost use Rattle.std.specs.Prelude.{◌≡◌, ◌≤◌, ℕ, List, IfOk, IfErr, Some, false};
+ghost use Rattle.std.specs.Prelude.{◌≡◌, ◌≤◌, ℕ, List, IfOk, IfErr, Some};
 ghost use Rattle.sync_disk.specs.Disk.{LeavesOnly, Rose, Told};
 ghost use Rattle.sync_disk.specs.Faults.{IsSound};
-ghost use Rattle.sync_journal.specs.Records.{lists, records_of};
+ghost use Rattle.sync_journal.specs.Records.{records_of};
 ghost use Rattle.sync_journal.specs.Records.Reading.{Good};
 ghost use Rattle.sync_journal.specs.Stands.{disk_of};
-ghost use Rattle.sync_client.specs.Files.{BadRecordAt};
-ghost use Rattle.sync_client.specs.Reading.{ReadAll};
 
 use crate::client::Client;
-use crate::opening::ReadRefusal;
 use crate::replica::Replica;
 use std::alloc::Global;
 use sync_disk::Disk;
-use sync_journal::{Journal, OpenCause, OpenRefusal, gate_of};
+use sync_journal::{Journal, OpenCause, OpenRefusal};
 
 impl<D: Disk> Client<D> {
-    ghost use Rattle.sync_client.specs.Clients.{is_closed, journal_of, replica_of};
+    ghost use Rattle.sync_client.specs.Clients.{journal_of};
     ghost use Rattle.sync_client.specs.Files.{BadPlace, Opened};
 
     /// Opens the client of a disk. Besides what a journal refuses, `BadFile` comes where a record isn't one that a client would
@@ -39,41 +36,18 @@ impl<D: Disk> Client<D> {
         ensures fault { IfErr result (λ e. e.cause ≡ OpenCause.DiskFault → Rose (D.faults disk) (D.faults e.disk)) }
         ensures sound { Told (D.content disk) (λ b. IsSound (D.origin disk) → IfErr result (λ e. e.cause ≡ OpenCause.DiskFault → ⊥)) }
     {
-        match Journal::open(alloc, disk) {
-            Ok((journal, records)) => Client::read_from(alloc, journal, records),
-            Err(refusal) => Err(refusal),
-        }
-    }
-
-    /// The client of a journal with these records.
-    fn read_from(
-        alloc: Global,
-        journal: Journal<D>,
-        records: Vec<Vec<u8>>,
-    ) -> Result<Client<D>, OpenRefusal<D>>
-        ensures journal { IfOk result (λ c. journal_of c ≡ journal) }
-        ensures open_ { IfOk result (λ c. is_closed c ≡ false) }
-        ensures read { IfOk result (λ c. ReadAll (lists records.items) (replica_of c)) }
-        ensures disk { IfErr result (λ e. e.disk ≡ disk_of journal) }
-        ensures bad { IfErr result (λ e. (place : ℕ) → e.cause ≡ OpenCause.BadFile place → BadRecordAt (lists records.items) place) }
-        ensures no_fault { IfErr result (λ e. e.cause ≡ OpenCause.DiskFault → ⊥) }
-    {
-        let mut replica = match Replica::new(alloc) {
-            Ok(replica) => replica,
-            Err(_) => return Err(journal.refuse(OpenCause::NoMemory)),
+        let (journal, records) = match Journal::open(alloc, disk) {
+            Ok(opened) => opened,
+            Err(refusal) => return Err(refusal),
         };
-        match replica.admit_all(alloc, records.as_slice()) {
-            Ok(()) => Ok(Client {
+        match Replica::of(alloc, records.as_slice()) {
+            Ok(replica) => Ok(Client {
                 alloc,
                 journal,
                 replica,
                 closed: false,
             }),
-            Err(ReadRefusal::NoMemory) => Err(journal.refuse(OpenCause::NoMemory)),
-            Err(ReadRefusal::BadRecord { place }) => {
-                let place = gate_of(records.as_slice(), place);
-                Err(journal.refuse(OpenCause::BadFile { place }))
-            }
+            Err(why) => Err(journal.unread(records.as_slice(), why)),
         }
     }
 }

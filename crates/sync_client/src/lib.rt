@@ -6,7 +6,6 @@ mod client;
 mod entries;
 mod files;
 mod gathering;
-mod let_go;
 mod opening;
 mod refusal;
 mod replica;

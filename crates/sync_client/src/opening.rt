@@ -5,32 +5,21 @@ ghost use Rattle.sync_exchange.specs.Profile.{the_profile};
 ghost use Rattle.sync_exchange.specs.Seen.{client_seen};
 ghost use Rattle.sync_client.specs.Keeping.{Keeps};
 ghost use Rattle.sync_client.specs.Opening.{Admits, IsEmpty, IsPast};
-ghost use Rattle.sync_client.specs.Reading.{Reads, ReadsOn, ReadsOne};
+ghost use Rattle.sync_client.specs.Reading.{ReadsFile, ReadsOn, ReadsOne};
 ghost use Rattle.sync_journal.specs.Records.{lists};
 ghost use Rattle.sync_client.specs.Seen.{Past, seen};
 
 use crate::beginning::is_of_state;
 use crate::entries::changes_of;
-use crate::let_go::let_go;
 use crate::refusal::ClientRefusal;
 use crate::replica::Replica;
 use std::alloc::Global;
 use sync_data::{Ident, NoMemory};
+use sync_journal::{LONGEST, ReadRefusal};
 use sync_rebase::{PendingList, Unsent};
 use sync_records::{ClientRecord, RecordRefusal};
 use sync_store::Store;
 use sync_subset::Subset;
-
-/// The most bytes of a record (docs/FORMATS.md, "The journal").
-pub(crate) const LONGEST: usize = 67_108_864;
-
-/// Why records aren't read: the first that a client wouldn't have written has that number, counted from 0; or memory ran
-/// out.
-#[derive(Clone, Copy)]
-pub(crate) enum ReadRefusal {
-    BadRecord { place: usize },
-    NoMemory,
-}
 
 impl Replica {
     /// No records.
@@ -155,38 +144,30 @@ impl Replica {
             Err(ClientRefusal::Break { place: _, code: _ }) => return Ok(false),
             Err(_) => return Err(NoMemory),
         }
-        let unsent = match Unsent::made(number, self.cursor, changes) {
-            Ok(unsent) => unsent,
-            Err(refusal) => return Err(refusal),
-        };
-        match self.unsent.push(unsent) {
-            Ok(()) => {}
-            Err(refusal) => return Err(refusal),
-        }
+        let unsent = Unsent::made(number, self.cursor, changes)?;
+        self.unsent.push(unsent)?;
         self.count = number;
         Ok(true)
     }
 }
 
 impl Replica {
-    /// Reads records one after the other, up to the first that a client wouldn't have written after those before it: its
-    /// number, counted from 0.
-    pub(crate) fn admit_all(
-        &mut self,
-        alloc: Global,
-        records: &[Vec<u8>],
-    ) -> Result<(), ReadRefusal>
-        requires { IsEmpty self.old }
-        ensures { Reads (lists records.now) self.new result }
+    /// What records stand for, read one after the other up to the first that a client wouldn't have written after those
+    /// before it.
+    pub(crate) fn of(alloc: Global, records: &[Vec<u8>]) -> Result<Replica, ReadRefusal>
+        ensures { ReadsFile (lists records.now) result }
     {
+        let Ok(mut replica) = Replica::new(alloc) else {
+            return Err(ReadRefusal::NoMemory);
+        };
         let mut place = 0;
         while place < records.len() {
-            match self.read_at(alloc, records, place) {
+            match replica.read_at(alloc, records, place) {
                 Ok(next) => place = next,
                 Err(refusal) => return Err(refusal),
             }
         }
-        Ok(())
+        Ok(replica)
     }
 
     /// Reads the record at that place, or the state that begins there; answers the place behind it.
@@ -217,7 +198,7 @@ impl Replica {
         match ClientRecord::record_of(alloc, bytes) {
             Ok(found) => {
                 let admitted = self.admit(alloc, &found);
-                let_go(found);
+                drop(found);
                 admitted
             }
             Err(RecordRefusal::BadRecord) => Ok(false),

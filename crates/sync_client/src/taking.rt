@@ -8,9 +8,9 @@ ghost use Rattle.sync_exchange.specs.Profile.{the_profile};
 ghost use Rattle.sync_exchange.specs.Seen.{client_bytes, message_seen, sent_seen};
 ghost use Rattle.sync_journal.specs.Records.{StandsForPrefix};
 ghost use Rattle.sync_journal.specs.Stands.{disk_of};
+ghost use Rattle.sync_journal.specs.Uses.{UsesDisk};
 
 use crate::client::Client;
-use crate::let_go::let_go;
 use crate::refusal::ClientRefusal;
 use sync_data::{Blob, Id, Ident};
 use sync_disk::Disk;
@@ -46,7 +46,7 @@ impl<D: Disk> Client<D> {
             return Err(ClientRefusal::NotBorn);
         };
         let taken = self.take_message(id, &message);
-        let_go(message);
+        drop(message);
         taken
     }
 
@@ -60,10 +60,7 @@ impl<D: Disk> Client<D> {
         ensures strokes { (records : List model.ClientRecord) → IsClientOf records self.old → IsStored D.content D.images records self.old → Asked D.strokes (model.take_born the_profile (model.client_of the_profile records) (message_seen message.now) id) self.old self.new result }
         ensures not_closed { ¬ IsErrOf result ClientRefusal.Closed }
         ensures closes { IsErrOf result ClientRefusal.DiskFault ⊎ IsErrOf result ClientRefusal.NoMemory → is_closed self.new ≡ true }
-        ensures later { D.faults (disk_of (journal_of self.old)) ≤ D.faults (disk_of (journal_of self.new)) }
-        ensures fault { IsErrOf result ClientRefusal.DiskFault → Rose (D.faults (disk_of (journal_of self.old))) (D.faults (disk_of (journal_of self.new))) }
-        ensures origin { D.origin (disk_of (journal_of self.new)) ≡ D.origin (disk_of (journal_of self.old)) }
-        ensures told { Told (D.content (disk_of (journal_of self.old))) (λ b. (c : List ℕ) × (D.content (disk_of (journal_of self.new)) ≡ Some c)) }
+        ensures disk { UsesDisk D.content D.faults D.origin (IsErrOf result ClientRefusal.DiskFault) (journal_of self.old) (journal_of self.new) }
     {
         match message {
             Message::Ident(given) => {
@@ -117,10 +114,7 @@ impl<D: Disk> Client<D> {
         ensures strokes { (records : List model.ClientRecord) → IsClientOf records self.old → IsStored D.content D.images records self.old → Asked D.strokes (model.take_ident (model.client_of the_profile records) ident) self.old self.new result }
         ensures not_closed { ¬ IsErrOf result ClientRefusal.Closed }
         ensures closes { IsErrOf result ClientRefusal.DiskFault ⊎ IsErrOf result ClientRefusal.NoMemory → is_closed self.new ≡ true }
-        ensures later { D.faults (disk_of (journal_of self.old)) ≤ D.faults (disk_of (journal_of self.new)) }
-        ensures fault { IsErrOf result ClientRefusal.DiskFault → Rose (D.faults (disk_of (journal_of self.old))) (D.faults (disk_of (journal_of self.new))) }
-        ensures origin { D.origin (disk_of (journal_of self.new)) ≡ D.origin (disk_of (journal_of self.old)) }
-        ensures told { Told (D.content (disk_of (journal_of self.old))) (λ b. (c : List ℕ) × (D.content (disk_of (journal_of self.new)) ≡ Some c)) }
+        ensures disk { UsesDisk D.content D.faults D.origin (IsErrOf result ClientRefusal.DiskFault) (journal_of self.old) (journal_of self.new) }
     {
         if self.replica.ident == ident {
             return Ok(self.replica.cursor);
@@ -148,10 +142,7 @@ impl<D: Disk> Client<D> {
         ensures strokes { (records : List model.ClientRecord) → IsClientOf records self.old → IsStored D.content D.images records self.old → (id : List ℕ) → Asked D.strokes (model.take_born the_profile (model.client_of the_profile records) (message_seen (messages.Download download.now)) id) self.old self.new result }
         ensures not_closed { ¬ IsErrOf result ClientRefusal.Closed }
         ensures closes { IsErrOf result ClientRefusal.DiskFault ⊎ IsErrOf result ClientRefusal.NoMemory → is_closed self.new ≡ true }
-        ensures later { D.faults (disk_of (journal_of self.old)) ≤ D.faults (disk_of (journal_of self.new)) }
-        ensures fault { IsErrOf result ClientRefusal.DiskFault → Rose (D.faults (disk_of (journal_of self.old))) (D.faults (disk_of (journal_of self.new))) }
-        ensures origin { D.origin (disk_of (journal_of self.new)) ≡ D.origin (disk_of (journal_of self.old)) }
-        ensures told { Told (D.content (disk_of (journal_of self.old))) (λ b. (c : List ℕ) × (D.content (disk_of (journal_of self.new)) ≡ Some c)) }
+        ensures disk { UsesDisk D.content D.faults D.origin (IsErrOf result ClientRefusal.DiskFault) (journal_of self.old) (journal_of self.new) }
     {
         if download.ident() != self.replica.ident {
             return Err(ClientRefusal::NotMine);
@@ -178,10 +169,7 @@ impl<D: Disk> Client<D> {
         ensures strokes { (records : List model.ClientRecord) → IsClientOf records self.old → IsStored D.content D.images records self.old → Asked D.strokes (model.take_entries the_profile (model.client_of the_profile records) (map sent_seen entries.now)) self.old self.new result }
         ensures not_closed { ¬ IsErrOf result ClientRefusal.Closed }
         ensures closes { IsErrOf result ClientRefusal.DiskFault ⊎ IsErrOf result ClientRefusal.NoMemory → is_closed self.new ≡ true }
-        ensures later { D.faults (disk_of (journal_of self.old)) ≤ D.faults (disk_of (journal_of self.new)) }
-        ensures fault { IsErrOf result ClientRefusal.DiskFault → Rose (D.faults (disk_of (journal_of self.old))) (D.faults (disk_of (journal_of self.new))) }
-        ensures origin { D.origin (disk_of (journal_of self.new)) ≡ D.origin (disk_of (journal_of self.old)) }
-        ensures told { Told (D.content (disk_of (journal_of self.old))) (λ b. (c : List ℕ) × (D.content (disk_of (journal_of self.new)) ≡ Some c)) }
+        ensures disk { UsesDisk D.content D.faults D.origin (IsErrOf result ClientRefusal.DiskFault) (journal_of self.old) (journal_of self.new) }
     {
         for sent in entries {
             match self.take_sent(sent) {
@@ -207,10 +195,7 @@ impl<D: Disk> Client<D> {
         ensures stays_open { OnOk result (is_closed self.new ≡ false) }
         ensures not_closed { ¬ IsErrOf result ClientRefusal.Closed }
         ensures closes { IsErrOf result ClientRefusal.DiskFault ⊎ IsErrOf result ClientRefusal.NoMemory → is_closed self.new ≡ true }
-        ensures later { D.faults (disk_of (journal_of self.old)) ≤ D.faults (disk_of (journal_of self.new)) }
-        ensures fault { IsErrOf result ClientRefusal.DiskFault → Rose (D.faults (disk_of (journal_of self.old))) (D.faults (disk_of (journal_of self.new))) }
-        ensures origin { D.origin (disk_of (journal_of self.new)) ≡ D.origin (disk_of (journal_of self.old)) }
-        ensures told { Told (D.content (disk_of (journal_of self.old))) (λ b. (c : List ℕ) × (D.content (disk_of (journal_of self.new)) ≡ Some c)) }
+        ensures disk { UsesDisk D.content D.faults D.origin (IsErrOf result ClientRefusal.DiskFault) (journal_of self.old) (journal_of self.new) }
     {
         match self.replica.take_entry(
             self.alloc,
@@ -235,10 +220,7 @@ impl<D: Disk> Client<D> {
         ensures stays_open { OnOk result (is_closed self.new ≡ false) }
         ensures closes { OnErr result (is_closed self.new ≡ true) }
         ensures refused { IfErr result (λ why. (why ≡ ClientRefusal.DiskFault) ⊎ (why ≡ ClientRefusal.NoMemory)) }
-        ensures later { D.faults (disk_of (journal_of self.old)) ≤ D.faults (disk_of (journal_of self.new)) }
-        ensures fault { IsErrOf result ClientRefusal.DiskFault → Rose (D.faults (disk_of (journal_of self.old))) (D.faults (disk_of (journal_of self.new))) }
-        ensures origin { D.origin (disk_of (journal_of self.new)) ≡ D.origin (disk_of (journal_of self.old)) }
-        ensures told { Told (D.content (disk_of (journal_of self.old))) (λ b. (c : List ℕ) × (D.content (disk_of (journal_of self.new)) ≡ Some c)) }
+        ensures disk { UsesDisk D.content D.faults D.origin (IsErrOf result ClientRefusal.DiskFault) (journal_of self.old) (journal_of self.new) }
     {
         let Ok(body) = Blob::new(self.alloc, sent.body()) else {
             self.closed = true;

@@ -4,8 +4,6 @@
 mod answer;
 mod heirs;
 mod refusal;
-#[cfg(test)]
-mod tests;
 
 pub use answer::Heir;
 pub use heirs::heir;

@@ -23,3 +23,4 @@ no_float (places.Table t) = refl
 no_float (places.Column t c) = refl
 no_float (places.Object t k) = rw (key k) refl
 no_float (places.Cell c) = rw (key c.key) refl
+no_float (places.Elements c front back) = rw (key c.key) refl

@@ -12,7 +12,7 @@ use Rattle.sync_server.specs.Serving.{kept_of}
 use Rattle.sync_host.specs.Objects.{ObjectTold, object_form_of_line}
 use Rattle.sync_host.specs.Places.{place_lines}
 use Rattle.sync_host.specs.Replies.{reply_bytes}
-use Rattle.sync_host.specs.Steps.{Answers, ClientStands, IfTold, SentSo, Serves, ServerStands, Tells, errand, line_answer, message_read, server_standing, standing_of, take_answer}
+use Rattle.sync_host.specs.Steps.{Answers, ClientStands, IfTold, SentSo, Serves, ServerStands, Spares, Tells, errand, line_answer, message_read, server_standing, standing_of, take_answer}
 use Rattle.sync_host.specs.Verbs.{is_call}
 use Rattle.sync_host.specs.declared.hosted.HostedClient.{HostedClient}
 use Rattle.sync_host.specs.declared.hosted.HostedServer.{HostedServer}
@@ -29,6 +29,9 @@ pub record ClientAnswers (verb : Verb) (body : List ℕ) (old : HostedClient) (r
   -- what none of the places that it then keeps covers is as it was
   pub changes_by_line : verb ≡ verbs.Line → (records : List ClientRecord) → ClientStands records old.client → IfTold reply (Tells new.changed.items records (option_map (line_answer records) (node_form_of_line body)))
   pub changes_by_take : verb ≡ verbs.Take → (records : List ClientRecord) → ClientStands records old.client → IfTold reply (Tells new.changed.items records (option_map (take_answer records) (message_read body)))
+  -- and of a list the ends that each of them spares
+  pub ends_by_line : verb ≡ verbs.Line → (records : List ClientRecord) → ClientStands records old.client → IfTold reply (Spares new.changed.items records (option_map (line_answer records) (node_form_of_line body)))
+  pub ends_by_take : verb ≡ verbs.Take → (records : List ClientRecord) → ClientStands records old.client → IfTold reply (Spares new.changed.items records (option_map (take_answer records) (message_read body)))
   -- nothing else changes it
   pub unchanged : is_call verb ≡ false → new ≡ old
   -- a message to send

@@ -1,10 +1,12 @@
 -- What a node's request is replied, and the records that it adds, by the records of the node.
-use Rattle.std.specs.Prelude.{◌≡◌, ◌⊎◌, ◌==◌, ◌&&◌, ℕ, false, List, [], ◌∷◌, ◌++◌, length, map, nat_lt, if◌then◌else◌, Option, None, Some, Result, Ok, Err}
+use Rattle.std.specs.Prelude.{◌≡◌, ◌⊎◌, ◌==◌, ◌&&◌, ℕ, true, false, List, [], ◌∷◌, ◌++◌, length, map, nat_lt, if◌then◌else◌, Option, None, Some, Result, Ok, Err}
 use Rattle.std.specs.Int.{w32, from_le_bytes}
 use Rattle.std.specs.Option.{option_map}
 use Rattle.sync_data.specs.declared.instr.Instr.{Instr}
+use Rattle.sync_base.specs.Effects.{CellPath}
 use Rattle.sync_base.specs.Footprints.{Part, SameAt}
 use Rattle.sync_base.specs.States.{State}
+use Rattle.sync_changed.specs.Ends.{SameEndsAt, all_spare}
 use Rattle.sync_changed.specs.Places.{is_told}
 use Rattle.sync_changed.specs.declared.place.Place.{Place}
 use Rattle.sync_disk.specs.declared.disk.Disk.{Ghosts}
@@ -114,6 +116,12 @@ standing_of c = record { ident = c.ident; cursor = c.cursor; last = last c; unse
 abbrev pub Tells : List Place → List ClientRecord → Option Answer → Type 0
 Tells places records None = Unit {0}
 Tells places records (Some answer) = (x : Part) → is_told places x ≡ false → SameAt (client_of the_profile (records ++ answer.records)).objects (client_of the_profile records).objects x
+
+-- and so are the ends of a list that each of them spares
+abbrev pub Spares : List Place → List ClientRecord → Option Answer → Type 0
+Spares places records None = Unit {0}
+Spares places records (Some answer) =
+    (front back : ℕ) (list : CellPath) → all_spare front back list places ≡ true → SameEndsAt front back list (client_of the_profile (records ++ answer.records)).objects (client_of the_profile records).objects
 
 -- the message that a client makes, or why it makes none
 abbrev pub SentSo : Result Message ClientRefusal → Reply → Type 0

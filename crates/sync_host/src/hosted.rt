@@ -4,7 +4,7 @@ ghost use Rattle.std.specs.Option.{option_map};
 ghost use Rattle.sync_model.specs.Clients as clients;
 ghost use Rattle.sync_exchange.specs.Profile.{the_profile};
 ghost use Rattle.sync_edits.specs.Lines.{node_form_of_line};
-ghost use Rattle.sync_host.specs.Steps.{Answers, ClientStands, IfTold, SentSo, Tells, errand, line_answer, message_read, number_in, retire_in, stored_in, take_answer};
+ghost use Rattle.sync_host.specs.Steps.{Answers, ClientStands, IfTold, SentSo, Spares, Tells, errand, line_answer, message_read, number_in, retire_in, stored_in, take_answer};
 
 use crate::answers::{dump, send};
 use crate::object::object;
@@ -64,6 +64,7 @@ impl HostedClient {
         ensures step { (records : List clients.ClientRecord) → ClientStands records self.old.client
             → IfTold result (Answers (option_map (line_answer records) (node_form_of_line bytes.now)) records result self.old.client self.new.client) }
         ensures told { (records : List clients.ClientRecord) → IfTold result (Tells self.new.changed.items records (option_map (line_answer records) (node_form_of_line bytes.now))) }
+        ensures ends { (records : List clients.ClientRecord) → IfTold result (Spares self.new.changed.items records (option_map (line_answer records) (node_form_of_line bytes.now))) }
     {
         let line = match node_line_of(alloc, bytes) {
             Ok(line) => line,
@@ -83,13 +84,15 @@ impl HostedClient {
         ensures step { (records : List clients.ClientRecord) → ClientStands records self.old.client
             → IfTold result (Answers (option_map (take_answer records) (message_read bytes.now)) records result self.old.client self.new.client) }
         ensures told { (records : List clients.ClientRecord) → IfTold result (Tells self.new.changed.items records (option_map (take_answer records) (message_read bytes.now))) }
+        ensures ends { (records : List clients.ClientRecord) → ClientStands records self.old.client → IfTold result (Spares self.new.changed.items records (option_map (take_answer records) (message_read bytes.now))) }
     {
         let message = match message_of(alloc, bytes) {
             Ok(message) => message,
             Err(MessageRefusal::BadMessage) => return Reply::BadRequest,
             Err(MessageRefusal::NoMemory) => return Reply::NoMemory,
         };
-        let Ok(places) = changed_by_message(alloc, &message) else {
+        let unsent = self.client.unsent();
+        let Ok(places) = changed_by_message(alloc, &message, unsent) else {
             let_go(message);
             return Reply::NoMemory;
         };

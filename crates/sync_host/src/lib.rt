@@ -13,8 +13,6 @@ mod places;
 mod refusals;
 mod reply;
 mod server;
-#[cfg(test)]
-mod tests;
 mod verb;
 
 pub use host::Host;

@@ -6,7 +6,7 @@ ghost use Rattle.sync_model.specs.Clients as model;
 ghost use Rattle.sync_value_text.specs.Printed.{data_of_key};
 ghost use Rattle.sync_host.specs.Places.{data_of_place, place_lines};
 ghost use Rattle.sync_host.specs.Replies.{reply_bytes};
-ghost use Rattle.sync_host.specs.Steps.{IfTold, Tells, line_answer};
+ghost use Rattle.sync_host.specs.Steps.{IfTold, Spares, Tells, line_answer};
 
 use crate::reply::Reply;
 use serde_json::{Value as Json, json};
@@ -18,7 +18,8 @@ use sync_value_text::json_of_key;
 
 /// What a node line may change of a client's objects: a transaction alone changes them.
 pub(crate) fn changed_by_line(alloc: Global, line: &NodeLine) -> Result<Vec<Place>, NoMemory>
-    ensures { IfOk result (λ places. (records : List model.ClientRecord) → Tells places.items records (Some (line_answer records line.now))) }
+    ensures told { IfOk result (λ places. (records : List model.ClientRecord) → Tells places.items records (Some (line_answer records line.now))) }
+    ensures ends { IfOk result (λ places. (records : List model.ClientRecord) → Spares places.items records (Some (line_answer records line.now))) }
 {
     match line {
         NodeLine::Commit { edits, .. } => changed_by_edits(alloc, edits.as_slice()),
@@ -81,6 +82,12 @@ fn json_of_place(alloc: Global, place: &Place) -> Result<Json, AllocError>
             let key = key_of(alloc, &cell.key)?;
             let column = cell.column.text();
             json!(in alloc; {"column": column, "key": key, "table": table})
+        }
+        Place::Elements { cell, front, back } => {
+            let table = cell.table.text();
+            let key = key_of(alloc, &cell.key)?;
+            let column = cell.column.text();
+            json!(in alloc; {"back": *back, "column": column, "front": *front, "key": key, "table": table})
         }
     }
 }

@@ -7,8 +7,6 @@ mod keys;
 mod object;
 mod objects;
 mod spot;
-#[cfg(test)]
-mod tests;
 
 pub use index::Index;
 pub use object::{are_apart, cell_of};

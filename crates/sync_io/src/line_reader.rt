@@ -111,6 +111,19 @@ impl LineReader {
         })
     }
 
+    /// The next line, where the whole of it was read already.
+    pub fn ahead(&self) -> Option<&[u8]>
+        ensures { IfSome result (λ line. line.now ≡ take (feed_place self.now.held) self.now.held) }
+    {
+        let held = self.intake.held();
+        let place = feed_place(held, 0);
+        if place < held.len() {
+            Some(&held[..place])
+        } else {
+            None
+        }
+    }
+
     /// The next line, or None at the end of the input.
     pub fn next<S: Source>(&mut self, source: &mut S) -> Result<Option<Vec<u8>>, ReadRefusal>
         // Over a source that tells its bytes: the first of what the input gives.

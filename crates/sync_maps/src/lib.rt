@@ -4,6 +4,3 @@
 mod next;
 
 pub use next::next_key;
-
-#[cfg(test)]
-mod tests;

@@ -1,6 +1,5 @@
 -- What is told of a message is told of the client that took it.
 use Rattle.std.proofs.Common.{◌≡◌, ◌⊎◌, inl, inr, ◌++◌, true, false, List, Result, Ok, Err, refl, sym, ◌∙◌, subst}
-use Rattle.sync_base.specs.Footprints.{Part, SameAt}
 use Rattle.sync_base.specs.States.{State}
 use Rattle.sync_disk.specs.declared.disk.Disk.{Ghosts}
 use Rattle.sync_exchange.specs.Profile.{the_profile}
@@ -20,11 +19,11 @@ module _ {D : Type 0} {G : Ghosts D} where
   now_of did records after old new (Err refusals.NoMemory) says was now shut closes = let e : true ≡ false = sym (closes (inr refl)) ∙ now.open_ in cc
   now_of did records after old new (Err why) says was now shut closes = says.client
 
-  -- and its objects are those of whichever records it stands for
-  pub told_so : {A : Type 0} (did : ClientStep A) (records after : List ClientRecord) (old new : Held D G) (r : Result A ClientRefusal) (s : State) (x : Part) → Says did records new r → IsClientOf records old → IsClientOf after new
+  -- and what holds of its objects holds of those of whichever records it stands for
+  pub told_so : {A : Type 0} (P : State → Type 0) (did : ClientStep A) (records after : List ClientRecord) (old new : Held D G) (r : Result A ClientRefusal) (s : State) → Says did records new r → IsClientOf records old → IsClientOf after new
       → (r ≡ Err refusals.Closed → is_closed old ≡ true) → ((r ≡ Err refusals.DiskFault) ⊎ (r ≡ Err refusals.NoMemory) → is_closed new ≡ true)
       → ((rs : List ClientRecord) → IsClientOf rs new → s ≡ (client_of the_profile rs).objects)
-      → SameAt (client_of the_profile (records ++ did.records)).objects (client_of the_profile records).objects x → SameAt (client_of the_profile after).objects (client_of the_profile records).objects x
-  told_so did records after old new r s x says was now shut closes objects same =
+      → P (client_of the_profile (records ++ did.records)).objects → P (client_of the_profile after).objects
+  told_so P did records after old new r s says was now shut closes objects holds =
       let then = now_of did records after old new r says was now shut closes in
-      subst (λ t. SameAt t (client_of the_profile records).objects x) (sym (objects (records ++ did.records) then) ∙ objects after now) same
+      subst P (sym (objects (records ++ did.records) then) ∙ objects after now) holds

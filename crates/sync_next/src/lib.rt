@@ -4,8 +4,6 @@
 mod committing;
 mod next;
 mod taking;
-#[cfg(test)]
-mod tests;
 
 pub use committing::commit;
 pub use next::{Next, next_message};

@@ -1,9 +1,11 @@
-ghost use Rattle.std.specs.Prelude.{◌≡◌, List, false, IfOk, OnErr};
+ghost use Rattle.std.specs.Prelude.{◌≡◌, ℕ, List, true, false, IfOk, OnErr};
+ghost use Rattle.sync_base.specs.Effects.{CellPath};
 ghost use Rattle.sync_base.specs.Footprints.{Part, SameAt};
 ghost use Rattle.sync_exchange.specs.Profile.{the_profile};
 ghost use Rattle.sync_exchange.specs.Seen.{message_seen};
 ghost use Rattle.sync_model.specs.Clients as model;
 ghost use Rattle.sync_client.specs.Clients.{IsClientOf, Says};
+ghost use Rattle.sync_changed.specs.Ends.{SameEndsAt, all_spare};
 ghost use Rattle.sync_changed.specs.Places.{is_told};
 
 use std::alloc::Global;
@@ -21,7 +23,8 @@ pub struct Taken {
 }
 
 /// Takes a message, as `Client::take`, and tells what may have changed: all else is as it was, whatever the answer, while the
-/// client isn't closed. Where there is no memory to tell it, the message isn't taken, and nothing changes.
+/// client isn't closed; of a list where elements are told, those before each of its places and behind each. Where there is no
+/// memory to tell it, the message isn't taken, and nothing changes.
 pub fn take<D: Disk>(
     alloc: Global,
     client: &mut Client<D>,
@@ -30,9 +33,12 @@ pub fn take<D: Disk>(
     ensures step { (records : List model.ClientRecord) → IsClientOf records client.old → IfOk result (λ taken. Says (model.take the_profile (model.client_of the_profile records) (message_seen message)) records client.new taken.answer) }
     ensures told { (records after : List model.ClientRecord) → IsClientOf records client.old → IsClientOf after client.new
         → IfOk result (λ taken. (x : Part) → is_told taken.places.items x ≡ false → SameAt (model.client_of the_profile after).objects (model.client_of the_profile records).objects x) }
+    ensures ends { (records after : List model.ClientRecord) → IsClientOf records client.old → IsClientOf after client.new
+        → IfOk result (λ taken. (front back : ℕ) (list : CellPath) → all_spare front back list taken.places.items ≡ true → SameEndsAt front back list (model.client_of the_profile after).objects (model.client_of the_profile records).objects) }
     ensures unchanged { OnErr result (client.new ≡ client.old) }
 {
-    let places = match changed_by_message(alloc, &message) {
+    let unsent = client.unsent();
+    let places = match changed_by_message(alloc, &message, unsent) {
         Ok(places) => places,
         Err(_) => {
             let_go(message);

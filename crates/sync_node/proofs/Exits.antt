@@ -1,16 +1,16 @@
 -- How a run ends, and what the disk then holds.
-use Rattle.std.proofs.Common.{◌≡◌, ℕ, zero, suc, ◌+◌, ◌≤◌, true, false, List, [], ◌∷◌, ◌++◌, length, take, map, Option, None, Some, inl, inr, ◌⊎◌, refl, sym, ap, subst, ◌∙◌, append_assoc, append-nil, arith, length-append}
+use Rattle.std.proofs.Common.{◌≡◌, Bool, ℕ, zero, suc, ◌+◌, ◌≤◌, true, false, List, [], ◌∷◌, ◌++◌, length, take, map, Option, None, Some, inl, inr, ◌⊎◌, refl, sym, ap, subst, ◌∙◌, append_assoc, append-nil, arith, length-append}
 use Rattle.std.proofs.lemmas.List.{take-append-le}
 use Rattle.std.proofs.Math.Seq.{take-append-add, take-append_seam}
+use Rattle.std.specs.Bool.{MatchBool}
 use Rattle.std.specs.Option.{option_map}
 use Rattle.sync_io.specs.Devices.{Took, TookSome}
 use Rattle.sync_io.specs.declared.status.Status.{Status}
-use Rattle.sync_io.specs.declared.status.Status.TheVariants as statuses
+use Rattle.sync_journal.specs.Landed.{StandsForEither}
 use Rattle.sync_journal.specs.Records.{records_of}
 use Rattle.sync_journal.specs.Records.Reading.{Good}
-use Rattle.sync_node.specs.Items.{Items, Over, Next, EndsReading}
-use Rattle.sync_node.specs.Runs.{AllTold, Answer, AnswersSo, EndsAt, Exits, ExitsTold, IsTold, LeavesSome, Left, Run, StandsSo, WroteAtLeast, added, answered, ended, is_fault, noting_runs, onto, records_in, run_from, texts}
-use Rattle.sync_node.proofs.Runs.{added_append, added_none, answered_says, follows_cut, follows_end, follows_fault, follows_onto, follows_part, run_says, runs_item, texts_append, wrote_behind, wrote_none, wrote_within}
+use Rattle.sync_node.specs.Runs.{AllTold, Answer, EndsBehind, Exits, ExitsTold, LeavesSome, Left, Run, Stops, StopsTold, WroteAtLeast, added, ended, is_fault, onto, texts}
+use Rattle.sync_node.proofs.Runs.{added_append, added_none, follows_cut, follows_end, follows_fault, follows_onto, follows_part, texts_append, told_append, wrote_behind, wrote_none, wrote_within}
 
 -- a number is at most another, or so much more
 within_or_past : (n m : ℕ) → (n ≤ m) ⊎ ((k : ℕ) × (n ≡ m + k))
@@ -18,9 +18,52 @@ within_or_past n zero = inr (n, omega arith)
 within_or_past zero (suc m) = inl (omega arith)
 within_or_past (suc n) (suc m) = elim (within_or_past n m) [ inl le ↦ inl (omega (arith, le)) | inr past ↦ inr (past.0, omega (arith, past.1)) ]
 
--- a command that has these records has them whatever it noted
-pub whatever_noted : {C N R : Type 0} (Stands : C → N → List R → Type 0) (command : C) (notes : N) (meant : Option (Answer R)) (records : List R) (text : List ℕ) → AnswersSo meant records text (Stands command notes) → AnswersSo meant records text (StandsSo Stands command)
-whatever_noted Stands command notes meant records text did = record { answer = did.answer; is = did.is; text_is = did.text_is; stands = (notes, did.stands) }
+either_way : (b : Bool) → (b ≡ true) ⊎ (b ≡ false)
+either_way true = inl refl
+either_way false = inr refl
+
+-- ---- answers and those behind them
+module _ {R : Type 0} where
+  front_within : (n : ℕ) (answers rest : List (Answer R)) → n ≤ length answers → length (added (take n (answers ++ rest))) ≤ length (added answers)
+  front_within zero answers rest le = omega arith
+  front_within (suc n) [] rest le = absurd (omega (arith, le))
+  front_within (suc n) (a ∷ answers) rest le =
+      let inner : length (added (take n (answers ++ rest))) ≤ length (added answers) = front_within n answers rest (omega (arith, le)) in
+      omega (arith, inner, length-append a.records (added (take n (answers ++ rest))), length-append a.records (added answers))
+
+  past_texts : (answers rest : List (Answer R)) (n k : ℕ) → n ≡ length answers + k → length (texts (take n (answers ++ rest))) ≡ length (texts answers) + length (texts (take k rest))
+  past_texts answers rest n k past =
+      ap (λ m. length (texts (take m (answers ++ rest)))) past ∙ ap (λ xs. length (texts xs)) (take-append-add answers rest k) ∙ ap length (texts_append answers (take k rest)) ∙ length-append (texts answers) (texts (take k rest))
+
+  past_added : (answers rest : List (Answer R)) (n k : ℕ) → n ≡ length answers + k → length (added (take n (answers ++ rest))) ≡ length (added answers) + length (added (take k rest))
+  past_added answers rest n k past =
+      ap (λ m. length (added (take m (answers ++ rest)))) past ∙ ap (λ xs. length (added xs)) (take-append-add answers rest k) ∙ ap length (added_append answers (take k rest)) ∙ length-append (added answers) (added (take k rest))
+
+  holds_behind : (answers rest : List (Answer R)) (old mid new : Option (List ℕ)) (count : ℕ) → Took (texts answers) old mid → ((n : ℕ) → WroteAtLeast (length (texts (take n rest))) mid new → length (added (take n rest)) ≤ count)
+      → (n : ℕ) → WroteAtLeast (length (texts (take n (answers ++ rest)))) old new → length (added (take n (answers ++ rest))) ≤ length (added answers) + count
+  holds_behind answers rest old mid new count took holds n wrote = elim (within_or_past n (length answers)) [
+    | inl le ↦ let front : length (added (take n (answers ++ rest))) ≤ length (added answers) = front_within n answers rest le in omega (arith, front)
+    | inr past ↦
+        let inner : length (added (take past.0 rest)) ≤ count = holds past.0 (wrote_behind (length (texts (take past.0 rest))) (texts answers) old mid new took (subst (λ m. WroteAtLeast m old new) (past_texts answers rest n past.0 past.1) wrote)) in
+        omega (arith, past_added answers rest n past.0 past.1, inner)
+  ]
+
+  stopped_told : (status : Status) (run : Run R) → Stops status run → AllTold run.answers
+  stopped_told status run stops = elim (either_way (is_fault status)) [
+    | inl fault ↦ subst (λ b. MatchBool b (AllTold run.answers) (run ≡ ended status)) fault stops
+    | inr fine ↦ let over : run ≡ ended status = subst (λ b. MatchBool b (AllTold run.answers) (run ≡ ended status)) fine stops in subst (λ (r : Run R). AllTold r.answers) (sym over) tt
+  ]
+
+  -- no more was written than some of the first
+  holds_part : (answers rest : List (Answer R)) (old new : Option (List ℕ)) → AllTold rest → TookSome (texts answers) old new
+      → (n : ℕ) → WroteAtLeast (length (texts (take n (answers ++ rest)))) old new → length (added (take n (answers ++ rest))) ≤ length (added answers)
+  holds_part answers rest old new says took n wrote = elim (within_or_past n (length answers)) [
+    | inl le ↦ front_within n answers rest le
+    | inr past ↦
+        let within : length (texts (take n (answers ++ rest))) ≤ length (texts answers) = wrote_within (length (texts (take n (answers ++ rest)))) (texts answers) old new took wrote in
+        let none : length (added (take past.0 rest)) ≤ 0 = added_none past.0 rest says (omega (arith, within, past_texts answers rest n past.0 past.1)) in
+        omega (arith, past_added answers rest n past.0 past.1, none)
+  ]
 
 module _ {R : Type 0} (bytes_of : R → List ℕ) where
   -- ---- an image at the end of a run
@@ -58,27 +101,6 @@ module _ {R : Type 0} (bytes_of : R → List ℕ) where
     reads = leaves.reads ∙ ap (λ rs. Good (map bytes_of rs)) (append_assoc records first (take leaves.count others) ∙ ap (λ rs. records ++ rs) (sym (take-append-add first others leaves.count)));
   }
 
-  holds_behind : (answers rest : List (Answer R)) (old mid new : Option (List ℕ)) (count : ℕ) → Took (texts answers) old mid → ((n : ℕ) → WroteAtLeast (length (texts (take n rest))) mid new → length (added (take n rest)) ≤ count)
-      → (n : ℕ) → WroteAtLeast (length (texts (take n (answers ++ rest)))) old new → length (added (take n (answers ++ rest))) ≤ length (added answers) + count
-  holds_behind answers rest old mid new count took holds n wrote = elim (within_or_past n (length answers)) [
-    | inl le ↦ let front : length (added (take n (answers ++ rest))) ≤ length (added answers) = front_within n answers rest le in omega (arith, front)
-    | inr past ↦
-        let split : take n (answers ++ rest) ≡ answers ++ take past.0 rest = ap (λ m. take m (answers ++ rest)) past.1 ∙ take-append-add answers rest past.0 in
-        let long : length (texts (take n (answers ++ rest))) ≡ length (texts answers) + length (texts (take past.0 rest)) =
-        ap (λ xs. length (texts xs)) split ∙ ap length (texts_append answers (take past.0 rest)) ∙ length-append (texts answers) (texts (take past.0 rest)) in
-        let most : length (added (take n (answers ++ rest))) ≡ length (added answers) + length (added (take past.0 rest)) =
-        ap (λ xs. length (added xs)) split ∙ ap length (added_append answers (take past.0 rest)) ∙ length-append (added answers) (added (take past.0 rest)) in
-        let inner : length (added (take past.0 rest)) ≤ count = holds past.0 (wrote_behind (length (texts (take past.0 rest))) (texts answers) old mid new took (subst (λ m. WroteAtLeast m old new) long wrote)) in
-        omega (arith, most, inner)
-  ]
-    where
-      front_within : (n : ℕ) (answers rest : List (Answer R)) → n ≤ length answers → length (added (take n (answers ++ rest))) ≤ length (added answers)
-      front_within zero answers rest le = omega arith
-      front_within (suc n) [] rest le = absurd (omega (arith, le))
-      front_within (suc n) (a ∷ answers) rest le =
-          let inner : length (added (take n (answers ++ rest))) ≤ length (added answers) = front_within n answers rest (omega (arith, le)) in
-          omega (arith, inner, length-append a.records (added (take n (answers ++ rest))), length-append a.records (added answers))
-
   -- behind the answers so far
   pub left_onto : (answers : List (Answer R)) (records : List R) (run : Run R) (old mid new : Option (List ℕ)) (image : List ℕ) → Took (texts answers) old mid → Left bytes_of (records ++ added answers) run mid new image
       → Left bytes_of records (onto answers run) old new image
@@ -95,22 +117,21 @@ module _ {R : Type 0} (bytes_of : R → List ℕ) where
         holds = holds_behind answers run.answers old mid new left.leaves.count took left.holds;
       }
 
-  -- a part of an answer was written, whose records stand
-  pub left_part : (answer : Answer R) (records : List R) (run : Run R) (old new : Option (List ℕ)) (image : List ℕ) → AllTold run.answers → TookSome answer.text old new → records_of image ≡ Good (map bytes_of (records ++ answer.records))
-      → Left bytes_of records (onto (answer ∷ []) run) old new image
+  -- a part of some answers was written, whose records stand
+  pub left_part : (answers : List (Answer R)) (records : List R) (run : Run R) (old new : Option (List ℕ)) (image : List ℕ) → AllTold run.answers → TookSome (texts answers) old new → records_of image ≡ Good (map bytes_of (records ++ added answers))
+      → Left bytes_of records (onto answers run) old new image
   unfolding leaves_all
-  left_part answer records run old new image says took reads = record {
-    leaves = leaves_all records answer.records (added run.answers) image reads;
-    holds = part;
-  }
-    where
-      part : (n : ℕ) → WroteAtLeast (length (texts (take n (answer ∷ run.answers)))) old new → length (added (take n (answer ∷ run.answers))) ≤ length answer.records
-      part zero wrote = omega arith
-      part (suc n) wrote =
-          let within : length (answer.text ++ texts (take n run.answers)) ≤ length answer.text = wrote_within (length (answer.text ++ texts (take n run.answers))) answer.text old new took wrote in
-          let long : length (answer.text ++ texts (take n run.answers)) ≡ length answer.text + length (texts (take n run.answers)) = length-append answer.text (texts (take n run.answers)) in
-          let none : length (added (take n run.answers)) ≤ 0 = added_none n run.answers says (omega (arith, within, long)) in
-          omega (arith, none, length-append answer.records (added (take n run.answers)))
+  left_part answers records run old new image says took reads =
+      let whole = leaves_all records (added answers) (added run.answers) image reads in
+      let same : added (answers ++ run.answers) ≡ added answers ++ added run.answers = added_append answers run.answers in
+      record {
+        leaves = record {
+          count = length (added answers);
+          within = subst (λ rs. length (added answers) ≤ length rs) (sym same) whole.within;
+          reads = subst (λ rs. records_of image ≡ Good (map bytes_of (records ++ take (length (added answers)) rs))) (sym same) whole.reads;
+        };
+        holds = holds_part answers run.answers old new says took;
+      }
 
   -- a fault at the end
   pub left_cut : (records : List R) (run : Run R) (old mid new : Option (List ℕ)) (image : List ℕ) → new ≡ mid → Left bytes_of records run old mid image → Left bytes_of records run old new image
@@ -162,77 +183,47 @@ module _ {R : Type 0} (bytes_of : R → List ℕ) where
     exits_told answers meant None status old mid new e took exits = subst (λ m. ExitsTold bytes_of Stands images records m status old new) (sym e) tt
     exits_told answers meant (Some run) status old mid new e took exits = subst (λ m. ExitsTold bytes_of Stands images records m status old new) (sym e) (exits_onto answers run status old mid new took exits)
 
-    -- ---- at an item
-    -- it is none of the command's
-    pub ends_bad : (number : ℕ) (meant : Option (Answer R)) (sink : Option (List ℕ)) → meant ≡ None → Stands records → ((image : List ℕ) → images image → records_of image ≡ Good (map bytes_of records))
-        → EndsAt bytes_of Stands images records number meant (statuses.BadInput number) sink sink
-    ends_bad number meant sink none stands kept rest says = subst (λ m. Exits bytes_of Stands images records (answered number m rest) (statuses.BadInput number) sink sink) (sym none) (exits_end (statuses.BadInput number) sink refl stands kept)
+    -- ---- answers that wait
+    -- nothing of them was written, and none of their records landed
+    pub exits_before : (waiting : List (Answer R)) (run : Run R) (status : Status) (sink : Option (List ℕ)) → is_fault status ≡ true → AllTold waiting → AllTold run.answers → ((image : List ℕ) → images image → records_of image ≡ Good (map bytes_of records))
+        → Exits bytes_of Stands images records (onto waiting run) status sink sink
+    exits_before waiting run status sink fault first then kept =
+        exits_fault status (onto waiting run) sink fault (told_append waiting run.answers first then) (λ image is. leaves_old records (added (waiting ++ run.answers)) image (kept image is))
 
-    leaves_answered : (number : ℕ) (meant : Option (Answer R)) (rest : List R → Run R) (image : List ℕ) → LeavesSome bytes_of records (records_in meant) image → LeavesSome bytes_of records (added (answered number meant rest).answers) image
-    leaves_answered number None rest image leaves = leaves
-    leaves_answered number (Some answer) rest image leaves = leaves_onto records answer.records (added (rest answer.records).answers) image leaves
+    -- nothing of them was written, and all of their records landed or none
+    pub exits_landing : (waiting : List (Answer R)) (run : Run R) (status : Status) (sink : Option (List ℕ)) → is_fault status ≡ true → AllTold waiting → AllTold run.answers
+        → ((image : List ℕ) → images image → StandsForEither (map bytes_of records) (map bytes_of (records ++ added waiting)) image) → Exits bytes_of Stands images records (onto waiting run) status sink sink
+    exits_landing waiting run status sink fault first then either =
+        exits_fault status (onto waiting run) sink fault (told_append waiting run.answers first then)
+        (λ image is. subst (λ rs. LeavesSome bytes_of records rs image) (sym (added_append waiting run.answers)) (some image (either image is)))
+      where
+        some : (image : List ℕ) → StandsForEither (map bytes_of records) (map bytes_of (records ++ added waiting)) image → LeavesSome bytes_of records (added waiting ++ added run.answers) image
+        some image (inl old) = leaves_old records (added waiting ++ added run.answers) image old
+        some image (inr all) = leaves_all records (added waiting) (added run.answers) image all
 
-    -- the disk failed, or memory ran out
-    pub ends_fault : (number : ℕ) (meant : Option (Answer R)) (status : Status) (sink : Option (List ℕ)) → is_fault status ≡ true → ((answer : Answer R) → meant ≡ Some answer → IsTold answer)
-        → ((image : List ℕ) → images image → LeavesSome bytes_of records (records_in meant) image) → EndsAt bytes_of Stands images records number meant status sink sink
-    ends_fault number meant status sink fault says leaves rest others =
-        exits_fault status (answered number meant rest) sink fault (answered_says number meant rest says others) (λ image is. leaves_answered number meant rest image (leaves image is))
+    -- a part of them was written, and all of their records landed
+    pub exits_part : (waiting : List (Answer R)) (run : Run R) (status : Status) (old new : Option (List ℕ)) → is_fault status ≡ true → AllTold run.answers → TookSome (texts waiting) old new
+        → ((image : List ℕ) → images image → records_of image ≡ Good (map bytes_of (records ++ added waiting))) → Exits bytes_of Stands images records (onto waiting run) status old new
+    exits_part waiting run status old new fault says took kept = record {
+      follows = follows_part waiting status run old new fault took;
+      left = λ image is. left_part waiting records run old new image says took (kept image is);
+      stands = λ none. absurd (no_fault status fault none);
+    }
 
-    -- the answer wasn't written whole
-    pub ends_part : (number : ℕ) (meant : Option (Answer R)) (text : List ℕ) (status : Status) (old new : Option (List ℕ)) → is_fault status ≡ true → AnswersSo meant records text Stands → TookSome text old new
-        → ((rs : List R) → Stands rs → (image : List ℕ) → images image → records_of image ≡ Good (map bytes_of rs)) → EndsAt bytes_of Stands images records number meant status old new
-    ends_part number meant text status old new fault did took kept rest others =
-        let answer = did.answer in
-        let part : TookSome answer.text old new = subst (λ t. TookSome t old new) did.text_is took in
-        subst (λ m. Exits bytes_of Stands images records (answered number m rest) status old new) (sym did.is)
-        (record {
-          follows = follows_part answer status (rest answer.records) old new fault part;
-          left = λ image is. left_part answer records (rest answer.records) old new image (others answer.records) part (kept (records ++ answer.records) did.stands image is);
-          stands = λ none. absurd (no_fault status fault none);
-        })
+    -- where their writing fails, whatever the run was to end with
+    pub stops_behind : (waiting : List (Answer R)) (fault status : Status) (old new : Option (List ℕ)) (rest : Option (Run R)) → AllTold waiting → StopsTold status rest → EndsBehind bytes_of Stands images records waiting fault old new
+        → ExitsTold bytes_of Stands images records (option_map (onto waiting) rest) fault old new
+    stops_behind waiting fault status old new None first stops behind = tt
+    stops_behind waiting fault status old new (Some run) first stops behind = behind run first (stopped_told status run stops)
 
-    -- ---- in the loop
-    module _ {N : Type 0} (step : N → List R → ℕ → List ℕ → Option (Answer R)) (noted : N → List R → List ℕ → N) (notes : N)
-        (says : (ns : N) (rs : List R) (number : ℕ) (item : List ℕ) (answer : Answer R) → step ns rs number item ≡ Some answer → IsTold answer) where
-      -- a reader refuses the next item
-      pub exits_reading : (status : Status) (ahead : Option Items) (sink : Option (List ℕ)) → EndsReading status ahead → Stands records → ((image : List ℕ) → images image → records_of image ≡ Good (map bytes_of records))
-          → ExitsTold bytes_of Stands images records (noting_runs step noted notes records ahead) status sink sink
-      exits_reading status None sink ends stands kept = tt
-      exits_reading (statuses.BadInput number) (Some items) sink ends stands kept =
-          subst (λ i. Exits bytes_of Stands images records (run_from step noted notes records i) (statuses.BadInput number) sink sink) (sym ends) (exits_end (statuses.BadInput number) sink refl stands kept)
-      exits_reading statuses.InputTooLong (Some items) sink ends stands kept =
-          subst (λ i. Exits bytes_of Stands images records (run_from step noted notes records i) statuses.InputTooLong sink sink) (sym ends) (exits_end statuses.InputTooLong sink refl stands kept)
-      exits_reading statuses.ReadFault (Some items) sink ends stands kept =
-          exits_fault statuses.ReadFault (run_from step noted notes records items) sink refl (run_says step noted says notes records items) (λ image is. leaves_old records (added (run_from step noted notes records items).answers) image (kept image is))
-      exits_reading statuses.NoMemory (Some items) sink ends stands kept =
-          exits_fault statuses.NoMemory (run_from step noted notes records items) sink refl (run_says step noted says notes records items) (λ image is. leaves_old records (added (run_from step noted notes records items).answers) image (kept image is))
-      exits_reading statuses.Done (Some items) sink ends stands kept = absurd ends
-      exits_reading statuses.BadWords (Some items) sink ends stands kept = absurd ends
-      exits_reading statuses.WriteFault (Some items) sink ends stands kept = absurd ends
-      exits_reading statuses.DiskFault (Some items) sink ends stands kept = absurd ends
-      exits_reading (statuses.BadFile place) (Some items) sink ends stands kept = absurd ends
-
-      -- memory ran out before the first item
-      pub exits_first : (ahead : Option Items) (sink : Option (List ℕ)) → Stands records → ((image : List ℕ) → images image → records_of image ≡ Good (map bytes_of records))
-          → ExitsTold bytes_of Stands images records (noting_runs step noted notes records ahead) statuses.NoMemory sink sink
-      exits_first ahead sink stands kept = exits_reading statuses.NoMemory ahead sink (no_reading ahead) stands kept
-        where
-          no_reading : (ahead : Option Items) → EndsReading statuses.NoMemory ahead
-          no_reading ahead = tt
-
-      -- the input ends
-      pub exits_over : (ahead : Option Items) (sink : Option (List ℕ)) → (Rattle.std.specs.Prelude.IfSome ahead (λ items. items ≡ Over)) → Stands records → ((image : List ℕ) → images image → records_of image ≡ Good (map bytes_of records))
-          → ExitsTold bytes_of Stands images records (noting_runs step noted notes records ahead) statuses.Done sink sink
-      exits_over None sink over stands kept = tt
-      exits_over (Some items) sink over stands kept =
-          subst (λ i. Exits bytes_of Stands images records (run_from step noted notes records i) statuses.Done sink sink) (sym over) (exits_end statuses.Done sink refl stands kept)
-
-      -- a run that ends at an item
-      pub exits_item : (number : ℕ) (item : List ℕ) (status : Status) (ahead rest : Option Items) (old new : Option (List ℕ)) → ahead ≡ option_map (Next number item) rest → EndsAt bytes_of Stands images records number (step notes records number item) status old new
-          → ExitsTold bytes_of Stands images records (noting_runs step noted notes records ahead) status old new
-      exits_item number item status ahead rest old new e ends =
-          subst (λ m. ExitsTold bytes_of Stands images records m status old new) (sym (runs_item step noted notes records number item ahead rest e)) (told rest)
-        where
-          told : (r : Option Items) → ExitsTold bytes_of Stands images records (option_map (λ rest. answered number (step notes records number item) (λ more. run_from step noted (noted notes records item) (records ++ more) rest)) r) status old new
-          told None = tt
-          told (Some r) = ends (λ more. run_from step noted (noted notes records item) (records ++ more) r) (λ more. run_says step noted says (noted notes records item) (records ++ more) r)
+    -- none waits, and the run stops
+    pub exits_stopped : (status : Status) (rest : Option (Run R)) (sink : Option (List ℕ)) → StopsTold status rest → Stands records → ((image : List ℕ) → images image → records_of image ≡ Good (map bytes_of records)) → ExitsTold bytes_of Stands images records rest status sink sink
+    exits_stopped status None sink stops stands kept = tt
+    exits_stopped status (Some run) sink stops stands kept = elim (either_way (is_fault status)) [
+      | inl fault ↦
+          let says : AllTold run.answers = subst (λ b. MatchBool b (AllTold run.answers) (run ≡ ended status)) fault stops in
+          exits_fault status run sink fault says (λ image is. leaves_old records (added run.answers) image (kept image is))
+      | inr fine ↦
+          let over : run ≡ ended status = subst (λ b. MatchBool b (AllTold run.answers) (run ≡ ended status)) fine stops in
+          subst (λ (r : Run R). Exits bytes_of Stands images records r status sink sink) (sym over) (exits_end status sink fine stands kept)
+    ]

@@ -3,7 +3,8 @@ pub mod Loans
 pub mod Items
 pub mod Runs
 pub mod Exits
-pub mod Nodes
+pub mod Told
+pub mod Ends
 pub mod Recoverers
 pub mod Opened
 pub mod Shown
@@ -11,3 +12,5 @@ pub mod Telling
 pub mod Landed
 pub mod Objects
 pub mod Standing
+pub mod Waiting
+pub mod FileCommands

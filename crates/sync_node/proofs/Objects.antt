@@ -2,7 +2,7 @@
 use Rattle.std.proofs.Common.{◌≡◌, ℕ, ◌≤◌, Bool, true, false, List, [], ◌∷◌, ◌++◌, Option, None, Some, Result, Ok, Err, ap, subst, sym, ◌∙◌, arith, refl, if◌then◌else◌, length, nat_le, sum_by}
 use Rattle.std.proofs.lemmas.Bool.{leb-true}
 use Rattle.sync_theory.specs.Changesets.{Changeset}
-use Rattle.sync_model.specs.Each.{Each, no_more, and_each}
+use Rattle.sync_model.specs.Each.{Each, and_each}
 use Rattle.sync_model.specs.Files.{readable}
 use Rattle.sync_model.specs.Fronts.{Grows, entry_read, entry_step, further_on, grows_on, numbers_on, walk, walk_on}
 use Rattle.sync_model.specs.Parts.{Given, Parts, at_ident}

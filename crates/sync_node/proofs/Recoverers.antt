@@ -14,29 +14,21 @@ use Rattle.sync_client.specs.Clients.{IsStored}
 use Rattle.std.proofs.lemmas.List.{at_drop_more}
 use Rattle.std.proofs.Math.ListN.{drop_of_length-le}
 use Rattle.std.proofs.lemmas.List.Concat.{flat_map-append}
-use Rattle.sync_exchange.specs.Seen.{change_seen, client_bytes, message_seen}
+use Rattle.sync_exchange.specs.Seen.{change_seen, message_seen}
 use Rattle.sync_messages.specs.declared.message.Message.{Message as CodeMessage}
 use Rattle.sync_messages.specs.declared.message.Message.TheVariants as messages
-use Rattle.sync_node.proofs.Exits.{leaves_behind, leaves_onto}
 use Rattle.sync_data.specs.declared.instr.Instr.{Instr}
 use Rattle.sync_base.specs.States.{State}
 use Rattle.sync_exchange.specs.Profile.{the_profile}
-use Rattle.sync_node.specs.Heirs.{HandledSo, RecovererStands, SavedSo, counts_of, mine}
+use Rattle.sync_node.specs.Heirs.{HandledSo, HasHeard, RecovererStands, SavedSo, counts_of, mine}
 use Rattle.sync_node.specs.Holding.{ClientStands}
 use Rattle.sync_node.specs.Recovering.{Counts, IsPutFor, recovered, recovery_line}
-use Rattle.sync_node.specs.Runs.{AnswersSo, LeavesSome}
+use Rattle.sync_node.specs.Runs.{Answer, AnswersSo}
 use Rattle.sync_node.specs.declared.command.ItemEnd.{ItemEnd}
 use Rattle.std.proofs.lemmas.Bool.Decides.{nat_tests}
 
 -- ---- what came
 module _ {D : Type 0} {G : Ghosts D} where
-  pub nothing_heard : (records : List ClientRecord) (c : Client D G) (heard : List RetiredParts) → heard ≡ [] → ClientStands records c → RecovererStands [] records heard c
-  nothing_heard records c heard none stands = record {
-    client = stands;
-    counts_is = sym (ap counts_of none);
-    mine_is = subst (mine (client_of the_profile records).ident) (sym none) tt;
-  }
-
   -- a frame of which one thing is said adds no record
   pub says_so : (number : ℕ) (did : Recovered) (line : RecoveryLine) (known : Counts) (text : List ℕ) (records : List ClientRecord) (heard : List RetiredParts) (c : Client D G)
       → says_only known line ≡ did → text ≡ recovery_line number line → RecovererStands known records heard c → AnswersSo (Some (recovered number did)) records text (λ rs. RecovererStands did.known rs heard c)
@@ -46,6 +38,21 @@ module _ {D : Type 0} {G : Ghosts D} where
     text_is = text_is ∙ sym (append-nil (recovery_line number line));
     stands = subst (λ rs. RecovererStands known rs heard c) (sym (append-nil records)) stands;
   })
+
+-- nothing came yet
+pub nothing_heard : (records : List ClientRecord) (heard : List RetiredParts) → heard ≡ [] → HasHeard [] records heard
+nothing_heard records heard none = record { counts_is = sym (ap counts_of none); mine_is = subst (mine (client_of the_profile records).ident) (sym none) tt }
+
+-- of an answer: what came, and what the client has
+pub heard_so : {D : Type 0} {G : Ghosts D} (meant : Option (Answer ClientRecord)) (known : Counts) (records : List ClientRecord) (heard : List RetiredParts) (c : Client D G) (r : Result (Vec ℕ Global) ItemEnd)
+    → IfOk r (λ text. AnswersSo meant records text.items (λ rs. RecovererStands known rs heard c)) → IfOk r (λ text. AnswersSo meant records text.items (λ rs. HasHeard known rs heard × ClientStands rs c))
+heard_so meant known records heard c (Ok text) a = record {
+  answer = a.answer;
+  is = a.is;
+  text_is = a.text_is;
+  stands = (record { counts_is = a.stands.counts_is; mine_is = a.stands.mine_is }, a.stands.client);
+}
+heard_so meant known records heard c (Err why) a = tt
 
 -- a line that was made says so
 pub line_so : (r : Result (Vec ℕ Global) ItemEnd) (words : List ℕ) (Says : List ℕ → Type 0) → IfOk r (λ text. text.items ≡ words) → Says words → IfOk r (λ text. Says text.items)
@@ -181,20 +188,6 @@ module _ {D : Type 0} {G : Ghosts D} (number count : ℕ) (all : List Change) wh
         client = subst (λ rs. ClientStands rs c) (ap (λ rs. records ++ rs) (sym (append-nil so_far.more))) so_far.client;
         ident = ap (λ rs. (client_of the_profile (records ++ rs)).ident) (append-nil so_far.more) ∙ so_far.ident;
       })
-
-  -- what the next one may leave is among what all may leave
-  pub leaves_next : (records : List ClientRecord) (h : Change) (left : List Change) (text : List ℕ) (c : Client D G) (image : List ℕ) (so_far : SoFar (h ∷ left) records text c) → LeavesSome client_bytes (records ++ so_far.more) (next count records so_far.more h).records image
-      → LeavesSome client_bytes records (recover_changes the_profile (client_of the_profile records) count all).records image
-  leaves_next records h left text c image so_far leaves =
-      let now = records ++ so_far.more in
-      let step = next count records so_far.more h in
-      let go = λ (new : List ClientRecord). recover_changes the_profile (after_records the_profile (client_of the_profile now) new) count left in
-      subst (λ s. LeavesSome client_bytes records s.records image) (sym so_far.goes) (leaves_behind client_bytes records so_far.more (handled h.number step.records step.answer go).records image (first step.records step.answer go leaves))
-    where
-      first : (new : List ClientRecord) (a : Result HeirAnswer ResetRefusal) (go : List ClientRecord → Step ClientRecord (List RecoveryLine)) → LeavesSome client_bytes (records ++ so_far.more) new image
-          → LeavesSome client_bytes (records ++ so_far.more) (handled h.number new a go).records image
-      first new (Ok a) go leaves = leaves_onto client_bytes (records ++ so_far.more) new (go new).records image leaves
-      first new (Err why) go leaves = leaves
 
 -- ---- an Upload
 pub left_at : (changes : List ChangeParts) (i : ℕ) (h : ChangeParts) → i < length changes → h ≡ get_or changes i h → map change_seen (drop i changes) ≡ change_seen h ∷ map change_seen (drop (i + 1) changes)

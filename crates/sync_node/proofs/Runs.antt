@@ -57,6 +57,10 @@ module _ {R : Type 0} where
   added_append [] ys = refl
   added_append (x ∷ xs) ys = ap (λ t. x.records ++ t) (added_append xs ys) ∙ sym (append_assoc x.records (added xs) (added ys))
 
+  pub told_append : (xs ys : List (Answer R)) → AllTold xs → AllTold ys → AllTold (xs ++ ys)
+  told_append [] ys first then = then
+  told_append (x ∷ xs) ys first then = (first.0, told_append xs ys first.1 then)
+
   -- where nothing was said, nothing was added
   pub added_none : (n : ℕ) (answers : List (Answer R)) → AllTold answers → length (texts (take n answers)) ≤ 0 → length (added (take n answers)) ≤ 0
   added_none zero answers says short = omega arith
@@ -82,11 +86,8 @@ module _ {R : Type 0} where
   answered_says number (Some answer) rest says others = (says answer refl, others answer.records)
 
   -- ---- one answer more
-  texts_one : (answers : List (Answer R)) (answer : Answer R) → texts (answers ++ answer ∷ []) ≡ texts answers ++ answer.text
+  pub texts_one : (answers : List (Answer R)) (answer : Answer R) → texts (answers ++ answer ∷ []) ≡ texts answers ++ answer.text
   texts_one answers answer = texts_append answers (answer ∷ []) ∙ ap (λ t. texts answers ++ t) (append-nil answer.text)
-
-  pub took_one : (answers : List (Answer R)) (answer : Answer R) (old mid new : Option (List ℕ)) → Took (texts answers) old mid → Took answer.text mid new → Took (texts (answers ++ answer ∷ [])) old new
-  took_one answers answer old mid new first then = subst (λ t. Took t old new) (sym (texts_one answers answer)) (took_more (texts answers) answer.text old mid new first then)
 
   pub added_one : (records : List R) (answers : List (Answer R)) (answer : Answer R) → (records ++ added answers) ++ answer.records ≡ records ++ added (answers ++ answer ∷ [])
   added_one records answers answer =
@@ -97,12 +98,14 @@ module _ {R : Type 0} where
   pub follows_fault : (status : Status) (run : Run R) (sink : Option (List ℕ)) → is_fault status ≡ true → Follows status run sink sink
   follows_fault status run sink fault = subst (λ b. MatchBool b (TookSome (texts run.answers) sink sink) ((status ≡ run.status) × Took (texts run.answers) sink sink)) (sym fault) (0, took_none sink)
 
-  -- a part of an answer was written
-  pub follows_part : (answer : Answer R) (status : Status) (run : Run R) (old new : Option (List ℕ)) → is_fault status ≡ true → TookSome answer.text old new → Follows status (onto (answer ∷ []) run) old new
-  follows_part answer status run old new fault took =
-      let text = answer.text in
-      subst (λ b. MatchBool b (TookSome (text ++ texts run.answers) old new) ((status ≡ run.status) × Took (text ++ texts run.answers) old new)) (sym fault)
-      (min took.0 (length text), subst (λ p. Took p old new) (sym (take-append-le (min took.0 (length text)) text (texts run.answers) (omega arith) ∙ take_min took.0 text)) took.1)
+  -- a part of some answers was written
+  pub follows_part : (answers : List (Answer R)) (status : Status) (run : Run R) (old new : Option (List ℕ)) → is_fault status ≡ true → TookSome (texts answers) old new → Follows status (onto answers run) old new
+  follows_part answers status run old new fault took =
+      let text = texts answers in
+      let all = texts (answers ++ run.answers) in
+      subst (λ b. MatchBool b (TookSome all old new) ((status ≡ run.status) × Took all old new)) (sym fault)
+      (subst (λ t. TookSome t old new) (sym (texts_append answers run.answers))
+      (min took.0 (length text), subst (λ p. Took p old new) (sym (take-append-le (min took.0 (length text)) text (texts run.answers) (omega arith) ∙ take_min took.0 text)) took.1))
 
   -- behind the answers so far
   pub follows_onto : (answers : List (Answer R)) (status : Status) (run : Run R) (old mid new : Option (List ℕ)) → Took (texts answers) old mid → Follows status run mid new → Follows status (onto answers run) old new
@@ -138,12 +141,6 @@ module _ {N R : Type 0} (step : N → List R → ℕ → List ℕ → Option (An
   run_says says notes records (Bad number) = tt
   run_says says notes records Limit = tt
   run_says says notes records (Next number item rest) = answered_says number (step notes records number item) (λ new. run_from step noted (noted notes records item) (records ++ new) rest) (says notes records number item) (λ new. run_says says (noted notes records item) (records ++ new) rest)
-
-  -- a run at an item
-  pub runs_item : (notes : N) (records : List R) (number : ℕ) (item : List ℕ) (old new : Option Items) → old ≡ option_map (Next number item) new
-      → noting_runs step noted notes records old ≡ option_map (λ rest. answered number (step notes records number item) (λ more. run_from step noted (noted notes records item) (records ++ more) rest)) new
-  runs_item notes records number item old None e = ap (noting_runs step noted notes records) e
-  runs_item notes records number item old (Some rest) e = ap (noting_runs step noted notes records) e
 
   -- the answer of an item goes behind those so far
   pub runs_answered : (notes : N) (records : List R) (number : ℕ) (item : List ℕ) (old new : Option Items) (answer : Answer R) → old ≡ option_map (Next number item) new → step notes records number item ≡ Some answer

@@ -1,13 +1,13 @@
 -- The bytes of a new file are a file of its node, where the server wrote its own file.
 use Rattle.std.proofs.Common.{◌≡◌, ℕ, List, [], map, Some, Result, Ok, Err, Vec, Global, IfOk, OnOk, refl, ap, subst, sym, ◌∙◌}
-use Rattle.sync_base.specs.States.{State, IsState}
+use Rattle.sync_base.specs.States.{State}
 use Rattle.sync_data.specs.declared.instr.Instr.{Instr}
 use Rattle.sync_data.specs.declared.memory.NoMemory.{NoMemory}
 use Rattle.sync_journal.specs.Files.{IsFile}
 use Rattle.sync_journal.specs.Records.{file_of, records_of}
 use Rattle.sync_journal.specs.Records.Reading.{Good}
 use Rattle.sync_model.specs.Bytes.{Uuid}
-use Rattle.sync_model.specs.Clients.{client_of, no_client}
+use Rattle.sync_model.specs.Clients.{no_client}
 use Rattle.sync_model.specs.Each.{Each}
 use Rattle.sync_model.specs.Fronts.{file_gives}
 use Rattle.sync_model.specs.Parts.{Parts}
@@ -16,13 +16,12 @@ use Rattle.sync_model.specs.Trimmed.{trim_records}
 use Rattle.sync_model.proofs.GivenUp.{all_kept, trims_alike}
 use Rattle.sync_model.proofs.Reading.{all_read as all_read_back, client_reads_back}
 use Rattle.sync_model.proofs.Starting.{started_is, started_opens}
-use Rattle.sync_exchange.specs.Bounded.{IsBounded, IsOldState}
 use Rattle.sync_exchange.specs.Lemmas.Buildable.{real_buildable}
 use Rattle.sync_exchange.specs.Lemmas.Lawful.{real_lawful}
 use Rattle.sync_exchange.specs.Profile.{the_profile}
 use Rattle.sync_exchange.specs.Seen.{client_bytes, read_client, read_server, server_bytes}
 use Rattle.sync_node.specs.Opening.{all_read, at_gate, client_in, if_given, server_in}
-use Rattle.sync_node.specs.ServerTexts.{IsOwn, StandsStarted, StandsTrimmed, started_by, text_of, trimmed_by}
+use Rattle.sync_node.specs.ServerTexts.{StandsStarted, StandsTrimmed, started_by, text_of, trimmed_by}
 use Rattle.sync_node.specs.Steps.{kept_by, kept_or}
 use Rattle.sync_node.specs.declared.server_text.ServerText.TheVariants as texts
 use Rattle.sync_node.proofs.Objects.{objects_bounded, objects_fit, objects_old}

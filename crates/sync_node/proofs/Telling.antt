@@ -1,5 +1,5 @@
 -- Commands that write a text of a node's records: statuses, and what is written.
-use Rattle.std.proofs.Common.{◌≡◌, ℕ, List, append-nil, length, Option, None, Some, Result, Ok, Err, IfErr, OnOk, refl, sym, ap, subst}
+use Rattle.std.proofs.Common.{◌≡◌, ℕ, List, append-nil, length, Option, None, Some, Result, Ok, Err, IfErr, OnOk, refl, sym, ap, subst, ◌∙◌}
 use Rattle.std.proofs.Math.Seq.{take-length}
 use Rattle.sync_io.specs.Devices.{Took, TookSome}
 use Rattle.sync_io.specs.declared.sink.SinkRefusal.{SinkRefusal}
@@ -73,9 +73,9 @@ pub open_undone : (status : Status) → IsOpenStatus status → status ≡ statu
 open_undone status only done = subst IsOpenStatus done only
 
 -- what was written whole was made
-pub on_done : {A E : Type 0} (made : Result A E) (status : Status) (Fact : Type 0) → OnOk made Fact → IfErr made (λ e. status ≡ statuses.Done → ⊥) → status ≡ statuses.Done → Fact
-on_done (Ok a) status Fact fact undone done = fact
-on_done (Err e) status Fact fact undone done = absurd (undone done)
+pub on_done : {A E : Type 0} (made : Result A E) (status : Status) (Fact : Type 0) → OnOk made Fact → IfErr made (λ e. status ≡ statuses.NoMemory) → status ≡ statuses.Done → Fact
+on_done (Ok a) status Fact fact unmade done = fact
+on_done (Err e) status Fact fact unmade done = absurd (let e = sym unmade ∙ done in cc)
 
 -- where nothing failed and the file is the node's, the command is done, or memory ran out
 pub tells_all : (status : Status) → IsTellStatus status → (status ≡ statuses.WriteFault → ⊥) → (status ≡ statuses.DiskFault → ⊥) → ((place : ℕ) → status ≡ statuses.BadFile place → ⊥) → IsDoneOrNoMemory status

@@ -31,6 +31,11 @@ counts_of = map (λ r. (r.ident, r.number))
 abbrev pub mine : ℕ → List RetiredParts → Type 0
 mine by = AllByRecursion (λ r. r.by ≡ by)
 
+-- what came has these counts, and came for a client of these records
+pub record HasHeard (counts : Counts) (records : List ClientRecord) (heard : List RetiredParts) : Type 0 where
+  pub counts_is : counts ≡ counts_of heard
+  pub mine_is : mine (client_of the_profile records).ident heard
+
 -- an open client of these records, whose disk holds them, and what came for it has these counts
 pub record RecovererStands {D : Type 0} {G : Ghosts D} (counts : Counts) (records : List ClientRecord) (heard : List RetiredParts) (c : Client D G) : Type 0 where
   pub client : ClientStands records c

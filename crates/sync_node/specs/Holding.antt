@@ -1,14 +1,10 @@
 -- What a node and its disk stand for.
-use Rattle.std.specs.Prelude.{◌≡◌, ℕ, List, map}
-use Rattle.std.proofs.Common.{ap, ◌∙◌}
+use Rattle.std.specs.Prelude.{ℕ, List}
 use Rattle.sync_disk.specs.Origin.{Origin}
 use Rattle.sync_disk.specs.declared.disk.Disk.{Ghosts}
-use Rattle.sync_journal.specs.Records.{records_of}
-use Rattle.sync_journal.specs.Records.Reading.{Good}
 use Rattle.sync_journal.specs.Stands.{disk_of}
 use Rattle.sync_model.specs.Clients.{ClientRecord}
 use Rattle.sync_model.specs.Servers.{ServerRecord}
-use Rattle.sync_exchange.specs.Seen.{client_bytes, server_bytes}
 use Rattle.sync_client.specs.Clients as clients
 use Rattle.sync_client.specs.declared.client.Client.{Client}
 use Rattle.sync_server.specs.Serving as servers
@@ -25,13 +21,6 @@ module _ {D : Type 0} {G : Ghosts D} where
     pub server : servers.IsServerOf records s
     pub stored : servers.IsStored G.content G.images records s
 
-  -- what a crash may leave of the disk of a client, and of a server
-  abbrev pub client_images : Client D G → List ℕ → Type 0
-  client_images c = G.images (disk_of (clients.journal_of c))
-
-  abbrev pub server_images : Server D G → List ℕ → Type 0
-  server_images s = G.images (disk_of (servers.journal_of s))
-
   -- the faults of its disk
   abbrev pub client_faults : Client D G → ℕ
   client_faults c = G.faults (disk_of (clients.journal_of c))
@@ -45,10 +34,3 @@ module _ {D : Type 0} {G : Ghosts D} where
 
   abbrev pub server_origin : Server D G → Origin
   server_origin s = G.origin (disk_of (servers.journal_of s))
-
-  -- a crash leaves what it holds
-  pub client_keeps : (c : Client D G) (records : List ClientRecord) (image : List ℕ) → ClientStands records c → client_images c image → records_of image ≡ Good (map client_bytes records)
-  client_keeps c records image stands is = ap records_of (stands.stored.settled.durable image is) ∙ stands.stored.settled.reads
-
-  pub server_keeps : (s : Server D G) (records : List ServerRecord) (image : List ℕ) → ServerStands records s → server_images s image → records_of image ≡ Good (map server_bytes records)
-  server_keeps s records image stands is = ap records_of (stands.stored.settled.durable image is) ∙ stands.stored.settled.reads

@@ -10,7 +10,7 @@ use Rattle.sync_io.specs.declared.status.Status.{Status}
 use Rattle.sync_io.specs.declared.status.Status.TheVariants as statuses
 use Rattle.sync_io.specs.declared.refusal.ReadRefusal.{ReadRefusal}
 use Rattle.sync_io.specs.declared.refusal.ReadRefusal.TheVariants as reads
-use Rattle.sync_node.specs.declared.item.Item.{Item}
+use Rattle.sync_node.specs.declared.reader.Item.{Item}
 
 pub data Items : Type 0 where
   -- the input ends

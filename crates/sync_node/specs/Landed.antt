@@ -1,38 +1,22 @@
--- A node over a disk that gathers, and what it has on the disk below.
-use Rattle.std.specs.Prelude.{◌≡◌, ℕ, List, [], None, map}
-use Rattle.std.proofs.Common.{ap, ◌∙◌}
+-- A node over a disk that gathers, and what the disk below has of it.
+use Rattle.std.proofs.Common.{◌≡◌, ℕ, ◌<◌, false, List, ◌∷◌, ◌++◌, length, map, ap, arith, length-append, subst, sym}
 use Rattle.sync_disk.specs.Origin.{Origin}
 use Rattle.sync_disk.specs.declared.disk.Disk.{Ghosts}
-use Rattle.sync_disk.specs.declared.leaves.Leaves.TheVariants.{Keep}
-use Rattle.gathered_disk.specs.Below.{below}
+use Rattle.gathered_disk.specs.Below as disks
+use Rattle.gathered_disk.specs.Below.{below, gate_of}
+use Rattle.gathered_disk.specs.Gathered.{origin_of}
 use Rattle.gathered_disk.specs.declared.gathered.GatheredDisk.{GatheredDisk}
-use Rattle.sync_journal.specs.Landed.{IsLanded}
-use Rattle.sync_journal.specs.Records.{records_of}
-use Rattle.sync_journal.specs.Records.Reading.{Good}
+use Rattle.gathered_disk.proofs.Same.{same_below}
+use Rattle.sync_journal.specs.Landed.{HoldsBelow}
+use Rattle.sync_journal.specs.Records.{IsJournal, magic}
 use Rattle.sync_journal.specs.Stands.{disk_of}
-use Rattle.sync_model.specs.Clients.{ClientRecord}
-use Rattle.sync_model.specs.Servers.{ServerRecord}
-use Rattle.sync_exchange.specs.Seen.{client_bytes, server_bytes}
 use Rattle.sync_client.specs.Clients as clients
 use Rattle.sync_client.specs.declared.client.Client.{Client}
 use Rattle.sync_server.specs.Serving as servers
 use Rattle.sync_server.specs.declared.server.Server.{Server}
-
--- what no call of a disk that gathers changes of the origin of the disk below: the loan, where it is lent
-abbrev pub loan_in : Origin → Origin
-loan_in o = record { start = []; stop = None; leaves = Keep; listed = o.listed }
+use Rattle.sync_node.specs.Runs.{DiskHolds}
 
 module _ {D : Type 0} {G : Ghosts D} {H : Ghosts (GatheredDisk D G)} where
-  -- an open client of these records, which the disk below holds
-  pub record ClientLanded (records : List ClientRecord) (c : Client (GatheredDisk D G) H) : Type 0 where
-    pub client : clients.IsClientOf records c
-    pub landed : IsLanded (map client_bytes records) (clients.journal_of c)
-
-  -- the same of a server
-  pub record ServerLanded (records : List ServerRecord) (s : Server (GatheredDisk D G) H) : Type 0 where
-    pub server : servers.IsServerOf records s
-    pub landed : IsLanded (map server_bytes records) (servers.journal_of s)
-
   -- the disk below a client, and below a server
   abbrev pub below_client : Client (GatheredDisk D G) H → D
   below_client c = below (disk_of (clients.journal_of c))
@@ -40,30 +24,38 @@ module _ {D : Type 0} {G : Ghosts D} {H : Ghosts (GatheredDisk D G)} where
   abbrev pub below_server : Server (GatheredDisk D G) H → D
   below_server s = below (disk_of (servers.journal_of s))
 
-  -- what a crash may leave of it
-  abbrev pub landed_client_images : Client (GatheredDisk D G) H → List ℕ → Type 0
-  landed_client_images c = G.images (below_client c)
+-- a file is longer than its front
+long : (records : List (List ℕ)) (end : ℕ) (file : List ℕ) → IsJournal records end file → 0 < length file
+long records end file j = omega (arith, ap length j.file_is, length-append magic (j.front ++ j.gate ∷ j.rest))
 
-  abbrev pub landed_server_images : Server (GatheredDisk D G) H → List ℕ → Type 0
-  landed_server_images s = G.images (below_server s)
+module _ {D : Type 0} {G : Ghosts D} where
+  -- it takes strokes, and the disk below holds these records, whatever is gathered behind them
+  pub record GathersOver (records : List (List ℕ)) (g : GatheredDisk D G) : Type 0 where
+    pub takes : disks.is_closed g ≡ false
+    pub holds : HoldsBelow records g
 
-  -- its faults
-  abbrev pub landed_client_faults : Client (GatheredDisk D G) H → ℕ
-  landed_client_faults c = G.faults (below_client c)
+  pub held_below : {R : Type 0} (bytes_of : R → List ℕ) (records : List R) (g : GatheredDisk D G) → GathersOver (map bytes_of records) g → DiskHolds G.content G.images bytes_of records (below g)
+  held_below bytes_of records g over = let h = over.holds in record { file = h.file; told = h.told; reads = h.reads; durable = h.durable }
 
-  abbrev pub landed_server_faults : Server (GatheredDisk D G) H → ℕ
-  landed_server_faults s = G.faults (below_server s)
+  abbrev origin_is : GatheredDisk D G → Origin
+  origin_is g = origin_of g.closed (G.content g.disk) (G.origin g.disk).listed g.gate
 
-  -- what no call of it changes
-  abbrev pub client_loan : Client (GatheredDisk D G) H → Origin
-  client_loan c = loan_in (G.origin (below_client c))
+  -- the loan is the same
+  pub loan_kept : (old new : GatheredDisk D G) → origin_is new ≡ origin_is old → (G.origin (below new)).listed ≡ (G.origin (below old)).listed
+  loan_kept old new same = let is = ap (λ (o : Origin). o.listed) same in omega (arith, new.fits, old.fits, is)
 
-  abbrev pub server_loan : Server (GatheredDisk D G) H → Origin
-  server_loan s = loan_in (G.origin (below_server s))
-
-  -- a crash leaves what the disk below holds
-  pub landed_client_keeps : (c : Client (GatheredDisk D G) H) (records : List ClientRecord) (image : List ℕ) → ClientLanded records c → landed_client_images c image → records_of image ≡ Good (map client_bytes records)
-  landed_client_keeps c records image l is = ap records_of (l.landed.holds.durable image is) ∙ l.landed.holds.reads
-
-  pub landed_server_keeps : (s : Server (GatheredDisk D G) H) (records : List ServerRecord) (image : List ℕ) → ServerLanded records s → landed_server_images s image → records_of image ≡ Good (map server_bytes records)
-  landed_server_keeps s records image l is = ap records_of (l.landed.holds.durable image is) ∙ l.landed.holds.reads
+  -- the records below are the same
+  pub still_over : (records : List (List ℕ)) (old new : GatheredDisk D G) → origin_is new ≡ origin_is old → GathersOver records old → GathersOver records new
+  still_over records old new same over =
+      let h = over.holds in
+      let s = same_below h.file old new same over.takes h.told (long records (gate_of old) h.file h.journal) in
+      record {
+        takes = s.is_open;
+        holds = record {
+          file = h.file;
+          told = s.told;
+          reads = h.reads;
+          journal = subst (λ (n : ℕ). IsJournal records n h.file) (sym s.gate) h.journal;
+          durable = new.durable s.is_open h.file s.told;
+        };
+      }

@@ -1,3 +1,4 @@
+pub mod Commands
 pub mod FrameItems
 pub mod Frames
 pub mod Heirs
@@ -15,3 +16,4 @@ pub mod Showing
 pub mod Steps
 pub mod Texts
 pub mod Landed
+pub mod FileCommands

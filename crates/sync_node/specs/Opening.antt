@@ -80,6 +80,13 @@ module _ {D : Type 0} {G : Ghosts D} where
     pub server : servers.IsServerOf records s
     pub stored : servers.IsStored content images records s
 
+-- the node of the records of a file, whose disk holds them
+pub record OpensNode {R : Type 0} (file_of : List ℕ → Result (List R) ℕ) (Stands Holds : List R → Type 0) (bytes : List ℕ) : Type 0 where
+  pub records : List R
+  pub file : file_of bytes ≡ Ok records
+  pub stands : Stands records
+  pub holds : Holds records
+
 -- ---- statuses
 abbrev pub open_status : OpenCause → Status
 open_status causes.DiskFault = statuses.DiskFault

@@ -64,10 +64,6 @@ no_notes notes records item = tt
 abbrev pub runs : {R : Type 0} → (List R → ℕ → List ℕ → Option (Answer R)) → List R → Option Items → Option (Run R)
 runs step records items = noting_runs (λ notes. step) no_notes tt records items
 
--- a command has these records, whatever it noted
-abbrev pub StandsSo : {C N R : Type 0} → (C → N → List R → Type 0) → C → List R → Type 0
-StandsSo {N = N} Stands command records = (notes : N) × Stands command notes records
-
 -- ---- what a run that may be cut short does of it
 -- a fault, or out of memory
 abbrev pub is_fault : Status → Bool
@@ -117,13 +113,6 @@ module _ {R : Type 0} where
     pub text_is : text ≡ answer.text
     pub stands : Stands (records ++ answer.records)
 
-  -- and the answer was written
-  pub record Answered (meant : Option (Answer R)) (records : List R) (Stands : List R → Type 0) (old new : Option (List ℕ)) : Type 0 where
-    pub answer : Answer R
-    pub is : meant ≡ Some answer
-    pub took : Took answer.text old new
-    pub stands : Stands (records ++ answer.records)
-
   -- an answer that says nothing adds no record
   abbrev pub IsTold : Answer R → Type 0
   IsTold a = (length a.records ≤ 0) ⊎ (1 ≤ length a.text)
@@ -132,18 +121,24 @@ module _ {R : Type 0} where
   AllTold [] = Unit {0}
   AllTold (a ∷ answers) = IsTold a × AllTold answers
 
-  -- the run ends at an item, whatever follows
-  abbrev pub EndsAt : (R → List ℕ) → (List R → Type 0) → (List ℕ → Type 0) → List R → ℕ → Option (Answer R) → Status → Option (List ℕ) → Option (List ℕ) → Type 0
-  EndsAt bytes_of Stands images records number meant status old new =
-      (rest : List R → Run R) → ((new : List R) → AllTold (rest new).answers) → Exits bytes_of Stands images records (answered number meant rest) status old new
+  -- the run ends while these answers wait, whatever follows
+  abbrev pub EndsBehind : (R → List ℕ) → (List R → Type 0) → (List ℕ → Type 0) → List R → List (Answer R) → Status → Option (List ℕ) → Option (List ℕ) → Type 0
+  EndsBehind bytes_of Stands images records waiting status old new =
+      (rest : Run R) → AllTold waiting → AllTold rest.answers → Exits bytes_of Stands images records (onto waiting rest) status old new
 
--- an item that is read ends a run by its own fault, that of a write or of the disk, or out of memory
-abbrev pub IsItemStatus : Status → Type 0
-IsItemStatus (statuses.BadInput number) = Unit {0}
-IsItemStatus statuses.WriteFault = Unit {0}
-IsItemStatus statuses.DiskFault = Unit {0}
-IsItemStatus statuses.NoMemory = Unit {0}
-IsItemStatus status = ⊥
+  -- a run whose status this is stops here: after a fault whatever is left of it, else at its end
+  abbrev pub Stops : Status → Run R → Type 0
+  Stops status run = MatchBool (is_fault status) (AllTold run.answers) (run ≡ ended status)
+
+  abbrev pub StopsTold : Status → Option (Run R) → Type 0
+  StopsTold status rest = IfSome rest (Stops status)
+
+-- a run ends by a fault of a write or of the disk, or out of memory, where its answers are written
+abbrev pub IsFlushStatus : Status → Type 0
+IsFlushStatus statuses.WriteFault = Unit {0}
+IsFlushStatus statuses.DiskFault = Unit {0}
+IsFlushStatus statuses.NoMemory = Unit {0}
+IsFlushStatus status = ⊥
 
 -- the ends of a run over items
 abbrev pub IsRunStatus : Status → Type 0
@@ -159,13 +154,6 @@ module _ {D R : Type 0} (content : D → Option (List ℕ)) (images : D → List
     pub told : content disk ≡ Some file
     pub reads : records_of file ≡ Good (map bytes_of records)
     pub durable : Only file (images disk)
-
-  -- The run of a node of these records is at its end, over a disk that may have left only those when it began.
-  pub record NodeExits (first : D) (records : List R) (meant : Option (Run R)) (status : Status) (last : D) (old new : Option (List ℕ)) : Type 0 where
-    pub follows : FollowsTold status meant old new
-    pub stored : is_fault status ≡ false → IfSome meant (λ run. DiskHolds (records ++ added run.answers) last)
-    pub left : ((image : List ℕ) → images first image → records_of image ≡ Good (map bytes_of records))
-        → IfSome meant (λ run. (image : List ℕ) → images last image → Left bytes_of records run old new image)
 
 -- the ends of a run over a node's file
 abbrev pub IsNodeStatus : Status → Type 0

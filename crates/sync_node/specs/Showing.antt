@@ -1,15 +1,15 @@
 -- What is shown of a node over a file.
-use Rattle.std.specs.Prelude.{ℕ, Bool, true, false, if◌then◌else◌, List, [], ◌∷◌, ◌++◌, codes, length, Option, Some, Result, Ok, Err}
+use Rattle.std.specs.Prelude.{ℕ, Bool, true, false, if◌then◌else◌, List, [], ◌∷◌, Option, Some, Result, Ok, Err}
 use Rattle.sync_journal.specs.Records.{Reading, records_of}
 use Rattle.sync_journal.specs.Records.Reading.{Good, BadAt}
-use Rattle.sync_model.specs.Clients.{ClientRecord, client_of}
+use Rattle.sync_model.specs.Clients.{ClientRecord}
 use Rattle.sync_model.specs.Servers.{ServerRecord}
-use Rattle.sync_exchange.specs.Profile.{the_profile}
 use Rattle.sync_exchange.specs.Seen.{read_client}
-use Rattle.sync_node.specs.Opening.{client_in, server_in}
-use Rattle.sync_node.specs.ServerTexts.{text_of}
+use Rattle.sync_node.specs.Opening.{client_file, client_in, server_file, server_in}
+use Rattle.sync_node.specs.Sending.{text_of as client_text}
+use Rattle.sync_node.specs.ServerTexts.{text_of as server_text}
+use Rattle.sync_node.specs.declared.sending.Errand.TheVariants as errands
 use Rattle.sync_node.specs.declared.server_text.ServerText.TheVariants as texts
-use Rattle.sync_words.specs.Reports.{standing_text}
 
 -- ---- whose file it is
 abbrev pub is_birth : Option ClientRecord → Bool
@@ -49,12 +49,16 @@ node_in reading = if is_client_in reading then of_client (client_in reading) els
 abbrev pub node_file : List ℕ → Result NodeRecords ℕ
 node_file bytes = node_in (records_of bytes)
 
+-- the same, where it is known whose file it is
+abbrev pub file_as : Bool → List ℕ → Result NodeRecords ℕ
+file_as is_client bytes = if is_client then of_client (client_file bytes) else of_server (server_file bytes)
+
 -- ---- the node's part of the report
 abbrev pub client_shown : List ClientRecord → List ℕ
-client_shown records = codes "client" ++ standing_text (client_of the_profile records).ident (client_of the_profile records).cursor (length (client_of the_profile records).unsent) (client_of the_profile records).objects
+client_shown records = client_text errands.Report records
 
 abbrev pub server_shown : List ServerRecord → List ℕ
-server_shown records = text_of texts.Report records
+server_shown records = server_text texts.Report records
 
 abbrev pub shown : NodeRecords → List ℕ
 shown (OfClient records) = client_shown records

@@ -3,17 +3,16 @@ ghost use Rattle.std.specs.Prelude.{◌≡◌, ◌≤◌, ℕ, List, Some, Ok, E
 ghost use Rattle.sync_disk.specs.Disk.{Rose};
 ghost use Rattle.sync_model.specs.Clients as model;
 ghost use Rattle.sync_exchange.specs.Profile.{the_profile};
-ghost use Rattle.sync_exchange.specs.Seen.{client_bytes, message_seen};
+ghost use Rattle.sync_exchange.specs.Seen.{message_seen};
 ghost use Rattle.sync_words.specs.Outcomes.{outcome_text};
-ghost use Rattle.sync_node.specs.Holding.{ClientStands, client_faults, client_images, client_origin};
-ghost use Rattle.sync_node.specs.Runs.{AnswersSo, LeavesSome};
+ghost use Rattle.sync_node.specs.Holding.{ClientStands, client_faults, client_origin};
+ghost use Rattle.sync_node.specs.Runs.{AnswersSo};
 ghost use Rattle.sync_node.specs.Steps.{born_words, line_answer, made_words, said, subscribe_words, take_answer, took_words, upgrade_words};
 
 use super::command::ItemEnd;
 use super::outcome::{decline, say};
 use std::alloc::Global;
 use sync_client::Client;
-use sync_data::{Id, Instr};
 use sync_disk::Disk;
 use sync_edits::NodeLine;
 use sync_messages::Message;
@@ -31,90 +30,6 @@ fn upgraded(is_new: bool) -> Outcome
     }
 }
 
-/// The client gets its uuid.
-fn born<D: Disk>(
-    alloc: Global,
-    client: &mut Client<D>,
-    number: u32,
-    id: Id,
-) -> Result<Vec<u8>, ItemEnd>
-    ensures done { (records : List model.ClientRecord) → ClientStands records client.old
-        → IfOk result (λ text. AnswersSo (Some (said number born_words (model.born (model.client_of the_profile records) id))) records text.items (λ rs. ClientStands rs client.new)) }
-    ensures bad { result ≡ Err ItemEnd.BadItem → ⊥ }
-    ensures leaves { (records : List model.ClientRecord) → ClientStands records client.old → (image : List ℕ) → client_images client.new image
-        → LeavesSome client_bytes records (model.born (model.client_of the_profile records) id).records image }
-    ensures same { client_origin client.new ≡ client_origin client.old }
-    ensures later { client_faults client.old ≤ client_faults client.new }
-    ensures cause { result ≡ Err ItemEnd.DiskFault → Rose (client_faults client.old) (client_faults client.new) }
-{
-    match client.born(id) {
-        Ok(()) => say(alloc, number, &Outcome::Born),
-        Err(refusal) => decline(alloc, number, refusal),
-    }
-}
-
-/// The client commits a transaction.
-fn commit<D: Disk>(
-    alloc: Global,
-    client: &mut Client<D>,
-    number: u32,
-    ms: u64,
-    edits: Vec<Instr>,
-) -> Result<Vec<u8>, ItemEnd>
-    ensures done { (records : List model.ClientRecord) → ClientStands records client.old
-        → IfOk result (λ text. AnswersSo (Some (said number made_words (model.commit the_profile (model.client_of the_profile records) ms edits.items))) records text.items (λ rs. ClientStands rs client.new)) }
-    ensures bad { result ≡ Err ItemEnd.BadItem → ⊥ }
-    ensures leaves { (records : List model.ClientRecord) → ClientStands records client.old → (image : List ℕ) → client_images client.new image
-        → LeavesSome client_bytes records (model.commit the_profile (model.client_of the_profile records) ms edits.items).records image }
-    ensures same { client_origin client.new ≡ client_origin client.old }
-    ensures later { client_faults client.old ≤ client_faults client.new }
-    ensures cause { result ≡ Err ItemEnd.DiskFault → Rose (client_faults client.old) (client_faults client.new) }
-{
-    match client.commit(ms, edits) {
-        Ok(made) => say(alloc, number, &Outcome::Made { number: made }),
-        Err(refusal) => decline(alloc, number, refusal),
-    }
-}
-
-/// The client's file is brought to form 2.
-fn upgrade<D: Disk>(alloc: Global, client: &mut Client<D>, number: u32) -> Result<Vec<u8>, ItemEnd>
-    ensures done { (records : List model.ClientRecord) → ClientStands records client.old
-        → IfOk result (λ text. AnswersSo (Some (said number upgrade_words (model.upgrade (model.client_of the_profile records)))) records text.items (λ rs. ClientStands rs client.new)) }
-    ensures bad { result ≡ Err ItemEnd.BadItem → ⊥ }
-    ensures leaves { (records : List model.ClientRecord) → ClientStands records client.old → (image : List ℕ) → client_images client.new image
-        → LeavesSome client_bytes records (model.upgrade (model.client_of the_profile records)).records image }
-    ensures same { client_origin client.new ≡ client_origin client.old }
-    ensures later { client_faults client.old ≤ client_faults client.new }
-    ensures cause { result ≡ Err ItemEnd.DiskFault → Rose (client_faults client.old) (client_faults client.new) }
-{
-    match client.upgrade() {
-        Ok(is_new) => say(alloc, number, &upgraded(is_new)),
-        Err(refusal) => decline(alloc, number, refusal),
-    }
-}
-
-/// The client names its tables.
-fn subscribe<D: Disk>(
-    alloc: Global,
-    client: &mut Client<D>,
-    number: u32,
-    tables: Subset,
-) -> Result<Vec<u8>, ItemEnd>
-    ensures done { (records : List model.ClientRecord) → ClientStands records client.old
-        → IfOk result (λ text. AnswersSo (Some (said number subscribe_words (model.subscribe (model.client_of the_profile records) tables))) records text.items (λ rs. ClientStands rs client.new)) }
-    ensures bad { result ≡ Err ItemEnd.BadItem → ⊥ }
-    ensures leaves { (records : List model.ClientRecord) → ClientStands records client.old → (image : List ℕ) → client_images client.new image
-        → LeavesSome client_bytes records (model.subscribe (model.client_of the_profile records) tables).records image }
-    ensures same { client_origin client.new ≡ client_origin client.old }
-    ensures later { client_faults client.old ≤ client_faults client.new }
-    ensures cause { result ≡ Err ItemEnd.DiskFault → Rose (client_faults client.old) (client_faults client.new) }
-{
-    match client.subscribe(tables) {
-        Ok(()) => say(alloc, number, &Outcome::Subscribed),
-        Err(refusal) => decline(alloc, number, refusal),
-    }
-}
-
 /// The client takes a message.
 pub(crate) fn take<D: Disk>(
     alloc: Global,
@@ -125,8 +40,6 @@ pub(crate) fn take<D: Disk>(
     ensures done { (records : List model.ClientRecord) → ClientStands records client.old
         → IfOk result (λ text. AnswersSo (Some (take_answer records number (message_seen message))) records text.items (λ rs. ClientStands rs client.new)) }
     ensures bad { result ≡ Err ItemEnd.BadItem → ⊥ }
-    ensures leaves { (records : List model.ClientRecord) → ClientStands records client.old → (image : List ℕ) → client_images client.new image
-        → LeavesSome client_bytes records (take_answer records number (message_seen message)).records image }
     ensures same { client_origin client.new ≡ client_origin client.old }
     ensures later { client_faults client.old ≤ client_faults client.new }
     ensures cause { result ≡ Err ItemEnd.DiskFault → Rose (client_faults client.old) (client_faults client.new) }
@@ -147,16 +60,26 @@ pub(crate) fn take_line<D: Disk>(
     ensures done { (records : List model.ClientRecord) → ClientStands records client.old
         → IfOk result (λ text. AnswersSo (Some (line_answer records number line)) records text.items (λ rs. ClientStands rs client.new)) }
     ensures bad { result ≡ Err ItemEnd.BadItem → ⊥ }
-    ensures leaves { (records : List model.ClientRecord) → ClientStands records client.old → (image : List ℕ) → client_images client.new image
-        → LeavesSome client_bytes records (line_answer records number line).records image }
     ensures same { client_origin client.new ≡ client_origin client.old }
     ensures later { client_faults client.old ≤ client_faults client.new }
     ensures cause { result ≡ Err ItemEnd.DiskFault → Rose (client_faults client.old) (client_faults client.new) }
 {
     match line {
-        NodeLine::Born { id } => born(alloc, client, number, id),
-        NodeLine::Commit { ms, edits } => commit(alloc, client, number, ms, edits.into_vec()),
-        NodeLine::Upgrade => upgrade(alloc, client, number),
-        NodeLine::Subscribe { tables } => subscribe(alloc, client, number, tables),
+        NodeLine::Born { id } => match client.born(id) {
+            Ok(()) => say(alloc, number, &Outcome::Born),
+            Err(refusal) => decline(alloc, number, refusal),
+        },
+        NodeLine::Commit { ms, edits } => match client.commit(ms, edits.into_vec()) {
+            Ok(made) => say(alloc, number, &Outcome::Made { number: made }),
+            Err(refusal) => decline(alloc, number, refusal),
+        },
+        NodeLine::Upgrade => match client.upgrade() {
+            Ok(is_new) => say(alloc, number, &upgraded(is_new)),
+            Err(refusal) => decline(alloc, number, refusal),
+        },
+        NodeLine::Subscribe { tables } => match client.subscribe(tables) {
+            Ok(()) => say(alloc, number, &Outcome::Subscribed),
+            Err(refusal) => decline(alloc, number, refusal),
+        },
     }
 }

@@ -1,9 +1,8 @@
 ghost use Rattle.std.specs.Prelude.{◌≡◌, ℕ, ◌+◌, ◌<◌, ◌≤◌, List, [], Option, None, Some, Err, IfOk, IfErr, IfSome, OnOk};
 ghost use Rattle.sync_node.specs.Items.{frames_of};
 
-use super::item::Item;
 use super::lines::read_status;
-use super::reader::ItemReader;
+use super::reader::{Item, ItemReader};
 use std::alloc::Global;
 use sync_io::{FrameReader, NoMemory, Source, Status};
 
@@ -14,29 +13,28 @@ pub struct Frames {
     count: u64,
 }
 
-impl Frames {
-    ghost use Rattle.sync_node.specs.FrameItems.{IsReady, frames_ahead};
-
-    /// A reader that has read nothing.
-    pub fn new(alloc: Global) -> Result<Frames, NoMemory>
-        ensures ready { IfOk result IsReady }
-        ensures ahead { IfOk result (λ made. (left : Option (List ℕ)) → frames_ahead made left ≡ frames_of left) }
-    {
-        match FrameReader::new(alloc) {
-            Ok(reader) => Ok(Frames { reader, count: 0 }),
-            Err(_) => Err(NoMemory),
-        }
-    }
-}
-
 impl ItemReader for Frames {
     ghost use Rattle.sync_node.specs.FrameItems.{IsReady, frames_ahead};
+
+    ghost items_of = { frames_of };
 
     ghost ahead = { frames_ahead };
 
     ghost count = { λ frames. frames.count };
 
     ghost ready = { IsReady };
+
+    fn new(alloc: Global) -> Result<Frames, NoMemory> {
+        match FrameReader::new(alloc) {
+            Ok(reader) => Ok(Frames { reader, count: 0 }),
+            Err(_) => Err(NoMemory),
+        }
+    }
+
+    // A frame is answered before the next one, however many were read.
+    fn is_ahead(&self) -> bool {
+        false
+    }
 
     fn next<S: Source>(&mut self, source: &mut S) -> Result<Option<Item>, Status> {
         match self.reader.next(source) {

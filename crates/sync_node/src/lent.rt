@@ -4,9 +4,8 @@ ghost use Rattle.sync_node.specs.Lent.{lent_origin, no_loan_is_zero};
 
 use sync_disk::{Disk, DiskRefusal};
 
-/// A disk that is lent by value, so that a node can hold it: each call goes to the disk that it borrows. What leaves its
-/// origin as it is, as each call of a node does, gives back the same loan: so what is said of a node's disk at the end is
-/// said of the disk that was borrowed.
+/// A disk that is lent by value, so that a node can hold it: each call goes to the disk that it borrows. A call that leaves its
+/// origin as it is gives back the same loan: so what is said of a node's disk is said of the disk that was borrowed.
 #[derive(Drop)]
 pub struct Lent<'a, D: Disk> {
     disk: &'a mut D,

@@ -5,8 +5,7 @@ ghost use Rattle.sync_io.specs.Input.{max_input};
 ghost use Rattle.sync_io.specs.Readers.{readings_of};
 ghost use Rattle.sync_node.specs.Items.{EndsReading, IsReadStatus, is_blank, lines_from, lines_of, read_status};
 
-use super::item::Item;
-use super::reader::ItemReader;
+use super::reader::{Item, ItemReader};
 use std::alloc::Global;
 use sync_io::{LineReader, NoMemory, ReadRefusal, Source, Status};
 
@@ -17,8 +16,8 @@ pub struct Lines {
     count: u64,
 }
 
-/// Spaces, tabs and carriage returns only.
-fn is_blank(line: &[u8]) -> bool
+/// Whether a line is blank: spaces, tabs and carriage returns only.
+pub fn is_blank(line: &[u8]) -> bool
     ensures { result ≡ is_blank line.now }
 {
     line.iter()
@@ -26,17 +25,14 @@ fn is_blank(line: &[u8]) -> bool
 }
 
 /// The status where a reader refuses the item after so many.
-pub(crate) fn read_status(before: u64, refusal: ReadRefusal) -> Status
+pub fn read_status(before: u64, refusal: ReadRefusal) -> Status
     requires too_long { refusal ≡ ReadRefusal.TooLong → before + 1 < 4294967296 }
     requires cut { refusal ≡ ReadRefusal.Cut → before + 1 < 4294967296 }
     ensures { result ≡ read_status (before + 1) refusal }
 {
     match refusal {
         ReadRefusal::Failed => Status::ReadFault,
-        ReadRefusal::TooLong => Status::BadInput {
-            place: (before + 1) as u32,
-        },
-        ReadRefusal::Cut => Status::BadInput {
+        ReadRefusal::TooLong | ReadRefusal::Cut => Status::BadInput {
             place: (before + 1) as u32,
         },
         ReadRefusal::InputTooLong => Status::InputTooLong,
@@ -46,17 +42,6 @@ pub(crate) fn read_status(before: u64, refusal: ReadRefusal) -> Status
 
 impl Lines {
     ghost use Rattle.sync_node.specs.Readers.{IsReady, LineRead, lines_ahead};
-
-    /// A reader that has read nothing.
-    pub fn new(alloc: Global) -> Result<Lines, NoMemory>
-        ensures ready { IfOk result IsReady }
-        ensures ahead { IfOk result (λ made. (left : Option (List ℕ)) → lines_ahead made left ≡ lines_of left) }
-    {
-        match LineReader::new(alloc) {
-            Ok(reader) => Ok(Lines { reader, count: 0 }),
-            Err(_) => Err(NoMemory),
-        }
-    }
 
     /// The next line, blank or not.
     fn next_line<S: Source>(&mut self, source: &mut S) -> Result<Option<Vec<u8>>, Status>
@@ -84,11 +69,27 @@ impl Lines {
 impl ItemReader for Lines {
     ghost use Rattle.sync_node.specs.Readers.{IsReady, lines_ahead};
 
+    ghost items_of = { lines_of };
+
     ghost ahead = { lines_ahead };
 
     ghost count = { λ lines. lines.count };
 
     ghost ready = { IsReady };
+
+    fn new(alloc: Global) -> Result<Lines, NoMemory> {
+        match LineReader::new(alloc) {
+            Ok(reader) => Ok(Lines { reader, count: 0 }),
+            Err(_) => Err(NoMemory),
+        }
+    }
+
+    fn is_ahead(&self) -> bool {
+        match self.reader.ahead() {
+            Some(line) => !is_blank(line),
+            None => false,
+        }
+    }
 
     fn next<S: Source>(&mut self, source: &mut S) -> Result<Option<Item>, Status> {
         'lines: loop {

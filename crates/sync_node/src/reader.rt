@@ -3,12 +3,22 @@ ghost use Rattle.sync_io.specs.Faults.{HasRisen};
 ghost use Rattle.sync_io.specs.Input.{max_input};
 ghost use Rattle.sync_node.specs.Items.{Items, Read, EndsReading, IsReadStatus};
 
-use super::item::Item;
-use sync_io::{Source, Status};
+use std::alloc::Global;
+use sync_io::{NoMemory, Source, Status};
+
+/// A line or a frame of an input, and its number, counted from 1.
+#[derive(Drop)]
+pub struct Item {
+    pub number: u32,
+    pub bytes: Vec<u8>,
+}
 
 /// Reads the items of an input, one after another: its lines, or its frames.
-pub trait ItemReader {
-    /// The items that are ahead over a source that has these bytes left, where it tells them.
+pub trait ItemReader: Drop {
+    /// The items of a source that has these bytes left, where it tells them.
+    ghost items_of: { Option (List ℕ) → Option Items };
+
+    /// Those that are ahead over such a source.
     ghost ahead: { Self → Option (List ℕ) → Option Items };
 
     /// How many were read, blank ones among them.
@@ -16,6 +26,14 @@ pub trait ItemReader {
 
     /// It has refused nothing yet.
     ghost ready: { Self → Type 0 };
+
+    /// A reader that has read nothing.
+    fn new(alloc: Global) -> Result<Self, NoMemory>
+        ensures ready { IfOk result ready }
+        ensures ahead { IfOk result (λ made. (left : Option (List ℕ)) → ahead made left ≡ items_of left) };
+
+    /// Whether a further item was read from the source already, as far as that is known.
+    fn is_ahead(&self) -> bool;
 
     /// The next item, or None at the end of the input.
     fn next<S: Source>(&mut self, source: &mut S) -> Result<Option<Item>, Status>

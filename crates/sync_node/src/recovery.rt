@@ -1,7 +1,7 @@
 // The lines of a recovery.
 ghost use Rattle.std.specs.Prelude.{◌≡◌, ◌++◌, OnOk, Err, map};
 ghost use Rattle.sync_heir.specs.Heirs.{heir_seen, reset_seen};
-ghost use Rattle.sync_words.specs.Words.{outcome_line, refused, said};
+ghost use Rattle.sync_words.specs.Words.{outcome_line, said};
 ghost use Rattle.sync_node.specs.Recovering.{IsPutFor, dropped_lines, heir_lines};
 
 use super::command::ItemEnd;
@@ -14,7 +14,7 @@ use sync_reset::Dropped;
 use sync_words::{put, put_number, put_said};
 
 /// Puts the line of a word and numbers.
-pub(crate) fn put_line(
+fn put_line(
     alloc: Global,
     out: &mut Vec<u8>,
     number: u32,
@@ -27,6 +27,24 @@ pub(crate) fn put_line(
     put(out, " ")?;
     put_said(alloc, out, word, numbers)?;
     put(out, "\n")
+}
+
+/// The same, as a part of an answer.
+pub(crate) fn put_words(
+    alloc: Global,
+    out: &mut Vec<u8>,
+    number: u32,
+    word: &str,
+    numbers: &[u64],
+) -> Result<(), ItemEnd>
+    ensures put { OnOk result (out.new.items ≡ out.old.items ++ outcome_line number (said word.now numbers.now)) }
+    ensures bad { result ≡ Err ItemEnd.BadItem → ⊥ }
+    ensures fault { result ≡ Err ItemEnd.DiskFault → ⊥ }
+{
+    match put_line(alloc, out, number, word, numbers) {
+        Ok(()) => Ok(()),
+        Err(NoMemory) => Err(ItemEnd::NoMemory),
+    }
 }
 
 /// Puts a line for each instruction that was dropped of a change.
@@ -69,39 +87,6 @@ pub(crate) fn put_heir(
     }
 }
 
-/// Puts that a change isn't saved, for a cause of this name with these fields.
-fn put_refused(
-    alloc: Global,
-    out: &mut Vec<u8>,
-    number: u32,
-    name: &str,
-    fields: &[u64],
-) -> Result<(), ItemEnd>
-    ensures put { OnOk result (out.new.items ≡ out.old.items ++ outcome_line number (refused name.now fields.now)) }
-    ensures bad { result ≡ Err ItemEnd.BadItem → ⊥ }
-    ensures fault { result ≡ Err ItemEnd.DiskFault → ⊥ }
-{
-    match put_refused_line(alloc, out, number, name, fields) {
-        Ok(()) => Ok(()),
-        Err(NoMemory) => Err(ItemEnd::NoMemory),
-    }
-}
-
-fn put_refused_line(
-    alloc: Global,
-    out: &mut Vec<u8>,
-    number: u32,
-    name: &str,
-    fields: &[u64],
-) -> Result<(), NoMemory>
-    ensures { OnOk result (out.new.items ≡ out.old.items ++ outcome_line number (refused name.now fields.now)) }
-{
-    put_number(alloc, out, number as u64)?;
-    put(out, " refused ")?;
-    put_said(alloc, out, name, fields)?;
-    put(out, "\n")
-}
-
 /// Puts why the heir's transaction is refused.
 fn put_declined(
     alloc: Global,
@@ -132,9 +117,9 @@ pub(crate) fn put_refusal(
     ensures fault { result ≡ Err ItemEnd.DiskFault → refusal ≡ ResetRefusal.Client ClientRefusal.DiskFault }
 {
     match refusal {
-        ResetRefusal::NotMine => put_refused(alloc, out, number, "NotMine", &[]),
+        ResetRefusal::NotMine => put_words(alloc, out, number, "refused NotMine", &[]),
         ResetRefusal::Skips { expected, got } => {
-            put_refused(alloc, out, number, "Skips", &[expected, got as u64])
+            put_words(alloc, out, number, "refused Skips", &[expected, got as u64])
         }
         ResetRefusal::BadChange {
             number: change,
@@ -142,7 +127,7 @@ pub(crate) fn put_refusal(
             rule,
         } => {
             let fields = [change as u64, offset as u64, rule as u64];
-            put_refused(alloc, out, number, "BadChange", &fields)
+            put_words(alloc, out, number, "refused BadChange", &fields)
         }
         ResetRefusal::Client(why) => put_declined(alloc, out, number, why),
         ResetRefusal::NoMemory => Err(ItemEnd::NoMemory),

@@ -1,150 +1,152 @@
-ghost use Rattle.std.specs.Prelude.{◌≡◌, ℕ, ◌≤◌, List, Err, IfErr, OnOk};
+ghost use Rattle.std.specs.Prelude.{◌≡◌, ◌≢◌, ◌++◌, ℕ, ◌≤◌, List, [], Option, Err, IfErr, OnOk};
+ghost use Rattle.std.specs.Option.{option_map};
 ghost use Rattle.sync_disk.specs.Disk.{Rose};
+ghost use Rattle.sync_io.specs.Devices.{Took};
 ghost use Rattle.sync_io.specs.Faults.{HasRisen};
-ghost use Rattle.sync_node.specs.Items.{frames_of, lines_of};
-ghost use Rattle.sync_node.specs.Runs.{Answered, EndsAt, ExitsTold, IsItemStatus, IsRunStatus, StandsSo, noting_runs};
+ghost use Rattle.sync_node.specs.Runs.{AllTold, Answer, EndsBehind, ExitsTold, IsFlushStatus, IsRunStatus, Run, StopsTold, added, noting_runs, onto, texts};
 
 use super::command::{Command, ItemEnd};
-use super::frames::Frames;
-use super::item::Item;
-use super::lines::Lines;
 use super::reader::ItemReader;
 use super::text::write_status;
 use std::alloc::Global;
+use sync_disk::{Disk, DiskRefusal};
 use sync_io::{NoMemory, Sink, Source, Status, write_all};
 
-/// Answers an item, and writes the answer.
-fn answer_item<K: Sink, C: Command>(
+/// Brings the records that are gathered to the disk, and then writes the answers that wait for it.
+fn flush<K: Sink, D: Disk, C: Command<D>>(
     sink: &mut K,
     command: &mut C,
-    item: &Item,
+    answers: &mut Vec<u8>,
 ) -> Result<(), Status>
-    ensures ok { (notes : C.Notes) (records : List C.Record) → C.Stands command.old notes records
-        → OnOk result (Answered (C.step notes records item.now.number item.now.bytes.items) records (C.Stands command.new (C.noted notes records item.now.bytes.items)) (K.taken sink.old) (K.taken sink.new)) }
-    ensures err { (notes : C.Notes) (records : List C.Record) → C.Stands command.old notes records
-        → IfErr result (λ status. EndsAt C.bytes_of (StandsSo C.Stands command.new) (C.images command.new) records item.now.number (C.step notes records item.now.number item.now.bytes.items) status (K.taken sink.old) (K.taken sink.new)) }
+    ensures ok { (notes : C.Notes) (records : List C.Record) (waiting : List (Answer C.Record)) → C.Stands command.old notes (records ++ added waiting) → answers.old.items ≡ texts waiting
+        → OnOk result (Took (texts waiting) (K.taken sink.old) (K.taken sink.new) × C.Stands command.new notes (records ++ added waiting) × C.Holds command.new (records ++ added waiting)) }
+    ensures err { (notes : C.Notes) (records : List C.Record) (waiting : List (Answer C.Record)) → C.Holds command.old records → C.Stands command.old notes (records ++ added waiting) → answers.old.items ≡ texts waiting
+        → IfErr result (λ status. EndsBehind C.bytes_of (C.Holds command.new) (D.images (C.disk_below command.new)) records waiting status (K.taken sink.old) (K.taken sink.new)) }
+    ensures emptied { OnOk result (answers.new.items ≡ []) }
+    ensures loan { (D.origin (C.disk_below command.new)).listed ≡ (D.origin (C.disk_below command.old)).listed }
     ensures sink_faults { K.faults sink.old ≤ K.faults sink.new }
-    ensures disk_faults { C.faults command.old ≤ C.faults command.new }
-    ensures same { C.origin command.new ≡ C.origin command.old }
+    ensures disk_faults { D.faults (C.disk_below command.old) ≤ D.faults (C.disk_below command.new) }
     ensures write_cause { result ≡ Err Status.WriteFault → HasRisen (K.faults sink.old) (K.faults sink.new) }
-    ensures disk_cause { result ≡ Err Status.DiskFault → Rose (C.faults command.old) (C.faults command.new) }
-    ensures only { IfErr result IsItemStatus }
+    ensures disk_cause { result ≡ Err Status.DiskFault → Rose (D.faults (C.disk_below command.old)) (D.faults (C.disk_below command.new)) }
+    ensures only { IfErr result IsFlushStatus }
 {
-    let text = match command.answer(item.number, item.bytes.as_slice()) {
-        Ok(text) => text,
-        Err(ItemEnd::BadItem) => return Err(Status::BadInput { place: item.number }),
-        Err(ItemEnd::DiskFault) => return Err(Status::DiskFault),
-        Err(ItemEnd::NoMemory) => return Err(Status::NoMemory),
-    };
-    match write_all(sink, &text) {
-        Ok(()) => Ok(()),
-        Err(refusal) => Err(write_status(refusal)),
+    match command.land_records() {
+        Ok(()) => {}
+        Err(DiskRefusal::Failed) => return Err(Status::DiskFault),
+        Err(DiskRefusal::NoMemory) => return Err(Status::NoMemory),
+    }
+    match write_all(sink, answers) {
+        Ok(()) => {}
+        Err(refusal) => return Err(write_status(refusal)),
+    }
+    answers.clear();
+    Ok(())
+}
+
+/// Ends a run with this status, once its answers are written.
+fn finish<K: Sink, D: Disk, C: Command<D>>(
+    sink: &mut K,
+    command: &mut C,
+    answers: &mut Vec<u8>,
+    status: Status,
+) -> Status
+    ensures exits { (notes : C.Notes) (records : List C.Record) (waiting : List (Answer C.Record)) → C.Holds command.old records → C.Stands command.old notes (records ++ added waiting) → answers.old.items ≡ texts waiting → AllTold waiting
+        → (rest : Option (Run C.Record)) → StopsTold status rest
+        → ExitsTold C.bytes_of (C.Holds command.new) (D.images (C.disk_below command.new)) records (option_map (onto waiting) rest) result (K.taken sink.old) (K.taken sink.new) }
+    ensures loan { (D.origin (C.disk_below command.new)).listed ≡ (D.origin (C.disk_below command.old)).listed }
+    ensures sink_faults { K.faults sink.old ≤ K.faults sink.new }
+    ensures disk_faults { D.faults (C.disk_below command.old) ≤ D.faults (C.disk_below command.new) }
+    ensures read_cause { result ≡ Status.ReadFault → status ≡ Status.ReadFault }
+    ensures write_cause { result ≡ Status.WriteFault → status ≢ Status.WriteFault → HasRisen (K.faults sink.old) (K.faults sink.new) }
+    ensures disk_cause { result ≡ Status.DiskFault → status ≢ Status.DiskFault → Rose (D.faults (C.disk_below command.old)) (D.faults (C.disk_below command.new)) }
+    ensures only { IsRunStatus status → IsRunStatus result }
+{
+    match flush(sink, command, answers) {
+        Ok(()) => status,
+        Err(fault) => fault,
     }
 }
 
-/// Answers the items up to the end of the input.
-fn answer_items<S: Source, K: Sink, I: ItemReader, C: Command>(
+/// Answers all items. Answers wait while a further item was read already: the records of what one read gave land together.
+fn answer_items<S: Source, K: Sink, I: ItemReader, D: Disk, C: Command<D>>(
+    alloc: Global,
     items: &mut I,
     source: &mut S,
     sink: &mut K,
     command: &mut C,
 ) -> Status
     requires { I.ready items.old }
-    ensures exits { (notes : C.Notes) (records : List C.Record) → C.Stands command.old notes records
-        → ExitsTold C.bytes_of (StandsSo C.Stands command.new) (C.images command.new) records (noting_runs C.step C.noted notes records (I.ahead items.old (S.left source.old))) result (K.taken sink.old) (K.taken sink.new) }
+    ensures exits { (notes : C.Notes) (records : List C.Record) → C.Stands command.old notes records → C.Holds command.old records
+        → ExitsTold C.bytes_of (C.Holds command.new) (D.images (C.disk_below command.new)) records (noting_runs C.step C.noted notes records (I.ahead items.old (S.left source.old))) result (K.taken sink.old) (K.taken sink.new) }
+    ensures loan { (D.origin (C.disk_below command.new)).listed ≡ (D.origin (C.disk_below command.old)).listed }
     ensures source_faults { S.faults source.old ≤ S.faults source.new }
     ensures sink_faults { K.faults sink.old ≤ K.faults sink.new }
-    ensures disk_faults { C.faults command.old ≤ C.faults command.new }
-    ensures same { C.origin command.new ≡ C.origin command.old }
+    ensures disk_faults { D.faults (C.disk_below command.old) ≤ D.faults (C.disk_below command.new) }
     ensures read_cause { result ≡ Status.ReadFault → HasRisen (S.faults source.old) (S.faults source.new) }
     ensures write_cause { result ≡ Status.WriteFault → HasRisen (K.faults sink.old) (K.faults sink.new) }
-    ensures disk_cause { result ≡ Status.DiskFault → Rose (C.faults command.old) (C.faults command.new) }
+    ensures disk_cause { result ≡ Status.DiskFault → Rose (D.faults (C.disk_below command.old)) (D.faults (C.disk_below command.new)) }
     ensures only { IsRunStatus result }
 {
+    let mut answers = Vec::new(alloc);
     'items: loop {
         let item = match items.next(source) {
             Ok(Some(item)) => item,
-            Ok(None) => return Status::Done,
-            Err(status) => return status,
+            Ok(None) => return finish(sink, command, &mut answers, Status::Done),
+            Err(status) => return finish(sink, command, &mut answers, status),
         };
-        match answer_item(sink, command, &item) {
+        let number = item.number;
+        let text = match command.answer(number, item.bytes.as_slice()) {
+            Ok(text) => text,
+            Err(ItemEnd::BadItem) => {
+                return finish(
+                    sink,
+                    command,
+                    &mut answers,
+                    Status::BadInput { place: number },
+                );
+            }
+            Err(ItemEnd::DiskFault) => return Status::DiskFault,
+            Err(ItemEnd::NoMemory) => return Status::NoMemory,
+        };
+        match answers.extend_from_slice(text.as_slice()) {
+            Ok(()) => {}
+            Err(_) => return Status::NoMemory,
+        }
+        if items.is_ahead() {
+            continue 'items;
+        }
+        match flush(sink, command, &mut answers) {
             Ok(()) => {}
             Err(status) => return status,
         }
     }
 }
 
-/// Runs a command over the items of a source. Each answer is written before the next item is read, and at the end the sink
-/// is flushed.
-pub fn run_items<S: Source, K: Sink, I: ItemReader, C: Command>(
-    items: &mut I,
+/// Runs a command over the items of a source. Each answer is written once its records are on the disk, before more is read.
+pub(crate) fn run<S: Source, K: Sink, I: ItemReader, D: Disk, C: Command<D>>(
+    alloc: Global,
     source: &mut S,
     sink: &mut K,
     command: &mut C,
 ) -> Status
-    requires { I.ready items.old }
-    ensures exits { (notes : C.Notes) (records : List C.Record) → C.Stands command.old notes records
-        → ExitsTold C.bytes_of (StandsSo C.Stands command.new) (C.images command.new) records (noting_runs C.step C.noted notes records (I.ahead items.old (S.left source.old))) result (K.taken sink.old) (K.taken sink.new) }
+    ensures exits { (notes : C.Notes) (records : List C.Record) → C.Stands command.old notes records → C.Holds command.old records
+        → ExitsTold C.bytes_of (C.Holds command.new) (D.images (C.disk_below command.new)) records (noting_runs C.step C.noted notes records (I.items_of (S.left source.old))) result (K.taken sink.old) (K.taken sink.new) }
+    ensures loan { (D.origin (C.disk_below command.new)).listed ≡ (D.origin (C.disk_below command.old)).listed }
     ensures source_faults { S.faults source.old ≤ S.faults source.new }
     ensures sink_faults { K.faults sink.old ≤ K.faults sink.new }
-    ensures disk_faults { C.faults command.old ≤ C.faults command.new }
-    ensures same { C.origin command.new ≡ C.origin command.old }
+    ensures disk_faults { D.faults (C.disk_below command.old) ≤ D.faults (C.disk_below command.new) }
     ensures read_cause { result ≡ Status.ReadFault → HasRisen (S.faults source.old) (S.faults source.new) }
     ensures write_cause { result ≡ Status.WriteFault → HasRisen (K.faults sink.old) (K.faults sink.new) }
-    ensures disk_cause { result ≡ Status.DiskFault → Rose (C.faults command.old) (C.faults command.new) }
+    ensures disk_cause { result ≡ Status.DiskFault → Rose (D.faults (C.disk_below command.old)) (D.faults (C.disk_below command.new)) }
     ensures only { IsRunStatus result }
 {
-    let status = answer_items(items, source, sink, command);
+    let mut items = match I::new(alloc) {
+        Ok(items) => items,
+        Err(NoMemory) => return Status::NoMemory,
+    };
+    let status = answer_items(alloc, &mut items, source, sink, command);
     match sink.flush() {
         Ok(()) => status,
         Err(refusal) => write_status(refusal),
-    }
-}
-
-/// Runs a command over the lines of a source.
-pub(crate) fn run_lines<S: Source, K: Sink, C: Command>(
-    alloc: Global,
-    source: &mut S,
-    sink: &mut K,
-    command: &mut C,
-) -> Status
-    ensures exits { (notes : C.Notes) (records : List C.Record) → C.Stands command.old notes records
-        → ExitsTold C.bytes_of (StandsSo C.Stands command.new) (C.images command.new) records (noting_runs C.step C.noted notes records (lines_of (S.left source.old))) result (K.taken sink.old) (K.taken sink.new) }
-    ensures source_faults { S.faults source.old ≤ S.faults source.new }
-    ensures sink_faults { K.faults sink.old ≤ K.faults sink.new }
-    ensures disk_faults { C.faults command.old ≤ C.faults command.new }
-    ensures same { C.origin command.new ≡ C.origin command.old }
-    ensures read_cause { result ≡ Status.ReadFault → HasRisen (S.faults source.old) (S.faults source.new) }
-    ensures write_cause { result ≡ Status.WriteFault → HasRisen (K.faults sink.old) (K.faults sink.new) }
-    ensures disk_cause { result ≡ Status.DiskFault → Rose (C.faults command.old) (C.faults command.new) }
-    ensures only { IsRunStatus result }
-{
-    match Lines::new(alloc) {
-        Ok(mut items) => run_items(&mut items, source, sink, command),
-        Err(NoMemory) => Status::NoMemory,
-    }
-}
-
-/// Runs a command over the frames of a source.
-pub(crate) fn run_frames<S: Source, K: Sink, C: Command>(
-    alloc: Global,
-    source: &mut S,
-    sink: &mut K,
-    command: &mut C,
-) -> Status
-    ensures exits { (notes : C.Notes) (records : List C.Record) → C.Stands command.old notes records
-        → ExitsTold C.bytes_of (StandsSo C.Stands command.new) (C.images command.new) records (noting_runs C.step C.noted notes records (frames_of (S.left source.old))) result (K.taken sink.old) (K.taken sink.new) }
-    ensures source_faults { S.faults source.old ≤ S.faults source.new }
-    ensures sink_faults { K.faults sink.old ≤ K.faults sink.new }
-    ensures disk_faults { C.faults command.old ≤ C.faults command.new }
-    ensures same { C.origin command.new ≡ C.origin command.old }
-    ensures read_cause { result ≡ Status.ReadFault → HasRisen (S.faults source.old) (S.faults source.new) }
-    ensures write_cause { result ≡ Status.WriteFault → HasRisen (K.faults sink.old) (K.faults sink.new) }
-    ensures disk_cause { result ≡ Status.DiskFault → Rose (C.faults command.old) (C.faults command.new) }
-    ensures only { IsRunStatus result }
-{
-    match Frames::new(alloc) {
-        Ok(mut items) => run_items(&mut items, source, sink, command),
-        Err(NoMemory) => Status::NoMemory,
     }
 }

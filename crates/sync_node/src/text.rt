@@ -16,10 +16,13 @@ pub fn write_status(refusal: SinkRefusal) -> Status
     }
 }
 
-/// Writes a text, if there was the memory to make it.
-fn write_made<K: Sink>(sink: &mut K, made: Result<Vec<u8>, NoMemory>) -> Status
+/// Writes a text, if there was the memory to make it, and flushes the sink.
+pub fn write_text<K: Sink>(sink: &mut K, made: Result<Vec<u8>, NoMemory>) -> Status
+    // What is written is the text; after a fault and out of memory a part of it, from its front.
     ensures writes { (text : List ℕ) → IfOk made (λ bytes. bytes.items ≡ text) → Writes result text (K.taken sink.old) (K.taken sink.new) }
-    ensures made { IfErr made (λ e. result ≡ Status.Done → ⊥) }
+    ensures made { IfErr made (λ e. result ≡ Status.NoMemory) }
+
+    // A fault has its cause.
     ensures faults { K.faults sink.old ≤ K.faults sink.new }
     ensures cause { result ≡ Status.WriteFault → HasRisen (K.faults sink.old) (K.faults sink.new) }
     ensures only { IsTextStatus result }
@@ -28,23 +31,11 @@ fn write_made<K: Sink>(sink: &mut K, made: Result<Vec<u8>, NoMemory>) -> Status
         Ok(text) => text,
         Err(NoMemory) => return Status::NoMemory,
     };
-    match write_all(sink, &text) {
-        Ok(()) => Status::Done,
-        Err(refusal) => write_status(refusal),
+    if let Err(refusal) = write_all(sink, &text) {
+        return write_status(refusal);
     }
-}
-
-/// The same, and flushes the sink.
-pub(crate) fn write_text<K: Sink>(sink: &mut K, made: Result<Vec<u8>, NoMemory>) -> Status
-    ensures writes { (text : List ℕ) → IfOk made (λ bytes. bytes.items ≡ text) → Writes result text (K.taken sink.old) (K.taken sink.new) }
-    ensures made { IfErr made (λ e. result ≡ Status.Done → ⊥) }
-    ensures faults { K.faults sink.old ≤ K.faults sink.new }
-    ensures cause { result ≡ Status.WriteFault → HasRisen (K.faults sink.old) (K.faults sink.new) }
-    ensures only { IsTextStatus result }
-{
-    let status = write_made(sink, made);
     match sink.flush() {
-        Ok(()) => status,
+        Ok(()) => Status::Done,
         Err(refusal) => write_status(refusal),
     }
 }

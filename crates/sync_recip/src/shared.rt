@@ -3,7 +3,7 @@ ghost use Rattle.sync_index.specs.Spots.{LieAt};
 
 use std::alloc::Global;
 use std::marker::Model;
-use std::rc::Rc;
+use std::sync::Arc;
 use sync_base::{Entry, NoMemory};
 use sync_index::shared_spot;
 
@@ -11,7 +11,7 @@ use sync_index::shared_spot;
 #[derive(Drop)]
 pub struct SharedEntry {
     spot: Option<u8>,
-    entry: Rc<Entry>,
+    entry: Arc<Entry>,
 }
 
 impl Model for SharedEntry {
@@ -32,7 +32,7 @@ impl SharedEntry {
         ensures { IfOk result (λ made. made ≡ entry) }
     {
         let spot = shared_spot(entry.changes.instrs());
-        match Rc::new(alloc, entry) {
+        match Arc::new(alloc, entry) {
             Ok(entry) => Ok(SharedEntry { spot, entry }),
             Err(_) => Err(NoMemory),
         }

@@ -5,8 +5,6 @@ mod adapting;
 mod answer;
 mod part;
 mod saving;
-#[cfg(test)]
-mod tests;
 mod trial;
 
 pub use answer::{Dropped, Saved};

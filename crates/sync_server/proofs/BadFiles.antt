@@ -1,23 +1,16 @@
 -- A file in which a record is bad has one.
-use Rattle.std.proofs.Common.{◌≡◌, ℕ, ◌<◌, List, [], length, Result, Ok, Err, IfErr, inl, inr, sym, ◌∙◌, subst}
-use Rattle.std.proofs.lemmas.Bool.{cases_lt}
-use Rattle.sync_journal.specs.Records.{records_of}
-use Rattle.sync_journal.specs.Records.Reading.{Good}
-use Rattle.sync_journal.proofs.Reading.{small}
-use Rattle.sync_server.specs.Files.{BadRecordAt}
+use Rattle.std.proofs.Common.{◌≡◌, ℕ, List, [], ◌∷◌, Err}
+use Rattle.sync_journal.specs.Opening.{BadRecordAt, unread_cause}
+use Rattle.sync_journal.specs.declared.opening.OpenCause.TheVariants.{BadFile}
+use Rattle.sync_journal.specs.declared.opening.ReadRefusal.{ReadRefusal}
+use Rattle.sync_journal.specs.declared.opening.ReadRefusal.TheVariants as refusals
+use Rattle.sync_server.specs.Files.{Refuses}
+use Rattle.sync_server.specs.Opening.{ReadsFile}
 
-pub both_err : {T E : Type 0} (r : Result T E) (P Q R : E → Type 0) → ((e : E) → P e → Q e → R e) → IfErr r P → IfErr r Q → IfErr r R
-both_err (Ok t) P Q R f p q = tt
-both_err (Err e) P Q R f p q = f e p q
+pub bad_at : (file : List (List ℕ)) (why : ReadRefusal) (place : ℕ) → ReadsFile file (Err why) → unread_cause file why ≡ BadFile place → BadRecordAt Refuses file place
+bad_at file (refusals.BadRecord number) place reads is = record { number = number; reads = reads; gate = cc }
+bad_at file refusals.NoMemory place reads is = cc
 
-good_is : (a b : List (List ℕ)) → Good a ≡ Good b → a ≡ b
-good_is a b e = cc
-
-none_bad : (place : ℕ) → BadRecordAt [] place → ⊥
-none_bad place bad = let reads = bad.reads in cc
-
-pub is_long : (b : List ℕ) (file : List (List ℕ)) (place : ℕ) → records_of b ≡ Good file → BadRecordAt file place → 9 < length b
-is_long b file place holds bad = elim (cases_lt 9 (length b)) [
-  | inl lt ↦ lt
-  | inr le ↦ absurd (none_bad place (subst (λ f. BadRecordAt f place) (good_is file [] (sym holds ∙ small b le)) bad))
-]
+pub some_record : (file : List (List ℕ)) (place : ℕ) → BadRecordAt Refuses file place → file ≡ [] → ⊥
+some_record [] place bad is = let reads = bad.reads in cc
+some_record (f ∷ fs) place bad is = cc

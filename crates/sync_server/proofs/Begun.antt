@@ -12,8 +12,8 @@ use Rattle.sync_server.specs.Kept.{parts}
 use Rattle.sync_server.specs.Fronting.{AreSpelled, Fronts, IsSpelled, seen}
 use Rattle.sync_server.specs.Opening.{ReadsFront, is_trimmed}
 use Rattle.sync_server.specs.declared.kept.Kept.{Kept}
-use Rattle.sync_server.specs.declared.opening.ReadRefusal.{ReadRefusal}
-use Rattle.sync_server.specs.declared.opening.ReadRefusal.TheVariants as refusals
+use Rattle.sync_journal.specs.declared.opening.ReadRefusal.{ReadRefusal}
+use Rattle.sync_journal.specs.declared.opening.ReadRefusal.TheVariants as refusals
 use Rattle.sync_server.proofs.Continuing.{front_on}
 use Rattle.sync_server.proofs.There.{front_there, there_records}
 

@@ -11,8 +11,8 @@ use Rattle.sync_records.specs.declared.server.ServerRecord.{ServerRecord as Code
 use Rattle.sync_server.specs.Crossing.{passed_seen}
 use Rattle.sync_server.specs.Fronting.{Fronts, Walks, grown_seen, seen_from}
 use Rattle.sync_server.specs.declared.carried.Grown.{Grown}
-use Rattle.sync_server.specs.declared.opening.ReadRefusal.{ReadRefusal}
-use Rattle.sync_server.specs.declared.opening.ReadRefusal.TheVariants as refusals
+use Rattle.sync_journal.specs.declared.opening.ReadRefusal.{ReadRefusal}
+use Rattle.sync_journal.specs.declared.opening.ReadRefusal.TheVariants as refusals
 use Rattle.sync_server.specs.declared.passed.Passed.{Passed}
 use Rattle.sync_server.proofs.Continuing.{lead_short, take_short}
 use Rattle.sync_server.proofs.Walking.{from_length}

@@ -21,8 +21,8 @@ use Rattle.sync_records.specs.declared.server.ServerRecord.{ServerRecord as Code
 use Rattle.sync_server.specs.Fronting.{Fronts, Grows, RefusedAt, Walks, can_retire, instrs_of, seen_from, uuids_of}
 use Rattle.sync_server.specs.Integrating.{found}
 use Rattle.sync_server.specs.declared.kept.Kept.{Kept}
-use Rattle.sync_server.specs.declared.opening.ReadRefusal.{ReadRefusal}
-use Rattle.sync_server.specs.declared.opening.ReadRefusal.TheVariants as refusals
+use Rattle.sync_journal.specs.declared.opening.ReadRefusal.{ReadRefusal}
+use Rattle.sync_journal.specs.declared.opening.ReadRefusal.TheVariants as refusals
 use Rattle.sync_server.proofs.Continuing.{lead_short}
 use Rattle.sync_server.proofs.Walking.{LoopSoFar, all_of_kind, from_later, from_length, loop_begins, loop_next, loop_refuses, walked as loop_walked}
 

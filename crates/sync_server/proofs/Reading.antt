@@ -18,8 +18,8 @@ use Rattle.sync_exchange.specs.Seen.{read_server, server_bytes, server_kept, ser
 use Rattle.sync_server.specs.Kept.{parts}
 use Rattle.sync_server.specs.Opening.{Admits, AreRecords, FrontRead, IsDeclined, ReadAll, ReadOn, ReadsFile, ReadsFront, ReadsOne, ReadsRest, RestBad, RestRead, is_trimmed}
 use Rattle.sync_server.specs.declared.kept.Kept.{Kept}
-use Rattle.sync_server.specs.declared.opening.ReadRefusal.{ReadRefusal}
-use Rattle.sync_server.specs.declared.opening.ReadRefusal.TheVariants as refusals
+use Rattle.sync_journal.specs.declared.opening.ReadRefusal.{ReadRefusal}
+use Rattle.sync_journal.specs.declared.opening.ReadRefusal.TheVariants as refusals
 
 pub kept_seen : (r : CodeRecord) → server_kept (server_seen r) ≡ r
 kept_seen (codes.Client id) = refl

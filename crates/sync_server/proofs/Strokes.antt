@@ -54,3 +54,9 @@ module _ {D : Type 0} {G : Ghosts D} (strokes : D → List Stroke) where
       (part_before (map server_bytes a) (map server_bytes b) (end_of old.journal) (strokes (disk_of old.journal)) (strokes (disk_of new.journal)) first)
   asked_part A B a b old new causes.NoMemory first = tt
   asked_part A B a b old new causes.Closed first = tt
+
+  -- one that failed asked the same, whatever it would have answered
+  pub asked_alike : (A B : Type 0) (a : List ServerRecord) (old mid new : Server D G) (why : ServerRefusal) → mid.journal ≡ old.journal → Asked {B = A} strokes a mid new (Err why) → Asked {B = B} strokes a old new (Err why)
+  asked_alike A B a old mid new causes.DiskFault same asked = subst (λ j. AsksSome strokes (map server_bytes a) j new.journal) same asked
+  asked_alike A B a old mid new causes.NoMemory same asked = tt
+  asked_alike A B a old mid new causes.Closed same asked = tt

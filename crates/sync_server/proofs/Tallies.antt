@@ -14,7 +14,7 @@ use Rattle.sync_records.specs.declared.server.ServerRecord.{ServerRecord as Code
 use Rattle.sync_server.specs.Fronting.{Fronts, counted_seen, seen_from, uuids_of}
 use Rattle.sync_server.specs.declared.kept.Kept.{Kept}
 use Rattle.sync_server.specs.declared.kinds.Counted.{Counted}
-use Rattle.sync_server.specs.declared.opening.ReadRefusal.{ReadRefusal}
+use Rattle.sync_journal.specs.declared.opening.ReadRefusal.{ReadRefusal}
 use Rattle.sync_server.proofs.Continuing.{lead_short, take_short}
 use Rattle.sync_server.proofs.Walking.{from_later, from_length}
 

@@ -1,5 +1,6 @@
 -- The loop over the changes of an Upload.
 use Rattle.std.proofs.Common.{◌≡◌, ℕ, zero, suc, ◌+◌, ◌<◌, ◌≤◌, Bool, true, false, List, [], ◌∷◌, ◌++◌, length, map, drop, get_or, Option, Some, None, Result, Ok, Err, nat_le, is_some, if◌then◌else◌, inl, inr, refl, sym, ap, ◌∙◌, subst, arith, add-one, drop-cons, append-nil, append_assoc}
+use Rattle.std.proofs.lemmas.Bool.{lt-leb}
 use Rattle.std.proofs.Math.ListN.{drop_of_length-le}
 use Rattle.sync_data.specs.declared.instr.Instr.{Instr}
 use Rattle.sync_base.specs.States.{State}
@@ -18,6 +19,7 @@ use Rattle.sync_exchange.specs.Profile.{the_profile}
 use Rattle.sync_exchange.specs.Seen.{change_seen, message_seen, server_bytes}
 use Rattle.sync_messages.specs.declared.message.Message.{Message as CodeMessage}
 use Rattle.sync_server.specs.Kept.{parts}
+use Rattle.sync_server.specs.Merging.{records_of}
 use Rattle.sync_server.specs.Refusals.{refusal_seen}
 use Rattle.sync_server.specs.Sending.{refusal_message}
 use Rattle.sync_server.specs.Serving.{Adds, Asked, LeavesPrefix, IsMerged, IsServed, IsTaken, UploadedSoFar, change_records, merged_records}
@@ -71,6 +73,19 @@ skipped false l e = cc
 pub looked : (b : Bool) (l : List ServerRecord) → b ≡ false → (if b then [] else l) ≡ l
 looked true l e = cc
 looked false l e = refl
+
+-- a change that is no repeat is merged, or refused
+module _ (old : Kept) (c : ℕ) (g : Given Instr) (h k : Change) (above : g.count < h.number) (same : k ≡ h) where
+  pub merged_change : (form : Bool) (new : Parts Instr State) → merge_by the_profile (parts old) c g k ≡ Ok (record { records = records_of form c k; parts = new })
+      → (merge_by the_profile (parts old) c g h ≡ Ok (record { records = records_of form c h; parts = new })) × (change_records (parts old) c g h ≡ records_of form c h)
+  merged_change form new is =
+      let merges = subst (λ (x : Change). merge_by the_profile (parts old) c g x ≡ Ok (record { records = records_of form c x; parts = new })) same is in
+      (merges, looked (nat_le h.number g.count) (merged_records (merge_by the_profile (parts old) c g h)) (lt-leb h.number g.count above) ∙ ap merged_records merges)
+
+  pub refused_change : (why : ServerRefusal) → merge_by the_profile (parts old) c g k ≡ Err why → (merge_by the_profile (parts old) c g h ≡ Err why) × (change_records (parts old) c g h ≡ [])
+  refused_change why is =
+      let refuses = ap (merge_by the_profile (parts old) c g) (sym same) ∙ is in
+      (refuses, looked (nat_le h.number g.count) (merged_records (merge_by the_profile (parts old) c g h)) (lt-leb h.number g.count above) ∙ ap merged_records refuses)
 
 -- an Upload begins with the records of its first change
 begins_with : (kept : Parts Instr State) (c : ℕ) (g : Given Instr) (h : Change) (rest : List Change) → (more : List ServerRecord) × ((upload_by the_profile kept c (Some g) (h ∷ rest)).records ≡ change_records kept c g h ++ more)

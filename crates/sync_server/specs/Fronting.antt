@@ -22,8 +22,8 @@ use Rattle.sync_server.specs.declared.carried.Grown.{Grown}
 use Rattle.sync_server.specs.declared.merging.ChangeHead.{ChangeHead}
 use Rattle.sync_server.specs.declared.kept.Kept.{Kept}
 use Rattle.sync_server.specs.declared.kinds.Counted.{Counted}
-use Rattle.sync_server.specs.declared.opening.ReadRefusal.{ReadRefusal}
-use Rattle.sync_server.specs.declared.opening.ReadRefusal.TheVariants as refusals
+use Rattle.sync_journal.specs.declared.opening.ReadRefusal.{ReadRefusal}
+use Rattle.sync_journal.specs.declared.opening.ReadRefusal.TheVariants as refusals
 
 -- records of the code as those of the model
 abbrev pub seen : List (Option CodeRecord) → List (Option ServerRecord)

@@ -10,8 +10,8 @@ use Rattle.sync_exchange.specs.Profile.{the_profile}
 use Rattle.sync_exchange.specs.Seen.{read_server, server_bytes}
 use Rattle.sync_server.specs.Kept.{parts}
 use Rattle.sync_server.specs.declared.kept.Kept.{Kept}
-use Rattle.sync_server.specs.declared.opening.ReadRefusal.{ReadRefusal}
-use Rattle.sync_server.specs.declared.opening.ReadRefusal.TheVariants as refusals
+use Rattle.sync_journal.specs.declared.opening.ReadRefusal.{ReadRefusal}
+use Rattle.sync_journal.specs.declared.opening.ReadRefusal.TheVariants as refusals
 
 -- ---- one record
 

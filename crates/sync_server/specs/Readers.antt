@@ -1,5 +1,5 @@
 -- What is read of what a server keeps.
-use Rattle.std.specs.Prelude.{ℕ, ◌-◌, ◌&&◌, List, [], ◌∷◌, Option, Some, None, nat_lt, nat_le, ◌==◌, if◌then◌else◌, slice_get, max}
+use Rattle.std.specs.Prelude.{ℕ, ◌-◌, ◌&&◌, List, Option, Some, None, nat_lt, nat_le, if◌then◌else◌, slice_get, max}
 use Rattle.sync_data.specs.declared.instr.Instr.{Instr}
 use Rattle.sync_base.specs.States.{State}
 use Rattle.sync_data.specs.Payload.{Changes}

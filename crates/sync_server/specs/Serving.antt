@@ -1,5 +1,5 @@
 -- What the calls of a server answer, and what they leave.
-use Rattle.std.specs.Prelude.{◌≡◌, ◌⊎◌, ℕ, Bool, true, false, List, [], ◌++◌, map, Option, None, Some, Result, Ok, Err, nat_le, if◌then◌else◌}
+use Rattle.std.specs.Prelude.{◌≡◌, ◌⊎◌, ℕ, Bool, true, false, List, [], ◌++◌, map, Option, None, Some, Result, Ok, Err, IsErrOf, OnOk, OnErr, nat_le, if◌then◌else◌}
 use Rattle.sync_data.specs.declared.instr.Instr.{Instr}
 use Rattle.sync_base.specs.States.{State}
 use Rattle.sync_disk.specs.declared.disk.Disk.{Ghosts}
@@ -76,6 +76,12 @@ module _ {D : Type 0} {G : Ghosts D} where
   Asked strokes next old new (Err causes.DiskFault) = AsksSome strokes (map server_bytes next) old.journal new.journal
   Asked strokes next old new (Err causes.NoMemory) = Unit {0}
   Asked strokes next old new (Err causes.Closed) = Unit {0}
+
+  -- an open server stays open at an answer, and closes at any refusal
+  pub record StaysOpen {B : Type 0} (result : Result B CodeRefusal) (s : Server D G) : Type 0 where
+    pub stays_open : OnOk result (s.closed ≡ false)
+    pub closes : OnErr result (s.closed ≡ true)
+    pub not_closed : IsErrOf result causes.Closed → ⊥
 
   -- an open server of these records, which may begin with those of a trimmed file
   pub record IsServerOf (records : List ServerRecord) (s : Server D G) : Type 0 where

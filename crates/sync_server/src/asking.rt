@@ -46,10 +46,8 @@ pub(crate) fn refuse(ident: Ident, number: u32, why: Refusal) -> Message
 fn part_of(entry: &Entry, tables: &Subset) -> Result<Changeset, NoMemory>
     ensures { IfOk result (λ part. part ≡ record { ms = entry.now.changes.ms; instrs = restrict tables.now entry.now.changes.instrs }) }
 {
-    match entry.changes.copy() {
-        Ok(changes) => Ok(tables.restrict(changes)),
-        Err(NoMemory) => Err(NoMemory),
-    }
+    let changes = entry.changes.copy()?;
+    Ok(tables.restrict(changes))
 }
 
 /// A changeset of an origin as a Download bears it, where the client takes it and there is room.
@@ -98,10 +96,7 @@ fn next_sent(
     match tables {
         None => sent_of(alloc, origin, number, &entry.changes, room, second),
         Some(tables) => {
-            let part = match part_of(entry, tables) {
-                Ok(part) => part,
-                Err(NoMemory) => return Err(NoMemory),
-            };
+            let part = part_of(entry, tables)?;
             sent_of(alloc, origin, number, &part, room, second)
         }
     }

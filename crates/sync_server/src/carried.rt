@@ -13,10 +13,10 @@ use crate::given::Given;
 use crate::history::keep_entry;
 use crate::kinds::{Found, as_carried};
 use crate::merging::{ChangeHead, apply};
-use crate::opening::ReadRefusal;
 use crate::refusal::ChangeRefusal;
 use std::alloc::Global;
 use sync_base::{Changeset, Entry, Ident, NoMemory};
+use sync_journal::ReadRefusal;
 use sync_recip::SharedEntry;
 use sync_store::Store;
 

@@ -7,10 +7,10 @@ use crate::given::Given;
 use crate::history::LAST;
 use crate::kinds::{Counted, Found, as_count};
 use crate::lists::keep;
-use crate::opening::ReadRefusal;
 use crate::uuids::heir_in;
 use std::alloc::Global;
 use sync_base::{Ident, NoMemory};
+use sync_journal::ReadRefusal;
 use sync_recip::Recip;
 
 /// Whether a count is of the next ident, where so many changes are counted before.
@@ -84,10 +84,7 @@ pub(crate) fn with_counts(
         let count = counts[place];
         let heir = heir_in(retired, count.ident);
         let given = Given::counted(*idents[place].id(), count, heir, Recip::new(alloc));
-        match keep(&mut made, given) {
-            Ok(()) => {}
-            Err(NoMemory) => return Err(NoMemory),
-        }
+        keep(&mut made, given)?;
     }
     Ok(made)
 }

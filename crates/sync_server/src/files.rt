@@ -1,21 +1,18 @@
 ghost use Rattle.std.specs.Prelude.{◌≡◌, ◌≤◌, ℕ, List, IfOk, IfErr, Some, false};
 ghost use Rattle.sync_disk.specs.Disk.{LeavesOnly, Rose, Told};
 ghost use Rattle.sync_disk.specs.Faults.{IsSound};
-ghost use Rattle.sync_journal.specs.Records.{lists, records_of};
+ghost use Rattle.sync_journal.specs.Records.{records_of};
 ghost use Rattle.sync_journal.specs.Records.Reading.{Good};
 ghost use Rattle.sync_journal.specs.Stands.{disk_of};
-ghost use Rattle.sync_server.specs.Files.{BadRecordAt};
-ghost use Rattle.sync_server.specs.Opening.{ReadAll};
 
 use crate::kept::Kept;
-use crate::opening::ReadRefusal;
 use crate::server::Server;
 use std::alloc::Global;
 use sync_disk::Disk;
-use sync_journal::{Journal, OpenCause, OpenRefusal, gate_of};
+use sync_journal::{Journal, OpenCause, OpenRefusal};
 
 impl<D: Disk> Server<D> {
-    ghost use Rattle.sync_server.specs.Serving.{is_closed, journal_of, kept_of};
+    ghost use Rattle.sync_server.specs.Serving.{is_closed, journal_of};
     ghost use Rattle.sync_server.specs.Files.{BadPlace, Opened};
 
     /// Opens the server of a disk. Besides what a journal refuses, `BadFile` comes where a record isn't one that a server would
@@ -40,37 +37,18 @@ impl<D: Disk> Server<D> {
         ensures fault { IfErr result (λ e. e.cause ≡ OpenCause.DiskFault → Rose (D.faults disk) (D.faults e.disk)) }
         ensures sound { Told (D.content disk) (λ b. IsSound (D.origin disk) → IfErr result (λ e. e.cause ≡ OpenCause.DiskFault → ⊥)) }
     {
-        match Journal::open(alloc, disk) {
-            Ok((journal, files)) => Server::read_from(alloc, journal, files),
-            Err(refusal) => Err(refusal),
-        }
-    }
-
-    /// The server of a journal with these records.
-    fn read_from(
-        alloc: Global,
-        journal: Journal<D>,
-        files: Vec<Vec<u8>>,
-    ) -> Result<Server<D>, OpenRefusal<D>>
-        ensures journal { IfOk result (λ s. journal_of s ≡ journal) }
-        ensures open_ { IfOk result (λ s. is_closed s ≡ false) }
-        ensures read { IfOk result (λ s. ReadAll (lists files.items) (kept_of s)) }
-        ensures disk { IfErr result (λ e. e.disk ≡ disk_of journal) }
-        ensures bad { IfErr result (λ e. (place : ℕ) → e.cause ≡ OpenCause.BadFile place → BadRecordAt (lists files.items) place) }
-        ensures no_fault { IfErr result (λ e. e.cause ≡ OpenCause.DiskFault → ⊥) }
-    {
-        match Kept::of(alloc, files.as_slice()) {
+        let (journal, records) = match Journal::open(alloc, disk) {
+            Ok(opened) => opened,
+            Err(refusal) => return Err(refusal),
+        };
+        match Kept::of(alloc, records.as_slice()) {
             Ok(kept) => Ok(Server {
                 alloc,
                 journal,
                 kept,
                 closed: false,
             }),
-            Err(ReadRefusal::NoMemory) => Err(journal.refuse(OpenCause::NoMemory)),
-            Err(ReadRefusal::BadRecord { place }) => {
-                let place = gate_of(files.as_slice(), place);
-                Err(journal.refuse(OpenCause::BadFile { place }))
-            }
+            Err(why) => Err(journal.unread(records.as_slice(), why)),
         }
     }
 }

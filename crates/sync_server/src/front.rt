@@ -15,13 +15,13 @@ use crate::kept::Kept;
 use crate::kinds::{Found, as_floor, as_part};
 use crate::lists::keep;
 use crate::merging::{ChangeHead, read};
-use crate::opening::{LONGEST, ReadRefusal};
 use crate::passed::{read_passed, with_pairs};
 use crate::refusal::ChangeRefusal;
 use crate::uuids::{counts_at, read_idents, read_retired, skip_clients, skip_retired};
 use crate::version::needs_second;
 use std::alloc::Global;
 use sync_base::{Changeset, Ident, NoMemory};
+use sync_journal::{LONGEST, ReadRefusal};
 use sync_snapshot::{GrowRefusal, grown};
 use sync_store::Store;
 
@@ -177,14 +177,8 @@ impl Kept {
         if ids_end == place {
             return Err(ReadRefusal::BadRecord { place });
         }
-        let idents = match read_idents(alloc, records, place) {
-            Ok(idents) => idents,
-            Err(refusal) => return Err(refusal),
-        };
-        let retired = match read_retired(alloc, records, ids_end, idents.len()) {
-            Ok(retired) => retired,
-            Err(refusal) => return Err(refusal),
-        };
+        let idents = read_idents(alloc, records, place)?;
+        let retired = read_retired(alloc, records, ids_end, idents.len())?;
         Kept::front_counts(
             alloc,
             records,

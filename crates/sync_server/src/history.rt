@@ -265,14 +265,8 @@ pub(crate) fn keep_entry(
     ensures unchanged { OnErr result (entries.new.items ≡ entries.old.items) }
     ensures bases_unchanged { OnErr result (bases.new.items ≡ bases.old.items) }
 {
-    let shared = match SharedEntry::new(alloc, entry) {
-        Ok(shared) => shared,
-        Err(NoMemory) => return Err(NoMemory),
-    };
-    match keep(bases, base) {
-        Ok(()) => {}
-        Err(NoMemory) => return Err(NoMemory),
-    }
+    let shared = SharedEntry::new(alloc, entry)?;
+    keep(bases, base)?;
     match keep(entries, shared) {
         Ok(()) => Ok(()),
         Err(NoMemory) => {

@@ -1,17 +1,16 @@
 ghost use Rattle.std.specs.Prelude.{◌≡◌, ◌≤◌, ◌&&◌, not, Some, length, IfOk, OnOk};
 ghost use Rattle.sync_data.specs.declared.instr.Instr.{Instr};
 ghost use Rattle.sync_exchange.specs.Profile.{the_profile, unspell};
-ghost use Rattle.sync_exchange.specs.Seen.{change_seen};
 ghost use Rattle.sync_model.specs.Parts.{Given as GivenParts, at_ident, is_newer, merge_by};
 ghost use Rattle.sync_server.specs.Merging.{IsFresh, Merges, Prepares, change_of};
 
 use crate::history::History;
-use crate::merging::{ChangeHead, Prepared, admit, apply, carry, read};
-use crate::refusal::ChangeRefusal;
-use crate::version::needs_second;
+use crate::merging::{ChangeHead, Prepared, admit, apply, read};
+use crate::refusal::{ChangeRefusal, Refusal};
 use std::alloc::Global;
 use sync_base::{Ident, NoMemory};
-use sync_messages::Change;
+use sync_codec::any_needs_second;
+use sync_recip::RecipRefusal;
 use sync_store::Store;
 
 /// What a server keeps in memory: the history, the objects, and the state at the floor of the history.
@@ -61,30 +60,19 @@ impl Kept {
             Ok(changes) => changes,
             Err(refusal) => return Err(refusal),
         };
-        let second = needs_second(changes.instrs());
-        match carry(alloc, ident, given, head.base, changes) {
+        let second = any_needs_second(changes.instrs());
+        match given.reciprocal().carry(alloc, ident, head.base, changes) {
             Ok(carried) => Ok(Prepared { carried, second }),
-            Err(refusal) => Err(refusal),
+            Err(RecipRefusal::Mismatch { place, kind }) => {
+                Err(ChangeRefusal::Refused(Refusal::Mismatch { place, kind }))
+            }
+            Err(RecipRefusal::NoMemory) => Err(ChangeRefusal::NoMemory),
         }
     }
 
-    /// Merges the next change of an ident, and answers whether a Form stands before its Entry in the journal.
+    /// Merges the next change of an ident, and answers whether a Form stands before its Entry in the journal. Its bytes may
+    /// be longer than those of any Upload.
     pub(crate) fn merge(
-        &mut self,
-        alloc: Global,
-        ident: Ident,
-        change: &Change,
-    ) -> Result<bool, ChangeRefusal>
-        requires { IsFresh ident (change_seen change.now) self.old.history.idents }
-        ensures given { OnOk result (length self.new.history.idents ≡ length self.old.history.idents) }
-        ensures form { IfOk result (λ form. form ≡ (is_newer the_profile (unspell change.now.body) && not self.old.history.second)) }
-        ensures merged { (g : GivenParts Instr) → at_ident ident self.old.history.idents ≡ Some g → Merges result (merge_by the_profile (parts self.old) ident g (change_seen change.now)) ident (change_seen change.now) (parts self.old) (parts self.new) }
-    {
-        self.merge_body(alloc, ident, ChangeHead::of(change), change.body())
-    }
-
-    /// The same of a change of which the bytes may be longer than those of any Upload.
-    pub(crate) fn merge_body(
         &mut self,
         alloc: Global,
         ident: Ident,

@@ -21,8 +21,6 @@ mod passed;
 mod refusal;
 mod retiring;
 mod server;
-#[cfg(test)]
-mod tests;
 mod uuids;
 mod version;
 

@@ -1,16 +1,16 @@
-ghost use Rattle.std.specs.Prelude.{◌≡◌, ◌≢◌, ◌≤◌, ℕ, suc, length, true, All, Some};
+ghost use Rattle.std.specs.Prelude.{◌≡◌, ◌≤◌, suc, length, true, Some};
 ghost use Rattle.sync_data.specs.declared.instr.Instr.{Instr};
 ghost use Rattle.sync_exchange.specs.Profile.{fits_changeset, the_profile};
-ghost use Rattle.sync_server.specs.Merging.{Reads, Carries, AppliesBy, change_of, numbers_broken, refused};
+ghost use Rattle.sync_server.specs.Merging.{Reads, AppliesBy, change_of, numbers_broken, refused};
 
 use crate::given::Given;
 use crate::history::LAST;
 use crate::refusal::{ChangeRefusal, Refusal};
 use std::alloc::Global;
-use sync_base::{Changeset, Ident};
+use sync_base::Changeset;
 use sync_codec::{DecodeRefusal, decode};
 use sync_messages::Change;
-use sync_recip::{Carried, RecipRefusal};
+use sync_recip::Carried;
 use sync_store::{AllRefusal, Store};
 
 /// A change that is ready to act: as carried, and whether its bytes are of version 2.
@@ -79,26 +79,6 @@ pub(crate) fn read(alloc: Global, head: ChangeHead, body: &[u8]) -> Result<Chang
         Ok(changes) => Ok(changes),
         Err(DecodeRefusal::Bad(bad)) => Err(ChangeRefusal::Refused(Refusal::BadBytes(bad))),
         Err(DecodeRefusal::NoMemory) => Err(ChangeRefusal::NoMemory),
-    }
-}
-
-/// A change of an ident as carried over its reciprocal list from the base on.
-pub(crate) fn carry(
-    alloc: Global,
-    ident: Ident,
-    given: &Given,
-    base: u32,
-    changes: Changeset,
-) -> Result<Carried, ChangeRefusal>
-    requires { All (λ pair. pair.1.origin ≢ ident) given.now.reciprocal }
-    ensures { (number : ℕ) → Carries result ident number changes base given.now.reciprocal }
-{
-    match given.reciprocal().carry(alloc, ident, base, changes) {
-        Ok(carried) => Ok(carried),
-        Err(RecipRefusal::Mismatch { place, kind }) => {
-            Err(ChangeRefusal::Refused(Refusal::Mismatch { place, kind }))
-        }
-        Err(RecipRefusal::NoMemory) => Err(ChangeRefusal::NoMemory),
     }
 }
 

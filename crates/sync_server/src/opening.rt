@@ -14,20 +14,8 @@ use crate::merging::ChangeHead;
 use crate::refusal::ChangeRefusal;
 use std::alloc::Global;
 use sync_base::{Id, Ident, NoMemory};
+use sync_journal::{LONGEST, ReadRefusal};
 use sync_records::{RecordRefusal, ServerRecord};
-
-/// The most bytes of a record (docs/FORMATS.md, "The journal").
-pub(crate) const LONGEST: usize = 67_108_864;
-
-/// Why records aren't read: the first that a server wouldn't have written has that number, counted from 0; or memory ran
-/// out.
-#[derive(Clone, Copy)]
-pub(crate) enum ReadRefusal {
-    BadRecord { place: usize },
-    NoMemory,
-}
-
-fn let_go<T: Drop>(_: T) {}
 
 impl Kept {
     /// Reads the records of a file.
@@ -116,7 +104,7 @@ impl Kept {
         match ServerRecord::record_of(alloc, bytes) {
             Ok(found) => {
                 let admitted = self.admit(alloc, &found);
-                let_go(found);
+                drop(found);
                 admitted
             }
             Err(RecordRefusal::BadRecord) => Ok(false),
@@ -191,10 +179,8 @@ impl Kept {
             }
             Err(_) => return Ok(false),
         }
-        match self.history.retire(alloc, ident, by) {
-            Ok(()) => Ok(true),
-            Err(NoMemory) => Err(NoMemory),
-        }
+        self.history.retire(alloc, ident, by)?;
+        Ok(true)
     }
 
     fn admit_settled(&mut self, ident: Ident, settled: u32) -> bool
@@ -230,7 +216,7 @@ impl Kept {
         if body.len() > LONGEST {
             return Err(NoMemory);
         }
-        match self.merge_body(alloc, origin, head, body) {
+        match self.merge(alloc, origin, head, body) {
             Ok(form) => Ok(!form),
             Err(ChangeRefusal::NoMemory) => Err(NoMemory),
             Err(ChangeRefusal::Refused(_)) => Ok(false),

@@ -16,10 +16,10 @@ use crate::front::allowed;
 use crate::given::Given;
 use crate::kinds::{Found, PastHead, as_past};
 use crate::lists::keep;
-use crate::opening::ReadRefusal;
 use std::alloc::Global;
 use sync_base::{Entry, Ident, NoMemory};
 use sync_codec::encode;
+use sync_journal::ReadRefusal;
 use sync_recip::{Recip, SharedEntry};
 
 /// An entry as an ident's changes crossed it.
@@ -64,10 +64,8 @@ fn crosses(floor: u32, given: &Given, head: PastHead, entry: &Entry) -> bool
 fn is_other(alloc: Global, entry: &Entry, body: &[u8]) -> Result<bool, NoMemory>
     ensures { IfOk result (λ other. other ≡ not (bytes_eq body.now (spelling entry.now.changes.instrs))) }
 {
-    match encode(alloc, &entry.changes) {
-        Ok(bytes) => Ok(body != bytes.as_slice()),
-        Err(NoMemory) => Err(NoMemory),
-    }
+    let bytes = encode(alloc, &entry.changes)?;
+    Ok(body != bytes.as_slice())
 }
 
 /// What an entry became as an ident's changes crossed it, if the bytes can tell it.
@@ -125,10 +123,8 @@ fn replaced(
         number: entry.number,
         changes,
     };
-    match SharedEntry::new(alloc, made) {
-        Ok(shared) => Ok(Some(shared)),
-        Err(NoMemory) => Err(NoMemory),
-    }
+    let shared = SharedEntry::new(alloc, made)?;
+    Ok(Some(shared))
 }
 
 /// What a record tells, if it comes behind the others and can be so.

@@ -5,13 +5,14 @@ ghost use Rattle.sync_disk.specs.Disk.{LeavesOnly, Rose, SameDisk, Told};
 ghost use Rattle.sync_disk.specs.Faults.{armed, begun, disarmed, has_stopped};
 ghost use Rattle.sync_journal.specs.Records.{StandsForPrefix};
 ghost use Rattle.sync_journal.specs.Stands.{Stands, disk_of};
+ghost use Rattle.sync_journal.specs.Uses.{UsesDisk};
 ghost use Rattle.sync_model.specs.Servers as model;
-ghost use Rattle.sync_model.specs.Parts.{Given as GivenParts, at_ident, bind_by, merge_by, serve_by, upload_by};
+ghost use Rattle.sync_model.specs.Parts.{Given as GivenParts, at_ident, bind_by, serve_by, upload_by};
 ghost use Rattle.sync_exchange.specs.Profile.{the_profile};
 ghost use Rattle.sync_exchange.specs.Seen.{change_seen, message_seen, server_bytes, server_seen};
 ghost use Rattle.sync_recip.specs.Lists.{entry_of};
 ghost use Rattle.sync_server.specs.Integrating.{found};
-ghost use Rattle.sync_server.specs.Merging.{IsFresh, records_of};
+ghost use Rattle.sync_server.specs.Merging.{records_of};
 ghost use Rattle.sync_server.specs.Sending.{asked};
 ghost use Rattle.sync_server.specs.Retiring.{retiring};
 ghost use Rattle.sync_server.specs.Readers.{changes_of, counts_of, item_from, past};
@@ -20,6 +21,7 @@ use crate::asking::refuse;
 use crate::counts::Counts;
 use crate::history::LAST;
 use crate::kept::Kept;
+use crate::merging::ChangeHead;
 use crate::refusal::{ChangeRefusal, Refusal, ServerRefusal};
 use std::alloc::Global;
 use sync_base::{Blob, Changeset, Entry, Id, Ident, NoMemory};
@@ -43,21 +45,19 @@ pub struct Server<D: Disk> {
 fn entry_record(alloc: Global, ident: Ident, change: &Change) -> Result<ServerRecord, NoMemory>
     ensures { IfOk result (λ made. server_seen made ≡ model.Entry ident change.now.number change.now.base change.now.ms change.now.body) }
 {
-    match Blob::new(alloc, change.body()) {
-        Ok(body) => Ok(ServerRecord::Entry {
-            origin: ident,
-            number: change.number(),
-            base: change.base(),
-            ms: change.ms(),
-            body,
-        }),
-        Err(NoMemory) => Err(NoMemory),
-    }
+    let body = Blob::new(alloc, change.body())?;
+    Ok(ServerRecord::Entry {
+        origin: ident,
+        number: change.number(),
+        base: change.base(),
+        ms: change.ms(),
+        body,
+    })
 }
 
 impl<D: Disk> Server<D> {
     ghost use Rattle.sync_server.specs.Kept.{parts};
-    ghost use Rattle.sync_server.specs.Serving.{Adds, Asked, Did, IsMerged, IsServed, IsServerOf, IsStored, IsTaken, LeavesPrefix, change_records, is_closed, journal_of, kept_of, merged_records};
+    ghost use Rattle.sync_server.specs.Serving.{Adds, Asked, Did, IsServed, IsServerOf, IsStored, IsTaken, LeavesPrefix, StaysOpen, change_records, is_closed, journal_of, kept_of};
 
     /// Adds a record to the journal. It closes the server where that fails.
     fn append(&mut self, added: &ServerRecord) -> Result<(), ServerRefusal>
@@ -65,14 +65,9 @@ impl<D: Disk> Server<D> {
         ensures stored { OnOk result (Adds D.content D.images (server_seen added.now ∷ []) self.old self.new) }
         ensures any_moment { LeavesPrefix D.content D.images D.moment D.images_since (server_seen added.now ∷ []) self.old self.new }
         ensures kept { kept_of self.new ≡ kept_of self.old }
-        ensures stays_open { OnOk result (is_closed self.new ≡ false) }
-        ensures closes { OnErr result (is_closed self.new ≡ true) }
-        ensures refused { IsErrOf result ServerRefusal.Closed → ⊥ }
+        ensures stays { StaysOpen result self.new }
         ensures strokes { Told (D.content (disk_of (journal_of self.old))) (λ b. Asked D.strokes (server_seen added.now ∷ []) self.old self.new result) }
-        ensures origin { D.origin (disk_of (journal_of self.new)) ≡ D.origin (disk_of (journal_of self.old)) }
-        ensures told { Told (D.content (disk_of (journal_of self.old))) (λ b. (c : List ℕ) × (D.content (disk_of (journal_of self.new)) ≡ Some c)) }
-        ensures later { D.faults (disk_of (journal_of self.old)) ≤ D.faults (disk_of (journal_of self.new)) }
-        ensures fault { IsErrOf result ServerRefusal.DiskFault → Rose (D.faults (disk_of (journal_of self.old))) (D.faults (disk_of (journal_of self.new))) }
+        ensures disk { UsesDisk D.content D.faults D.origin (IsErrOf result ServerRefusal.DiskFault) (journal_of self.old) (journal_of self.new) }
     {
         let Ok(bytes) = added.record_bytes(self.alloc) else {
             self.closed = true;
@@ -102,14 +97,9 @@ impl<D: Disk> Server<D> {
         ensures stored { OnOk result (Adds D.content D.images (records_of form ident (change_seen change.now)) self.old self.new) }
         ensures any_moment { LeavesPrefix D.content D.images D.moment D.images_since (records_of form ident (change_seen change.now)) self.old self.new }
         ensures kept { kept_of self.new ≡ kept_of self.old }
-        ensures stays_open { OnOk result (is_closed self.new ≡ false) }
-        ensures closes { OnErr result (is_closed self.new ≡ true) }
-        ensures refused { IsErrOf result ServerRefusal.Closed → ⊥ }
+        ensures stays { StaysOpen result self.new }
         ensures strokes { Told (D.content (disk_of (journal_of self.old))) (λ b. Asked D.strokes (records_of form ident (change_seen change.now)) self.old self.new result) }
-        ensures origin { D.origin (disk_of (journal_of self.new)) ≡ D.origin (disk_of (journal_of self.old)) }
-        ensures told { Told (D.content (disk_of (journal_of self.old))) (λ b. (c : List ℕ) × (D.content (disk_of (journal_of self.new)) ≡ Some c)) }
-        ensures later { D.faults (disk_of (journal_of self.old)) ≤ D.faults (disk_of (journal_of self.new)) }
-        ensures fault { IsErrOf result ServerRefusal.DiskFault → Rose (D.faults (disk_of (journal_of self.old))) (D.faults (disk_of (journal_of self.new))) }
+        ensures disk { UsesDisk D.content D.faults D.origin (IsErrOf result ServerRefusal.DiskFault) (journal_of self.old) (journal_of self.new) }
     {
         if form {
             match self.append(&ServerRecord::Form) {
@@ -126,24 +116,30 @@ impl<D: Disk> Server<D> {
         }
     }
 
-    /// Merges the next change of an ident, or tells why not.
-    fn merge(&mut self, ident: Ident, change: &Change) -> Result<Option<Refusal>, ServerRefusal>
+    /// Passes over a repeat, and merges any other change of an ident that is given, or tells why not.
+    fn take_change(
+        &mut self,
+        ident: Ident,
+        change: &Change,
+    ) -> Result<Option<Refusal>, ServerRefusal>
         requires open_ { is_closed self.old ≡ false }
-        requires fresh { IsFresh ident (change_seen change.now) (kept_of self.old).history.idents }
-        ensures merged { (g : GivenParts Instr) → at_ident ident (kept_of self.old).history.idents ≡ Some g → IfOk result (λ why. IsMerged why (merge_by the_profile (parts (kept_of self.old)) ident g (change_seen change.now)) (kept_of self.old) (kept_of self.new)) }
-        ensures stored { (g : GivenParts Instr) → at_ident ident (kept_of self.old).history.idents ≡ Some g → OnOk result (Adds D.content D.images (merged_records (merge_by the_profile (parts (kept_of self.old)) ident g (change_seen change.now))) self.old self.new) }
-        ensures any_moment { (g : GivenParts Instr) → at_ident ident (kept_of self.old).history.idents ≡ Some g → LeavesPrefix D.content D.images D.moment D.images_since (merged_records (merge_by the_profile (parts (kept_of self.old)) ident g (change_seen change.now))) self.old self.new }
+        requires given { (g : GivenParts Instr) × (at_ident ident (kept_of self.old).history.idents ≡ Some g) }
+        ensures taken { (g : GivenParts Instr) → at_ident ident (kept_of self.old).history.idents ≡ Some g → IfOk result (λ why. IsTaken why ident g (change_seen change.now) (kept_of self.old) (kept_of self.new)) }
+        ensures stored { (g : GivenParts Instr) → at_ident ident (kept_of self.old).history.idents ≡ Some g → OnOk result (Adds D.content D.images (change_records (parts (kept_of self.old)) ident g (change_seen change.now)) self.old self.new) }
+        ensures any_moment { (g : GivenParts Instr) → at_ident ident (kept_of self.old).history.idents ≡ Some g → LeavesPrefix D.content D.images D.moment D.images_since (change_records (parts (kept_of self.old)) ident g (change_seen change.now)) self.old self.new }
         ensures given { OnOk result (length (kept_of self.new).history.idents ≡ length (kept_of self.old).history.idents) }
-        ensures stays_open { OnOk result (is_closed self.new ≡ false) }
-        ensures closes { OnErr result (is_closed self.new ≡ true) }
-        ensures refused { IsErrOf result ServerRefusal.Closed → ⊥ }
-        ensures strokes { (g : GivenParts Instr) → at_ident ident (kept_of self.old).history.idents ≡ Some g → Told (D.content (disk_of (journal_of self.old))) (λ b. Asked D.strokes (merged_records (merge_by the_profile (parts (kept_of self.old)) ident g (change_seen change.now))) self.old self.new result) }
-        ensures origin { D.origin (disk_of (journal_of self.new)) ≡ D.origin (disk_of (journal_of self.old)) }
-        ensures told { Told (D.content (disk_of (journal_of self.old))) (λ b. (c : List ℕ) × (D.content (disk_of (journal_of self.new)) ≡ Some c)) }
-        ensures later { D.faults (disk_of (journal_of self.old)) ≤ D.faults (disk_of (journal_of self.new)) }
-        ensures fault { IsErrOf result ServerRefusal.DiskFault → Rose (D.faults (disk_of (journal_of self.old))) (D.faults (disk_of (journal_of self.new))) }
+        ensures stays { StaysOpen result self.new }
+        ensures strokes { (g : GivenParts Instr) → at_ident ident (kept_of self.old).history.idents ≡ Some g → Told (D.content (disk_of (journal_of self.old))) (λ b. Asked D.strokes (change_records (parts (kept_of self.old)) ident g (change_seen change.now)) self.old self.new result) }
+        ensures disk { UsesDisk D.content D.faults D.origin (IsErrOf result ServerRefusal.DiskFault) (journal_of self.old) (journal_of self.new) }
     {
-        let form = match self.kept.merge(self.alloc, ident, change) {
+        let Some(given) = self.kept.history.at(ident) else {
+            unreachable!()
+        };
+        if change.number() <= given.count() {
+            return Ok(None);
+        }
+        let head = ChangeHead::of(change);
+        let form = match self.kept.merge(self.alloc, ident, head, change.body()) {
             Ok(form) => form,
             Err(ChangeRefusal::Refused(why)) => return Ok(Some(why)),
             Err(ChangeRefusal::NoMemory) => {
@@ -157,61 +153,15 @@ impl<D: Disk> Server<D> {
         }
     }
 
-    /// How many changes of an ident that is given are integrated.
-    fn count_of(&self, ident: Ident) -> u32
-        requires { (g : GivenParts Instr) × (at_ident ident (kept_of self.now).history.idents ≡ Some g) }
-        ensures { (g : GivenParts Instr) → at_ident ident (kept_of self.now).history.idents ≡ Some g → result ≡ g.count }
-    {
-        match self.kept.history.at(ident) {
-            Some(given) => given.count(),
-            None => unreachable!(),
-        }
-    }
-
-    /// Passes over a repeat, and merges any other change of an ident that is given, or tells why not.
-    fn take_change(
-        &mut self,
-        ident: Ident,
-        change: &Change,
-    ) -> Result<Option<Refusal>, ServerRefusal>
-        requires open_ { is_closed self.old ≡ false }
-        requires given { (g : GivenParts Instr) × (at_ident ident (kept_of self.old).history.idents ≡ Some g) }
-        ensures taken { (g : GivenParts Instr) → at_ident ident (kept_of self.old).history.idents ≡ Some g → IfOk result (λ why. IsTaken why ident g (change_seen change.now) (kept_of self.old) (kept_of self.new)) }
-        ensures stored { (g : GivenParts Instr) → at_ident ident (kept_of self.old).history.idents ≡ Some g → OnOk result (Adds D.content D.images (change_records (parts (kept_of self.old)) ident g (change_seen change.now)) self.old self.new) }
-        ensures any_moment { (g : GivenParts Instr) → at_ident ident (kept_of self.old).history.idents ≡ Some g → LeavesPrefix D.content D.images D.moment D.images_since (change_records (parts (kept_of self.old)) ident g (change_seen change.now)) self.old self.new }
-        ensures given { OnOk result (length (kept_of self.new).history.idents ≡ length (kept_of self.old).history.idents) }
-        ensures stays_open { OnOk result (is_closed self.new ≡ false) }
-        ensures closes { OnErr result (is_closed self.new ≡ true) }
-        ensures refused { IsErrOf result ServerRefusal.Closed → ⊥ }
-        ensures strokes { (g : GivenParts Instr) → at_ident ident (kept_of self.old).history.idents ≡ Some g → Told (D.content (disk_of (journal_of self.old))) (λ b. Asked D.strokes (change_records (parts (kept_of self.old)) ident g (change_seen change.now)) self.old self.new result) }
-        ensures origin { D.origin (disk_of (journal_of self.new)) ≡ D.origin (disk_of (journal_of self.old)) }
-        ensures told { Told (D.content (disk_of (journal_of self.old))) (λ b. (c : List ℕ) × (D.content (disk_of (journal_of self.new)) ≡ Some c)) }
-        ensures later { D.faults (disk_of (journal_of self.old)) ≤ D.faults (disk_of (journal_of self.new)) }
-        ensures fault { IsErrOf result ServerRefusal.DiskFault → Rose (D.faults (disk_of (journal_of self.old))) (D.faults (disk_of (journal_of self.new))) }
-    {
-        if change.number() <= self.count_of(ident) {
-            return Ok(None);
-        }
-        match self.merge(ident, change) {
-            Ok(why) => Ok(why),
-            Err(refusal) => Err(refusal),
-        }
-    }
-
     /// Takes the changes of an Upload one by one, up to the first that is refused.
     fn take_upload(&mut self, upload: &Upload) -> Result<Message, ServerRefusal>
         requires { is_closed self.old ≡ false }
         ensures served { IfOk result (λ reply. IsServed (upload_by the_profile (parts (kept_of self.old)) upload.now.ident (at_ident upload.now.ident (kept_of self.old).history.idents) (map change_seen upload.now.changes)) reply (kept_of self.new)) }
         ensures stored { OnOk result (Adds D.content D.images (upload_by the_profile (parts (kept_of self.old)) upload.now.ident (at_ident upload.now.ident (kept_of self.old).history.idents) (map change_seen upload.now.changes)).records self.old self.new) }
         ensures any_moment { LeavesPrefix D.content D.images D.moment D.images_since (upload_by the_profile (parts (kept_of self.old)) upload.now.ident (at_ident upload.now.ident (kept_of self.old).history.idents) (map change_seen upload.now.changes)).records self.old self.new }
-        ensures stays_open { OnOk result (is_closed self.new ≡ false) }
-        ensures closes { OnErr result (is_closed self.new ≡ true) }
-        ensures refused { IsErrOf result ServerRefusal.Closed → ⊥ }
+        ensures stays { StaysOpen result self.new }
         ensures strokes { Told (D.content (disk_of (journal_of self.old))) (λ b. Asked D.strokes (upload_by the_profile (parts (kept_of self.old)) upload.now.ident (at_ident upload.now.ident (kept_of self.old).history.idents) (map change_seen upload.now.changes)).records self.old self.new result) }
-        ensures origin { D.origin (disk_of (journal_of self.new)) ≡ D.origin (disk_of (journal_of self.old)) }
-        ensures told { Told (D.content (disk_of (journal_of self.old))) (λ b. (c : List ℕ) × (D.content (disk_of (journal_of self.new)) ≡ Some c)) }
-        ensures later { D.faults (disk_of (journal_of self.old)) ≤ D.faults (disk_of (journal_of self.new)) }
-        ensures fault { IsErrOf result ServerRefusal.DiskFault → Rose (D.faults (disk_of (journal_of self.old))) (D.faults (disk_of (journal_of self.new))) }
+        ensures disk { UsesDisk D.content D.faults D.origin (IsErrOf result ServerRefusal.DiskFault) (journal_of self.old) (journal_of self.new) }
     {
         let ident = upload.ident();
         if self.kept.history.at(ident).is_none() {
@@ -225,8 +175,10 @@ impl<D: Disk> Server<D> {
                 Err(refusal) => return Err(refusal),
             }
         }
-        let number = self.count_of(ident);
-        Ok(Message::Stored(Stored::new(ident, number)))
+        match self.kept.history.at(ident) {
+            Some(given) => Ok(Message::Stored(Stored::new(ident, given.count()))),
+            None => unreachable!(),
+        }
     }
 
     /// Gives a uuid its ident: that which it has, or the next.
@@ -235,14 +187,9 @@ impl<D: Disk> Server<D> {
         ensures served { IfOk result (λ reply. IsServed (bind_by the_profile (parts (kept_of self.old)) uuid (model.place_of uuid (map (λ g. g.uuid) (kept_of self.old).history.idents))) reply (kept_of self.new)) }
         ensures stored { OnOk result (Adds D.content D.images (bind_by the_profile (parts (kept_of self.old)) uuid (model.place_of uuid (map (λ g. g.uuid) (kept_of self.old).history.idents))).records self.old self.new) }
         ensures any_moment { LeavesPrefix D.content D.images D.moment D.images_since (bind_by the_profile (parts (kept_of self.old)) uuid (model.place_of uuid (map (λ g. g.uuid) (kept_of self.old).history.idents))).records self.old self.new }
-        ensures stays_open { OnOk result (is_closed self.new ≡ false) }
-        ensures closes { OnErr result (is_closed self.new ≡ true) }
-        ensures refused { IsErrOf result ServerRefusal.Closed → ⊥ }
+        ensures stays { StaysOpen result self.new }
         ensures strokes { Told (D.content (disk_of (journal_of self.old))) (λ b. Asked D.strokes (bind_by the_profile (parts (kept_of self.old)) uuid (model.place_of uuid (map (λ g. g.uuid) (kept_of self.old).history.idents))).records self.old self.new result) }
-        ensures origin { D.origin (disk_of (journal_of self.new)) ≡ D.origin (disk_of (journal_of self.old)) }
-        ensures told { Told (D.content (disk_of (journal_of self.old))) (λ b. (c : List ℕ) × (D.content (disk_of (journal_of self.new)) ≡ Some c)) }
-        ensures later { D.faults (disk_of (journal_of self.old)) ≤ D.faults (disk_of (journal_of self.new)) }
-        ensures fault { IsErrOf result ServerRefusal.DiskFault → Rose (D.faults (disk_of (journal_of self.old))) (D.faults (disk_of (journal_of self.new))) }
+        ensures disk { UsesDisk D.content D.faults D.origin (IsErrOf result ServerRefusal.DiskFault) (journal_of self.old) (journal_of self.new) }
     {
         if let Some(ident) = self.kept.history.ident_of(&uuid) {
             return Ok(Message::Ident(Given::new(uuid, ident)));
@@ -275,14 +222,9 @@ impl<D: Disk> Server<D> {
         ensures served { IfOk result (λ reply. IsServed (asked (parts (kept_of self.old)) ask.now.ident ask.now.cursor ask.now.settled (option_copied tables.entry) second) reply (kept_of self.new)) }
         ensures stored { OnOk result (Adds D.content D.images (asked (parts (kept_of self.old)) ask.now.ident ask.now.cursor ask.now.settled (option_copied tables.entry) second).records self.old self.new) }
         ensures any_moment { LeavesPrefix D.content D.images D.moment D.images_since (asked (parts (kept_of self.old)) ask.now.ident ask.now.cursor ask.now.settled (option_copied tables.entry) second).records self.old self.new }
-        ensures stays_open { OnOk result (is_closed self.new ≡ false) }
-        ensures closes { OnErr result (is_closed self.new ≡ true) }
-        ensures refused { IsErrOf result ServerRefusal.Closed → ⊥ }
+        ensures stays { StaysOpen result self.new }
         ensures strokes { Told (D.content (disk_of (journal_of self.old))) (λ b. Asked D.strokes (asked (parts (kept_of self.old)) ask.now.ident ask.now.cursor ask.now.settled (option_copied tables.entry) second).records self.old self.new result) }
-        ensures origin { D.origin (disk_of (journal_of self.new)) ≡ D.origin (disk_of (journal_of self.old)) }
-        ensures told { Told (D.content (disk_of (journal_of self.old))) (λ b. (c : List ℕ) × (D.content (disk_of (journal_of self.new)) ≡ Some c)) }
-        ensures later { D.faults (disk_of (journal_of self.old)) ≤ D.faults (disk_of (journal_of self.new)) }
-        ensures fault { IsErrOf result ServerRefusal.DiskFault → Rose (D.faults (disk_of (journal_of self.old))) (D.faults (disk_of (journal_of self.new))) }
+        ensures disk { UsesDisk D.content D.faults D.origin (IsErrOf result ServerRefusal.DiskFault) (journal_of self.old) (journal_of self.new) }
     {
         let reply = match self.kept.ask(self.alloc, ask, second, tables) {
             Ok(reply) => reply,
@@ -308,14 +250,9 @@ impl<D: Disk> Server<D> {
         ensures served { IfOk result (λ reply. IsServed (retiring (parts (kept_of self.old)) retire.now.ident retire.now.by) reply (kept_of self.new)) }
         ensures stored { OnOk result (Adds D.content D.images (retiring (parts (kept_of self.old)) retire.now.ident retire.now.by).records self.old self.new) }
         ensures any_moment { LeavesPrefix D.content D.images D.moment D.images_since (retiring (parts (kept_of self.old)) retire.now.ident retire.now.by).records self.old self.new }
-        ensures stays_open { OnOk result (is_closed self.new ≡ false) }
-        ensures closes { OnErr result (is_closed self.new ≡ true) }
-        ensures refused { IsErrOf result ServerRefusal.Closed → ⊥ }
+        ensures stays { StaysOpen result self.new }
         ensures strokes { Told (D.content (disk_of (journal_of self.old))) (λ b. Asked D.strokes (retiring (parts (kept_of self.old)) retire.now.ident retire.now.by).records self.old self.new result) }
-        ensures origin { D.origin (disk_of (journal_of self.new)) ≡ D.origin (disk_of (journal_of self.old)) }
-        ensures told { Told (D.content (disk_of (journal_of self.old))) (λ b. (c : List ℕ) × (D.content (disk_of (journal_of self.new)) ≡ Some c)) }
-        ensures later { D.faults (disk_of (journal_of self.old)) ≤ D.faults (disk_of (journal_of self.new)) }
-        ensures fault { IsErrOf result ServerRefusal.DiskFault → Rose (D.faults (disk_of (journal_of self.old))) (D.faults (disk_of (journal_of self.new))) }
+        ensures disk { UsesDisk D.content D.faults D.origin (IsErrOf result ServerRefusal.DiskFault) (journal_of self.old) (journal_of self.new) }
     {
         let (ident, by) = (retire.ident(), retire.by());
         let retirement = match self.kept.retirement(ident, by) {
@@ -345,14 +282,9 @@ impl<D: Disk> Server<D> {
         ensures served { IfOk result (λ reply. IsServed (serve_by the_profile (parts (kept_of self.old)) (message_seen message.now)) reply (kept_of self.new)) }
         ensures stored { OnOk result (Adds D.content D.images (serve_by the_profile (parts (kept_of self.old)) (message_seen message.now)).records self.old self.new) }
         ensures any_moment { LeavesPrefix D.content D.images D.moment D.images_since (serve_by the_profile (parts (kept_of self.old)) (message_seen message.now)).records self.old self.new }
-        ensures stays_open { OnOk result (is_closed self.new ≡ false) }
-        ensures closes { OnErr result (is_closed self.new ≡ true) }
-        ensures refused { IsErrOf result ServerRefusal.Closed → ⊥ }
+        ensures stays { StaysOpen result self.new }
         ensures strokes { Told (D.content (disk_of (journal_of self.old))) (λ b. Asked D.strokes (serve_by the_profile (parts (kept_of self.old)) (message_seen message.now)).records self.old self.new result) }
-        ensures origin { D.origin (disk_of (journal_of self.new)) ≡ D.origin (disk_of (journal_of self.old)) }
-        ensures told { Told (D.content (disk_of (journal_of self.old))) (λ b. (c : List ℕ) × (D.content (disk_of (journal_of self.new)) ≡ Some c)) }
-        ensures later { D.faults (disk_of (journal_of self.old)) ≤ D.faults (disk_of (journal_of self.new)) }
-        ensures fault { IsErrOf result ServerRefusal.DiskFault → Rose (D.faults (disk_of (journal_of self.old))) (D.faults (disk_of (journal_of self.new))) }
+        ensures disk { UsesDisk D.content D.faults D.origin (IsErrOf result ServerRefusal.DiskFault) (journal_of self.old) (journal_of self.new) }
     {
         match message {
             Message::Bind { uuid } => self.take_bind(*uuid),

@@ -9,9 +9,9 @@ use crate::given::{Given, ident_in};
 use crate::history::LAST;
 use crate::kinds::{Found, as_client, as_count, as_retired};
 use crate::lists::keep;
-use crate::opening::ReadRefusal;
 use std::alloc::Global;
 use sync_base::{Ident, NoMemory};
+use sync_journal::ReadRefusal;
 use sync_recip::Recip;
 
 /// The place behind the uuids from a place on.

@@ -8,8 +8,6 @@ mod cutter;
 mod growing;
 mod objects;
 mod schema;
-#[cfg(test)]
-mod tests;
 mod whole;
 
 pub use building::build;

@@ -4,13 +4,15 @@ use Rattle.sync_io.specs.declared.status.Status.{Status}
 use Rattle.sync_io.specs.declared.status.Status.TheVariants as statuses
 use Rattle.sync_top.specs.declared.job.Job.{Job}
 use Rattle.sync_top.specs.declared.job.Job.TheVariants as jobs
-use Rattle.sync_top.specs.declared.job.FileCommand.{FileCommand}
-use Rattle.sync_top.specs.declared.job.FileCommand.TheVariants as commands
-use Rattle.sync_top.specs.Jobs.{AsksFor, IsFileCommand, most_turns}
+use Rattle.sync_node.specs.declared.files.FileCommand.{FileCommand}
+use Rattle.sync_node.specs.declared.files.FileCommand.TheVariants as commands
+use Rattle.sync_node.specs.FileCommands.{IsFileCommand}
+use Rattle.sync_top.specs.Jobs.{AsksFor, most_turns}
 use Rattle.sync_top.specs.Statuses.{IsJobStatus}
-use Rattle.sync_top.specs.Commands.{IsFileStatus}
+use Rattle.sync_node.specs.FileCommands.{IsFileStatus}
 use Rattle.sync_top.specs.Playing.{Writes}
-use Rattle.sync_top.specs.Runs.{IsDoneOrNoMemory, IsReportStatus, IsRunStatus}
+use Rattle.sync_node.specs.Texts.{IsDoneOrNoMemory}
+use Rattle.sync_top.specs.Runs.{IsReportStatus, IsRunStatus}
 
 module _ (o : Option Job) (words : List (List ℕ)) (exact : (job : Job) → (o ≡ Some job) ↔ AsksFor job words) where
   pub asked_is : (job wanted : Job) → o ≡ Some job → AsksFor wanted words → job ≡ wanted

@@ -7,7 +7,8 @@ use Rattle.sync_edits.specs.Lines.{event_form_of_line}
 use Rattle.sync_model.specs.Worlds.{World, Event, happens, world_after}
 use Rattle.sync_exchange.specs.Profile.{the_profile}
 use Rattle.sync_world.specs.Events.{event_seen}
-use Rattle.sync_top.specs.Runs.{Ran, is_blank, answered, onto, run_from, Passes}
+use Rattle.sync_node.specs.Items.{is_blank}
+use Rattle.sync_top.specs.Runs.{Ran, answered, onto, run_from, Passes}
 use Rattle.sync_top.specs.Exchange.{answers, report, answered_form, event_before, events_of}
 use Rattle.sync_top.specs.Synced.{first}
 use Rattle.sync_top.proofs.RunLemmas.{onto_onto}

@@ -12,9 +12,10 @@ use Rattle.std.specs.Str.{bytes_eq}
 use Rattle.uuid.specs.Text.{parsed as uuid_of}
 use Rattle.sync_top.specs.declared.job.Job.{Job}
 use Rattle.sync_top.specs.declared.job.Job.TheVariants as jobs
-use Rattle.sync_top.specs.declared.job.FileCommand.{FileCommand}
-use Rattle.sync_top.specs.declared.job.FileCommand.TheVariants as commands
-use Rattle.sync_top.specs.Jobs.{AreMore, AsksFor, IsExchange, IsFileCommand, IsFileJob, IsNumber, IsNumberedJob, IsPlain, IsStart, command_word, is_padded}
+use Rattle.sync_node.specs.declared.files.FileCommand.{FileCommand}
+use Rattle.sync_node.specs.declared.files.FileCommand.TheVariants as commands
+use Rattle.sync_node.specs.FileCommands.{IsFileCommand}
+use Rattle.sync_top.specs.Jobs.{AreMore, AsksFor, IsExchange, IsFileJob, IsNumber, IsNumberedJob, IsPlain, IsStart, command_word, is_padded}
 
 own : IsNumeralModel (AllDigits 10) (digits_value 10)
 own = numerals_by_value (AllDigits 10) tells_digits

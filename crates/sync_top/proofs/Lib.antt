@@ -10,7 +10,6 @@ pub mod Playing
 pub mod Plays
 pub mod Recoveries
 pub mod RunLemmas
-pub mod Shown
 pub mod Steps
 pub mod Summing
 pub mod Synced

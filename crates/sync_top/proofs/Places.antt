@@ -8,9 +8,39 @@ use Rattle.sync_io.specs.declared.status.Status.TheVariants as statuses
 use Rattle.sync_io.specs.declared.sink.SinkRefusal.{SinkRefusal}
 use Rattle.sync_io.specs.declared.sink.SinkRefusal.TheVariants as sinks
 use Rattle.sync_top.specs.declared.command.LineEnd.{LineEnd}
+use Rattle.sync_io.specs.Readers.{AnswersLine}
+use Rattle.sync_io.specs.declared.refusal.ReadRefusal.{ReadRefusal}
+use Rattle.sync_io.specs.declared.refusal.ReadRefusal.TheVariants as reads
+use Rattle.sync_node.specs.Items.{read_status}
 use Rattle.sync_node.specs.Texts.{write_status}
-use Rattle.sync_top.specs.Runs.{Ran, ended, onto, answered, answer_to, run_from, runs, Follows, FollowsTold, Passes, Went, IsCut, Leaves, LeavesOf, HasRun, AnsweredAll, EndsAt, EndsReading, IsReportStatus, flush_status, report_at}
+use Rattle.sync_top.specs.Runs.{Ran, ended, onto, answered, answer_to, run_from, runs, Follows, FollowsTold, Passes, Went, IsCut, Leaves, LeavesOf, HasRun, EndsAt, IsReportStatus, flush_status, report_at}
 use Rattle.sync_top.proofs.RunLemmas.{all_is_some, cut_at_end, cut_off, follows_some, follows_told, is_write_fault, line_follows, onto_onto, some_behind, some_of_more, took_none}
+
+-- the run ends where a reader refuses the line of this number
+abbrev pub EndsReading : Status → ℕ → Option Reading → Type 0
+EndsReading (statuses.BadInput place) number old = (place ≡ number) × IfSome old (λ reading. reading ≡ Ends AtLongLine)
+EndsReading statuses.InputTooLong number old = IfSome old (λ reading. reading ≡ Ends AtLimit)
+EndsReading statuses.ReadFault number old = Unit {0}
+EndsReading statuses.NoMemory number old = Unit {0}
+EndsReading status number old = ⊥
+
+pub refused_reading : (refusal : ReadRefusal) (number : ℕ) (old new : Option Reading) → AnswersLine (Err refusal) old new → EndsReading (read_status number refusal) number old
+refused_reading reads.Failed number old new is = tt
+refused_reading reads.TooLong number old new is = (refl, is)
+refused_reading reads.Cut number old new is = absurd is
+refused_reading reads.InputTooLong number old new is = is
+refused_reading reads.NoMemory number old new is = tt
+
+-- All lines were answered: what is left to be written is the report
+pub record AnsweredAll {C : Type 0} (answers : C → ℕ → List ℕ → Result (List ℕ × C) LineEnd) (holds : C → Type 0) (readings : Option Reading) (command : C) (old new : Option (List ℕ)) : Type 0 where
+  pub lines : ℕ
+  pub text : List ℕ
+  pub next : C
+  pub rest : Option Reading
+  pub went : Went answers lines readings command text next rest
+  pub at_end : IfSome rest (λ reading. reading ≡ Ends AtEnd)
+  pub took : Took text old new
+  pub left : holds next
 
 pub plus_one : (n : ℕ) → n + 1 ≡ suc n
 plus_one n = omega arith

@@ -21,7 +21,8 @@ use Rattle.sync_top.specs.Counting.{Goes, HasRoom, counted}
 use Rattle.gen_law.specs.Generated.{after, answered, done_by, events_by, exchanged, joined, move_events, newest_to, told, words_by, world_by}
 use Rattle.gen_law.specs.Plans.{AreMoves, IsMove}
 use Rattle.sync_top.specs.Playing.{PlayedSoFar, Plays}
-use Rattle.sync_top.specs.Telling.{is_made, is_message, is_refused, one_if}
+use Rattle.gen_law.specs.Refusals.{is_refused}
+use Rattle.sync_top.specs.Telling.{is_made, is_message, one_if}
 use Rattle.sync_top.proofs.Tells.{happens_tells}
 
 -- ---- some events and then others

@@ -1,13 +1,11 @@
 -- What clients do, by the events that the code makes.
-use Rattle.std.proofs.Common.{◌≡◌, ℕ, List, [], ◌∷◌, ◌++◌, length, Option, sym, ap, subst, ◌∙◌}
-use Rattle.std.proofs.Math.Seq.{take-length}
+use Rattle.std.proofs.Common.{◌≡◌, ℕ, List, [], ◌∷◌, ◌++◌, Option, ap, subst, ◌∙◌}
 use Rattle.sync_data.specs.declared.instr.Instr.{Instr}
 use Rattle.sync_gen.specs.Clients.{first_edits_of, id_of, name_of}
 use Rattle.sync_gen.specs.Edits.{edit_of}
 use Rattle.sync_gen.specs.declared.turns.TurnKind.TheVariants as kinds
-use Rattle.sync_io.specs.Devices.{Took, TookSome}
-use Rattle.sync_io.specs.declared.sink.SinkRefusal.{SinkRefusal}
-use Rattle.sync_io.specs.declared.sink.SinkRefusal.TheVariants as refusals
+use Rattle.sync_io.specs.declared.status.Status.{Status}
+use Rattle.sync_io.specs.declared.status.Status.TheVariants as statuses
 use Rattle.sync_model.specs.Bytes.{Name, Uuid}
 use Rattle.sync_model.specs.Worlds.{Event, empty_world}
 use Rattle.sync_world.specs.declared.world.World.{World as CodeWorld}
@@ -15,7 +13,7 @@ use Rattle.sync_top.specs.declared.counts.Counts.{Counts}
 use Rattle.gen_law.specs.declared.plan.Move.TheVariants as moves
 use Rattle.sync_top.specs.Counting.{Goes}
 use Rattle.gen_law.specs.Generated.{done_by, exchanged, move_events, objects_of, world_by}
-use Rattle.sync_node.specs.Texts.{write_status}
+use Rattle.sync_node.specs.Texts.{IsTextStatus, Writes as NodeWrites}
 use Rattle.sync_top.specs.Playing.{Writes}
 use Rattle.sync_top.proofs.Playing.{joined_goes}
 
@@ -44,9 +42,14 @@ edit_plays es client ms x name edit edits counts world a b c goes =
     subst (λ is. Goes (es ++ Event.Edits (name_of client) ms is ∷ []) counts world) (b ∙ ap (λ i. i ∷ []) drawn) (subst (λ n. Goes (es ++ Event.Edits n ms edits ∷ []) counts world) a goes)
 
 -- ---- what is written
-pub wrote_some : (text : List ℕ) (old new : Option (List ℕ)) → Took text old new → TookSome text old new
-wrote_some text old new took = (length text, subst (λ t. Took t old new) (sym (take-length text)) took)
-
-pub write_refused : (text : List ℕ) (refusal : SinkRefusal) (old new : Option (List ℕ)) → TookSome text old new → Writes text (write_status refusal) old new
-write_refused text refusals.Failed old new some = some
-write_refused text refusals.NoMemory old new some = some
+-- a text that is written, and its ends
+pub summary_writes : (status : Status) (text : List ℕ) (old new : Option (List ℕ)) → IsTextStatus status → NodeWrites status text old new → Writes text status old new
+summary_writes statuses.Done text old new only writes = writes
+summary_writes statuses.WriteFault text old new only writes = writes
+summary_writes statuses.NoMemory text old new only writes = writes
+summary_writes statuses.DiskFault text old new only writes = absurd only
+summary_writes (statuses.BadFile place) text old new only writes = absurd only
+summary_writes statuses.BadWords text old new only writes = absurd only
+summary_writes (statuses.BadInput number) text old new only writes = absurd only
+summary_writes statuses.ReadFault text old new only writes = absurd only
+summary_writes statuses.InputTooLong text old new only writes = absurd only

@@ -27,10 +27,10 @@ use Rattle.sync_node.specs.Items.{Items, Over, Bad, Limit, Next, frames_of, line
 use Rattle.sync_node.specs.Recovering.{Counts, heard, heard_in, recover_step, recovered}
 use Rattle.sync_node.specs.Runs.{Answer, Left, Run, added, answered, no_notes, run_from}
 use Rattle.sync_node.specs.Steps.{edit_step, line_answer, take_answer, take_step}
-use Rattle.sync_top.specs.Commands.{Does}
+use Rattle.sync_node.specs.FileCommands.{Does}
 use Rattle.sync_top.specs.Recoveries.{CommitsNothing, Edits, HeirRun, IsNoCommit, IsRecovery, IsRunOf, IsSavedOnce, LeavesSaved, Recovers, SavesAtAnyEnd, Takes, after_run, after_runs, and_message, messages_in}
-use Rattle.sync_top.specs.declared.job.FileCommand.{FileCommand}
-use Rattle.sync_top.specs.declared.job.FileCommand.TheVariants as commands
+use Rattle.sync_node.specs.declared.files.FileCommand.{FileCommand}
+use Rattle.sync_node.specs.declared.files.FileCommand.TheVariants as commands
 
 -- ---- `recover`
 recovers_add : (frames : Items) (counts : Counts) (records : List ClientRecord)

@@ -12,7 +12,8 @@ use Rattle.sync_top.specs.declared.command.LineEnd.{LineEnd}
 use Rattle.sync_io.specs.declared.sink.SinkRefusal.{SinkRefusal}
 use Rattle.sync_io.specs.declared.sink.SinkRefusal.TheVariants as sinks
 use Rattle.sync_node.specs.Texts.{write_status}
-use Rattle.sync_top.specs.Runs.{Ran, onto, answered, is_fault, Follows, FollowsTold, EndsAt, IsRunStatus, IsDoneOrNoMemory}
+use Rattle.sync_node.specs.Texts.{IsDoneOrNoMemory}
+use Rattle.sync_top.specs.Runs.{Ran, onto, answered, is_fault, Follows, FollowsTold, EndsAt, IsRunStatus}
 
 -- ---- what was written
 -- nothing

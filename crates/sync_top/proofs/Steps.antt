@@ -12,7 +12,8 @@ use Rattle.sync_top.specs.declared.counts.Counts.{Counts}
 use Rattle.gen_law.specs.declared.plan.Move.TheVariants as moves
 use Rattle.sync_top.specs.Counting.{counted}
 use Rattle.gen_law.specs.Generated.{done_by, move_events}
-use Rattle.sync_top.specs.Telling.{is_made, is_message, is_refused, one_if}
+use Rattle.gen_law.specs.Refusals.{is_refused}
+use Rattle.sync_top.specs.Telling.{is_made, is_message, one_if}
 
 pub on_ok : {P Q : Type 0} (r : Result (Unit {0}) NoMemory) → OnOk r P → (P → Q) → OnOk r Q
 on_ok (Ok u) p then = then p

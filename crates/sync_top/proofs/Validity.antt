@@ -9,7 +9,9 @@ use Rattle.sync_edits.specs.declared.event.Event.{Event}
 use Rattle.sync_edits.specs.Lines.{event_form_of_line}
 use Rattle.sync_model.specs.Worlds.{World, is_there}
 use Rattle.sync_top.specs.declared.command.LineEnd.{LineEnd}
-use Rattle.sync_top.specs.Runs.{Ran, is_blank, answered, answer_to, run_from, runs, FollowsTold, IsRunStatus, IsDoneOrNoMemory}
+use Rattle.sync_node.specs.Items.{is_blank}
+use Rattle.sync_node.specs.Texts.{IsDoneOrNoMemory}
+use Rattle.sync_top.specs.Runs.{Ran, answered, answer_to, run_from, runs, FollowsTold, IsRunStatus}
 use Rattle.sync_top.specs.Exchange.{answers, report, answered_form, IsValidReading, IsValidInput}
 use Rattle.sync_top.proofs.RunLemmas.{done_or}
 

@@ -17,7 +17,8 @@ use Rattle.gen_law.specs.Generated.{events_by, events_of, words_by, world_by}
 use Rattle.sync_top.specs.Jobs.{most_turns}
 use Rattle.gen_law.specs.Plans.{AreMoves, clients, plan}
 use Rattle.sync_top.specs.Summaries.{equals, history_in, summary_by, summary_of, summary_text}
-use Rattle.sync_top.specs.Telling.{is_made, is_refused}
+use Rattle.gen_law.specs.Refusals.{is_refused}
+use Rattle.sync_top.specs.Telling.{is_made}
 use Rattle.sync_top.proofs.Planning.{plan_length, plan_moves}
 use Rattle.sync_top.proofs.Playing.{goes_none}
 

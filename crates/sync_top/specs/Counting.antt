@@ -6,7 +6,8 @@ use Rattle.sync_world.specs.Holding.{Holds}
 use Rattle.sync_world.specs.declared.world.World.{World as CodeWorld}
 use Rattle.sync_top.specs.declared.counts.Counts.{Counts}
 use Rattle.gen_law.specs.Generated.{words_by, world_by}
-use Rattle.sync_top.specs.Telling.{is_made, is_message, is_refused, one_if}
+use Rattle.gen_law.specs.Refusals.{is_refused}
+use Rattle.sync_top.specs.Telling.{is_made, is_message, one_if}
 
 abbrev pub counted : Counts → Words → Counts
 counted counts words = record { messages = counts.messages + one_if (is_message words); made = counts.made + one_if (is_made words); refused = counts.refused + one_if (is_refused words) }

@@ -14,7 +14,7 @@ use Rattle.sync_words.specs.Reports.{report_text}
 use Rattle.sync_words.specs.Words.{outcome_line, words_text}
 use Rattle.sync_top.specs.declared.command.LineEnd.{LineEnd}
 use Rattle.sync_top.specs.declared.command.LineEnd.TheVariants as line_ends
-use Rattle.sync_top.specs.Runs.{is_blank}
+use Rattle.sync_node.specs.Items.{is_blank}
 
 -- ---- a line and its answer
 abbrev pub told : ℕ → Outcome → List ℕ × World

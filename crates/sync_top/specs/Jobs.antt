@@ -3,8 +3,9 @@ use Rattle.std.specs.Prelude.{◌≡◌, ◌<◌, ◌≤◌, ◌^◌, ℕ, Bool,
 use Rattle.uuid.specs.Text.{parsed}
 use Rattle.sync_top.specs.declared.job.Job.{Job}
 use Rattle.sync_top.specs.declared.job.Job.TheVariants as jobs
-use Rattle.sync_top.specs.declared.job.FileCommand.{FileCommand}
-use Rattle.sync_top.specs.declared.job.FileCommand.TheVariants as commands
+use Rattle.sync_node.specs.FileCommands.{IsFileCommand}
+use Rattle.sync_node.specs.declared.files.FileCommand.{FileCommand}
+use Rattle.sync_node.specs.declared.files.FileCommand.TheVariants as commands
 
 -- the most turns of a generated exchange
 abbrev pub most_turns : ℕ
@@ -55,12 +56,6 @@ IsPlain command = Unit {0}
 abbrev pub IsStart : Job → List ℕ → Type 0
 IsStart (jobs.File (commands.Start id)) word = parsed word ≡ Some id
 IsStart job word = ⊥
-
--- a number has 32 bits, and an ident is at least 1
-abbrev pub IsFileCommand : FileCommand → Type 0
-IsFileCommand (commands.Retire ident) = (1 ≤ ident) × (ident < 2 ^ 32)
-IsFileCommand (commands.Rescue after) = after < 2 ^ 32
-IsFileCommand command = Unit {0}
 
 -- a command over a file, by its word
 abbrev pub IsFileJob : Job → List ℕ → Type 0

@@ -25,8 +25,8 @@ use Rattle.sync_node.specs.Opening.{client_file}
 use Rattle.sync_node.specs.Recovering.{heard, recover_step}
 use Rattle.sync_node.specs.Runs.{Run, added, no_notes, run_from}
 use Rattle.sync_node.specs.Steps.{edit_step, take_step}
-use Rattle.sync_top.specs.declared.job.FileCommand.{FileCommand}
-use Rattle.sync_top.specs.declared.job.FileCommand.TheVariants as commands
+use Rattle.sync_node.specs.declared.files.FileCommand.{FileCommand}
+use Rattle.sync_node.specs.declared.files.FileCommand.TheVariants as commands
 
 -- ---- runs over the heir's file
 -- a run of a command over an input, at whose end so many of its records stand

@@ -1,6 +1,5 @@
 -- A run over the lines of an input: what is written, how the run ends, and what it leaves.
-use Rattle.std.specs.Prelude.{◌≡◌, ℕ, zero, suc, ◌+◌, ◌==◌, ◌<◌, Bool, Vec, None, Some, true, false, ◌||◌, if◌then◌else◌, List, [], ◌++◌, length, Option, IfSome, Result, Ok, Err}
-use Rattle.std.specs.List.{list_all}
+use Rattle.std.specs.Prelude.{◌≡◌, ℕ, zero, suc, ◌+◌, Bool, None, Some, true, false, if◌then◌else◌, List, [], ◌++◌, Option, IfSome, Result, Ok, Err}
 use Rattle.std.specs.Bool.{MatchBool}
 use Rattle.std.specs.Option.{option_map}
 use Rattle.sync_io.specs.Reading.{Reading, Ends, Gives, AtEnd, AtLongLine, AtLimit}
@@ -8,16 +7,10 @@ use Rattle.sync_io.specs.Devices.{Took, TookSome}
 use Rattle.sync_io.specs.declared.status.Status.{Status}
 use Rattle.sync_io.specs.declared.status.Status.TheVariants as statuses
 use Rattle.sync_io.specs.declared.sink.SinkRefusal.{SinkRefusal}
-use Rattle.sync_io.specs.declared.refusal.ReadRefusal.{ReadRefusal}
-use Rattle.sync_io.specs.declared.refusal.ReadRefusal.TheVariants as reads
-use Rattle.std.specs.declared.alloc.Global.{Global}
+use Rattle.sync_node.specs.Items.{is_blank}
 use Rattle.sync_node.specs.Texts.{write_status}
 use Rattle.sync_top.specs.declared.command.LineEnd.{LineEnd}
 use Rattle.sync_top.specs.declared.command.LineEnd.TheVariants as line_ends
-
--- A blank line has spaces, tabs and carriage returns only. It is counted, and does nothing.
-abbrev pub is_blank : List ℕ → Bool
-is_blank line = list_all (λ b. (b == 32) || (b == 9) || (b == 13)) line
 
 -- what a command that is in some state does
 pub record Ran (C : Type 0) : Type 0 where
@@ -143,14 +136,6 @@ abbrev pub flush_status : Status → SinkRefusal → Status
 flush_status statuses.NoMemory refusal = statuses.NoMemory
 flush_status status refusal = write_status refusal
 
--- the status where a reader refuses the line of this number
-abbrev pub read_status : ℕ → ReadRefusal → Status
-read_status number reads.Failed = statuses.ReadFault
-read_status number reads.TooLong = statuses.BadInput number
-read_status number reads.Cut = statuses.BadInput number
-read_status number reads.InputTooLong = statuses.InputTooLong
-read_status number reads.NoMemory = statuses.NoMemory
-
 -- a line that is read ends a run by its own fault, that of a write, or out of memory
 abbrev pub IsLineStatus : Status → Type 0
 IsLineStatus statuses.BadWords = ⊥
@@ -159,39 +144,10 @@ IsLineStatus statuses.ReadFault = ⊥
 IsLineStatus statuses.DiskFault = ⊥
 IsLineStatus status = Unit {0}
 
--- a line that was read, and what the reader gives behind it
-abbrev pub Read : Option (Vec ℕ Global) → Option Reading → Option Reading → Type 0
-Read None old new = IfSome old (λ reading. reading ≡ Ends AtEnd)
-Read (Some line) old new = old ≡ option_map (Gives line.items) new
-
--- how many lines were read
-abbrev pub CountsRead : Option (Vec ℕ Global) → ℕ → ℕ → Type 0
-CountsRead None old new = Unit {0}
-CountsRead (Some line) old new = (new ≡ old + 1) × (0 < length line.items → new < 4294967296)
-
--- the run ends where a reader refuses the line of this number
-abbrev pub EndsReading : Status → ℕ → Option Reading → Type 0
-EndsReading (statuses.BadInput place) number old = (place ≡ number) × IfSome old (λ reading. reading ≡ Ends AtLongLine)
-EndsReading statuses.InputTooLong number old = IfSome old (λ reading. reading ≡ Ends AtLimit)
-EndsReading statuses.ReadFault number old = Unit {0}
-EndsReading statuses.NoMemory number old = Unit {0}
-EndsReading status number old = ⊥
-
 -- the same of a source that may not tell its bytes
 abbrev pub Went : {C : Type 0} → (C → ℕ → List ℕ → Result (List ℕ × C) LineEnd) → ℕ → Option Reading → C → List ℕ → C → Option Reading → Type 0
 Went answers count None command text next new = new ≡ None
 Went answers count (Some reading) command text next new = (rest : Reading) × (new ≡ Some rest) × Passes answers count reading command text next rest
-
--- all of them: what is left to be written is the report
-pub record AnsweredAll {C : Type 0} (answers : C → ℕ → List ℕ → Result (List ℕ × C) LineEnd) (holds : C → Type 0) (readings : Option Reading) (command : C) (old new : Option (List ℕ)) : Type 0 where
-  pub lines : ℕ
-  pub text : List ℕ
-  pub next : C
-  pub rest : Option Reading
-  pub went : Went answers lines readings command text next rest
-  pub at_end : IfSome rest (λ reading. reading ≡ Ends AtEnd)
-  pub took : Took text old new
-  pub left : holds next
 
 -- a report that is written ends a run well, by a fault of its write, or out of memory
 abbrev pub IsReportStatus : Status → Type 0
@@ -206,16 +162,3 @@ IsRunStatus statuses.BadWords = ⊥
 IsRunStatus statuses.DiskFault = ⊥
 IsRunStatus (statuses.BadFile place) = ⊥
 IsRunStatus status = Unit {0}
-
-abbrev pub IsDoneOrNoMemory : Status → Type 0
-IsDoneOrNoMemory statuses.Done = Unit {0}
-IsDoneOrNoMemory statuses.NoMemory = Unit {0}
-IsDoneOrNoMemory status = ⊥
-
--- the ends of a run at a read
-abbrev pub IsReadStatus : Status → Type 0
-IsReadStatus (statuses.BadInput place) = Unit {0}
-IsReadStatus statuses.InputTooLong = Unit {0}
-IsReadStatus statuses.ReadFault = Unit {0}
-IsReadStatus statuses.NoMemory = Unit {0}
-IsReadStatus status = ⊥

@@ -2,7 +2,7 @@
 use Rattle.sync_io.specs.declared.status.Status.{Status}
 use Rattle.sync_top.specs.declared.job.Job.{Job}
 use Rattle.sync_top.specs.declared.job.Job.TheVariants as jobs
-use Rattle.sync_top.specs.Commands.{IsFileStatus}
+use Rattle.sync_node.specs.FileCommands.{IsFileStatus}
 use Rattle.sync_top.specs.Runs.{IsReportStatus, IsRunStatus}
 
 -- a generated exchange ends as the write of its summary does

@@ -12,7 +12,8 @@ use Rattle.sync_model.specs.Worlds.{Event, Node, World, empty_world, has_name, s
 use Rattle.sync_words.specs.Words.{said}
 use Rattle.gen_law.specs.Generated.{events_of, words_by, world_by}
 use Rattle.gen_law.specs.Plans.{clients}
-use Rattle.sync_top.specs.Telling.{is_made, is_refused}
+use Rattle.gen_law.specs.Refusals.{is_refused}
+use Rattle.sync_top.specs.Telling.{is_made}
 
 -- ---- the nodes at the end
 -- the length of the server's history

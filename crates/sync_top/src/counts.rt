@@ -7,7 +7,8 @@ ghost use Rattle.sync_words.specs.Outcomes.{outcome_seen};
 ghost use Rattle.sync_top.specs.Counting.{Goes, HasRoom, counted};
 ghost use Rattle.gen_law.specs.Generated.{exchanged, newest_to, world_by};
 ghost use Rattle.gen_law.specs.Plans.{IsClient};
-ghost use Rattle.sync_top.specs.Telling.{is_made, is_message, is_refused, one_if};
+ghost use Rattle.gen_law.specs.Refusals.{is_refused};
+ghost use Rattle.sync_top.specs.Telling.{is_made, is_message, one_if};
 
 use std::alloc::Global;
 use sync_data::{Name, NoMemory};
@@ -90,14 +91,9 @@ impl Counts {
     fn count(&mut self, outcome: &Outcome)
         ensures { IfSome (outcome_seen outcome.now) (λ words. HasRoom self.old → self.new ≡ counted self.old words) }
     {
-        let messages = plus_if(self.messages, is_message(outcome));
-        let made = plus_if(self.made, is_made(outcome));
-        let refused = plus_if(self.refused, is_refused(outcome));
-        *self = Counts {
-            messages,
-            made,
-            refused,
-        };
+        self.messages = plus_if(self.messages, is_message(outcome));
+        self.made = plus_if(self.made, is_made(outcome));
+        self.refused = plus_if(self.refused, is_refused(outcome));
     }
 
     /// An event happens, and what it comes to is counted.

@@ -12,8 +12,8 @@ use super::progress::Progress;
 use super::summary::summary_of;
 use std::alloc::Global;
 use sync_data::NoMemory;
-use sync_io::{Sink, Status, write_all};
-use sync_node::write_status;
+use sync_io::{Sink, Status};
+use sync_node::write_text;
 use sync_world::World;
 
 /// The exchange happens in a world, and its summary is answered.
@@ -29,23 +29,7 @@ fn generated(alloc: Global, seed: u64, count: u32, world: &mut World) -> Result<
     summary_of(alloc, seed, count, progress.counts, world)
 }
 
-/// Writes a text, and hands it on.
-fn write_text<K: Sink>(sink: &mut K, text: &[u8]) -> Status
-    ensures writes { Writes text.now result (K.taken sink.old) (K.taken sink.new) }
-    ensures faults { K.faults sink.old ≤ K.faults sink.new }
-    ensures cause { result ≡ Status.WriteFault → HasRisen (K.faults sink.old) (K.faults sink.new) }
-{
-    if let Err(refusal) = write_all(sink, text) {
-        return write_status(refusal);
-    }
-    match sink.flush() {
-        Ok(()) => Status::Done,
-        Err(refusal) => write_status(refusal),
-    }
-}
-
-/// Generates an exchange of so many turns in a new world, and writes its summary
-/// (docs/FORMATS.md, "The generator").
+/// Generates an exchange of so many turns in a new world, and writes its summary (docs/FORMATS.md, "The generator").
 pub fn generate<K: Sink>(
     alloc: Global,
     seed: u64,
@@ -56,8 +40,7 @@ pub fn generate<K: Sink>(
     requires turns { count ≤ most_turns }
     requires fresh { Holds model.empty_world world.old }
 
-    // What is written is the summary of the events that follow from the seed. After a fault and out of memory what
-    // was written is a part of it, from its front. There is no other answer.
+    // What is written is the summary of the seed's events; after a fault and out of memory a part of it, from its front.
     ensures generated { Writes (summary_of seed count) result (K.taken sink.old) (K.taken sink.new) }
 
     // The events happen in this world and no other: after every answer but out of memory it is the world after all of them.
@@ -67,8 +50,6 @@ pub fn generate<K: Sink>(
     ensures faults { K.faults sink.old ≤ K.faults sink.new }
     ensures write_cause { result ≡ Status.WriteFault → HasRisen (K.faults sink.old) (K.faults sink.new) }
 {
-    match generated(alloc, seed, count, world) {
-        Ok(text) => write_text(sink, &text),
-        Err(NoMemory) => Status::NoMemory,
-    }
+    let made = generated(alloc, seed, count, world);
+    write_text(sink, made)
 }

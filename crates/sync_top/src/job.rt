@@ -1,38 +1,11 @@
 ghost use Rattle.std.specs.Prelude.{◌≡◌, ◌↔◌, ℕ, IfSome, IfNone, Some, map, string_bytes};
 ghost use Rattle.sync_top.specs.Jobs.{AsksFor, IsExchange, IsFileJob, IsNumber, IsNumberedJob, IsPlain, IsShortNumber, IsStart, command_word, is_padded};
 
-use sync_data::Id;
+use sync_node::FileCommand;
 use uuid::Uuid;
 
 /// The most turns of a generated exchange.
 pub const MOST_TURNS: u32 = 100_000;
-
-/// A command over the file of a node.
-#[derive(Clone, Copy, Debug, PartialEq, Eq)]
-pub enum FileCommand {
-    /// A client does what node lines say.
-    Edit,
-    /// A client writes what it has for the server.
-    Send,
-    /// A client writes its question for the history.
-    Ask,
-    /// A client takes frames.
-    Take,
-    /// A server answers frames.
-    Serve,
-    /// A node is shown.
-    Show,
-    /// A client writes that it takes over from the client of this ident, which is at least 1.
-    Retire { ident: u32 },
-    /// A client writes what is unsent, from the number after this one on.
-    Rescue { after: u32 },
-    /// A client takes frames of clients that it takes over from.
-    Recover,
-    /// A server writes the file that may stand in place of its own.
-    Trim,
-    /// A server writes the file of a new client of this uuid, which begins with the server's objects.
-    Start { id: Id },
-}
 
 /// What a command line asks for (docs/FORMATS.md, "Commands").
 #[derive(Clone, Copy, Debug, PartialEq, Eq)]

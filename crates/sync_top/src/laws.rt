@@ -67,8 +67,7 @@ pub(crate) fn trims_hold()
     ensures own { (records : List ServerRecord) (frames : Items) → StaysOwn records frames }
 {}
 
-/// However runs over an heir's file are repeated, and wherever they are stopped, each change of the old client is integrated or
-/// saved once.
+/// However runs over an heir's file are repeated or stopped, each change of the old client is integrated or saved once.
 pub(crate) fn recoveries_hold()
     ensures { (server : List ServerRecord) (ident by : ℕ) (old first : List ClientRecord) (runs : List HeirRun) → IsRecovery server ident by old first runs → IsSavedOnce server ident by old (after_runs first runs) }
 {

@@ -3,7 +3,6 @@
 
 mod command;
 mod counts;
-mod files;
 mod generated;
 mod job;
 mod laws;
@@ -16,6 +15,7 @@ mod summary;
 
 pub use command::{Command, LineEnd};
 pub use generated::generate;
-pub use job::{FileCommand, Job, MOST_TURNS, job_of};
+pub use job::{Job, MOST_TURNS, job_of};
 pub use lines::run_lines;
 pub use program::run;
+pub use sync_node::FileCommand;

@@ -1,44 +1,15 @@
 ghost use Rattle.std.specs.Prelude.{◌≡◌, ℕ, ◌+◌, ◌<◌, ◌≤◌, List, [], length, None, Result, Ok, Err, IfOk, IfErr, OnOk, OnErr};
 ghost use Rattle.sync_io.specs.Faults.{HasRisen};
-ghost use Rattle.sync_io.specs.Devices.{Took};
-ghost use Rattle.sync_io.specs.Input.{max_input};
-ghost use Rattle.sync_io.specs.Readers.{readings, readings_of};
-ghost use Rattle.sync_top.specs.Runs.{Follows, HasRun, ended, flush_status, IsReportStatus, answer_to, AnsweredAll, Read, CountsRead, EndsReading, is_blank, Answered, EndsAt, IsLineStatus, IsReadStatus, IsRunStatus, read_status};
+ghost use Rattle.sync_io.specs.Readers.{readings};
+ghost use Rattle.sync_top.specs.Runs.{Follows, HasRun, ended, flush_status, IsReportStatus, answer_to, Answered, EndsAt, IsLineStatus, IsRunStatus};
 
 use super::command::{Command, LineEnd};
 use std::alloc::Global;
 use sync_data::NoMemory;
-use sync_io::{LineReader, ReadRefusal, Sink, SinkRefusal, Source, Status, write_all};
-use sync_node::write_status;
+use sync_io::{LineReader, Sink, SinkRefusal, Source, Status, write_all};
+use sync_node::{is_blank, read_status, write_status};
 
-/// Spaces, tabs and carriage returns only.
-fn is_blank(line: &[u8]) -> bool
-    ensures { result ≡ is_blank line.now }
-{
-    line.iter()
-        .all(|b| *b == b' ' || *b == b'\t' || *b == b'\r')
-}
-
-/// The status where a reader refuses the line after so many.
-fn read_status(before: u64, refusal: ReadRefusal) -> Status
-    requires too_long { refusal ≡ ReadRefusal.TooLong → before + 1 < 4294967296 }
-    requires cut { refusal ≡ ReadRefusal.Cut → before + 1 < 4294967296 }
-    ensures { result ≡ read_status (before + 1) refusal }
-{
-    match refusal {
-        ReadRefusal::Failed => Status::ReadFault,
-        ReadRefusal::TooLong => Status::BadInput {
-            place: (before + 1) as u32,
-        },
-        ReadRefusal::Cut => Status::BadInput {
-            place: (before + 1) as u32,
-        },
-        ReadRefusal::InputTooLong => Status::InputTooLong,
-        ReadRefusal::NoMemory => Status::NoMemory,
-    }
-}
-
-/// Answers the line of this number, and writes the answer.
+/// Answers the line of this number, and writes the answer. A blank one is passed over.
 fn answer_line<K: Sink, C: Command>(
     alloc: Global,
     sink: &mut K,
@@ -58,25 +29,7 @@ fn answer_line<K: Sink, C: Command>(
     if is_blank(line) {
         return Ok(());
     }
-    answer_filled(alloc, sink, command, number as u32, line)
-}
-
-/// The same for a line that isn't blank.
-fn answer_filled<K: Sink, C: Command>(
-    alloc: Global,
-    sink: &mut K,
-    command: &mut C,
-    number: u32,
-    line: &[u8],
-) -> Result<(), Status>
-    ensures ok { (s : C.State) → C.holds s command.old
-        → OnOk result (Answered (C.answers s number line.now) (λ t. C.holds t command.new) (K.taken sink.old) (K.taken sink.new)) }
-    ensures err { (s : C.State) → C.holds s command.old
-        → IfErr result (λ status. EndsAt status number s (C.answers s number line.now) (λ t. C.holds t command.new) (K.taken sink.old) (K.taken sink.new)) }
-    ensures faults { K.faults sink.old ≤ K.faults sink.new }
-    ensures cause { result ≡ Err Status.WriteFault → HasRisen (K.faults sink.old) (K.faults sink.new) }
-    ensures only { IfErr result IsLineStatus }
-{
+    let number = number as u32;
     let text = match command.answer(alloc, number, line) {
         Ok(text) => text,
         Err(LineEnd::BadLine) => return Err(Status::BadInput { place: number }),
@@ -85,64 +38,6 @@ fn answer_filled<K: Sink, C: Command>(
     match write_all(sink, &text) {
         Ok(()) => Ok(()),
         Err(refusal) => Err(write_status(refusal)),
-    }
-}
-
-/// The next line, or None at the end of the input. So many were read before.
-fn next_line<S: Source>(
-    reader: &mut LineReader,
-    source: &mut S,
-    before: u64,
-) -> Result<Option<Vec<u8>>, Status>
-    requires fresh { reader.old.refused ≡ None }
-    requires before { before ≡ reader.old.lines }
-    ensures read { IfOk result (λ line. Read line (readings_of reader.old (S.left source.old)) (readings_of reader.new (S.left source.new))) }
-    ensures counts { IfOk result (λ line. CountsRead line reader.old.lines reader.new.lines) }
-    ensures fresh { OnOk result (reader.new.refused ≡ None) }
-    ensures few { reader.new.lines ≤ max_input }
-    ensures err { IfErr result (λ status. EndsReading status (before + 1) (readings_of reader.old (S.left source.old))) }
-    ensures faults { S.faults source.old ≤ S.faults source.new }
-    ensures cause { result ≡ Err Status.ReadFault → HasRisen (S.faults source.old) (S.faults source.new) }
-    ensures only { IfErr result IsReadStatus }
-{
-    match reader.next(source) {
-        Ok(line) => Ok(line),
-        Err(refusal) => Err(read_status(before, refusal)),
-    }
-}
-
-/// Answers the lines up to the end of the input.
-fn answer_lines<S: Source, K: Sink, C: Command>(
-    alloc: Global,
-    reader: &mut LineReader,
-    source: &mut S,
-    sink: &mut K,
-    command: &mut C,
-) -> Result<(), Status>
-    requires fresh { reader.old.refused ≡ None }
-    requires first { reader.old.lines ≡ 0 }
-    ensures ok { (s : C.State) → C.holds s command.old
-        → OnOk result (AnsweredAll C.answers (λ t. C.holds t command.new) (readings_of reader.old (S.left source.old)) s (K.taken sink.old) (K.taken sink.new)) }
-    ensures err { (s : C.State) → C.holds s command.old
-        → IfErr result (λ status. HasRun C.answers C.report (λ t. C.holds t command.new) status (readings_of reader.old (S.left source.old)) s (K.taken sink.old) (K.taken sink.new)) }
-    ensures source_faults { S.faults source.old ≤ S.faults source.new }
-    ensures sink_faults { K.faults sink.old ≤ K.faults sink.new }
-    ensures read_cause { result ≡ Err Status.ReadFault → HasRisen (S.faults source.old) (S.faults source.new) }
-    ensures write_cause { result ≡ Err Status.WriteFault → HasRisen (K.faults sink.old) (K.faults sink.new) }
-    ensures only { IfErr result IsRunStatus }
-{
-    let mut number: u64 = 0;
-    'lines: loop {
-        let line = match next_line(reader, source, number) {
-            Ok(Some(line)) => line,
-            Ok(None) => return Ok(()),
-            Err(status) => return Err(status),
-        };
-        number += 1;
-        match answer_line(alloc, sink, command, number, &line) {
-            Ok(()) => {}
-            Err(status) => return Err(status),
-        }
     }
 }
 
@@ -164,7 +59,7 @@ fn write_report<K: Sink, C: Command>(sink: &mut K, command: &C) -> Status
     }
 }
 
-/// Answers all lines, and then writes the report.
+/// Answers the lines up to the end of the input, and then writes the report.
 fn answer_all<S: Source, K: Sink, C: Command>(
     alloc: Global,
     source: &mut S,
@@ -183,9 +78,18 @@ fn answer_all<S: Source, K: Sink, C: Command>(
         Ok(reader) => reader,
         Err(_) => return Status::NoMemory,
     };
-    match answer_lines(alloc, &mut reader, source, sink, command) {
-        Ok(()) => write_report(sink, command),
-        Err(status) => status,
+    let mut number: u64 = 0;
+    'lines: loop {
+        let line = match reader.next(source) {
+            Ok(Some(line)) => line,
+            Ok(None) => return write_report(sink, command),
+            Err(refusal) => return read_status(number, refusal),
+        };
+        number += 1;
+        match answer_line(alloc, sink, command, number, &line) {
+            Ok(()) => {}
+            Err(status) => return status,
+        }
     }
 }
 
@@ -199,8 +103,7 @@ fn flush_status(status: Status, refusal: SinkRefusal) -> Status
     }
 }
 
-/// Runs a command over the lines of a source: the answers are written, and at the end of the input
-/// the report, and the sink is flushed.
+/// Runs a command over the lines of a source: writes the answers, at the end of the input the report, and flushes the sink.
 pub fn run_lines<S: Source, K: Sink, C: Command>(
     alloc: Global,
     source: &mut S,

@@ -1,109 +1,35 @@
-ghost use Rattle.std.specs.Prelude.{◌≡◌, ◌≢◌, ◌≤◌, ◌↔◌, ℕ, List, [], IfSome, map, string_bytes};
+ghost use Rattle.std.specs.Prelude.{◌≡◌, ◌≢◌, ◌≤◌, ◌↔◌, ℕ, List, [], IfSome, count_by, map, string_bytes};
 ghost use Rattle.sync_disk.specs.Disk.{Rose, Told};
 ghost use Rattle.sync_io.specs.Faults.{HasRisen};
 ghost use Rattle.sync_io.specs.Readers.{readings};
 ghost use Rattle.sync_io.specs.Reading.{Reading};
 ghost use Rattle.sync_model.specs.Worlds as model;
 ghost use Rattle.sync_world.specs.Holding.{Holds};
-ghost use Rattle.sync_top.specs.Commands.{Does, IsFileFor, IsInputFor, ReadsNothing};
+ghost use Rattle.sync_node.specs.FileCommands.{Does, IsFileFor, IsInputFor, ReadsNothing};
 ghost use Rattle.sync_top.specs.Exchange.{IsValidInput, answers, events_of, report};
 ghost use Rattle.gen_law.specs.Ends.{AllCaughtUp};
-ghost use Rattle.gen_law.specs.Generated.{events_of as drawn_events, world_by};
-ghost use Rattle.sync_top.specs.Jobs.{AsksFor, IsFileCommand, most_turns};
+ghost use Rattle.gen_law.specs.Generated.{events_of as drawn_events, words_by, world_by};
+ghost use Rattle.gen_law.specs.Refusals.{is_refused};
+ghost use Rattle.sync_top.specs.Jobs.{AsksFor};
 ghost use Rattle.sync_top.specs.Playing.{Writes};
 ghost use Rattle.sync_top.specs.Recoveries.{SavesAtAnyEnd};
-ghost use Rattle.sync_top.specs.Runs.{FollowsTold, IsDoneOrNoMemory, Leaves, Passes, run_from, runs};
+ghost use Rattle.sync_node.specs.Texts.{IsDoneOrNoMemory};
+ghost use Rattle.sync_top.specs.Runs.{FollowsTold, Leaves, Passes, run_from, runs};
 ghost use Rattle.sync_top.specs.Statuses.{IsJobStatus};
 ghost use Rattle.sync_top.specs.Summaries.{equal_in, summary_of};
 ghost use Rattle.sync_top.specs.Synced.{IsSynced, first};
 ghost use Rattle.sync_top.specs.Trims.{ServesOwn, TrimsAlike};
 
-use super::files::run_file;
 use super::generated::generate;
-use super::job::{FileCommand, Job, job_of};
+use super::job::{Job, job_of};
 use super::laws::{exchanges_hold, generated_end_equal, recoveries_hold, trims_hold};
 use super::lines::run_lines;
+use gen_law::generated_exchanges_refuse_nothing;
 use std::alloc::Global;
 use sync_disk::Disk;
 use sync_io::{Sink, Source, Status};
+use sync_node::{FileCommand, run_file};
 use sync_world::World;
-
-/// Runs a job: what `run` does of the words that ask for it.
-fn run_job<S: Source, K: Sink, D: Disk>(
-    alloc: Global,
-    job: Job,
-    source: &mut S,
-    sink: &mut K,
-    disk: &mut D,
-    world: &mut World,
-) -> Status
-    requires fresh { Holds model.empty_world world.old }
-    requires turns { (seed count : ℕ) → job ≡ Job.Generate seed count → count ≤ most_turns }
-    requires number { (command : FileCommand) → job ≡ Job.File command → IsFileCommand command }
-    ensures replay { job ≡ Job.Replay
-        → FollowsTold result (runs answers report 0 (readings 0 [] (S.left source.old)) model.empty_world) (K.taken sink.old) (K.taken sink.new) }
-    ensures world { job ≡ Job.Replay
-        → Leaves answers report (λ w. Holds w world.new) result (readings 0 [] (S.left source.old)) model.empty_world (K.taken sink.old) (K.taken sink.new) }
-    ensures headline { job ≡ Job.Replay
-        → IfSome (readings 0 [] (S.left source.old)) (λ reading. IsSynced (events_of reading) (run_from answers report 0 reading model.empty_world).left) }
-    ensures headline_after_faults { job ≡ Job.Replay
-        → IfSome (readings 0 [] (S.left source.old)) (λ reading. (lines : ℕ) (text : List ℕ) (w : model.World) (rest : Reading) → Passes answers lines reading model.empty_world text w rest → IsSynced (events_of (first lines reading)) w) }
-    ensures generated { (seed count : ℕ) → job ≡ Job.Generate seed count
-        → Writes (summary_of seed count) result (K.taken sink.old) (K.taken sink.new) }
-    ensures generates { (seed count : ℕ) → job ≡ Job.Generate seed count → result ≢ Status.NoMemory
-        → Holds (world_by model.empty_world (drawn_events seed count)) world.new }
-    ensures generated_headline { (seed count : ℕ) → job ≡ Job.Generate seed count
-        → IsSynced (drawn_events seed count) (world_by model.empty_world (drawn_events seed count)) }
-    ensures caught_up { (seed count : ℕ) → job ≡ Job.Generate seed count
-        → AllCaughtUp (world_by model.empty_world (drawn_events seed count)) }
-    ensures equal { (seed count : ℕ) → job ≡ Job.Generate seed count
-        → equal_in (world_by model.empty_world (drawn_events seed count)) ≡ 8 }
-    ensures file { (command : FileCommand) → job ≡ Job.File command
-        → Does D.content D.images D.moment D.images_since command (S.left source.old) result disk.old disk.new (K.taken sink.old) (K.taken sink.new) }
-    ensures trims { job ≡ Job.File FileCommand.Trim → TrimsAlike (D.content disk.old) }
-    ensures own { job ≡ Job.File FileCommand.Serve → ServesOwn (D.content disk.old) (S.left source.old) }
-    ensures saves { (command : FileCommand) → job ≡ Job.File command
-        → SavesAtAnyEnd D.content D.images command (S.left source.old) disk.old disk.new }
-    ensures disk_aside { job ≡ Job.Replay → disk.new ≡ disk.old }
-    ensures all_aside { (seed count : ℕ) → job ≡ Job.Generate seed count → (source.new ≡ source.old) × (disk.new ≡ disk.old) }
-    ensures world_aside { (command : FileCommand) → job ≡ Job.File command → world.new ≡ world.old }
-    ensures unread { (command : FileCommand) → job ≡ Job.File command → ReadsNothing command → source.new ≡ source.old }
-    ensures bad_untouched { (place : ℕ) → result ≡ Status.BadFile place → (source.new ≡ source.old) × (sink.new ≡ sink.old) }
-    ensures source_faults { S.faults source.old ≤ S.faults source.new }
-    ensures sink_faults { K.faults sink.old ≤ K.faults sink.new }
-    ensures disk_faults { D.faults disk.old ≤ D.faults disk.new }
-    ensures read_cause { result ≡ Status.ReadFault → HasRisen (S.faults source.old) (S.faults source.new) }
-    ensures write_cause { result ≡ Status.WriteFault → HasRisen (K.faults sink.old) (K.faults sink.new) }
-    ensures disk_cause { result ≡ Status.DiskFault → Rose (D.faults disk.old) (D.faults disk.new) }
-    ensures only { IsJobStatus job result }
-    ensures complete { job ≡ Job.Replay → IsValidInput (S.left source.old)
-        → (HasRisen (S.faults source.old) (S.faults source.new) → ⊥)
-        → (HasRisen (K.faults sink.old) (K.faults sink.new) → ⊥) → IsDoneOrNoMemory result }
-    ensures complete_generate { (seed count : ℕ) → job ≡ Job.Generate seed count
-        → (HasRisen (K.faults sink.old) (K.faults sink.new) → ⊥) → IsDoneOrNoMemory result }
-    ensures complete_file { (command : FileCommand) → job ≡ Job.File command
-        → Told (D.content disk.old) (λ b. IsFileFor command b → IsInputFor command (S.left source.old)
-        → (HasRisen (S.faults source.old) (S.faults source.new) → ⊥)
-        → (HasRisen (K.faults sink.old) (K.faults sink.new) → ⊥)
-        → (Rose (D.faults disk.old) (D.faults disk.new) → ⊥) → IsDoneOrNoMemory result) }
-{
-    match job {
-        Job::Replay => {
-            exchanges_hold();
-            run_lines(alloc, source, sink, world)
-        }
-        Job::Generate { seed, count } => {
-            exchanges_hold();
-            generated_end_equal();
-            generate(alloc, seed, count, sink, world)
-        }
-        Job::File { command } => {
-            trims_hold();
-            recoveries_hold();
-            run_file(alloc, command, source, sink, disk)
-        }
-    }
-}
 
 /// One run of the program: its words, its input, its output, the disk of the file that it names, and the exchange in which it
 /// runs, which is as `World::new` made it (docs/FORMATS.md, "Commands").
@@ -121,8 +47,7 @@ pub fn run<S: Source, K: Sink, D: Disk>(
     ensures words { (result ≡ Status.BadWords) ↔ ((job : Job) → AsksFor job (map string_bytes words.now) → ⊥) }
     ensures untouched { result ≡ Status.BadWords → (source.new ≡ source.old) × (sink.new ≡ sink.old) × (disk.new ≡ disk.old) × (world.new ≡ world.old) }
 
-    // What is written, and the status, are the replay's of the bytes. After a fault and after want
-    // of memory what was written is a part of it, from its front.
+    // What is written, and the status, are the replay's of the bytes; after a fault and out of memory a part, from its front.
     ensures replay { AsksFor Job.Replay (map string_bytes words.now)
         → FollowsTold result (runs answers report 0 (readings 0 [] (S.left source.old)) model.empty_world) (K.taken sink.old) (K.taken sink.new) }
 
@@ -137,8 +62,7 @@ pub fn run<S: Source, K: Sink, D: Disk>(
     ensures headline_after_faults { AsksFor Job.Replay (map string_bytes words.now)
         → IfSome (readings 0 [] (S.left source.old)) (λ reading. (lines : ℕ) (text : List ℕ) (w : model.World) (rest : Reading) → Passes answers lines reading model.empty_world text w rest → IsSynced (events_of (first lines reading)) w) }
 
-    // What is written of a generated exchange is the summary of the events that follow from the seed, and the exchange that is
-    // left is that after all of them.
+    // What is written of a generated exchange is the summary of the seed's events; what is left is the exchange after them.
     ensures generated { (seed count : ℕ) → AsksFor (Job.Generate seed count) (map string_bytes words.now)
         → Writes (summary_of seed count) result (K.taken sink.old) (K.taken sink.new) }
     ensures generates { (seed count : ℕ) → AsksFor (Job.Generate seed count) (map string_bytes words.now) → result ≢ Status.NoMemory
@@ -148,12 +72,15 @@ pub fn run<S: Source, K: Sink, D: Disk>(
     ensures generated_headline { (seed count : ℕ) → AsksFor (Job.Generate seed count) (map string_bytes words.now)
         → IsSynced (drawn_events seed count) (world_by model.empty_world (drawn_events seed count)) }
 
-    // In the end all eight clients have the whole history, nothing unsent and the server's objects, and the number written as
-    // `equal` is 8.
+    // In the end all eight clients have the whole history, nothing unsent and the server's objects: `equal` is written as 8.
     ensures caught_up { (seed count : ℕ) → AsksFor (Job.Generate seed count) (map string_bytes words.now)
         → AllCaughtUp (world_by model.empty_world (drawn_events seed count)) }
     ensures equal { (seed count : ℕ) → AsksFor (Job.Generate seed count) (map string_bytes words.now)
         → equal_in (world_by model.empty_world (drawn_events seed count)) ≡ 8 }
+
+    // On the way no event of it is refused and no reply refuses: the number written as `refused` is 0.
+    ensures refused { (seed count : ℕ) → AsksFor (Job.Generate seed count) (map string_bytes words.now)
+        → count_by is_refused (words_by model.empty_world (drawn_events seed count)) ≡ 0 }
 
     // A command over a file does what is written of it.
     ensures file { (command : FileCommand) → AsksFor (Job.File command) (map string_bytes words.now)
@@ -187,8 +114,7 @@ pub fn run<S: Source, K: Sink, D: Disk>(
     ensures disk_cause { result ≡ Status.DiskFault → Rose (D.faults disk.old) (D.faults disk.new) }
     ensures only { (job : Job) → AsksFor job (map string_bytes words.now) → IsJobStatus job result }
 
-    // Where every line or frame is valid, the file is a journal of the command's node, and no count of faults rose, the run is
-    // done, or memory ran out.
+    // With valid input, over a file of the command's node and without a fault, the run is done, or memory ran out.
     ensures complete { AsksFor Job.Replay (map string_bytes words.now) → IsValidInput (S.left source.old)
         → (HasRisen (S.faults source.old) (S.faults source.new) → ⊥)
         → (HasRisen (K.faults sink.old) (K.faults sink.new) → ⊥) → IsDoneOrNoMemory result }
@@ -200,8 +126,25 @@ pub fn run<S: Source, K: Sink, D: Disk>(
         → (HasRisen (K.faults sink.old) (K.faults sink.new) → ⊥)
         → (Rose (D.faults disk.old) (D.faults disk.new) → ⊥) → IsDoneOrNoMemory result) }
 {
-    match job_of(words) {
-        Some(job) => run_job(alloc, job, source, sink, disk, world),
-        None => Status::BadWords,
+    let job = match job_of(words) {
+        Some(job) => job,
+        None => return Status::BadWords,
+    };
+    match job {
+        Job::Replay => {
+            exchanges_hold();
+            run_lines(alloc, source, sink, world)
+        }
+        Job::Generate { seed, count } => {
+            exchanges_hold();
+            generated_end_equal();
+            generated_exchanges_refuse_nothing();
+            generate(alloc, seed, count, sink, world)
+        }
+        Job::File { command } => {
+            trims_hold();
+            recoveries_hold();
+            run_file(alloc, command, source, sink, disk)
+        }
     }
 }

@@ -65,14 +65,8 @@ impl Progress {
     {
         let client = client_name(1);
         let edits = Listed::of(first_edits(alloc)?);
-        self.counts.step(
-            world,
-            Event::Edit {
-                client,
-                ms: 1,
-                edits,
-            },
-        )
+        let ms = 1;
+        self.counts.step(world, Event::Edit { client, ms, edits })
     }
 
     fn push(&mut self, world: &mut World, client: u32) -> Result<(), NoMemory>

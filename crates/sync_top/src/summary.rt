@@ -23,12 +23,6 @@ fn put_line(alloc: Global, out: &mut Vec<u8>, word: &str, number: u64) -> Result
     put(out, "\n")
 }
 
-fn all_hold(whole: bool, sent: bool, same: bool) -> bool
-    ensures { result ≡ ((whole && sent) && same) }
-{
-    whole && sent && same
-}
-
 /// Whether a client has the whole history, nothing unsent, and what the server's dump shows.
 fn is_equal(alloc: Global, world: &World, name: &Name, dump: &[u8]) -> Result<bool, NoMemory>
     ensures { (w : model.World) → Holds w world.now → dump.now ≡ server_dump w → IfOk result (λ equal. equal ≡ equals w name.now) }
@@ -42,7 +36,7 @@ fn is_equal(alloc: Global, world: &World, name: &Name, dump: &[u8]) -> Result<bo
     let sent = client.unsent() == 0;
     let own = dump_lines(alloc, client.objects())?;
     let same = own.as_slice() == dump;
-    Ok(all_hold(whole, sent, same))
+    Ok(whole & sent & same)
 }
 
 /// How many of these clients are equal to the server.

@@ -10,8 +10,6 @@ mod idents;
 mod lists;
 mod past;
 mod starting;
-#[cfg(test)]
-mod tests;
 mod trimming;
 
 pub use files::{started_file, trimmed_file};

@@ -1,5 +1,5 @@
 -- The text of an outcome that the model has.
-use Rattle.std.proofs.Common.{◌≡◌, Option, Some, ap}
+use Rattle.std.proofs.Common.{◌≡◌, Some, ap}
 use Rattle.std.specs.Option.{option_map}
 use Rattle.sync_model.specs.Worlds.{Words}
 use Rattle.sync_words.specs.Outcomes.{outcome_seen, outcome_text}

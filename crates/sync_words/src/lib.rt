@@ -5,6 +5,6 @@ mod outcome;
 mod report;
 mod text;
 
-pub use outcome::{Outcome, outcome_line};
+pub use outcome::Outcome;
 pub use report::{put_client, put_server, put_standing};
 pub use text::{put, put_name, put_number, put_numbers, put_said};

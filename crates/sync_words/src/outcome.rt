@@ -191,19 +191,6 @@ fn put_declined(alloc: Global, out: &mut Vec<u8>, why: ClientRefusal) -> Result<
     }
 }
 
-/// Puts that the server's reply has this place, and what it says.
-fn put_replied(
-    alloc: Global,
-    out: &mut Vec<u8>,
-    place: u64,
-    reply: &Message,
-) -> Result<(), NoMemory>
-    ensures { OnOk result (out.new.items ≡ out.old.items ++ words_text (model.Replied place (message_seen reply.now))) }
-{
-    put_said(alloc, out, "reply", &[place])?;
-    put_reply(alloc, out, reply)
-}
-
 impl Outcome {
     /// Puts its words.
     fn put_words(&self, alloc: Global, out: &mut Vec<u8>) -> Result<(), NoMemory>
@@ -215,7 +202,10 @@ impl Outcome {
             Outcome::Made { number } => put_said(alloc, out, "made", &[*number as u64]),
             Outcome::Messaged { place } => put_said(alloc, out, "message", &[*place]),
             Outcome::Took { cursor } => put_said(alloc, out, "took", &[*cursor as u64]),
-            Outcome::Replied { place, reply } => put_replied(alloc, out, *place, reply),
+            Outcome::Replied { place, reply } => {
+                put_said(alloc, out, "reply", &[*place])?;
+                put_reply(alloc, out, reply)
+            }
             Outcome::Opened => put(out, "opened"),
             Outcome::Armed => put(out, "armed"),
             Outcome::Stopped => put(out, "stopped"),
@@ -232,26 +222,15 @@ impl Outcome {
         }
     }
 
-    /// Its line: the number of the line or frame, a space and the words.
+    /// Its line: the number of the line or frame, a space and the words (docs/FORMATS.md, "Outcome lines").
     pub fn line(&self, alloc: Global, number: u32) -> Result<Vec<u8>, NoMemory>
         ensures { IfSome (outcome_text self.now) (λ text. IfOk result (λ line. line.items ≡ outcome_line number text)) }
     {
-        let mut words = Vec::new(alloc);
-        self.put_words(alloc, &mut words)?;
-        outcome_line(alloc, number, &words)
+        let mut out = Vec::new(alloc);
+        put_number(alloc, &mut out, number as u64)?;
+        put(&mut out, " ")?;
+        self.put_words(alloc, &mut out)?;
+        put(&mut out, "\n")?;
+        Ok(out)
     }
-}
-
-/// The line of these words: the number of the line or frame, a space and the words (docs/FORMATS.md, "Outcome lines").
-pub fn outcome_line(alloc: Global, number: u32, words: &[u8]) -> Result<Vec<u8>, NoMemory>
-    ensures { IfOk result (λ line. line.items ≡ outcome_line number words.now) }
-{
-    let mut out = Vec::new(alloc);
-    put_number(alloc, &mut out, number as u64)?;
-    put(&mut out, " ")?;
-    if out.extend_from_slice(words).is_err() {
-        return Err(NoMemory);
-    }
-    put(&mut out, "\n")?;
-    Ok(out)
 }

@@ -63,20 +63,14 @@ impl World {
         ensures { (w : model.World) → Holds w self.old → Happens (model.happens the_profile w (model.Delivers number to.now)) result self.new }
     {
         if to.text() == "server" {
-            self.deliver_to_server(number)
+            worlds_read_back();
+            match messages::find(self.alloc, self.messages.as_slice(), number) {
+                Ok(Some(message)) => self.serve(message),
+                Ok(None) => Ok(Outcome::NoMessage),
+                Err(NoMemory) => Err(NoMemory),
+            }
         } else {
             self.deliver_to_client(number, to)
-        }
-    }
-
-    fn deliver_to_server(&mut self, number: u32) -> Result<Outcome, NoMemory>
-        ensures { (w : model.World) → Holds w self.old → Happens (model.happens the_profile w (model.Delivers number model.server_name)) result self.new }
-    {
-        worlds_read_back();
-        match messages::find(self.alloc, self.messages.as_slice(), number) {
-            Ok(Some(message)) => self.serve(message),
-            Ok(None) => Ok(Outcome::NoMessage),
-            Err(NoMemory) => Err(NoMemory),
         }
     }
 

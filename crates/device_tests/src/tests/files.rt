@@ -10,7 +10,7 @@ use sync_disk::{Disk, DiskRefusal, FileDisk};
 use sync_journal::{Journal, OpenCause};
 
 /// A path of that name for this process alone, where no file is.
-fn path_of(rt: &HostRuntime, name: &str) -> Option<PathBuf> {
+pub(crate) fn path_of(rt: &HostRuntime, name: &str) -> Option<PathBuf> {
     let alloc = rt.alloc();
     let Ok(name) = format!(in alloc; "{name}_{}", process::id(rt.process())) else {
         return None;

@@ -1,9 +1,9 @@
 use Rattle.sync_model.specs.Clients.{client_of, take}
 use Rattle.sync_exchange.specs.Profile.{the_profile}
-use Rattle.sync_exchange.specs.Seen.{client_bytes, message_seen}
+use Rattle.sync_exchange.specs.Seen.{message_seen}
 use Rattle.sync_client.specs.Refusals.{refusal_seen}
 use Rattle.sync_node.specs.Steps.{took_words}
-use Rattle.sync_node.proofs.Nodes.{leaves_now, prefix_leaves, said_err, said_ok}
+use Rattle.sync_node.proofs.Told.{said_err, said_ok}
 use Rattle.sync_node.proofs.calls.take.Goals as goal
 
 pub returns-in-Ok-clause-done : goal.returns-in-Ok-clause-done
@@ -16,13 +16,3 @@ pub returns-in-Err-clause-done : goal.returns-in-Err-clause-done
 returns-in-Err-clause-done g c = λ records stands.
     let did = take the_profile (client_of the_profile records) (message_seen c.args.message) in
     said_err took_words c.args.number did records c.take.new.self (refusal_seen c.in-Err.refusal) c.decline.result (c.in-Err.ensures.step records stands.client) (c.in-Err.ensures.stored records stands.client stands.stored) c.decline.ensures.seen
-
-pub returns-in-Ok-clause-leaves : goal.returns-in-Ok-clause-leaves
-returns-in-Ok-clause-leaves g c = λ records stands image is.
-    prefix_leaves client_bytes records (take the_profile (client_of the_profile records) (message_seen c.args.message)).records image
-    (leaves_now g.D.Disk.moment g.D.Disk.images g.D.Disk.images_since g.met.D.Disk.counts_now c.args.client.now.journal.disk c.take.new.self.journal.disk _ (c.take.ensures.any_moment records stands.client stands.stored) image is)
-
-pub returns-in-Err-clause-leaves : goal.returns-in-Err-clause-leaves
-returns-in-Err-clause-leaves g c = λ records stands image is.
-    prefix_leaves client_bytes records (take the_profile (client_of the_profile records) (message_seen c.args.message)).records image
-    (leaves_now g.D.Disk.moment g.D.Disk.images g.D.Disk.images_since g.met.D.Disk.counts_now c.args.client.now.journal.disk c.take.new.self.journal.disk _ (c.take.ensures.any_moment records stands.client stands.stored) image is)

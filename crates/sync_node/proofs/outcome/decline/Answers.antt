@@ -1,5 +1,5 @@
 use Rattle.sync_client.specs.Refusals.{refusal_seen}
-use Rattle.sync_node.proofs.Nodes.{declined_some, plain_seen}
+use Rattle.sync_node.proofs.Told.{declined_some, plain_seen}
 use Rattle.sync_node.proofs.outcome.decline.Goals as goal
 
 pub returns-in_default-clause-seen : goal.returns-in_default-clause-seen

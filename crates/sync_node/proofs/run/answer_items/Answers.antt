@@ -1,93 +1,206 @@
-use Rattle.std.proofs.Common.{◌≡◌, ◌++◌, ◌∷◌, [], append-nil, refl, sym, subst, ◌∙◌, arith}
+use Rattle.std.proofs.Common.{◌≡◌, ◌++◌, ◌∙◌, arith, refl, rules, subst, sym}
 use Rattle.std.specs.Option.{option_map}
 use Rattle.sync_io.specs.declared.status.Status.TheVariants as statuses
 use Rattle.sync_node.specs.Items.{Next, Read}
-use Rattle.sync_node.specs.Runs.{StandsSo, added, noting_runs}
-use Rattle.sync_node.proofs.Runs.{added_one, nothing_yet, runs_one, took_none, took_one}
-use Rattle.sync_node.proofs.Exits.{exits_item, exits_over, exits_reading, exits_told}
+use Rattle.sync_node.specs.Runs.{added, noting_runs, onto}
+use Rattle.sync_node.proofs.Exits.{exits_told}
+use Rattle.sync_node.proofs.Landed.{kept_by}
+use Rattle.sync_node.proofs.Waiting.{bad_stops, begins, ends, faults, flushed, gathered, over_stops, reading_stops}
 use Rattle.sync_node.proofs.run.answer_items.Goals as goal
 
 pub returns-in-Ok-None-clause-exits : goal.returns-in-Ok-None-clause-exits
-returns-in-Ok-None-clause-exits g c = λ notes records stands.
-    let so_far = c.items.invariant.so_far notes records stands in
-    let command = c.items.command in
-    let old = g.K.Sink.taken c.args.sink.now in
-    let mid = g.K.Sink.taken c.items.sink in
+returns-in-Ok-None-clause-exits g c = λ notes records stands holds.
+    let step = g.C.Command.step in
+    let noted = g.C.Command.noted in
+    let s = c.items.invariant.so_far notes records stands holds in
     let before = g.I.ItemReader.ahead c.items.items (g.S.Source.left c.items.source) in
     let after = g.I.ItemReader.ahead c.next.new.self (g.S.Source.left c.next.new.source) in
-    let now = records ++ added so_far.0 in
-    exits_told g.C.Command.bytes_of (StandsSo g.C.Command.Stands command) (g.C.Command.images command) records so_far.0 _ (noting_runs g.C.Command.step g.C.Command.noted so_far.1 now before) statuses.Done old mid mid so_far.4 so_far.2
-    (exits_over g.C.Command.bytes_of (StandsSo g.C.Command.Stands command) (g.C.Command.images command) now g.C.Command.step g.C.Command.noted so_far.1 (λ ns rs n i a e. g.met.C.Command.says ns rs n i a e) before mid
-    (subst (λ o. Read o before after) c.in-Ok-None.field-0-is c.in-Ok-None.ensures.read) (so_far.1, so_far.3) (λ image is. g.met.C.Command.keeps command so_far.1 now image so_far.3 is))
+    let old = g.K.Sink.taken c.args.sink.now in
+    let mid = g.K.Sink.taken c.items.sink in
+    let stored = records ++ added s.written in
+    let now = stored ++ added s.waiting in
+    let ended = c.finish in
+    exits_told g.C.Command.bytes_of (g.C.Command.Holds ended.new.command) (g.D.Disk.images (g.C.Command.disk_below ended.new.command)) records s.written _ (option_map (onto s.waiting) (noting_runs step noted s.notes now before)) ended.result old mid (g.K.Sink.taken ended.new.sink) s.goes s.took
+    (ended.ensures.exits s.notes stored s.waiting s.holds s.stands s.waits s.told (noting_runs step noted s.notes now before)
+    (over_stops step noted s.notes now before (subst (λ o. Read o before after) c.in-Ok-None.field-0-is c.in-Ok-None.ensures.read)))
 
 pub returns-in-Err-clause-exits : goal.returns-in-Err-clause-exits
-returns-in-Err-clause-exits g c = λ notes records stands.
-    let so_far = c.items.invariant.so_far notes records stands in
-    let command = c.items.command in
-    let old = g.K.Sink.taken c.args.sink.now in
-    let mid = g.K.Sink.taken c.items.sink in
-    let before = g.I.ItemReader.ahead c.items.items (g.S.Source.left c.items.source) in
-    let now = records ++ added so_far.0 in
-    exits_told g.C.Command.bytes_of (StandsSo g.C.Command.Stands command) (g.C.Command.images command) records so_far.0 _ (noting_runs g.C.Command.step g.C.Command.noted so_far.1 now before) c.in-Err.status old mid mid so_far.4 so_far.2
-    (exits_reading g.C.Command.bytes_of (StandsSo g.C.Command.Stands command) (g.C.Command.images command) now g.C.Command.step g.C.Command.noted so_far.1 (λ ns rs n i a e. g.met.C.Command.says ns rs n i a e) c.in-Err.status before mid
-    c.in-Err.ensures.err (so_far.1, so_far.3) (λ image is. g.met.C.Command.keeps command so_far.1 now image so_far.3 is))
-
-pub returns-in-Err-answer_item-clause-exits : goal.returns-in-Err-answer_item-clause-exits
-returns-in-Err-answer_item-clause-exits g c = λ notes records stands.
-    let so_far = c.items.invariant.so_far notes records stands in
-    let command = c.answer_item.new.command in
-    let old = g.K.Sink.taken c.args.sink.now in
-    let mid = g.K.Sink.taken c.items.sink in
-    let new = g.K.Sink.taken c.answer_item.new.sink in
+returns-in-Err-clause-exits g c = λ notes records stands holds.
+    let step = g.C.Command.step in
+    let noted = g.C.Command.noted in
+    let s = c.items.invariant.so_far notes records stands holds in
     let before = g.I.ItemReader.ahead c.items.items (g.S.Source.left c.items.source) in
     let after = g.I.ItemReader.ahead c.next.new.self (g.S.Source.left c.next.new.source) in
-    let now = records ++ added so_far.0 in
-    let item = c.in-Ok-Some.item in
-    let read : before ≡ option_map (Next item.number item.bytes.items) after = subst (λ o. Read o before after) c.in-Ok-Some.field-0-is c.in-Ok-Some.ensures.read in
-    exits_told g.C.Command.bytes_of (StandsSo g.C.Command.Stands command) (g.C.Command.images command) records so_far.0 _ (noting_runs g.C.Command.step g.C.Command.noted so_far.1 now before) c.in-Err-answer_item.status old mid new so_far.4 so_far.2
-    (exits_item g.C.Command.bytes_of (StandsSo g.C.Command.Stands command) (g.C.Command.images command) now g.C.Command.step g.C.Command.noted so_far.1 (λ ns rs n i a e. g.met.C.Command.says ns rs n i a e) item.number item.bytes.items c.in-Err-answer_item.status before after mid new
-    read (c.in-Err-answer_item.ensures.err so_far.1 now so_far.3))
+    let old = g.K.Sink.taken c.args.sink.now in
+    let mid = g.K.Sink.taken c.items.sink in
+    let stored = records ++ added s.written in
+    let now = stored ++ added s.waiting in
+    let ended = c.finish-in-Err in
+    exits_told g.C.Command.bytes_of (g.C.Command.Holds ended.new.command) (g.D.Disk.images (g.C.Command.disk_below ended.new.command)) records s.written _ (option_map (onto s.waiting) (noting_runs step noted s.notes now before)) ended.result old mid (g.K.Sink.taken ended.new.sink) s.goes s.took
+    (ended.ensures.exits s.notes stored s.waiting s.holds s.stands s.waits s.told (noting_runs step noted s.notes now before)
+    (reading_stops step noted (λ ns rs n i a e. g.met.C.Command.says ns rs n i a e) s.notes now c.in-Err.status before c.in-Err.ensures.err))
 
-pub items-preserved : goal.items-preserved
-items-preserved g c = record {
-  so_far = λ notes records stands.
-      let so_far = c.items.invariant.so_far notes records stands in
-      let old = g.K.Sink.taken c.args.sink.now in
-      let mid = g.K.Sink.taken c.items.sink in
-      let new = g.K.Sink.taken c.answer_item.new.sink in
+pub returns-in-Err-BadItem-clause-exits : goal.returns-in-Err-BadItem-clause-exits
+returns-in-Err-BadItem-clause-exits g c = λ notes records stands holds.
+    let step = g.C.Command.step in
+    let noted = g.C.Command.noted in
+    let s = c.items.invariant.so_far notes records stands holds in
+    let before = g.I.ItemReader.ahead c.items.items (g.S.Source.left c.items.source) in
+    let after = g.I.ItemReader.ahead c.next.new.self (g.S.Source.left c.next.new.source) in
+    let old = g.K.Sink.taken c.args.sink.now in
+    let mid = g.K.Sink.taken c.items.sink in
+    let stored = records ++ added s.written in
+    let now = stored ++ added s.waiting in
+    let number = c.in-Ok-Some.item.number in
+    let item = c.as_slice.result.now in
+    let read : before ≡ option_map (Next number item) after = subst (λ i. before ≡ option_map (Next number i) after) (sym c.as_slice.ensures.value) (subst (λ o. Read o before after) c.in-Ok-Some.field-0-is c.in-Ok-Some.ensures.read) in
+    let bad = c.in-Err-BadItem.ensures.bad s.notes now s.stands (search rules) in
+    let ended = c.finish-in-Err-BadItem in
+    exits_told g.C.Command.bytes_of (g.C.Command.Holds ended.new.command) (g.D.Disk.images (g.C.Command.disk_below ended.new.command)) records s.written _ (option_map (onto s.waiting) (noting_runs step noted s.notes now before)) ended.result old mid (g.K.Sink.taken ended.new.sink) s.goes s.took
+    (ended.ensures.exits s.notes stored s.waiting (g.met.C.Command.holds_still c.items.command c.answer.new.self stored c.answer.ensures.same s.holds) bad.1 s.waits s.told (noting_runs step noted s.notes now before)
+    (bad_stops step noted s.notes now number item before after read bad.0))
+
+pub returns-in-Err-DiskFault-clause-exits : goal.returns-in-Err-DiskFault-clause-exits
+returns-in-Err-DiskFault-clause-exits g c = λ notes records stands holds.
+    let step = g.C.Command.step in
+    let noted = g.C.Command.noted in
+    let s = c.items.invariant.so_far notes records stands holds in
+    let before = g.I.ItemReader.ahead c.items.items (g.S.Source.left c.items.source) in
+    let after = g.I.ItemReader.ahead c.next.new.self (g.S.Source.left c.next.new.source) in
+    let old = g.K.Sink.taken c.args.sink.now in
+    let mid = g.K.Sink.taken c.items.sink in
+    let stored = records ++ added s.written in
+    let now = stored ++ added s.waiting in
+    let command = c.answer.new.self in
+    faults step noted (λ ns rs n i a e. g.met.C.Command.says ns rs n i a e) g.C.Command.bytes_of (g.C.Command.Holds command) (g.D.Disk.images (g.C.Command.disk_below command)) (g.C.Command.Stands c.items.command) (g.C.Command.Holds c.items.command) records _ before c.items.answers.items old mid s statuses.DiskFault refl
+    (kept_by g.D.Disk.content g.D.Disk.images g.C.Command.bytes_of stored (g.C.Command.disk_below command) (g.met.C.Command.held command stored (g.met.C.Command.holds_still c.items.command command stored c.answer.ensures.same s.holds)))
+
+pub returns-in-Err-NoMemory-clause-exits : goal.returns-in-Err-NoMemory-clause-exits
+returns-in-Err-NoMemory-clause-exits g c = λ notes records stands holds.
+    let step = g.C.Command.step in
+    let noted = g.C.Command.noted in
+    let s = c.items.invariant.so_far notes records stands holds in
+    let before = g.I.ItemReader.ahead c.items.items (g.S.Source.left c.items.source) in
+    let after = g.I.ItemReader.ahead c.next.new.self (g.S.Source.left c.next.new.source) in
+    let old = g.K.Sink.taken c.args.sink.now in
+    let mid = g.K.Sink.taken c.items.sink in
+    let stored = records ++ added s.written in
+    let now = stored ++ added s.waiting in
+    let command = c.answer.new.self in
+    faults step noted (λ ns rs n i a e. g.met.C.Command.says ns rs n i a e) g.C.Command.bytes_of (g.C.Command.Holds command) (g.D.Disk.images (g.C.Command.disk_below command)) (g.C.Command.Stands c.items.command) (g.C.Command.Holds c.items.command) records _ before c.items.answers.items old mid s statuses.NoMemory refl
+    (kept_by g.D.Disk.content g.D.Disk.images g.C.Command.bytes_of stored (g.C.Command.disk_below command) (g.met.C.Command.held command stored (g.met.C.Command.holds_still c.items.command command stored c.answer.ensures.same s.holds)))
+
+pub returns-in-Err-extend_from_slice-clause-exits : goal.returns-in-Err-extend_from_slice-clause-exits
+returns-in-Err-extend_from_slice-clause-exits g c = λ notes records stands holds.
+    let step = g.C.Command.step in
+    let noted = g.C.Command.noted in
+    let s = c.items.invariant.so_far notes records stands holds in
+    let before = g.I.ItemReader.ahead c.items.items (g.S.Source.left c.items.source) in
+    let after = g.I.ItemReader.ahead c.next.new.self (g.S.Source.left c.next.new.source) in
+    let old = g.K.Sink.taken c.args.sink.now in
+    let mid = g.K.Sink.taken c.items.sink in
+    let stored = records ++ added s.written in
+    let now = stored ++ added s.waiting in
+    let command = c.answer.new.self in
+    faults step noted (λ ns rs n i a e. g.met.C.Command.says ns rs n i a e) g.C.Command.bytes_of (g.C.Command.Holds command) (g.D.Disk.images (g.C.Command.disk_below command)) (g.C.Command.Stands c.items.command) (g.C.Command.Holds c.items.command) records _ before c.items.answers.items old mid s statuses.NoMemory refl
+    (kept_by g.D.Disk.content g.D.Disk.images g.C.Command.bytes_of stored (g.C.Command.disk_below command) (g.met.C.Command.held command stored (g.met.C.Command.holds_still c.items.command command stored c.answer.ensures.same s.holds)))
+
+pub returns-in-Err-flush-clause-exits : goal.returns-in-Err-flush-clause-exits
+returns-in-Err-flush-clause-exits g c = λ notes records stands holds.
+    let step = g.C.Command.step in
+    let noted = g.C.Command.noted in
+    let s = c.items.invariant.so_far notes records stands holds in
+    let before = g.I.ItemReader.ahead c.items.items (g.S.Source.left c.items.source) in
+    let after = g.I.ItemReader.ahead c.next.new.self (g.S.Source.left c.next.new.source) in
+    let old = g.K.Sink.taken c.args.sink.now in
+    let mid = g.K.Sink.taken c.items.sink in
+    let stored = records ++ added s.written in
+    let now = stored ++ added s.waiting in
+    let number = c.in-Ok-Some.item.number in
+    let item = c.as_slice.result.now in
+    let read : before ≡ option_map (Next number item) after = subst (λ i. before ≡ option_map (Next number i) after) (sym c.as_slice.ensures.value) (subst (λ o. Read o before after) c.in-Ok-Some.field-0-is c.in-Ok-Some.ensures.read) in
+    let more = c.in-Ok.text.items in
+    let command = c.answer.new.self in
+    let a = c.in-Ok.ensures.done s.notes now s.stands in
+    let all : c.extend_from_slice.new.self.items ≡ c.items.answers.items ++ more = search rules in
+    let waits = gathered step noted (g.C.Command.Stands command) (g.C.Command.Holds command) records (g.C.Command.Stands c.items.command) (g.C.Command.Holds c.items.command) _ number item before after
+    c.items.answers.items more c.extend_from_slice.new.self.items old mid s read a (g.met.C.Command.says s.notes now number item a.answer a.is)
+    (g.met.C.Command.holds_still c.items.command command stored c.answer.ensures.same s.holds) all in
+    let last = c.flush.new.command in
+    ends step noted (λ ns rs n i a e. g.met.C.Command.says ns rs n i a e) g.C.Command.bytes_of (g.C.Command.Holds last) (g.D.Disk.images (g.C.Command.disk_below last)) (g.C.Command.Stands command) (g.C.Command.Holds command) records _ after c.extend_from_slice.new.self.items old mid waits
+    c.in-Err-flush.status (g.K.Sink.taken c.flush.new.sink) (c.in-Err-flush.ensures.err waits.notes (records ++ added waits.written) waits.waiting waits.holds waits.stands waits.waits)
+
+pub items-preserved-then-is_ahead : goal.items-preserved-then-is_ahead
+items-preserved-then-is_ahead g c = record {
+  so_far = λ notes records stands holds.
+      let step = g.C.Command.step in
+      let noted = g.C.Command.noted in
+      let s = c.items.invariant.so_far notes records stands holds in
       let before = g.I.ItemReader.ahead c.items.items (g.S.Source.left c.items.source) in
       let after = g.I.ItemReader.ahead c.next.new.self (g.S.Source.left c.next.new.source) in
-      let now = records ++ added so_far.0 in
-      let item = c.in-Ok-Some.item in
-      let read : before ≡ option_map (Next item.number item.bytes.items) after = subst (λ o. Read o before after) c.in-Ok-Some.field-0-is c.in-Ok-Some.ensures.read in
-      let did = c.in-Ok.ensures.ok so_far.1 now so_far.3 in (
-        so_far.0 ++ did.answer ∷ [],
-        g.C.Command.noted so_far.1 now item.bytes.items,
-        took_one so_far.0 did.answer old mid new so_far.2 did.took,
-        subst (g.C.Command.Stands c.answer_item.new.command (g.C.Command.noted so_far.1 now item.bytes.items)) (added_one records so_far.0 did.answer) did.stands,
-        runs_one g.C.Command.step g.C.Command.noted so_far.1 records so_far.0 _ item.number item.bytes.items before after did.answer so_far.4 read did.is,
-      );
+      let old = g.K.Sink.taken c.args.sink.now in
+      let mid = g.K.Sink.taken c.items.sink in
+      let stored = records ++ added s.written in
+      let now = stored ++ added s.waiting in
+      let number = c.in-Ok-Some.item.number in
+      let item = c.as_slice.result.now in
+      let read : before ≡ option_map (Next number item) after = subst (λ i. before ≡ option_map (Next number i) after) (sym c.as_slice.ensures.value) (subst (λ o. Read o before after) c.in-Ok-Some.field-0-is c.in-Ok-Some.ensures.read) in
+      let more = c.in-Ok.text.items in
+      let command = c.answer.new.self in
+      let a = c.in-Ok.ensures.done s.notes now s.stands in
+      let all : c.extend_from_slice.new.self.items ≡ c.items.answers.items ++ more = search rules in
+      let waits = gathered step noted (g.C.Command.Stands command) (g.C.Command.Holds command) records (g.C.Command.Stands c.items.command) (g.C.Command.Holds c.items.command) _ number item before after
+      c.items.answers.items more c.extend_from_slice.new.self.items old mid s read a (g.met.C.Command.says s.notes now number item a.answer a.is)
+      (g.met.C.Command.holds_still c.items.command command stored c.answer.ensures.same s.holds) all in
+      waits;
   ready = c.in-Ok-Some.ensures.stays_ready;
   source_faults = omega arith;
   sink_faults = omega arith;
   disk_faults = omega arith;
-  same = c.answer_item.ensures.same ∙ c.items.invariant.same;
+  loan = g.met.C.Command.loan_stays c.items.command c.answer.new.self c.answer.ensures.same ∙ c.items.invariant.loan;
+}
+
+pub items-preserved : goal.items-preserved
+items-preserved g c = record {
+  so_far = λ notes records stands holds.
+      let step = g.C.Command.step in
+      let noted = g.C.Command.noted in
+      let s = c.items.invariant.so_far notes records stands holds in
+      let before = g.I.ItemReader.ahead c.items.items (g.S.Source.left c.items.source) in
+      let after = g.I.ItemReader.ahead c.next.new.self (g.S.Source.left c.next.new.source) in
+      let old = g.K.Sink.taken c.args.sink.now in
+      let mid = g.K.Sink.taken c.items.sink in
+      let stored = records ++ added s.written in
+      let now = stored ++ added s.waiting in
+      let number = c.in-Ok-Some.item.number in
+      let item = c.as_slice.result.now in
+      let read : before ≡ option_map (Next number item) after = subst (λ i. before ≡ option_map (Next number i) after) (sym c.as_slice.ensures.value) (subst (λ o. Read o before after) c.in-Ok-Some.field-0-is c.in-Ok-Some.ensures.read) in
+      let more = c.in-Ok.text.items in
+      let command = c.answer.new.self in
+      let a = c.in-Ok.ensures.done s.notes now s.stands in
+      let all : c.extend_from_slice.new.self.items ≡ c.items.answers.items ++ more = search rules in
+      let waits = gathered step noted (g.C.Command.Stands command) (g.C.Command.Holds command) records (g.C.Command.Stands c.items.command) (g.C.Command.Holds c.items.command) _ number item before after
+      c.items.answers.items more c.extend_from_slice.new.self.items old mid s read a (g.met.C.Command.says s.notes now number item a.answer a.is)
+      (g.met.C.Command.holds_still c.items.command command stored c.answer.ensures.same s.holds) all in
+      let last = c.flush.new.command in
+      let did = c.in-Ok-flush.ensures.ok waits.notes (records ++ added waits.written) waits.waiting waits.stands waits.waits in
+      flushed step noted (g.C.Command.Stands last) (g.C.Command.Holds last) records (g.C.Command.Stands command) (g.C.Command.Holds command) _ after c.extend_from_slice.new.self.items c.flush.new.answers.items old mid (g.K.Sink.taken c.flush.new.sink)
+      waits did.0 did.1 did.2 c.in-Ok-flush.ensures.emptied;
+  ready = c.in-Ok-Some.ensures.stays_ready;
+  source_faults = omega arith;
+  sink_faults = omega arith;
+  disk_faults = omega arith;
+  loan = c.flush.ensures.loan ∙ g.met.C.Command.loan_stays c.items.command c.answer.new.self c.answer.ensures.same ∙ c.items.invariant.loan;
 }
 
 pub items-init : goal.items-init
 items-init g c = record {
-  so_far = λ notes records stands.
-      let sink = g.K.Sink.taken c.args.sink.now in
-      let meant = noting_runs g.C.Command.step g.C.Command.noted notes records (g.I.ItemReader.ahead c.args.items.now (g.S.Source.left c.args.source.now)) in (
-        [],
-        notes,
-        took_none sink,
-        subst (g.C.Command.Stands c.args.command.now notes) (sym (append-nil records)) stands,
-        nothing_yet g.C.Command.step g.C.Command.noted notes records (g.I.ItemReader.ahead c.args.items.now (g.S.Source.left c.args.source.now)),
-      );
+  so_far = λ notes records stands holds.
+      begins g.C.Command.step g.C.Command.noted (g.C.Command.Stands c.args.command.now) (g.C.Command.Holds c.args.command.now) records notes (g.I.ItemReader.ahead c.args.items.now (g.S.Source.left c.args.source.now)) c.new-answers.result.items
+      (g.K.Sink.taken c.args.sink.now) stands holds c.new-answers.ensures.items;
   ready = c.requires;
   source_faults = omega arith;
   sink_faults = omega arith;
   disk_faults = omega arith;
-  same = refl;
+  loan = refl;
 }

@@ -1,59 +1,54 @@
-use Rattle.std.proofs.Common.{◌≡◌, sym, ap, ◌∙◌}
-use Rattle.sync_disk.proofs.Moments.{and_then}
-use Rattle.sync_journal.specs.Records.{records_of}
-use Rattle.sync_journal.specs.Records.Reading.{Good}
-use Rattle.sync_node.specs.Showing.{is_client_in, node_file, node_in, shown}
+use Rattle.std.proofs.Common.{refl, subst, sym}
+use Rattle.sync_node.specs.Commands.{TellsText}
+use Rattle.sync_node.specs.Showing.{file_as, node_file, shown}
 use Rattle.sync_node.proofs.Opened.{same_err, tells_bad}
-use Rattle.sync_node.proofs.Shown.{bad_journal, holds_on, long_node, rose_later}
+use Rattle.sync_node.proofs.Shown.{bad_journal, rose_later, sorted_tells, tells_of_client, tells_of_server}
 use Rattle.sync_node.proofs.Telling.{open_no_write, open_tells, open_unmade, writes_none}
 use Rattle.sync_node.proofs.showing.show_node.Goals as goal
 
-pub returns-in-Ok-clause-writes : goal.returns-in-Ok-clause-writes
-returns-in-Ok-clause-writes g c = λ b told records file. let h = c.in-Ok.ensures.holds b told in c.show_sorted.ensures.writes h.file h.told (c.in-Ok.ensures.kind b told ∙ ap is_client_in (sym h.reads)) records (ap node_in h.reads ∙ file)
-
-pub returns-in-Err-clause-writes : goal.returns-in-Err-clause-writes
-returns-in-Err-clause-writes g c = λ b told records file. writes_none c.in-Err.ended.status (shown records) (g.K.Sink.taken c.args.sink.now) c.in-Err.ensures.only
-
-pub returns-in-Ok-clause-bad_file : goal.returns-in-Ok-clause-bad_file
-returns-in-Ok-clause-bad_file g c = λ b told place is. let h = c.in-Ok.ensures.holds b told in ap node_in (sym h.reads) ∙ c.show_sorted.ensures.bad_file h.file h.told (c.in-Ok.ensures.kind b told ∙ ap is_client_in (sym h.reads)) place is
-
-pub returns-in-Err-clause-bad_file : goal.returns-in-Err-clause-bad_file
-returns-in-Err-clause-bad_file g c = λ b told place is. bad_journal b place (c.in-Err.ensures.bad b told place is)
-
-pub returns-in-Ok-clause-bad_place : goal.returns-in-Ok-clause-bad_place
-returns-in-Ok-clause-bad_place g c = λ b told place bad. let h = c.in-Ok.ensures.holds b told in c.show_sorted.ensures.bad_place h.file h.told (c.in-Ok.ensures.kind b told ∙ ap is_client_in (sym h.reads)) place (ap node_in h.reads ∙ bad)
-
-pub returns-in-Err-clause-bad_place : goal.returns-in-Err-clause-bad_place
-returns-in-Err-clause-bad_place g c = λ b told place bad. tells_bad place c.in-Err.ended.status c.in-Err.ensures.only (λ at is. same_err (node_file b) at place (bad_journal b at (c.in-Err.ensures.bad b told at is)) bad)
-
-pub returns-in-Ok-clause-bad_unwritten : goal.returns-in-Ok-clause-bad_unwritten
-returns-in-Ok-clause-bad_unwritten g c = λ b told place bad. let h = c.in-Ok.ensures.holds b told in c.show_sorted.ensures.bad_unwritten h.file h.told (c.in-Ok.ensures.kind b told ∙ ap is_client_in (sym h.reads)) place (ap node_in h.reads ∙ bad)
-
-pub returns-in-Ok-clause-bad_kept : goal.returns-in-Ok-clause-bad_kept
-returns-in-Ok-clause-bad_kept g c = λ b told place is.
-    let h = c.in-Ok.ensures.holds b told in
-    let bad = ap node_in (sym h.reads) ∙ c.show_sorted.ensures.bad_file h.file h.told (c.in-Ok.ensures.kind b told ∙ ap is_client_in (sym h.reads)) place is in
-    c.show_sorted.ensures.bad_kept b (c.in-Ok.ensures.untouched b told (long_node b place bad)) place is
-
-pub returns-in-Ok-clause-kept : goal.returns-in-Ok-clause-kept
-returns-in-Ok-clause-kept g c = λ b told made. let h = c.in-Ok.ensures.holds b told in holds_on g.D.Disk.content g.D.Disk.images h.file b c.show_sorted.result.disk h.reads (c.show_sorted.ensures.kept h.file h.told made)
-
-pub returns-in-Err-clause-kept : goal.returns-in-Err-clause-kept
-returns-in-Err-clause-kept g c = λ b told made. absurd (open_unmade c.in-Err.ended.status c.in-Err.ensures.only made)
-
-pub returns-in-Ok-clause-any_moment : goal.returns-in-Ok-clause-any_moment
-returns-in-Ok-clause-any_moment g c = λ records b told crash.
+pub returns-then-sorted-clause-tells : goal.returns-then-sorted-clause-tells
+returns-then-sorted-clause-tells g c =
     let D = g.D.Disk in
-    let h = c.in-Ok.ensures.holds b told in
-    let now = h.reads ∙ crash b (g.met.D.Disk.is_image c.args.disk b told) in
-    and_then D.moment D.images_since c.args.disk c.in-Ok.sorted.disk c.show_sorted.result.disk (λ f. records_of f ≡ Good records) (c.in-Ok.ensures.any_moment records b told crash)
-    (c.show_sorted.ensures.any_moment records h.file h.told (λ f left. ap records_of (h.durable f left) ∙ now))
+    let sorted = c.in-Ok.sorted in
+    let ended = c.write_of_client in
+    let old = g.K.Sink.taken c.args.sink.now in
+    let new = g.K.Sink.taken ended.new.sink in
+    sorted_tells D.content D.images D.moment D.images_since c.args.disk sorted.disk ended.result.disk ended.result.status old new sorted.is_client (g.met.D.Disk.is_image c.args.disk) c.in-Ok.ensures.kind c.in-Ok.ensures.holds c.in-Ok.ensures.untouched c.in-Ok.ensures.any_moment
+    (subst (λ k. TellsText D.content D.images D.moment D.images_since (file_as k) shown ended.result.status sorted.disk ended.result.disk old new) (sym c.if-sorted.true)
+    (tells_of_client D.content D.images D.moment D.images_since ended.result.status sorted.disk ended.result.disk old new ended.ensures.tells))
 
-pub returns-in-Err-clause-any_moment : goal.returns-in-Err-clause-any_moment
-returns-in-Err-clause-any_moment g c = c.in-Err.ensures.any_moment_err
+pub returns-else-sorted-clause-tells : goal.returns-else-sorted-clause-tells
+returns-else-sorted-clause-tells g c =
+    let D = g.D.Disk in
+    let sorted = c.in-Ok.sorted in
+    let ended = c.write_of_server in
+    let old = g.K.Sink.taken c.args.sink.now in
+    let new = g.K.Sink.taken ended.new.sink in
+    sorted_tells D.content D.images D.moment D.images_since c.args.disk sorted.disk ended.result.disk ended.result.status old new sorted.is_client (g.met.D.Disk.is_image c.args.disk) c.in-Ok.ensures.kind c.in-Ok.ensures.holds c.in-Ok.ensures.untouched c.in-Ok.ensures.any_moment
+    (subst (λ k. TellsText D.content D.images D.moment D.images_since (file_as k) shown ended.result.status sorted.disk ended.result.disk old new) (sym c.if-sorted.false)
+    (tells_of_server D.content D.images D.moment D.images_since ended.result.status sorted.disk ended.result.disk old new ended.ensures.tells))
 
-pub returns-in-Ok-clause-disk_cause : goal.returns-in-Ok-clause-disk_cause
-returns-in-Ok-clause-disk_cause g c = λ is. rose_later (g.D.Disk.faults c.args.disk) (g.D.Disk.faults c.in-Ok.sorted.disk) (g.D.Disk.faults c.show_sorted.result.disk) c.in-Ok.ensures.later (c.show_sorted.ensures.disk_cause is)
+pub returns-in-Err-clause-tells : goal.returns-in-Err-clause-tells
+returns-in-Err-clause-tells g c =
+    let ended = c.in-Err.ended in
+    let only = c.in-Err.ensures.only in
+    record {
+      written = λ b told records file. writes_none ended.status (shown records) (g.K.Sink.taken c.args.sink.now) only;
+      bad_file = λ b told place is. bad_journal b place (c.in-Err.ensures.bad b told place is);
+      bad_place = λ b told place bad. tells_bad place ended.status only (λ at is. same_err (node_file b) at place (bad_journal b at (c.in-Err.ensures.bad b told at is)) bad);
+      bad_unwritten = λ b told place bad. refl;
+      bad_kept = c.in-Err.ensures.bad_kept;
+      kept = λ b told made. absurd (open_unmade ended.status only made);
+      any_moment = c.in-Err.ensures.any_moment_err;
+    }
+
+pub returns-then-sorted-clause-disk_cause : goal.returns-then-sorted-clause-disk_cause
+returns-then-sorted-clause-disk_cause g c = λ is.
+    rose_later (g.D.Disk.faults c.args.disk) (g.D.Disk.faults c.in-Ok.sorted.disk) (g.D.Disk.faults c.write_of_client.result.disk) c.in-Ok.ensures.later (c.write_of_client.ensures.disk_cause is)
+
+pub returns-else-sorted-clause-disk_cause : goal.returns-else-sorted-clause-disk_cause
+returns-else-sorted-clause-disk_cause g c = λ is.
+    rose_later (g.D.Disk.faults c.args.disk) (g.D.Disk.faults c.in-Ok.sorted.disk) (g.D.Disk.faults c.write_of_server.result.disk) c.in-Ok.ensures.later (c.write_of_server.ensures.disk_cause is)
 
 pub returns-in-Err-clause-write_cause : goal.returns-in-Err-clause-write_cause
 returns-in-Err-clause-write_cause g c = λ is. absurd (open_no_write c.in-Err.ended.status c.in-Err.ensures.only is)

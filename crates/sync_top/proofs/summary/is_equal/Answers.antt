@@ -20,7 +20,6 @@ returns c = λ w h same.
     let unsent = c.unsent-sent.result in
     let own = c.as_slice.result.now in
     let long : c.len.result ≡ history_in w = c.len.ensures ∙ ap (λ (kept : Parts Instr State). kept.len) (c.servers_keep.ensures w (parts (kept_of c.server.result.now)) h.reached (c.server.ensures.server w h).gives) in
-    c.all_hold.ensures
-    ∙ ap (λ (k : ℕ). ((cursor == k) && (unsent == 0)) && c.eq-same.result) long
+    ap (λ (k : ℕ). ((cursor == k) && (unsent == 0)) && c.eq-same.result) long
     ∙ ap (λ (b : Bool). ((cursor == history_in w) && (unsent == 0)) && b) (c.eq-same.ensures ∙ ap (λ (t : List ℕ). bytes_eq own t) same)
     ∙ compared w c.args.name.now c.in-Some.client.now cursor unsent own (c.in-Some.ensures.some w h) c.cursor.ensures c.unsent-sent.ensures (λ records k. c.as_slice.ensures.value ∙ c.in_ok-own.ensures ∙ ap dump (c.objects.ensures records k))

@@ -28,7 +28,7 @@ returns-in-Err-clause-stored g c = stops_stored g.D.Disk.content g.D.Disk.images
 
 pub loop-sent-preserved : goal.loop-sent-preserved
 loop-sent-preserved g c = goes_on g.D.Disk.content g.D.Disk.images g.D.Disk.moment g.D.Disk.images_since g.D.Disk.strokes g.D.Disk.faults g.D.Disk.origin c.args.self.now c.loop-sent.self c.take_sent.new.self (map sent_seen c.args.entries.now) (map sent_seen (drop (c.loop-sent.sent-index + 1) c.args.entries.now)) _ (sent_seen c.sent-item.result) c.loop-sent.invariant
-    (left_at c.args.entries.now c.loop-sent.sent-index c.sent-item.result c.loop-sent-test.true c.sent-item.is) c.in-Ok.ensures.stays_open c.in-Ok.ensures.ident c.in-Ok.ensures.cursor c.take_sent.ensures.later c.in-Ok.ensures.step c.in-Ok.ensures.stored c.take_sent.ensures.any_moment c.in-Ok.ensures.strokes c.take_sent.ensures.origin c.take_sent.ensures.told
+    (left_at c.args.entries.now c.loop-sent.sent-index c.sent-item.result c.loop-sent-test.true c.sent-item.is) c.in-Ok.ensures.stays_open c.in-Ok.ensures.ident c.in-Ok.ensures.cursor c.take_sent.ensures.disk.later c.in-Ok.ensures.step c.in-Ok.ensures.stored c.take_sent.ensures.any_moment c.in-Ok.ensures.strokes c.take_sent.ensures.disk.same_origin c.take_sent.ensures.disk.told
 
 pub returns-clause-step : goal.returns-clause-step
 returns-clause-step g c = ends g.D.Disk.content g.D.Disk.images g.D.Disk.moment g.D.Disk.images_since g.D.Disk.strokes g.D.Disk.faults g.D.Disk.origin c.args.self.now c.loop-sent.self (map sent_seen c.args.entries.now) _ c.loop-sent.invariant (none_left c.args.entries.now c.loop-sent.sent-index c.loop-sent-test.false)

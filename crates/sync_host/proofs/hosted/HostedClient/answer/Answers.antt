@@ -12,6 +12,8 @@ returns-in-Line c = let call : is_call c.args.verb ≡ true = ap is_call c.in-Li
   take = λ is. absurd (cc);
   changes_by_line = λ is records stands. c.line.ensures.told records;
   changes_by_take = λ is. absurd (cc);
+  ends_by_line = λ is records stands. c.line.ensures.ends records;
+  ends_by_take = λ is. absurd (cc);
   unchanged = λ is. absurd (cc);
   sends = λ records is. subst (λ (verb : Verb). IfSome (errand verb c.args.body.now c.args.self.now.stored (client_of the_profile records)) (λ did. IfTold c.line.result (SentSo did.answer c.line.result))) (sym c.in-Line.is) tt;
   dumps = λ is. absurd (cc);
@@ -26,6 +28,8 @@ returns-in-Take c = let call : is_call c.args.verb ≡ true = ap is_call c.in-Ta
   take = λ is. c.take.ensures.step;
   changes_by_line = λ is. absurd (cc);
   changes_by_take = λ is records stands. c.take.ensures.told records;
+  ends_by_line = λ is. absurd (cc);
+  ends_by_take = λ is. c.take.ensures.ends;
   unchanged = λ is. absurd (cc);
   sends = λ records is. subst (λ (verb : Verb). IfSome (errand verb c.args.body.now c.args.self.now.stored (client_of the_profile records)) (λ did. IfTold c.take.result (SentSo did.answer c.take.result))) (sym c.in-Take.is) tt;
   dumps = λ is. absurd (cc);

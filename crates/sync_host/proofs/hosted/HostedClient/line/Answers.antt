@@ -2,11 +2,16 @@ use Rattle.std.proofs.Common.{Option, sym, subst}
 use Rattle.std.specs.Option.{option_map}
 use Rattle.sync_edits.specs.Lines.{node_form_of_line}
 use Rattle.sync_edits.specs.declared.event.NodeLine.{NodeLine}
-use Rattle.sync_host.specs.Steps.{Tells, line_answer}
+use Rattle.sync_host.specs.Steps.{Spares, Tells, line_answer}
 use Rattle.sync_host.proofs.Said.{if_told}
 use Rattle.sync_host.proofs.hosted.HostedClient.line.Goals as goal
 
 pub returns-clause-told : goal.returns-clause-told
 returns-clause-told c = λ records. let places = c.in-Ok-changed_by_line.places.items in
     if_told c.take_line.result (Tells places records (option_map (line_answer records) (node_form_of_line c.args.bytes.now)))
-    (subst (λ (line : Option NodeLine). Tells places records (option_map (line_answer records) line)) (sym c.in-Ok.ensures) (c.in-Ok-changed_by_line.ensures records))
+    (subst (λ (line : Option NodeLine). Tells places records (option_map (line_answer records) line)) (sym c.in-Ok.ensures) (c.in-Ok-changed_by_line.ensures.told records))
+
+pub returns-clause-ends : goal.returns-clause-ends
+returns-clause-ends c = λ records. let places = c.in-Ok-changed_by_line.places.items in
+    if_told c.take_line.result (Spares places records (option_map (line_answer records) (node_form_of_line c.args.bytes.now)))
+    (subst (λ (line : Option NodeLine). Spares places records (option_map (line_answer records) line)) (sym c.in-Ok.ensures) (c.in-Ok-changed_by_line.ensures.ends records))

@@ -17,8 +17,8 @@ returns-then-by-ident-clause-done g c = λ records stands ours.
     let counts = counts_of heard in
     let retired = c.args.retired.now in
     let did = recover_frame the_profile heir counts (Message.Retired retired.ident retired.by retired.number) in
-    line_so c.line.result (recovery_line c.args.number (Refuses ResetRefusal.NotMine)) (λ text. AnswersSo (Some (recovered c.args.number did)) records text (λ rs. RecovererStands did.known rs heard c.args.self.now.client))
+    line_so c.line.result (recovery_line c.args.number (Refuses ResetRefusal.NotMine)) (λ text. AnswersSo (Some (recovered c.args.number did)) records text (λ rs. RecovererStands did.known rs heard c.args.client.now))
     c.line.ensures.line
-    (says_so c.args.number did (Refuses ResetRefusal.NotMine) counts (recovery_line c.args.number (Refuses ResetRefusal.NotMine)) records heard c.args.self.now.client
+    (says_so c.args.number did (Refuses ResetRefusal.NotMine) counts (recovery_line c.args.number (Refuses ResetRefusal.NotMine)) records heard c.args.client.now
     (for_another heir counts retired.ident retired.by retired.number (not_same retired.by heir.ident (λ same. c.if-by-ident.true (c.by.ensures.value ∙ same ∙ sym (c.ident.ensures records stands.client)))))
     refl (record { client = stands; counts_is = refl; mine_is = ours }))

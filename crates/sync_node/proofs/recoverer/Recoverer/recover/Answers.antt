@@ -1,21 +1,13 @@
-use Rattle.std.proofs.Common.{Some, refl, subst, arith}
+use Rattle.std.proofs.Common.{Some, refl, arith}
 use Rattle.sync_model.specs.Clients.{client_of}
 use Rattle.sync_model.specs.Resets.{NoRetired, recover_frame}
 use Rattle.sync_exchange.specs.Profile.{the_profile}
-use Rattle.sync_exchange.specs.Seen.{client_bytes, message_seen}
+use Rattle.sync_exchange.specs.Seen.{message_seen}
 use Rattle.sync_node.specs.Heirs.{RecovererStands, counts_of}
-use Rattle.sync_node.specs.Holding.{client_images, client_keeps}
 use Rattle.sync_node.specs.Recovering.{recovered, recovery_line}
 use Rattle.sync_node.specs.Runs.{AnswersSo}
-use Rattle.sync_node.proofs.Exits.{leaves_old}
 use Rattle.sync_node.proofs.Recoverers.{for_none, line_so, says_so}
 use Rattle.sync_node.proofs.recoverer.Recoverer.recover.Goals as goal
-
-pub returns-in-Retired-clause-leaves : goal.returns-in-Retired-clause-leaves
-returns-in-Retired-clause-leaves g c = λ records stands ours image is.
-    let heard = counts_of c.args.self.now.heard.items in
-    leaves_old client_bytes records (recover_frame the_profile (client_of the_profile records) heard (message_seen c.args.message.now)).records image
-    (client_keeps c.args.self.now.client records image stands (subst (λ client. client_images client image) c.hear.ensures.same is))
 
 pub returns-in_default : goal.returns-in_default
 returns-in_default g c = record {
@@ -24,12 +16,10 @@ returns-in_default g c = record {
       let heard = c.args.self.now.heard.items in
       let counts = counts_of heard in
       let did = recover_frame the_profile heir counts (message_seen c.args.message.now) in
-      line_so c.line.result (recovery_line c.args.number NoRetired) (λ text. AnswersSo (Some (recovered c.args.number did)) records text (λ rs. RecovererStands did.known rs heard c.args.self.now.client)) c.line.ensures.line
-      (says_so c.args.number did NoRetired counts (recovery_line c.args.number NoRetired) records heard c.args.self.now.client (for_none c.args.message.now heir counts c.in_default.not-Upload c.in_default.not-Retired) refl
+      line_so c.line.result (recovery_line c.args.number NoRetired) (λ text. AnswersSo (Some (recovered c.args.number did)) records text (λ rs. RecovererStands did.known rs heard c.args.client.now)) c.line.ensures.line
+      (says_so c.args.number did NoRetired counts (recovery_line c.args.number NoRetired) records heard c.args.client.now (for_none c.args.message.now heir counts c.in_default.not-Upload c.in_default.not-Retired) refl
       (record { client = stands; counts_is = refl; mine_is = ours }));
   bad = c.line.ensures.bad;
-  leaves = λ records stands ours image is.
-      leaves_old client_bytes records (recover_frame the_profile (client_of the_profile records) (counts_of c.args.self.now.heard.items) (message_seen c.args.message.now)).records image (client_keeps c.args.self.now.client records image stands is);
   same = refl;
   later = omega arith;
   cause = λ is. absurd (c.line.ensures.fault is);

@@ -15,7 +15,7 @@ pub returns-then-head-count : goal.returns-then-head-count
 returns-then-head-count c = change_skips c.args.self.now c.args.origin c.in-Some.given.now (change_of c.args.head c.args.body.now) (sym c.in-Some.ensures.given) (λ e. c.if-head-count.true (omega (arith, e, c.count-count.ensures)))
 
 pub returns-in-Ok : goal.returns-in-Ok
-returns-in-Ok c = change_says c.args.self.now c.merge_body.new.self c.args.origin c.in-Some.given.now (change_of c.args.head c.args.body.now) c.in-Ok.form (sym c.in-Some.ensures.given) (omega (arith, c.if-head-count.false, c.count-count.ensures))
+returns-in-Ok c = change_says c.args.self.now c.merge.new.self c.args.origin c.in-Some.given.now (change_of c.args.head c.args.body.now) c.in-Ok.form (sym c.in-Some.ensures.given) (omega (arith, c.if-head-count.false, c.count-count.ensures))
     (c.in-Ok.ensures.merged c.in-Some.given.now (sym c.in-Some.ensures.given)) c.in-Ok.ensures.form
 
 pub returns-in-Err-Refused : goal.returns-in-Err-Refused
@@ -23,4 +23,4 @@ returns-in-Err-Refused c =
     let h = change_of c.args.head c.args.body.now in
     let g = c.in-Some.given.now in
     change_refused c.args.self.now c.args.origin g h (refusal_seen c.in-Err-Refused.field-0-0) (sym c.in-Some.ensures.given)
-    (subst (λ (e : ChangeRefusal). Merges (Err e) (merge_by the_profile (parts c.args.self.now) c.args.origin g h) c.args.origin h (parts c.args.self.now) (parts c.merge_body.new.self)) c.in-Err-Refused.field-0-is (c.in-Err-Refused.ensures.merged g (sym c.in-Some.ensures.given))).0
+    (subst (λ (e : ChangeRefusal). Merges (Err e) (merge_by the_profile (parts c.args.self.now) c.args.origin g h) c.args.origin h (parts c.args.self.now) (parts c.merge.new.self)) c.in-Err-Refused.field-0-is (c.in-Err-Refused.ensures.merged g (sym c.in-Some.ensures.given))).0

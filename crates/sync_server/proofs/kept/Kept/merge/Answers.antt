@@ -1,18 +1,26 @@
-use Rattle.std.proofs.Common.{◌≡◌, sym, subst}
-use Rattle.sync_exchange.specs.Profile.{the_profile}
-use Rattle.sync_exchange.specs.Seen.{change_seen}
-use Rattle.sync_model.specs.Messages.{Change}
+use Rattle.std.proofs.Common.{◌≡◌, true, length, refl, sym, ap, ◌∙◌, subst}
+use Rattle.sync_exchange.specs.Profile.{the_profile, fits_changeset}
 use Rattle.sync_model.specs.Parts.{merge_by}
 use Rattle.sync_server.specs.Kept.{parts}
-use Rattle.sync_server.specs.Merging.{IsFresh, Merges, change_of}
+use Rattle.sync_server.specs.History.{HistoryParts, len_of}
+use Rattle.sync_server.specs.Merging.{change_of}
+use Rattle.sync_server.proofs.Adding.{idents_length}
+use Rattle.sync_server.proofs.Steps.{next_of}
 use Rattle.sync_server.proofs.kept.Kept.merge.Goals as goal
 
-pub merge_body-requires-clause-fresh : goal.merge_body-requires-clause-fresh
-merge_body-requires-clause-fresh c =
-    let same : change_seen c.args.change.now ≡ change_of c.of.result c.body.result.now = λ i. change_of (sym c.of.ensures i) (sym c.body.ensures.value i) in
-    subst (λ h. IsFresh c.args.ident h c.args.self.now.history.idents) same c.requires
+pub apply-requires : goal.apply-requires
+apply-requires c = subst (λ v. fits_changeset v.instrs ≡ true) (sym c.changes.ensures) (c.in-Ok.ensures.prepared c.requires.fresh.given c.requires.fresh.is_given).small
 
-pub returns-clause-merged : goal.returns-clause-merged
-returns-clause-merged c = λ g is.
-    let same : change_of c.of.result c.body.result.now ≡ change_seen c.args.change.now = λ i. change_of (c.of.ensures i) (c.body.ensures.value i) in
-    subst (λ (h : Change). Merges c.merge_body.result (merge_by the_profile (parts c.args.self.now) c.args.ident g h) c.args.ident h (parts c.args.self.now) (parts c.merge_body.new.self)) same (c.merge_body.ensures.merged g is)
+pub integrate-requires-clause-room : goal.integrate-requires-clause-room
+integrate-requires-clause-room c = (c.in-Ok.ensures.prepared c.requires.fresh.given c.requires.fresh.is_given).room
+
+pub integrate-requires-clause-given : goal.integrate-requires-clause-given
+integrate-requires-clause-given c =
+    let h = change_of c.args.head c.args.body.now in
+    let g = c.requires.fresh.given in
+    next_of c.in-Ok.prepared c.args.self.now c.args.ident c.args.head.number c.args.head.base g h (merge_by the_profile (parts c.args.self.now) c.args.ident g h) (c.in-Ok.ensures.prepared g c.requires.fresh.is_given) refl refl c.requires.fresh.is_given
+
+pub returns-in-Ok-integrate-clause-given : goal.returns-in-Ok-integrate-clause-given
+returns-in-Ok-integrate-clause-given c =
+    let old = c.args.self.now.history in
+    ap (λ (h : HistoryParts). length h.idents) (c.in-Ok-integrate.ensures c.requires.fresh.given c.requires.fresh.is_given) ∙ idents_length c.args.ident c.args.head.base _ (len_of old) _ 1 old.idents

@@ -1,14 +1,36 @@
-use Rattle.std.proofs.Common.{◌≡◌, ◌<◌, None, sym, ap, ◌∙◌, subst, arith}
+use Rattle.std.proofs.Common.{◌≡◌, ◌≢◌, ◌<◌, ℕ, All, None, refl, sym, ap, ◌∙◌, subst, arith}
 use Rattle.sync_model.specs.Profile.{needs}
 use Rattle.sync_exchange.specs.Profile.{the_profile}
+use Rattle.sync_base.specs.Codes.{mismatch_code}
 use Rattle.sync_data.specs.declared.instr.Instr.{Instr}
-use Rattle.sync_model.specs.Parts.{Given}
+use Rattle.sync_law.specs.Instrs.{meet}
+use Rattle.sync_theory.specs.Changesets.{Changeset, cross_sets}
+use Rattle.sync_theory.specs.Grid.{carry}
+use Rattle.sync_theory.specs.Reciprocals.{from_base}
+use Rattle.sync_transform.specs.Sets.{made_by}
+use Rattle.sync_recip.specs.Carrying.{IsStuckBy}
+use Rattle.sync_model.specs.Parts.{Given, is_newer}
 use Rattle.sync_server.specs.Kept.{parts}
-use Rattle.sync_server.specs.History.{len_of}
+use Rattle.sync_server.specs.History.{len_of, IsReciprocal}
 use Rattle.sync_server.specs.Merging.{change_of, numbers_broken}
-use Rattle.sync_server.proofs.Keeps.{the_same}
+use Rattle.sync_server.specs.declared.refusal.ChangeRefusal.TheVariants.{Refused}
+use Rattle.sync_server.specs.declared.refusal.Refusal.TheVariants as refusals
+use Rattle.sync_server.proofs.Coded.{carries_by_code, stuck_by_code}
+use Rattle.sync_server.proofs.Keeps.{all_to, the_same}
+use Rattle.sync_server.proofs.Needs.{any_needs}
 use Rattle.sync_server.proofs.Steps.{ready, not_ready}
 use Rattle.sync_server.proofs.kept.Kept.prepare.Goals as goal
+
+pub carry-requires : goal.carry-requires
+carry-requires c =
+    let own = c.args.ident in
+    let Other : ℕ × Changeset Instr → Type 0 = λ pair. pair.1.origin ≢ own in
+    subst (All Other) (sym c.reciprocal.ensures)
+    (all_to (IsReciprocal (len_of c.args.self.now.history) own) Other c.in-Some.given.now.reciprocal (λ q r. r.entry.other) c.in-Some.ensures.others)
+
+pub returns-in-Ok-carry-clause-second : goal.returns-in-Ok-carry-clause-second
+returns-in-Ok-carry-clause-second c =
+    c.any_needs_second-second.ensures ∙ any_needs c.instrs.result.now ∙ ap (needs the_profile) c.instrs.ensures.listed ∙ sym (ap (is_newer the_profile) c.in-Ok-read.ensures.1)
 
 pub returns-in-Ok-carry-clause-prepared : goal.returns-in-Ok-carry-clause-prepared
 returns-in-Ok-carry-clause-prepared c = λ g is.
@@ -21,15 +43,21 @@ returns-in-Ok-carry-clause-prepared c = λ g is.
     let own : c.requires.fresh.given ≡ g = the_same (sym c.requires.fresh.is_given ∙ is) in
     let above = subst (λ (d : Given Instr). d.count < h.number) own c.requires.fresh.above in
     let numbers = subst (λ m. numbers_broken kept.len m found h.number h.base ≡ None) c.floor.ensures (subst (λ n. numbers_broken n c.floor.result found h.number h.base ≡ None) c.len.ensures (sym c.in-Ok.ensures)) in
-    let second = c.needs_second-second.ensures ∙ ap (λ l. needs the_profile l) c.instrs.ensures.listed in
-    ready kept c.args.ident found g h v same numbers c.in-Ok-read.ensures carried c.needs_second-second.result (c.in-Ok-carry.ensures h.number) second (len_of c.args.self.now.history) c.in-Some.ensures.others above (omega (arith, c.len.ensures, c.len.type_inv))
+    let carries = carries_by_code c.args.ident h.number v h.base carried c.reciprocal.result.now found.reciprocal c.reciprocal.ensures (c.in-Ok-carry.ensures.ok h.number) c.in-Ok-carry.ensures.base c.in-Ok-carry.ensures.fits in
+    let second = c.any_needs_second-second.ensures ∙ any_needs c.instrs.result.now ∙ ap (needs the_profile) c.instrs.ensures.listed in
+    ready kept c.args.ident found g h v same numbers c.in-Ok-read.ensures carried c.any_needs_second-second.result carries second (len_of c.args.self.now.history) c.in-Some.ensures.others above (omega (arith, c.len.ensures, c.len.type_inv))
 
-pub returns-in-Err-carry-clause-prepared : goal.returns-in-Err-carry-clause-prepared
-returns-in-Err-carry-clause-prepared c = λ g is.
+pub returns-in-Err-Mismatch-clause-prepared : goal.returns-in-Err-Mismatch-clause-prepared
+returns-in-Err-Mismatch-clause-prepared c = λ g is.
     let h = change_of c.args.head c.args.body.now in
     let kept = parts c.args.self.now in
     let found = c.in-Some.given.now in
+    let listed = c.reciprocal.result.now in
     let v = c.in-Ok-read.changes in
+    let place = c.in-Err-Mismatch.place in
+    let kind = c.in-Err-Mismatch.kind in
     let same : found ≡ g = the_same (c.in-Some.ensures.given ∙ is) in
     let numbers = subst (λ m. numbers_broken kept.len m found h.number h.base ≡ None) c.floor.ensures (subst (λ n. numbers_broken n c.floor.result found h.number h.base ≡ None) c.len.ensures (sym c.in-Ok.ensures)) in
-    not_ready kept c.args.ident found g h v same numbers c.in-Ok-read.ensures c.in-Err-carry.refusal (c.in-Err-carry.ensures h.number)
+    let stuck = subst (λ e. IsStuckBy e (carry (cross_sets meet) (made_by c.args.ident h.number v) (from_base h.base listed))) c.in-Err-Mismatch.field-0-is (c.in-Err-Mismatch.ensures.stuck h.number) in
+    not_ready kept c.args.ident found g h v same numbers c.in-Ok-read.ensures (Refused (refusals.Mismatch place kind))
+    ((place, stuck.right, mismatch_code kind), stuck_by_code c.args.ident h.number v h.base place stuck.right kind listed found.reciprocal c.reciprocal.ensures stuck.is, refl)

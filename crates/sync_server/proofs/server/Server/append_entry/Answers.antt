@@ -1,4 +1,4 @@
-use Rattle.std.proofs.Common.{◌≡◌, ℕ, List, ◌∷◌, [], Some, Err, map, sym, ap, subst}
+use Rattle.std.proofs.Common.{◌≡◌, ℕ, List, ◌∷◌, [], Some, Err, map, sym, ap, subst, rules}
 use Rattle.sync_disk.specs.Disk.{Told}
 use Rattle.sync_journal.specs.Several.{Asks}
 use Rattle.sync_journal.specs.Stands.{disk_of}
@@ -91,17 +91,22 @@ returns-in-Ok-entry_record-clause-strokes g c = λ b told.
     elim c.if-form.branch [
       | then-form+in-Ok w ↦
           let first = subst (λ s. Asks D.strokes (map server_bytes (ServerRecord.Form ∷ [])) old.journal s.journal) (sym w.self-is) (w.in-Ok.ensures.strokes b told) in
-          let m = subst (λ s. (bytes : List ℕ) × (D.content (disk_of s.journal) ≡ Some bytes)) (sym w.self-is) (w.in-Ok.ensures.told b told) in
+          let m = subst (λ s. (bytes : List ℕ) × (D.content (disk_of s.journal) ≡ Some bytes)) (sym w.self-is) (w.in-Ok.ensures.disk.told b told) in
           subst (λ f. Asked D.strokes (records_of f c.args.ident h) old new result) (sym w.if-form.true) (asked_more D.strokes (ServerRecord.Form ∷ []) last old mid new result first (one m.0 m.1))
       | else-form w ↦
           let here = subst (λ s. D.content (disk_of s.journal) ≡ Some b) (sym w.self-is) told in
           subst (λ f. Asked D.strokes (records_of f c.args.ident h) old new result) (sym w.if-form.false) (subst (λ s. Asked D.strokes last s new result) w.self-is (one b here))
     ]
 
-pub returns-in-Err-entry_record-clause-told : goal.returns-in-Err-entry_record-clause-told
-returns-in-Err-entry_record-clause-told g c = λ b told.
+pub returns-in-Err-entry_record-clause-disk : goal.returns-in-Err-entry_record-clause-disk
+returns-in-Err-entry_record-clause-disk g c =
     let D = g.D.Disk in
-    elim c.if-form.branch [
-      | then-form+in-Ok w ↦ subst (λ s. (bytes : List ℕ) × (D.content (disk_of s.journal) ≡ Some bytes)) (sym w.self-is) (w.in-Ok.ensures.told b told)
-      | else-form w ↦ (b, subst (λ s. D.content (disk_of s.journal) ≡ Some b) (sym w.self-is) told)
-    ]
+    record {
+      same_origin = search rules;
+      told = λ b told. elim c.if-form.branch [
+        | then-form+in-Ok w ↦ subst (λ s. (bytes : List ℕ) × (D.content (disk_of s.journal) ≡ Some bytes)) (sym w.self-is) (w.in-Ok.ensures.disk.told b told)
+        | else-form w ↦ (b, subst (λ s. D.content (disk_of s.journal) ≡ Some b) (sym w.self-is) told)
+      ];
+      later = search rules;
+      fault = search rules;
+    }

@@ -5,7 +5,7 @@ use Rattle.sync_server.proofs.server.Server.take.Goals as goal
 
 pub returns-clause-step : goal.returns-clause-step
 returns-clause-step g c = λ records is.
-    on_both c.serve.result _ _ _ c.serve.ensures.served c.serve.ensures.stays_open
+    on_both c.serve.result _ _ _ c.serve.ensures.served c.serve.ensures.stays.stays_open
     (λ reply served still. did records (message_seen c.args.message) c.args.self.now c.serve.new.self is reply served still)
 
 pub returns-clause-stored : goal.returns-clause-stored

@@ -1,45 +1,167 @@
-use Rattle.std.proofs.Common.{◌<◌, map, nat_le, Option, Err, sym, subst, arith}
+use Rattle.std.proofs.Common.{◌≡◌, ◌<◌, length, map, Option, None, Some, Err, refl, sym, ap, ◌∙◌, subst, arith}
 use Rattle.std.proofs.lemmas.Bool.{lt-leb}
+use Rattle.sync_data.specs.declared.instr.Instr.{Instr}
+use Rattle.sync_base.specs.States.{State}
 use Rattle.sync_journal.specs.Several.{Asks}
 use Rattle.sync_exchange.specs.Seen.{change_seen, server_bytes}
 use Rattle.sync_exchange.specs.Profile.{the_profile}
-use Rattle.sync_model.specs.Parts.{merge_by}
+use Rattle.sync_model.specs.Messages.{Change}
+use Rattle.sync_model.specs.Parts.{Parts, merge_by}
 use Rattle.sync_server.specs.Kept.{parts}
-use Rattle.sync_server.specs.Serving.{Asked, LeavesPrefix, merged_records}
+use Rattle.sync_server.specs.Merging.{Merges, change_of, records_of}
+use Rattle.sync_server.specs.Refusals.{refusal_seen}
+use Rattle.sync_server.specs.Serving.{Adds, Asked, LeavesPrefix}
+use Rattle.sync_server.specs.declared.kept.Kept.{Kept}
 use Rattle.sync_server.specs.declared.refusal.Refusal.{Refusal}
-use Rattle.sync_server.proofs.Uploading.{is_taken, looked}
+use Rattle.sync_server.proofs.Adding.{adds_none}
+use Rattle.sync_server.proofs.Keeps.{the_same}
+use Rattle.sync_server.proofs.Leaving.{untouched}
+use Rattle.sync_server.proofs.Strokes.{asked_alike, asks_nothing}
+use Rattle.sync_server.proofs.Uploading.{is_taken, merged_change, refused_change}
 use Rattle.sync_server.proofs.server.Server.take_change.Goals as goal
 
-pub returns-in-Ok-clause-taken : goal.returns-in-Ok-clause-taken
-returns-in-Ok-clause-taken g c = λ d is.
-    let h = change_seen c.args.change.now in
-    let above : d.count < h.number = omega (arith, c.count_of.ensures d is, c.number.ensures.value, c.if-number-count_of.false) in
-    is_taken c.in-Ok.why c.args.ident d h c.args.self.now.kept c.merge.new.self.kept (lt-leb h.number d.count above) (c.in-Ok.ensures.merged d is)
+pub merge-requires-clause-fresh : goal.merge-requires-clause-fresh
+merge-requires-clause-fresh g c =
+    let d = c.requires.given in
+    let same : c.in-Some.given.now ≡ d.0 = the_same (c.in-Some.ensures.given ∙ d.1) in
+    let head : change_of c.of-head.result c.body.result.now ≡ change_seen c.args.change.now = λ i. change_of (c.of-head.ensures i) (c.body.ensures.value i) in
+    record {
+      given = d.0;
+      is_given = d.1;
+      above = omega (arith, c.count.ensures, ap (λ g. g.count) same, c.number.ensures.value, ap (λ (h : Change). h.number) head, c.if-number-count.false);
+    }
 
-pub returns-in-Ok-clause-any_moment : goal.returns-in-Ok-clause-any_moment
-returns-in-Ok-clause-any_moment g c = λ d is.
+-- where it is refused
+pub returns-in-Err-Refused-clause-taken : goal.returns-in-Err-Refused-clause-taken
+returns-in-Err-Refused-clause-taken g c = λ d is.
+    let old = c.args.self.now.kept in
+    let ident = c.args.ident in
+    let h = change_seen c.args.change.now in
+    let k = change_of c.of-head.result c.body.result.now in
+    let why = c.in-Err-Refused.why in
+    let same : c.in-Some.given.now ≡ d = the_same (c.in-Some.ensures.given ∙ is) in
+    let above : d.count < h.number = omega (arith, c.count.ensures, ap (λ g. g.count) same, c.number.ensures.value, c.if-number-count.false) in
+    let both = subst (λ e. Merges (Err e) (merge_by the_profile (parts old) ident d k) ident k (parts old) (parts c.merge.new.self)) c.in-Err-Refused.field-0-is (c.in-Err-Refused.ensures.merged d is) in
+    let refused = refused_change old ident d h k above (λ i. change_of (c.of-head.ensures i) (c.body.ensures.value i)) (refusal_seen why) both.0 in
+    is_taken (Some why) ident d h old c.merge.new.self (lt-leb h.number d.count above) (refused.0, both.1)
+
+pub returns-in-Err-Refused-clause-stored : goal.returns-in-Err-Refused-clause-stored
+returns-in-Err-Refused-clause-stored g c = λ d is.
     let D = g.D.Disk in
+    let self = c.args.self.now in
+    let old = self.kept in
+    let ident = c.args.ident in
     let h = change_seen c.args.change.now in
-    let above : d.count < h.number = omega (arith, c.count_of.ensures d is, c.number.ensures.value, c.if-number-count_of.false) in
-    subst (λ l. LeavesPrefix D.content D.images D.moment D.images_since l c.args.self.now c.merge.new.self) (sym (looked (nat_le h.number d.count) (merged_records (merge_by the_profile (parts c.args.self.now.kept) c.args.ident d h)) (lt-leb h.number d.count above))) (c.in-Ok.ensures.any_moment d is)
+    let k = change_of c.of-head.result c.body.result.now in
+    let same : c.in-Some.given.now ≡ d = the_same (c.in-Some.ensures.given ∙ is) in
+    let above : d.count < h.number = omega (arith, c.count.ensures, ap (λ g. g.count) same, c.number.ensures.value, c.if-number-count.false) in
+    let both = subst (λ e. Merges (Err e) (merge_by the_profile (parts old) ident d k) ident k (parts old) (parts c.merge.new.self)) c.in-Err-Refused.field-0-is (c.in-Err-Refused.ensures.merged d is) in
+    let refused = refused_change old ident d h k above (λ i. change_of (c.of-head.ensures i) (c.body.ensures.value i)) (refusal_seen c.in-Err-Refused.why) both.0 in
+    subst (λ l. Adds D.content D.images l self self) (sym refused.1) (adds_none D.content D.images self self refl)
 
+pub returns-in-Err-Refused-clause-any_moment : goal.returns-in-Err-Refused-clause-any_moment
+returns-in-Err-Refused-clause-any_moment g c = λ d is.
+    let D = g.D.Disk in
+    untouched D.content D.images D.moment D.images_since g.met.D.Disk.only_now _ c.args.self.now c.args.self.now refl
+
+pub returns-in-Err-Refused-clause-given : goal.returns-in-Err-Refused-clause-given
+returns-in-Err-Refused-clause-given g c =
+    let old = c.args.self.now.kept in
+    let ident = c.args.ident in
+    let d = c.requires.given in
+    let k = change_of c.of-head.result c.body.result.now in
+    let both = subst (λ e. Merges (Err e) (merge_by the_profile (parts old) ident d.0 k) ident k (parts old) (parts c.merge.new.self)) c.in-Err-Refused.field-0-is (c.in-Err-Refused.ensures.merged d.0 d.1) in
+    ap (λ (p : Parts Instr State). length p.idents) both.1
+
+pub returns-in-Err-Refused-clause-strokes : goal.returns-in-Err-Refused-clause-strokes
+returns-in-Err-Refused-clause-strokes g c = λ d is b told.
+    let D = g.D.Disk in
+    let self = c.args.self.now in
+    let old = self.kept in
+    let ident = c.args.ident in
+    let h = change_seen c.args.change.now in
+    let k = change_of c.of-head.result c.body.result.now in
+    let same : c.in-Some.given.now ≡ d = the_same (c.in-Some.ensures.given ∙ is) in
+    let above : d.count < h.number = omega (arith, c.count.ensures, ap (λ g. g.count) same, c.number.ensures.value, c.if-number-count.false) in
+    let both = subst (λ e. Merges (Err e) (merge_by the_profile (parts old) ident d k) ident k (parts old) (parts c.merge.new.self)) c.in-Err-Refused.field-0-is (c.in-Err-Refused.ensures.merged d is) in
+    let refused = refused_change old ident d h k above (λ i. change_of (c.of-head.ensures i) (c.body.ensures.value i)) (refusal_seen c.in-Err-Refused.why) both.0 in
+    subst (λ l. Asks D.strokes (map server_bytes l) self.journal self.journal) (sym refused.1) (asks_nothing D.strokes self self refl)
+
+-- where it is merged
+pub returns-in-Ok-append_entry-clause-taken : goal.returns-in-Ok-append_entry-clause-taken
+returns-in-Ok-append_entry-clause-taken g c = λ d is.
+    let old = c.args.self.now.kept in
+    let ident = c.args.ident in
+    let h = change_seen c.args.change.now in
+    let k = change_of c.of-head.result c.body.result.now in
+    let same : c.in-Some.given.now ≡ d = the_same (c.in-Some.ensures.given ∙ is) in
+    let above : d.count < h.number = omega (arith, c.count.ensures, ap (λ g. g.count) same, c.number.ensures.value, c.if-number-count.false) in
+    let merged = merged_change old ident d h k above (λ i. change_of (c.of-head.ensures i) (c.body.ensures.value i)) c.in-Ok.form (parts c.merge.new.self) (c.in-Ok.ensures.merged d is) in
+    is_taken None ident d h old c.append_entry.new.self.kept (lt-leb h.number d.count above)
+    (record { records = records_of c.in-Ok.form ident h; parts = parts c.merge.new.self }, merged.0, ap parts c.append_entry.ensures.kept)
+
+pub returns-in-Ok-append_entry-clause-stored : goal.returns-in-Ok-append_entry-clause-stored
+returns-in-Ok-append_entry-clause-stored g c = λ d is.
+    let D = g.D.Disk in
+    let old = c.args.self.now.kept in
+    let ident = c.args.ident in
+    let h = change_seen c.args.change.now in
+    let k = change_of c.of-head.result c.body.result.now in
+    let same : c.in-Some.given.now ≡ d = the_same (c.in-Some.ensures.given ∙ is) in
+    let above : d.count < h.number = omega (arith, c.count.ensures, ap (λ g. g.count) same, c.number.ensures.value, c.if-number-count.false) in
+    let merged = merged_change old ident d h k above (λ i. change_of (c.of-head.ensures i) (c.body.ensures.value i)) c.in-Ok.form (parts c.merge.new.self) (c.in-Ok.ensures.merged d is) in
+    subst (λ l. Adds D.content D.images l c.args.self.now c.append_entry.new.self) (sym merged.1) c.in-Ok-append_entry.ensures.stored
+
+pub returns-in-Ok-append_entry-clause-any_moment : goal.returns-in-Ok-append_entry-clause-any_moment
+returns-in-Ok-append_entry-clause-any_moment g c = λ d is.
+    let D = g.D.Disk in
+    let old = c.args.self.now.kept in
+    let ident = c.args.ident in
+    let h = change_seen c.args.change.now in
+    let k = change_of c.of-head.result c.body.result.now in
+    let same : c.in-Some.given.now ≡ d = the_same (c.in-Some.ensures.given ∙ is) in
+    let above : d.count < h.number = omega (arith, c.count.ensures, ap (λ g. g.count) same, c.number.ensures.value, c.if-number-count.false) in
+    let merged = merged_change old ident d h k above (λ i. change_of (c.of-head.ensures i) (c.body.ensures.value i)) c.in-Ok.form (parts c.merge.new.self) (c.in-Ok.ensures.merged d is) in
+    subst (λ l. LeavesPrefix D.content D.images D.moment D.images_since l c.args.self.now c.append_entry.new.self) (sym merged.1) c.append_entry.ensures.any_moment
+
+pub returns-in-Ok-append_entry-clause-given : goal.returns-in-Ok-append_entry-clause-given
+returns-in-Ok-append_entry-clause-given g c = ap (λ (k : Kept). length k.history.idents) c.append_entry.ensures.kept ∙ c.in-Ok.ensures.given
+
+pub returns-in-Ok-append_entry-clause-strokes : goal.returns-in-Ok-append_entry-clause-strokes
+returns-in-Ok-append_entry-clause-strokes g c = λ d is b told.
+    let D = g.D.Disk in
+    let old = c.args.self.now.kept in
+    let ident = c.args.ident in
+    let h = change_seen c.args.change.now in
+    let k = change_of c.of-head.result c.body.result.now in
+    let same : c.in-Some.given.now ≡ d = the_same (c.in-Some.ensures.given ∙ is) in
+    let above : d.count < h.number = omega (arith, c.count.ensures, ap (λ g. g.count) same, c.number.ensures.value, c.if-number-count.false) in
+    let merged = merged_change old ident d h k above (λ i. change_of (c.of-head.ensures i) (c.body.ensures.value i)) c.in-Ok.form (parts c.merge.new.self) (c.in-Ok.ensures.merged d is) in
+    subst (λ l. Asks D.strokes (map server_bytes l) c.args.self.now.journal c.append_entry.new.self.journal) (sym merged.1) (c.in-Ok-append_entry.ensures.strokes b told)
+
+-- where its record isn't added
 pub returns-in-Err-clause-any_moment : goal.returns-in-Err-clause-any_moment
 returns-in-Err-clause-any_moment g c = λ d is.
     let D = g.D.Disk in
+    let old = c.args.self.now.kept in
+    let ident = c.args.ident in
     let h = change_seen c.args.change.now in
-    let above : d.count < h.number = omega (arith, c.count_of.ensures d is, c.number.ensures.value, c.if-number-count_of.false) in
-    subst (λ l. LeavesPrefix D.content D.images D.moment D.images_since l c.args.self.now c.merge.new.self) (sym (looked (nat_le h.number d.count) (merged_records (merge_by the_profile (parts c.args.self.now.kept) c.args.ident d h)) (lt-leb h.number d.count above))) (c.in-Err.ensures.any_moment d is)
-
-pub returns-in-Ok-clause-strokes : goal.returns-in-Ok-clause-strokes
-returns-in-Ok-clause-strokes g c = λ d is b told.
-    let D = g.D.Disk in
-    let h = change_seen c.args.change.now in
-    let above : d.count < h.number = omega (arith, c.count_of.ensures d is, c.number.ensures.value, c.if-number-count_of.false) in
-    subst (λ l. Asks D.strokes (map server_bytes l) c.args.self.now.journal c.merge.new.self.journal) (sym (looked (nat_le h.number d.count) (merged_records (merge_by the_profile (parts c.args.self.now.kept) c.args.ident d h)) (lt-leb h.number d.count above))) (c.in-Ok.ensures.strokes d is b told)
+    let k = change_of c.of-head.result c.body.result.now in
+    let same : c.in-Some.given.now ≡ d = the_same (c.in-Some.ensures.given ∙ is) in
+    let above : d.count < h.number = omega (arith, c.count.ensures, ap (λ g. g.count) same, c.number.ensures.value, c.if-number-count.false) in
+    let merged = merged_change old ident d h k above (λ i. change_of (c.of-head.ensures i) (c.body.ensures.value i)) c.in-Ok.form (parts c.merge.new.self) (c.in-Ok.ensures.merged d is) in
+    subst (λ l. LeavesPrefix D.content D.images D.moment D.images_since l c.args.self.now c.append_entry.new.self) (sym merged.1) c.append_entry.ensures.any_moment
 
 pub returns-in-Err-clause-strokes : goal.returns-in-Err-clause-strokes
 returns-in-Err-clause-strokes g c = λ d is b told.
     let D = g.D.Disk in
+    let self = c.args.self.now in
+    let old = self.kept in
+    let ident = c.args.ident in
     let h = change_seen c.args.change.now in
-    let above : d.count < h.number = omega (arith, c.count_of.ensures d is, c.number.ensures.value, c.if-number-count_of.false) in
-    subst (λ l. Asked {B = Option Refusal} D.strokes l c.args.self.now c.merge.new.self (Err c.in-Err.refusal)) (sym (looked (nat_le h.number d.count) (merged_records (merge_by the_profile (parts c.args.self.now.kept) c.args.ident d h)) (lt-leb h.number d.count above))) (c.in-Err.ensures.strokes d is b told)
+    let k = change_of c.of-head.result c.body.result.now in
+    let same : c.in-Some.given.now ≡ d = the_same (c.in-Some.ensures.given ∙ is) in
+    let above : d.count < h.number = omega (arith, c.count.ensures, ap (λ g. g.count) same, c.number.ensures.value, c.if-number-count.false) in
+    let merged = merged_change old ident d h k above (λ i. change_of (c.of-head.ensures i) (c.body.ensures.value i)) c.in-Ok.form (parts c.merge.new.self) (c.in-Ok.ensures.merged d is) in
+    let asked = asked_alike D.strokes (Unit {0}) (Option Refusal) (records_of c.in-Ok.form ident h) self (record self { kept = c.merge.new.self }) c.append_entry.new.self c.in-Err.refusal refl (c.in-Err.ensures.strokes b told) in
+    subst (λ l. Asked {B = Option Refusal} D.strokes l self c.append_entry.new.self (Err c.in-Err.refusal)) (sym merged.1) asked

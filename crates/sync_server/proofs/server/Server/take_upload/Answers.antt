@@ -15,6 +15,7 @@ use Rattle.sync_server.specs.Refusals.{refusal_seen}
 use Rattle.sync_server.specs.Sending.{refusal_message}
 use Rattle.sync_server.specs.declared.refusal.Refusal.{Refusal}
 use Rattle.sync_server.specs.Serving.{Adds, Asked, LeavesPrefix, IsServed, IsTaken, UploadedSoFar}
+use Rattle.sync_server.proofs.Keeps.{the_same}
 use Rattle.sync_server.proofs.Sending.{copied_some}
 use Rattle.sync_server.proofs.Uploading.{at_given, begins, ends, fails, fails_asked, goes_on, left_at, none_left, some_within, stops}
 use Rattle.sync_server.proofs.server.Server.take_upload.Goals as goal
@@ -32,13 +33,6 @@ loop-change-init g c =
 
 pub take_change-requires-clause-given : goal.take_change-requires-clause-given
 take_change-requires-clause-given g c =
-    let ident = c.ident-ident.result in
-    let old = c.args.self.now.kept.history.idents in
-    let there = some_within ident old (at_ident ident old) refl (copied_some c.at.result (at_ident ident old) c.is_none.result c.at.ensures.given c.is_none.ensures c.if-is_none.false) in
-    at_given ident c.loop-change.self.kept.history.idents c.ident-ident.ensures.named (omega (arith, there, c.loop-change.invariant.given))
-
-pub count_of-number-requires : goal.count_of-number-requires
-count_of-number-requires g c =
     let ident = c.ident-ident.result in
     let old = c.args.self.now.kept.history.idents in
     let there = some_within ident old (at_ident ident old) refl (copied_some c.at.result (at_ident ident old) c.is_none.result c.at.ensures.given c.is_none.ensures c.if-is_none.false) in
@@ -63,11 +57,11 @@ loop-change-preserved g c =
     let so = subst (λ l. UploadedSoFar D.content D.images D.moment D.images_since D.strokes ident old now all l) left c.loop-change.invariant.so_far in
     let taken = subst (λ w. IsTaken w ident given.0 (change_seen h) now.kept new.kept) c.in-Ok-None.field-0-is (c.in-Ok-None.ensures.taken given.0 given.1) in
     record {
-      is_open = c.in-Ok-None.ensures.stays_open;
+      is_open = c.in-Ok-None.ensures.stays.stays_open;
       given = c.in-Ok-None.ensures.given ∙ c.loop-change.invariant.given;
-      so_far = goes_on D.content D.images D.moment D.images_since D.strokes g.met.D.Disk.only_now ident old now new all rest (change_seen h) given.0 given.1 so taken (c.in-Ok-None.ensures.stored given.0 given.1) (c.in-Ok-None.ensures.any_moment given.0 given.1) c.in-Ok-None.ensures.told (c.in-Ok-None.ensures.strokes given.0 given.1);
-      origin = c.in-Ok-None.ensures.origin ∙ c.loop-change.invariant.origin;
-      later = omega (arith, c.loop-change.invariant.later, c.in-Ok-None.ensures.later);
+      so_far = goes_on D.content D.images D.moment D.images_since D.strokes g.met.D.Disk.only_now ident old now new all rest (change_seen h) given.0 given.1 so taken (c.in-Ok-None.ensures.stored given.0 given.1) (c.in-Ok-None.ensures.any_moment given.0 given.1) c.in-Ok-None.ensures.disk.told (c.in-Ok-None.ensures.strokes given.0 given.1);
+      origin = c.in-Ok-None.ensures.disk.same_origin ∙ c.loop-change.invariant.origin;
+      later = omega (arith, c.loop-change.invariant.later, c.in-Ok-None.ensures.disk.later);
     }
 
 pub returns-in-Ok-Some-clause-served : goal.returns-in-Ok-Some-clause-served
@@ -89,7 +83,7 @@ returns-in-Ok-Some-clause-served g c =
     let so = subst (λ l. UploadedSoFar D.content D.images D.moment D.images_since D.strokes ident old now all l) left c.loop-change.invariant.so_far in
     let taken = subst (λ w. IsTaken w ident given.0 (change_seen h) now.kept new.kept) c.in-Ok-Some.field-0-is (c.in-Ok-Some.ensures.taken given.0 given.1) in
     let reply = c.refuse-in-Ok-Some.ensures ∙ ap (λ n. refusal_message ident n (refusal_seen c.in-Ok-Some.why)) c.number.ensures.value in
-    let done = stops D.content D.images D.moment D.images_since D.strokes g.met.D.Disk.only_now ident old now new all rest (change_seen h) given.0 c.in-Ok-Some.why c.refuse-in-Ok-Some.result given.1 so taken (c.in-Ok-Some.ensures.stored given.0 given.1) (c.in-Ok-Some.ensures.any_moment given.0 given.1) c.in-Ok-Some.ensures.told (c.in-Ok-Some.ensures.strokes given.0 given.1) reply in
+    let done = stops D.content D.images D.moment D.images_since D.strokes g.met.D.Disk.only_now ident old now new all rest (change_seen h) given.0 c.in-Ok-Some.why c.refuse-in-Ok-Some.result given.1 so taken (c.in-Ok-Some.ensures.stored given.0 given.1) (c.in-Ok-Some.ensures.any_moment given.0 given.1) c.in-Ok-Some.ensures.disk.told (c.in-Ok-Some.ensures.strokes given.0 given.1) reply in
     let P : Served Instr State → Type 0 = λ s. IsServed s c.refuse-in-Ok-Some.result new.kept in
     subst P (λ k. upload_by the_profile (parts old.kept) (c.ident-ident.ensures.value k) (at_ident (c.ident-ident.ensures.value k) idents) (map change_seen (c.changes-change-items.ensures.value k))) done.served
 
@@ -112,7 +106,7 @@ returns-in-Ok-Some-clause-stored g c =
     let so = subst (λ l. UploadedSoFar D.content D.images D.moment D.images_since D.strokes ident old now all l) left c.loop-change.invariant.so_far in
     let taken = subst (λ w. IsTaken w ident given.0 (change_seen h) now.kept new.kept) c.in-Ok-Some.field-0-is (c.in-Ok-Some.ensures.taken given.0 given.1) in
     let reply = c.refuse-in-Ok-Some.ensures ∙ ap (λ n. refusal_message ident n (refusal_seen c.in-Ok-Some.why)) c.number.ensures.value in
-    let done = stops D.content D.images D.moment D.images_since D.strokes g.met.D.Disk.only_now ident old now new all rest (change_seen h) given.0 c.in-Ok-Some.why c.refuse-in-Ok-Some.result given.1 so taken (c.in-Ok-Some.ensures.stored given.0 given.1) (c.in-Ok-Some.ensures.any_moment given.0 given.1) c.in-Ok-Some.ensures.told (c.in-Ok-Some.ensures.strokes given.0 given.1) reply in
+    let done = stops D.content D.images D.moment D.images_since D.strokes g.met.D.Disk.only_now ident old now new all rest (change_seen h) given.0 c.in-Ok-Some.why c.refuse-in-Ok-Some.result given.1 so taken (c.in-Ok-Some.ensures.stored given.0 given.1) (c.in-Ok-Some.ensures.any_moment given.0 given.1) c.in-Ok-Some.ensures.disk.told (c.in-Ok-Some.ensures.strokes given.0 given.1) reply in
     let P : Served Instr State → Type 0 = λ s. Adds D.content D.images s.records old new in
     subst P (λ k. upload_by the_profile (parts old.kept) (c.ident-ident.ensures.value k) (at_ident (c.ident-ident.ensures.value k) idents) (map change_seen (c.changes-change-items.ensures.value k))) done.stored
 
@@ -128,7 +122,7 @@ returns-clause-served g c =
     let there = some_within ident idents (at_ident ident idents) refl (copied_some c.at.result (at_ident ident idents) c.is_none.result c.at.ensures.given c.is_none.ensures c.if-is_none.false) in
     let given = at_given ident now.kept.history.idents c.ident-ident.ensures.named (omega (arith, there, c.loop-change.invariant.given)) in
     let so = subst (λ l. UploadedSoFar D.content D.images D.moment D.images_since D.strokes ident old now all l) (none_left items c.loop-change.change-index c.loop-change-test.false) c.loop-change.invariant.so_far in
-    let reply = ap (λ s. Message.Stored s.ident s.number) c.new.ensures ∙ ap (λ n. Message.Stored ident n) (c.count_of-number.ensures given.0 given.1) in
+    let reply = ap (λ s. Message.Stored s.ident s.number) c.new.ensures ∙ ap (λ n. Message.Stored ident n) (c.count.ensures ∙ ap (λ g. g.count) (the_same (c.in-Some.ensures.given ∙ given.1))) in
     let done = ends D.content D.images D.moment D.images_since D.strokes g.met.D.Disk.only_now ident old now all given.0 (CodeMessage.Stored c.new.result) given.1 so reply in
     let P : Served Instr State → Type 0 = λ s. IsServed s (CodeMessage.Stored c.new.result) now.kept in
     subst P (λ k. upload_by the_profile (parts old.kept) (c.ident-ident.ensures.value k) (at_ident (c.ident-ident.ensures.value k) idents) (map change_seen (c.changes-change-items.ensures.value k))) done.served
@@ -145,7 +139,7 @@ returns-clause-stored g c =
     let there = some_within ident idents (at_ident ident idents) refl (copied_some c.at.result (at_ident ident idents) c.is_none.result c.at.ensures.given c.is_none.ensures c.if-is_none.false) in
     let given = at_given ident now.kept.history.idents c.ident-ident.ensures.named (omega (arith, there, c.loop-change.invariant.given)) in
     let so = subst (λ l. UploadedSoFar D.content D.images D.moment D.images_since D.strokes ident old now all l) (none_left items c.loop-change.change-index c.loop-change-test.false) c.loop-change.invariant.so_far in
-    let reply = ap (λ s. Message.Stored s.ident s.number) c.new.ensures ∙ ap (λ n. Message.Stored ident n) (c.count_of-number.ensures given.0 given.1) in
+    let reply = ap (λ s. Message.Stored s.ident s.number) c.new.ensures ∙ ap (λ n. Message.Stored ident n) (c.count.ensures ∙ ap (λ g. g.count) (the_same (c.in-Some.ensures.given ∙ given.1))) in
     let done = ends D.content D.images D.moment D.images_since D.strokes g.met.D.Disk.only_now ident old now all given.0 (CodeMessage.Stored c.new.result) given.1 so reply in
     let P : Served Instr State → Type 0 = λ s. Adds D.content D.images s.records old now in
     subst P (λ k. upload_by the_profile (parts old.kept) (c.ident-ident.ensures.value k) (at_ident (c.ident-ident.ensures.value k) idents) (map change_seen (c.changes-change-items.ensures.value k))) done.stored
@@ -169,7 +163,7 @@ returns-in-Ok-Some-clause-any_moment g c =
     let so = subst (λ l. UploadedSoFar D.content D.images D.moment D.images_since D.strokes ident old now all l) left c.loop-change.invariant.so_far in
     let taken = subst (λ w. IsTaken w ident given.0 (change_seen h) now.kept new.kept) c.in-Ok-Some.field-0-is (c.in-Ok-Some.ensures.taken given.0 given.1) in
     let reply = c.refuse-in-Ok-Some.ensures ∙ ap (λ n. refusal_message ident n (refusal_seen c.in-Ok-Some.why)) c.number.ensures.value in
-    let done = stops D.content D.images D.moment D.images_since D.strokes g.met.D.Disk.only_now ident old now new all rest (change_seen h) given.0 c.in-Ok-Some.why c.refuse-in-Ok-Some.result given.1 so taken (c.in-Ok-Some.ensures.stored given.0 given.1) (c.in-Ok-Some.ensures.any_moment given.0 given.1) c.in-Ok-Some.ensures.told (c.in-Ok-Some.ensures.strokes given.0 given.1) reply in
+    let done = stops D.content D.images D.moment D.images_since D.strokes g.met.D.Disk.only_now ident old now new all rest (change_seen h) given.0 c.in-Ok-Some.why c.refuse-in-Ok-Some.result given.1 so taken (c.in-Ok-Some.ensures.stored given.0 given.1) (c.in-Ok-Some.ensures.any_moment given.0 given.1) c.in-Ok-Some.ensures.disk.told (c.in-Ok-Some.ensures.strokes given.0 given.1) reply in
     let P : Served Instr State → Type 0 = λ s. LeavesPrefix D.content D.images D.moment D.images_since s.records old new in
     subst P (λ k. upload_by the_profile (parts old.kept) (c.ident-ident.ensures.value k) (at_ident (c.ident-ident.ensures.value k) idents) (map change_seen (c.changes-change-items.ensures.value k))) done.leaves
 
@@ -185,7 +179,7 @@ returns-clause-any_moment g c =
     let there = some_within ident idents (at_ident ident idents) refl (copied_some c.at.result (at_ident ident idents) c.is_none.result c.at.ensures.given c.is_none.ensures c.if-is_none.false) in
     let given = at_given ident now.kept.history.idents c.ident-ident.ensures.named (omega (arith, there, c.loop-change.invariant.given)) in
     let so = subst (λ l. UploadedSoFar D.content D.images D.moment D.images_since D.strokes ident old now all l) (none_left items c.loop-change.change-index c.loop-change-test.false) c.loop-change.invariant.so_far in
-    let reply = ap (λ s. Message.Stored s.ident s.number) c.new.ensures ∙ ap (λ n. Message.Stored ident n) (c.count_of-number.ensures given.0 given.1) in
+    let reply = ap (λ s. Message.Stored s.ident s.number) c.new.ensures ∙ ap (λ n. Message.Stored ident n) (c.count.ensures ∙ ap (λ g. g.count) (the_same (c.in-Some.ensures.given ∙ given.1))) in
     let done = ends D.content D.images D.moment D.images_since D.strokes g.met.D.Disk.only_now ident old now all given.0 (CodeMessage.Stored c.new.result) given.1 so reply in
     let P : Served Instr State → Type 0 = λ s. LeavesPrefix D.content D.images D.moment D.images_since s.records old now in
     subst P (λ k. upload_by the_profile (parts old.kept) (c.ident-ident.ensures.value k) (at_ident (c.ident-ident.ensures.value k) idents) (map change_seen (c.changes-change-items.ensures.value k))) done.leaves
@@ -230,7 +224,7 @@ returns-in-Ok-Some-clause-strokes g c =
     let so = subst (λ l. UploadedSoFar D.content D.images D.moment D.images_since D.strokes ident old now all l) left c.loop-change.invariant.so_far in
     let taken = subst (λ w. IsTaken w ident given.0 (change_seen h) now.kept new.kept) c.in-Ok-Some.field-0-is (c.in-Ok-Some.ensures.taken given.0 given.1) in
     let reply = c.refuse-in-Ok-Some.ensures ∙ ap (λ n. refusal_message ident n (refusal_seen c.in-Ok-Some.why)) c.number.ensures.value in
-    let done = stops D.content D.images D.moment D.images_since D.strokes g.met.D.Disk.only_now ident old now new all rest (change_seen h) given.0 c.in-Ok-Some.why c.refuse-in-Ok-Some.result given.1 so taken (c.in-Ok-Some.ensures.stored given.0 given.1) (c.in-Ok-Some.ensures.any_moment given.0 given.1) c.in-Ok-Some.ensures.told (c.in-Ok-Some.ensures.strokes given.0 given.1) reply in
+    let done = stops D.content D.images D.moment D.images_since D.strokes g.met.D.Disk.only_now ident old now new all rest (change_seen h) given.0 c.in-Ok-Some.why c.refuse-in-Ok-Some.result given.1 so taken (c.in-Ok-Some.ensures.stored given.0 given.1) (c.in-Ok-Some.ensures.any_moment given.0 given.1) c.in-Ok-Some.ensures.disk.told (c.in-Ok-Some.ensures.strokes given.0 given.1) reply in
     let P : Served Instr State → Type 0 = λ s. Told (D.content (disk_of old.journal)) (λ b. Asks D.strokes (map server_bytes s.records) old.journal new.journal) in
     subst P (λ k. upload_by the_profile (parts old.kept) (c.ident-ident.ensures.value k) (at_ident (c.ident-ident.ensures.value k) idents) (map change_seen (c.changes-change-items.ensures.value k))) done.asked
 
@@ -246,7 +240,7 @@ returns-clause-strokes g c =
     let there = some_within ident idents (at_ident ident idents) refl (copied_some c.at.result (at_ident ident idents) c.is_none.result c.at.ensures.given c.is_none.ensures c.if-is_none.false) in
     let given = at_given ident now.kept.history.idents c.ident-ident.ensures.named (omega (arith, there, c.loop-change.invariant.given)) in
     let so = subst (λ l. UploadedSoFar D.content D.images D.moment D.images_since D.strokes ident old now all l) (none_left items c.loop-change.change-index c.loop-change-test.false) c.loop-change.invariant.so_far in
-    let reply = ap (λ s. Message.Stored s.ident s.number) c.new.ensures ∙ ap (λ n. Message.Stored ident n) (c.count_of-number.ensures given.0 given.1) in
+    let reply = ap (λ s. Message.Stored s.ident s.number) c.new.ensures ∙ ap (λ n. Message.Stored ident n) (c.count.ensures ∙ ap (λ g. g.count) (the_same (c.in-Some.ensures.given ∙ given.1))) in
     let done = ends D.content D.images D.moment D.images_since D.strokes g.met.D.Disk.only_now ident old now all given.0 (CodeMessage.Stored c.new.result) given.1 so reply in
     let P : Served Instr State → Type 0 = λ s. Told (D.content (disk_of old.journal)) (λ b. Asks D.strokes (map server_bytes s.records) old.journal now.journal) in
     subst P (λ k. upload_by the_profile (parts old.kept) (c.ident-ident.ensures.value k) (at_ident (c.ident-ident.ensures.value k) idents) (map change_seen (c.changes-change-items.ensures.value k))) done.asked

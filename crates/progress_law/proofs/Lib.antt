@@ -1,0 +1,11 @@
+pub mod Growing
+pub mod Since
+pub mod Events
+pub mod Round
+pub mod Gains
+pub mod Brings
+pub mod Binding
+pub mod Whole
+pub mod Greedy
+pub mod Bearing
+pub mod Alone

@@ -1,0 +1,25 @@
+use Rattle.std.proofs.Common.{Option, sym, subst}
+use Rattle.std.specs.Option.{option_map}
+use Rattle.sync_exchange.specs.Seen.{message_seen}
+use Rattle.sync_messages.specs.declared.message.Message.{Message}
+use Rattle.sync_host.specs.Steps.{Spares, message_read, take_answer}
+use Rattle.sync_host.proofs.Said.{if_told}
+use Rattle.sync_host.proofs.hosted.HostedClient.take.Goals as goal
+
+pub returns-in-Some-Number-clause-ends : goal.returns-in-Some-Number-clause-ends
+returns-in-Some-Number-clause-ends c = λ records stands. let places = c.in-Ok-changed_by_message.places.items in
+    if_told c.take-reply.result (Spares places records (option_map (take_answer records) (message_read c.args.bytes.now)))
+    (subst (λ (m : Option Message). Spares places records (option_map (take_answer records) (option_map message_seen m))) (sym c.in-Ok.ensures.exact)
+    (λ front back list spared. c.in-Ok-changed_by_message.ensures.ends records front back list (sym (c.unsent-unsent.ensures records stands.client)) spared))
+
+pub returns-in-Ok-changed_by_message-clause-ends : goal.returns-in-Ok-changed_by_message-clause-ends
+returns-in-Ok-changed_by_message-clause-ends c = λ records stands. let places = c.in-Ok-changed_by_message.places.items in
+    if_told c.take-reply.result (Spares places records (option_map (take_answer records) (message_read c.args.bytes.now)))
+    (subst (λ (m : Option Message). Spares places records (option_map (take_answer records) (option_map message_seen m))) (sym c.in-Ok.ensures.exact)
+    (λ front back list spared. c.in-Ok-changed_by_message.ensures.ends records front back list (sym (c.unsent-unsent.ensures records stands.client)) spared))
+
+pub returns-in-Ok-changed_by_message-2-clause-ends : goal.returns-in-Ok-changed_by_message-2-clause-ends
+returns-in-Ok-changed_by_message-2-clause-ends c = λ records stands. let places = c.in-Ok-changed_by_message.places.items in
+    if_told c.take-reply.result (Spares places records (option_map (take_answer records) (message_read c.args.bytes.now)))
+    (subst (λ (m : Option Message). Spares places records (option_map (take_answer records) (option_map message_seen m))) (sym c.in-Ok.ensures.exact)
+    (λ front back list spared. c.in-Ok-changed_by_message.ensures.ends records front back list (sym (c.unsent-unsent.ensures records stands.client)) spared))
