@@ -1,0 +1,6 @@
+pub mod Edits
+pub mod Joined
+pub mod Kept
+pub mod Least
+pub mod Parts
+pub mod Walks
