@@ -1,10 +1,11 @@
 -- Blocks that are joined, and an edit of one of them.
-use Rattle.std.proofs.Common.{◌≡◌, ℕ, suc, ◌+◌, ◌<◌, ◌≤◌, List, [], ◌∷◌, ◌++◌, length, get_or, set, take, drop, slice_get, Some, refl, sym, ap, ◌∙◌, length-append, append_assoc, append-nil, add-one, arith}
+use Rattle.std.proofs.Common.{◌≡◌, ℕ, suc, ◌+◌, ◌<◌, ◌≤◌, List, [], ◌∷◌, ◌++◌, length, get_or, set, take, drop, slice_get, Some, refl, sym, ap, subst, ◌∙◌, length-append, append_assoc, append-nil, add-one, arith}
 use Rattle.std.specs.Prelude.{insert, remove}
-use Rattle.std.proofs.lemmas.List.{take-append-drop, take_more, drop_more, set_split, take_more_set, drop-set-lt}
+use Rattle.std.proofs.lemmas.List.{take-append-drop, take_more, drop_more, set_split, take_more_set, drop-set-lt, drop_all}
 use Rattle.std.proofs.lemmas.List.Concat.{flat_map-append}
 use Rattle.std.proofs.lemmas.Option.{slice_get_within, get_or_from_slice_get}
-use Rattle.sum_list.specs.Blocks.{joined}
+use Rattle.sum_list.specs.declared.blocks.Seat.{Seat}
+use Rattle.sum_list.specs.Blocks.{joined, IsSeat}
 
 one_further : (i : ℕ) → suc i ≡ i + 1
 one_further i = sym (add-one i)
@@ -41,3 +42,22 @@ module _ {X : Type 0} where
 
   pub joined_remove : (bs : List (List X)) (i : ℕ) → joined (remove bs i) ≡ joined (take i bs) ++ joined (drop (i + 1) bs)
   joined_remove bs i = joined-append (take i bs) (drop (suc i) bs) ∙ ap (λ k. joined (take i bs) ++ joined (drop k bs)) (one_further i)
+
+  -- a block ends within the list, and the last one with it
+  pub ends_within : (bs : List (List X)) (i : ℕ) (b : List X) → i < length bs → b ≡ get_or bs i b → length (joined (take i bs)) + length b ≤ length (joined bs)
+  ends_within bs i b low is =
+      let xs = joined (take i bs) in let ys = joined (drop (i + 1) bs) in
+      let whole = ap length (cut bs i b low is) in let long = length-append xs (b ++ ys) in let longer = length-append b ys in omega arith
+
+  pub ends_last : (bs : List (List X)) (i : ℕ) (b : List X) → i + 1 ≡ length bs → b ≡ get_or bs i b → length (joined bs) ≡ length (joined (take i bs)) + length b
+  ends_last bs i b last is =
+      let low : i < length bs = omega arith in
+      let none = ap (λ l. length (joined l)) (drop_all (i + 1) bs (omega arith)) in
+      let xs = joined (take i bs) in let ys = joined (drop (i + 1) bs) in
+      let whole = ap length (cut bs i b low is) in let long = length-append xs (b ++ ys) in let longer = length-append b ys in omega arith
+
+  -- what holds of the block that was read at a seat
+  pub seated : (bs : List (List X)) (place : ℕ) (seat : Seat) → IsSeat bs place seat → (b : List X) → b ≡ get_or bs seat.block b → (slice_get bs seat.block ≡ Some b) × (seat.within ≤ length b) × (place < length (joined bs) → seat.within < length b)
+  seated bs place seat s b read =
+      let same : s.block ≡ b = sym (read ∙ get_or_from_slice_get bs seat.block s.block b s.is) in
+      (s.is ∙ ap Some same, subst (λ (l : List X). seat.within ≤ length l) same s.ends, λ low. subst (λ (l : List X). seat.within < length l) same (s.within low))

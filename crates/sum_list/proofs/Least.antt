@@ -21,6 +21,10 @@ module _ {X : Type 0} (n : X → ℕ) where
       let e = ap (least n) (take_more xs i x low ∙ ap (λ y. take i xs ++ y ∷ []) (sym is)) in
       let cut = least-append (take i xs) (x ∷ []) in let few = least_few (take i xs) in omega arith
 
+  pub some_before : (xs : List X) (i v : ℕ) → least n (take i xs) < v → v < 18446744073709551616 → 0 < i
+  some_before xs zero v low few = absurd (omega arith)
+  some_before xs (suc i) v low few = omega arith
+
   single : (x : X) (v k : ℕ) (d : X) → k < 1 → v ≤ n x → v ≤ n (get_or (x ∷ []) k d)
   single x v zero d h low = low
   single x v (suc k) d h low = absurd (omega arith)

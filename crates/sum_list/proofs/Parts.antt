@@ -1,7 +1,7 @@
 -- A list in three parts, and an edit in the middle one.
 use Rattle.std.proofs.Common.{◌≡◌, ℕ, ◌+◌, ◌-◌, ◌<◌, ◌≤◌, List, [], ◌∷◌, ◌++◌, length, get_or, set, take, drop, slice_get, Some, refl, sym, ap, ◌∙◌, length-append, append_assoc, arith}
 use Rattle.std.specs.Prelude.{insert, remove, sum_by}
-use Rattle.std.proofs.lemmas.List.{length-take-le, take-append-drop, take_at, take-append-le, set-append_left, set-append_right, get_or_append_left, get_or-append-add}
+use Rattle.std.proofs.lemmas.List.{length-take-le, take-append-drop, drop_more, take_at, take-append-le, set-append_left, set-append_right, get_or_append_left, get_or-append-add}
 use Rattle.std.proofs.lemmas.List.Edits.{insert-append_left, insert-append_right, remove-append_left, remove-append_right}
 use Rattle.std.proofs.lemmas.List.Sums.{sum_by-append}
 use Rattle.std.proofs.lemmas.Option.{slice_get_read, slice_get_within, get_or_from_slice_get}
@@ -10,6 +10,11 @@ further : (n p : ℕ) → n + p - n ≡ p
 further n p = omega arith
 
 module _ {X : Type 0} where
+  -- what lies in front of an item, the item, and what lies behind it
+  pub cut_list : (xs : List X) (i : ℕ) (x : X) → i < length xs → x ≡ get_or xs i x → xs ≡ take i xs ++ (x ∷ drop (i + 1) xs)
+  cut_list xs i x low is =
+      sym (take-append-drop i xs) ∙ ap (λ l. take i xs ++ l) (drop_more xs i x low ∙ ap (λ y. y ∷ drop (i + 1) xs) (sym is))
+
   pub take_join : (xs zs : List X) (p : ℕ) → p ≤ length zs → take (length xs + p) (xs ++ zs) ≡ xs ++ take p zs
   take_join xs zs p low =
       let cut : xs ++ zs ≡ (xs ++ take p zs) ++ drop p zs = ap (λ l. xs ++ l) (sym (take-append-drop p zs)) ∙ sym (append_assoc xs (take p zs) (drop p zs)) in
@@ -44,3 +49,6 @@ module _ {X : Type 0} where
       let read : x ≡ get_or (xs ++ (b ++ ys)) (length xs + p) x =
       sym (get_or-append-add xs (b ++ ys) p x ∙ get_or_append_left b ys x p low ∙ get_or_from_slice_get b p x x is) in
       slice_get_read (xs ++ (b ++ ys)) (length (xs ++ (b ++ ys))) (length xs + p) x refl (omega (arith, length-append xs (b ++ ys), length-append b ys)) read
+
+  pub get_or_within : (xs b ys : List X) (p : ℕ) (d : X) → p < length b → get_or (xs ++ (b ++ ys)) (length xs + p) d ≡ get_or b p d
+  get_or_within xs b ys p d low = get_or-append-add xs (b ++ ys) p d ∙ get_or_append_left b ys d p low

@@ -1,7 +1,7 @@
 -- A walk over a list that adds up the items so far, until a sum is reached.
-use Rattle.std.proofs.Common.{◌≡◌, ℕ, inl, inr, zero, suc, ◌+◌, ◌-◌, ◌*◌, ◌^◌, ◌<◌, ◌≤◌, List, [], ◌∷◌, ◌++◌, length, take, refl, sym, ap, subst, ◌∙◌, length-append, add-zero, arith}
+use Rattle.std.proofs.Common.{◌≡◌, ℕ, inl, inr, zero, suc, ◌+◌, ◌-◌, ◌*◌, ◌^◌, ◌<◌, ◌≤◌, List, [], ◌∷◌, ◌++◌, length, take, refl, sym, ap, subst, ◌∙◌, length-append, arith}
 use Rattle.std.specs.Prelude.{sum_by}
-use Rattle.std.proofs.lemmas.List.{take_all}
+use Rattle.std.proofs.lemmas.List.{length-take-le, take_all}
 use Rattle.std.proofs.lemmas.Bool.{cases_lt}
 use Rattle.std.proofs.lemmas.List.Sums.{sum_by-append, sum_by-cons}
 use Rattle.sum_list.specs.declared.at.At.{At}
@@ -13,9 +13,6 @@ use Rattle.sum_list.proofs.Parts.{sum_within}
 -- the place so much further on
 abbrev pub further : At → At → At
 further a e = record { place = a.place + e.place; before = a.before + e.before; after = a.after + e.after }
-
-abbrev pub start : At
-start = record { place = 0; before = 0; after = 0 }
 
 module _ {X : Type 0} (f g : X → ℕ) where
   -- the sums of whole items, whose lengths are those of 32 bits
@@ -40,20 +37,10 @@ module _ {X : Type 0} (f g : X → ℕ) where
   by_is Before xs at s = s.before
   by_is After xs at s = s.after
 
-  pub sums_none : Sums [] start
-  sums_none = record { place = refl; before = refl; after = refl; low_before = omega arith; low_after = omega arith }
-
-  pub walk_none : (m : Measure) (sum : ℕ) → Walk m sum [] start
-  walk_none m sum = record { sums = sums_none; short = λ h. absurd (omega (arith, h)) }
-
   pub sums_one : (x : X) (e : At) → e.place ≡ 1 → e.before ≡ f x → e.after ≡ g x → e.before < 2 ^ 32 → e.after < 2 ^ 32 → Sums (x ∷ []) e
-  sums_one x e p b a lb la = record {
-    place = p;
-    before = let one = sum_by-cons f x [] in omega arith;
-    after = let one = sum_by-cons g x [] in omega arith;
-    low_before = omega arith;
-    low_after = omega arith;
-  }
+  sums_one x e p b a lb la =
+      let one = sum_by-cons f x [] in let other = sum_by-cons g x [] in
+      record { place = p; before = omega arith; after = omega arith; low_before = omega arith; low_after = omega arith }
 
   pub sums_more : (xs b : List X) (at e : At) → Sums xs at → Sums b e → Sums (xs ++ b) (further at e)
   sums_more xs b at e s t =
@@ -67,6 +54,33 @@ module _ {X : Type 0} (f g : X → ℕ) where
         low_before = omega arith;
         low_after = omega arith;
       }
+
+  -- the sum is reached with the part b
+  pub reached_with : (m : Measure) (sum : ℕ) (xs b : List X) (at e r : At) → Sums xs at → Sums b e → r ≡ further at e → sum ≤ by m r.place r.before r.after → sum ≤ sum_by (counts f g m) xs + sum_by (counts f g m) b
+  reached_with m sum xs b at e r s t is low =
+      let whole = by_is m (xs ++ b) (further at e) (sums_more xs b at e s t) ∙ sum_by-append (counts f g m) xs b in
+      subst (λ v. sum ≤ v) ((λ k. by m (is k).place (is k).before (is k).after) ∙ whole) low
+
+  -- the sum is reached with the next item
+  pub walk_at : (m : Measure) (sum : ℕ) (xs : List X) (x : X) (ys : List X) (at : At) → Walk m sum xs at → sum ≤ sum_by (counts f g m) xs + sum_by (counts f g m) (x ∷ []) → Reaches (counts f g m) sum (xs ++ (x ∷ ys)) at.place
+  walk_at m sum xs x ys at w enough =
+      let h = counts f g m in let s = w.sums in let place = s.place in let reach = by_is m xs at s in
+      let up_to = λ (p q : ℕ) (same : p ≡ length xs + q) (low : q ≤ 1). ap (λ k. sum_by h (take k (xs ++ (x ∷ ys)))) same ∙ sum_within h xs (x ∷ []) ys q low in
+      record {
+        short = λ first. let e = up_to at.place 0 (omega arith) (omega arith) in let none : sum_by h (take 0 (x ∷ [])) ≡ 0 = refl in let low = w.short first in omega arith;
+        reached = λ _. subst (λ v. sum ≤ v) (sym (up_to (at.place + 1) 1 (omega arith) (omega arith))) enough;
+      }
+
+  pub reaches_place : (xs : List X) (p q : ℕ) → p ≤ length xs → q ≤ length xs → Reaches (λ _. 1) (q + 1) xs p → p ≡ q
+  reaches_place xs p q low few r =
+      let here = ones (take p xs) in let long = length-take-le p xs low in
+      let short : 0 < p → p < q + 1 = λ h. let v = r.short h in omega arith in
+      elim (cases_lt p (length xs)) [
+        | inl lt ↦
+            let next = ones (take (p + 1) xs) in let longer = length-take-le (p + 1) xs (omega arith) in let v = r.reached lt in
+            elim (cases_lt 0 p) [ | inl some ↦ let u = short some in omega arith | inr none ↦ omega arith ]
+        | inr le ↦ elim (cases_lt 0 p) [ | inl some ↦ let u = short some in omega arith | inr none ↦ omega arith ]
+      ]
 
   -- the sum wasn't reached
   pub walk_end : (m : Measure) (sum : ℕ) (xs : List X) (at : At) → Walk m sum xs at → IsAt f g xs at × Reaches (counts f g m) sum xs at.place
