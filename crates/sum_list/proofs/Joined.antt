@@ -7,7 +7,7 @@ use Rattle.std.proofs.lemmas.Option.{slice_get_within, get_or_from_slice_get}
 use Rattle.sum_list.specs.declared.blocks.Seat.{Seat}
 use Rattle.sum_list.specs.Blocks.{joined, IsSeat}
 
-one_further : (i : ℕ) → suc i ≡ i + 1
+pub one_further : (i : ℕ) → suc i ≡ i + 1
 one_further i = sym (add-one i)
 
 module _ {X : Type 0} where

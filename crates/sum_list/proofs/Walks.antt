@@ -7,7 +7,8 @@ use Rattle.std.proofs.lemmas.List.Sums.{sum_by-append, sum_by-cons}
 use Rattle.sum_list.specs.declared.at.At.{At}
 use Rattle.sum_list.specs.declared.measured.Measure.{Measure}
 use Rattle.sum_list.specs.declared.measured.Measure.TheVariants.{Places, Before, After}
-use Rattle.sum_list.specs.Places.{by, counts, IsAt, Reaches}
+use Rattle.sum_list.specs.Counts.{by, counts}
+use Rattle.sum_list.specs.Places.{IsAt, Reaches}
 use Rattle.sum_list.proofs.Parts.{sum_within}
 
 -- the place so much further on
@@ -78,17 +79,18 @@ module _ {X : Type 0} (f g : X → ℕ) where
       elim (cases_lt p (length xs)) [
         | inl lt ↦
             let next = ones (take (p + 1) xs) in let longer = length-take-le (p + 1) xs (omega arith) in let v = r.reached lt in
-            elim (cases_lt 0 p) [ | inl some ↦ let u = short some in omega arith | inr none ↦ omega arith ]
-        | inr le ↦ elim (cases_lt 0 p) [ | inl some ↦ let u = short some in omega arith | inr none ↦ omega arith ]
+            elim (cases_lt 0 p) [ inl some ↦ let u = short some in omega arith | inr none ↦ omega arith ]
+        | inr le ↦ elim (cases_lt 0 p) [ inl some ↦ let u = short some in omega arith | inr none ↦ omega arith ]
       ]
 
   -- the sum wasn't reached
   pub walk_end : (m : Measure) (sum : ℕ) (xs : List X) (at : At) → Walk m sum xs at → IsAt f g xs at × Reaches (counts f g m) sum xs at.place
   walk_end m sum xs at w =
       let s = w.sums in let place = s.place in let all = take_all at.place xs (omega arith) in
-      let reach = by_is m xs at s in let whole = ap (sum_by (counts f g m)) all in
-      (record { within = omega arith; before = s.before ∙ sym (ap (sum_by f) all); after = s.after ∙ sym (ap (sum_by g) all) },
-        record { short = λ h. let short = w.short h in omega arith; reached = λ h. absurd (omega (arith, h)) })
+      let reach = by_is m xs at s in let whole = ap (sum_by (counts f g m)) all in (
+        record { within = omega arith; before = s.before ∙ sym (ap (sum_by f) all); after = s.after ∙ sym (ap (sum_by g) all) },
+        record { short = λ h. let short = w.short h in omega arith; reached = λ h. absurd (omega (arith, h)) },
+      )
 
   short_within : (h : X → ℕ) (sum : ℕ) (xs b : List X) (p q r v : ℕ) → r ≡ sum_by h xs → (0 < p → r < sum) → (0 < q → sum_by h (take q b) < sum - r) → v ≡ sum_by h xs + sum_by h (take q b) → 0 < p + q → v < sum
   short_within h sum xs b p zero r v re outer inner e first = let none : sum_by h (take 0 b) ≡ 0 = refl in let o = outer (omega arith) in omega arith
@@ -113,12 +115,14 @@ module _ {X : Type 0} (f g : X → ℕ) where
       let r = by m at.place at.before at.after in let reach = by_is m xs at s in
       let same : at.place + i.place ≡ length xs + i.place = omega arith in
       let up_to = λ (q : X → ℕ). ap (λ k. sum_by q (take k (xs ++ (b ++ ys)))) same ∙ sum_within q xs b ys i.place low in
-      let long = length-append xs (b ++ ys) in let longer = length-append b ys in
-      (record {
+      let long = length-append xs (b ++ ys) in let longer = length-append b ys in (
+        record {
           within = omega arith;
           before = (λ k. s.before k + here.before k) ∙ sym (up_to f);
           after = (λ k. s.after k + here.after k) ∙ sym (up_to g);
-        }, record {
+        },
+        record {
           short = short_within h sum xs b at.place i.place r (sum_by h (take (at.place + i.place) (xs ++ (b ++ ys)))) reach w.short reaches.short (up_to h);
           reached = λ _. reached_within h sum xs b ys at.place i.place r reach place low some enough reaches;
-        })
+        },
+      )

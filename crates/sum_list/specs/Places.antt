@@ -1,20 +1,8 @@
 -- What contracts say of the places of a list, by the lengths and the numbers of its items.
 use Rattle.std.specs.Prelude.{◌≡◌, ℕ, ◌+◌, ◌<◌, ◌≤◌, List, length, take, sum_by, All, slice_index_or}
 use Rattle.sum_list.specs.declared.at.At.{At}
-use Rattle.sum_list.specs.declared.measured.Measure.{Measure}
-use Rattle.sum_list.specs.declared.measured.Measure.TheVariants.{Places, Before, After}
-
--- the one of three that a measure is
-abbrev pub by : {A : Type 0} → Measure → A → A → A → A
-by Places x y z = x
-by Before x y z = y
-by After x y z = z
 
 module _ {X : Type 0} where
-  -- what a measure counts of an item with the lengths f and g
-  abbrev pub counts : (X → ℕ) → (X → ℕ) → Measure → X → ℕ
-  counts f g m = by m (λ _. 1) f g
-
   -- the sums of the lengths f and g of the items in front of the place
   pub record IsAt (f g : X → ℕ) (xs : List X) (at : At) : Type 0 where
     pub within : at.place ≤ length xs

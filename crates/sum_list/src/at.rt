@@ -1,5 +1,5 @@
 ghost use Rattle.std.specs.Prelude.{◌≡◌, ◌+◌, ◌^◌, ◌<◌};
-ghost use Rattle.sum_list.specs.Places.{by};
+ghost use Rattle.sum_list.specs.Counts.{by};
 
 use crate::measured::Measure;
 

@@ -1,10 +1,11 @@
 //! A block of items, with the sums of their lengths and their least number.
-ghost use Rattle.std.specs.Prelude.{◌≡◌, ◌+◌, ◌-◌, ◌*◌, ◌^◌, ◌<◌, ◌≤◌, [], ◌∷◌, ◌++◌, length, min, insert, remove, slice_get, slice_set, slice_index_or, Some, IfOk, IfErr, vec_capacity};
+ghost use Rattle.std.specs.Prelude.{◌≡◌, ◌+◌, ◌-◌, ◌*◌, ◌^◌, ◌<◌, ◌≤◌, [], ◌∷◌, ◌++◌, length, min, insert, remove, slice_get, slice_set, slice_index_or, Some, IfOk, IfErr, OnOk, vec_capacity};
 ghost use Rattle.sum_list.specs.Block.{Keeps, least, items_of};
-ghost use Rattle.sum_list.specs.Places.{IsAt, Reaches, counts};
+ghost use Rattle.sum_list.specs.Counts.{counts};
+ghost use Rattle.sum_list.specs.Places.{IsAt, Reaches};
 
-use crate::measured::{Measure, Measured};
 use crate::At;
+use crate::measured::{Measure, Measured};
 use std::alloc::Global;
 use std::marker::Model;
 use std::mem;
@@ -13,7 +14,7 @@ use std::mem;
 const MOST: usize = 128;
 
 /// Half of them.
-const HALF: usize = 64;
+pub(crate) const HALF: usize = 64;
 
 /// The sums of the lengths of some items, and their least number.
 #[derive(Clone, Copy)]
@@ -70,7 +71,6 @@ impl<T: Measured> Block<T> {
         ensures some { 0 < result }
         ensures few { result ≤ 128 }
     {
-        let _ = &self.measures;
         self.items.len()
     }
 
@@ -96,7 +96,6 @@ impl<T: Measured> Block<T> {
         ensures few { result.place ≤ 128 }
         ensures low { (result.before ≤ 128 * 4294967295) × (result.after ≤ 128 * 4294967295) }
     {
-        let _ = &self.measures;
         find_among(self.items.as_slice(), by, sum)
     }
 
@@ -105,13 +104,17 @@ impl<T: Measured> Block<T> {
         ensures within { result < length self.now }
         ensures least { (d : T) → T.first (slice_index_or self.now result d) ≡ least T.first self.now }
     {
-        let _ = &self.measures;
         least_among(self.items.as_slice())
     }
 
     /// Puts an item at a place. The upper half of a block that was full comes out. Where there is no memory, the item
     /// comes back.
-    pub(crate) fn insert(&mut self, alloc: Global, place: usize, item: T) -> Result<Option<Block<T>>, T>
+    pub(crate) fn insert(
+        &mut self,
+        alloc: Global,
+        place: usize,
+        item: T,
+    ) -> Result<Option<Block<T>>, T>
         requires { place ≤ length self.old }
         ensures ok { IfOk result (λ upper. self.new ++ items_of upper ≡ insert self.old place item) }
         ensures err { IfErr result (λ x. (x ≡ item) × (self.new ≡ self.old)) }
@@ -160,6 +163,25 @@ impl<T: Measured> Block<T> {
         let item = self.items.remove(place);
         self.measures = measure(self.items.as_slice());
         item
+    }
+
+    /// Puts the items of the next block behind its own. Where there is no memory, that block comes back.
+    pub(crate) fn append(&mut self, next: Block<T>) -> Result<(), Block<T>>
+        requires { length self.old + length next ≤ 128 }
+        ensures ok { OnOk result (self.new ≡ self.old ++ next) }
+        ensures err { IfErr result (λ b. (b ≡ next) × (self.new ≡ self.old)) }
+    {
+        let Block {
+            mut items,
+            measures,
+        } = next;
+        match self.items.append(&mut items) {
+            Err(_) => Err(Block { items, measures }),
+            Ok(()) => {
+                self.measures = measure(self.items.as_slice());
+                Ok(())
+            }
+        }
     }
 
     /// The only item.

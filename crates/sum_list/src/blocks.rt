@@ -2,10 +2,11 @@
 ghost use Rattle.std.specs.Prelude.{◌≡◌, ◌+◌, ◌*◌, ◌^◌, ◌<◌, ◌≤◌, [], length, sum_by, insert, remove, slice_get, slice_set, Some, IfErr, OnOk, MatchOption};
 ghost use Rattle.sum_list.specs.Block.{items_of};
 ghost use Rattle.sum_list.specs.Blocks.{joined, IsSeat};
-ghost use Rattle.sum_list.specs.Places.{IsAt, Reaches, IsLeast, counts};
+ghost use Rattle.sum_list.specs.Counts.{counts};
+ghost use Rattle.sum_list.specs.Places.{IsAt, Reaches, IsLeast};
 
 use crate::At;
-use crate::block::Block;
+use crate::block::{Block, HALF};
 use crate::measured::{Measure, Measured};
 use std::alloc::Global;
 
@@ -75,7 +76,10 @@ pub(crate) fn least<T: Measured>(blocks: &[Block<T>]) -> Option<usize>
         return None;
     }
     let mut front = 0;
-    let mut seat = Seat { block: 0, within: 0 };
+    let mut seat = Seat {
+        block: 0,
+        within: 0,
+    };
     let mut first = u64::MAX;
     for (i, block) in blocks.iter().enumerate() {
         let number = block.measures().first;
@@ -136,10 +140,44 @@ pub(crate) fn take_out<T: Measured>(blocks: &mut Vec<Block<T>>, place: usize) ->
     let Seat { block, within } = seat_of(blocks.as_slice(), place);
     let one = &blocks[block];
     if one.len() == 1 {
-        return blocks.remove(block).into_only();
+        let only = blocks.remove(block).into_only();
+        merge_around(blocks, block);
+        return only;
     }
     let one = &mut blocks[block];
-    one.remove(within)
+    let item = one.remove(within);
+    merge_around(blocks, block);
+    item
+}
+
+/// Joins a block with its neighbours, where they are small.
+fn merge_around<T: Measured>(blocks: &mut Vec<Block<T>>, block: usize)
+    ensures { joined blocks.new.items ≡ joined blocks.old.items }
+{
+    merge(blocks, block);
+    merge(blocks, block.saturating_sub(1));
+}
+
+/// Joins a block with the next one, where both are small and there is memory.
+fn merge<T: Measured>(blocks: &mut Vec<Block<T>>, block: usize)
+    ensures { joined blocks.new.items ≡ joined blocks.old.items }
+{
+    if blocks.len() < 2 || block > blocks.len() - 2 {
+        return;
+    }
+    let (one, next) = (&blocks[block], &blocks[block + 1]);
+    if one.len() + next.len() > HALF {
+        return;
+    }
+    let next = blocks.remove(block + 1);
+    let one = &mut blocks[block];
+    match one.append(next) {
+        Ok(()) => {}
+        Err(next) => match blocks.insert(block + 1, next) {
+            Ok(()) => {}
+            Err(_) => unreachable!(),
+        },
+    }
 }
 
 /// Puts an item in the place of the one there, which it returns.

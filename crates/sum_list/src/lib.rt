@@ -12,11 +12,10 @@ mod blocks;
 mod measured;
 
 pub use at::At;
-pub use measured::Measured;
-
 use block::Block;
 use blocks::Seat;
 use measured::Measure;
+pub use measured::Measured;
 use std::alloc::Global;
 use std::marker::Model;
 
@@ -100,7 +99,6 @@ impl<T: Measured> SumList<T> {
         ensures sums { IsAt T.before T.after self.now result }
         ensures first { Reaches T.before sum self.now result.place }
     {
-        let _ = &self.len;
         blocks::find(self.blocks.as_slice(), Measure::Before, sum)
     }
 
@@ -109,7 +107,6 @@ impl<T: Measured> SumList<T> {
         ensures sums { IsAt T.before T.after self.now result }
         ensures first { Reaches T.after sum self.now result.place }
     {
-        let _ = &self.len;
         blocks::find(self.blocks.as_slice(), Measure::After, sum)
     }
 
@@ -117,7 +114,6 @@ impl<T: Measured> SumList<T> {
     pub fn least(&self) -> Option<usize>
         ensures { MatchOption result (length self.now ≡ 0) (IsLeast T.first self.now) }
     {
-        let _ = &self.len;
         blocks::least(self.blocks.as_slice())
     }
 

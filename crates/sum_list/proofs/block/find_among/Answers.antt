@@ -1,6 +1,7 @@
 use Rattle.std.proofs.Common.{◌≡◌, ◌≤◌, ◌+◌, ◌∷◌, [], List, take, drop, sym, ap, subst}
 use Rattle.std.proofs.lemmas.List.{take_all}
-use Rattle.sum_list.specs.Places.{Reaches, counts}
+use Rattle.sum_list.specs.Counts.{counts}
+use Rattle.sum_list.specs.Places.{Reaches}
 use Rattle.sum_list.proofs.Parts.{cut_list}
 use Rattle.sum_list.proofs.Walks.{Walk, further, reached_with, sums_one, walk_at, walk_end}
 use Rattle.sum_list.proofs.block.find_among.Goals as goal

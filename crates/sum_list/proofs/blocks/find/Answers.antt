@@ -2,7 +2,8 @@ use Rattle.std.proofs.Common.{◌≡◌, ◌+◌, ◌-◌, ◌<◌, ◌≤◌, �
 use Rattle.std.proofs.lemmas.List.{take_all}
 use Rattle.sum_list.specs.declared.at.At.{At}
 use Rattle.sum_list.specs.Blocks.{joined}
-use Rattle.sum_list.specs.Places.{by, counts, IsAt, Reaches}
+use Rattle.sum_list.specs.Counts.{by, counts}
+use Rattle.sum_list.specs.Places.{IsAt, Reaches}
 use Rattle.sum_list.proofs.Joined.{cut, ends_within}
 use Rattle.sum_list.proofs.Walks.{Walk, Sums, reached_with, walk_found, walk_end}
 use Rattle.sum_list.proofs.blocks.find.Goals as goal

@@ -31,7 +31,7 @@ returns g c =
     record {
       within = omega arith;
       least = λ d.
-      let same = (λ k. get_or (cut bs seat.block b there is k) (place k + p) d) ∙ get_or_within (joined (take seat.block bs)) b (joined (drop (seat.block + 1) bs)) p d low in
-      let first = ap n same ∙ c.least.ensures.least d ∙ ap (λ (l : List g.row.T.Denot). least n l) is ∙ was.first b some in
-      subst (λ v. All (λ x. v ≤ n x) (joined bs)) (sym first) all;
+          let same = (λ k. get_or (cut bs seat.block b there is k) (place k + p) d) ∙ get_or_within (joined (take seat.block bs)) b (joined (drop (seat.block + 1) bs)) p d low in
+          let first = ap n same ∙ c.least.ensures.least d ∙ ap (λ (l : List g.row.T.Denot). least n l) is ∙ was.first b some in
+          subst (λ v. All (λ x. v ≤ n x) (joined bs)) (sym first) all;
     }
