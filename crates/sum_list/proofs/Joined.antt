@@ -1,5 +1,5 @@
 -- Blocks that are joined, and an edit of one of them.
-use Rattle.std.proofs.Common.{◌≡◌, ℕ, suc, ◌+◌, ◌<◌, ◌≤◌, List, [], ◌∷◌, ◌++◌, length, get_or, set, take, drop, slice_get, Some, refl, sym, ap, subst, ◌∙◌, length-append, append_assoc, append-nil, add-one, arith}
+use Rattle.std.proofs.Common.{◌≡◌, ℕ, suc, ◌+◌, ◌<◌, ◌≤◌, List, [], ◌∷◌, ◌++◌, length, get_or, set, take, drop, slice_get, Some, sym, ap, subst, ◌∙◌, length-append, append_assoc, append-nil, add-one, arith}
 use Rattle.std.specs.Prelude.{insert, remove}
 use Rattle.std.proofs.lemmas.List.{take-append-drop, take_more, drop_more, set_split, take_more_set, drop-set-lt, drop_all}
 use Rattle.std.proofs.lemmas.List.Concat.{flat_map-append}

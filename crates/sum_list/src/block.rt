@@ -1,5 +1,5 @@
 //! A block of items, with the sums of their lengths and their least number.
-ghost use Rattle.std.specs.Prelude.{◌≡◌, ◌+◌, ◌-◌, ◌*◌, ◌^◌, ◌<◌, ◌≤◌, [], ◌∷◌, ◌++◌, length, min, insert, remove, slice_get, slice_set, slice_index_or, Some, IfOk, IfErr, OnOk, vec_capacity};
+ghost use Rattle.std.specs.Prelude.{◌≡◌, ◌+◌, ◌*◌, ◌^◌, ◌<◌, ◌≤◌, [], ◌∷◌, ◌++◌, length, min, insert, remove, slice_get, slice_set, slice_index_or, Some, IfOk, IfErr, OnOk, vec_capacity};
 ghost use Rattle.sum_list.specs.Block.{Keeps, least, items_of};
 ghost use Rattle.sum_list.specs.Counts.{counts};
 ghost use Rattle.sum_list.specs.Places.{IsAt, Reaches};
@@ -90,13 +90,13 @@ impl<T: Measured> Block<T> {
     }
 
     /// The first place at which the sum is reached.
-    pub(crate) fn find(&self, by: Measure, sum: u64) -> At
+    pub(crate) fn find(&self, measure: Measure, sum: u64) -> At
         ensures at { IsAt T.before T.after self.now result }
-        ensures reaches { Reaches (counts T.before T.after by) sum self.now result.place }
+        ensures reaches { Reaches (counts T.before T.after measure) sum self.now result.place }
         ensures few { result.place ≤ 128 }
         ensures low { (result.before ≤ 128 * 4294967295) × (result.after ≤ 128 * 4294967295) }
     {
-        find_among(self.items.as_slice(), by, sum)
+        find_among(self.items.as_slice(), measure, sum)
     }
 
     /// The place of an item with the least number.
@@ -251,16 +251,16 @@ fn extent<T: Measured>(item: &T) -> At
     }
 }
 
-fn find_among<T: Measured>(items: &[T], by: Measure, sum: u64) -> At
+fn find_among<T: Measured>(items: &[T], measure: Measure, sum: u64) -> At
     requires { length items.now ≤ 128 }
     ensures at { IsAt T.before T.after items.now result }
-    ensures reaches { Reaches (counts T.before T.after by) sum items.now result.place }
+    ensures reaches { Reaches (counts T.before T.after measure) sum items.now result.place }
     ensures low { (result.before ≤ 128 * 4294967295) × (result.after ≤ 128 * 4294967295) }
 {
     let mut at = At::start();
     for item in items {
         let end = at.behind(extent(item));
-        if sum <= end.by(by) {
+        if sum <= end.by(measure) {
             return at;
         }
         at = end;

@@ -1,6 +1,5 @@
 //! A list in blocks.
-ghost use Rattle.std.specs.Prelude.{◌≡◌, ◌+◌, ◌*◌, ◌^◌, ◌<◌, ◌≤◌, [], length, sum_by, insert, remove, slice_get, slice_set, Some, IfErr, OnOk, MatchOption};
-ghost use Rattle.sum_list.specs.Block.{items_of};
+ghost use Rattle.std.specs.Prelude.{◌≡◌, ◌*◌, ◌^◌, ◌<◌, ◌≤◌, length, sum_by, insert, remove, slice_get, slice_set, Some, IfErr, OnOk, MatchOption};
 ghost use Rattle.sum_list.specs.Blocks.{joined, IsSeat};
 ghost use Rattle.sum_list.specs.Counts.{counts};
 ghost use Rattle.sum_list.specs.Places.{IsAt, Reaches, IsLeast};
@@ -51,16 +50,16 @@ fn extent<T: Measured>(block: &Block<T>) -> At
 }
 
 /// The first place at which the sum is reached.
-pub(crate) fn find<T: Measured>(blocks: &[Block<T>], by: Measure, sum: u64) -> At
+pub(crate) fn find<T: Measured>(blocks: &[Block<T>], measure: Measure, sum: u64) -> At
     requires { length (joined blocks.now) < 2 ^ 32 }
     ensures at { IsAt T.before T.after (joined blocks.now) result }
-    ensures reaches { Reaches (counts T.before T.after by) sum (joined blocks.now) result.place }
+    ensures reaches { Reaches (counts T.before T.after measure) sum (joined blocks.now) result.place }
 {
     let mut at = At::start();
     for block in blocks {
         let end = at.behind(extent(block));
-        if sum <= end.by(by) {
-            return at.behind(block.find(by, sum.saturating_sub(at.by(by))));
+        if sum <= end.by(measure) {
+            return at.behind(block.find(measure, sum.saturating_sub(at.by(measure))));
         }
         at = end;
     }

@@ -3,7 +3,7 @@
 //! root of its length.
 #![tactic(auto)]
 
-ghost use Rattle.std.specs.Prelude.{◌≡◌, ◌+◌, ◌<◌, ◌≤◌, ◌==◌, ◌^◌, [], ◌∷◌, ◌++◌, length, min, insert, remove, slice_get, slice_set, sum_by, take, Some, option_copied, IfErr, OnOk, MatchOption};
+ghost use Rattle.std.specs.Prelude.{◌≡◌, ◌<◌, ◌≤◌, ◌==◌, ◌^◌, [], ◌∷◌, ◌++◌, length, min, insert, remove, slice_get, slice_set, Some, option_copied, IfErr, OnOk, MatchOption};
 ghost use Rattle.sum_list.specs.Places.{IsAt, Reaches, IsLeast};
 
 mod at;

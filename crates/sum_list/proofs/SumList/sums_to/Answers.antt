@@ -1,4 +1,4 @@
-use Rattle.std.proofs.Common.{◌≡◌, ◌+◌, ◌≤◌, length, ap, subst, arith}
+use Rattle.std.proofs.Common.{◌+◌, length, ap, subst, arith}
 use Rattle.sum_list.specs.Blocks.{joined}
 use Rattle.sum_list.specs.Places.{IsAt, Reaches}
 use Rattle.sum_list.proofs.Walks.{reaches_place}

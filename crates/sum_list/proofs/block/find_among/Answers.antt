@@ -1,14 +1,14 @@
-use Rattle.std.proofs.Common.{◌≡◌, ◌≤◌, ◌+◌, ◌∷◌, [], List, take, drop, sym, ap, subst}
+use Rattle.std.proofs.Common.{◌≤◌, ◌+◌, ◌∷◌, [], List, take, drop, sym, ap, subst}
 use Rattle.std.proofs.lemmas.List.{take_all}
 use Rattle.sum_list.specs.Counts.{counts}
 use Rattle.sum_list.specs.Places.{Reaches}
 use Rattle.sum_list.proofs.Parts.{cut_list}
-use Rattle.sum_list.proofs.Walks.{Walk, further, reached_with, sums_one, walk_at, walk_end}
+use Rattle.sum_list.proofs.Walks.{Walk, reached_with, sums_one, walk_at, walk_end}
 use Rattle.sum_list.proofs.block.find_among.Goals as goal
 
 pub returns-then-sum-by-clause-reaches : goal.returns-then-sum-by-clause-reaches
 returns-then-sum-by-clause-reaches g c =
-    let f = g.T.Measured.before in let h = g.T.Measured.after in let m = c.args.by in let sum = c.args.sum in
+    let f = g.T.Measured.before in let h = g.T.Measured.after in let m = c.args.measure in let sum = c.args.sum in
     let items = c.args.items.now in let i = c.loop-item.item-index in let at = c.loop-item.at in let x = c.item-item.result in
     let e = c.extent.result in let one = c.extent.ensures in let is = one.extent in
     let single = sums_one f h x e (ap (λ v. v.place) is) (ap (λ v. v.before) is) (ap (λ v. v.after) is) one.short.0 one.short.1 in
@@ -19,5 +19,5 @@ returns-then-sum-by-clause-reaches g c =
 pub returns-clause-reaches : goal.returns-clause-reaches
 returns-clause-reaches g c =
     let f = g.T.Measured.before in let h = g.T.Measured.after in let at = c.loop-item.at in let items = c.args.items.now in
-    let w = subst (λ (l : List g.row.T.Denot). Walk f h c.args.by c.args.sum l at) (take_all c.loop-item.item-index items c.loop-item-test.false) c.loop-item.invariant in
-    (walk_end f h c.args.by c.args.sum items at w).1
+    let w = subst (λ (l : List g.row.T.Denot). Walk f h c.args.measure c.args.sum l at) (take_all c.loop-item.item-index items c.loop-item-test.false) c.loop-item.invariant in
+    (walk_end f h c.args.measure c.args.sum items at w).1

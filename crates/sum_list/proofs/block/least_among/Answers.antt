@@ -1,4 +1,4 @@
-use Rattle.std.proofs.Common.{◌≡◌, ◌<◌, sym, ap, ◌∙◌, arith, get_or}
+use Rattle.std.proofs.Common.{◌<◌, sym, ap, ◌∙◌, arith, get_or}
 use Rattle.std.proofs.lemmas.List.{get_or_read}
 use Rattle.sum_list.proofs.Least.{least_more, some_before}
 use Rattle.sum_list.proofs.block.least_among.Goals as goal

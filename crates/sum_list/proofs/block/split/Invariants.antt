@@ -1,4 +1,4 @@
-use Rattle.std.proofs.Common.{◌≡◌, ◌+◌, ◌-◌, ◌≤◌, ◌++◌, length, min, reverse, vec_len, vec_capacity}
+use Rattle.std.proofs.Common.{◌≡◌, ◌+◌, ◌-◌, ◌≤◌, ◌++◌, length, min, reverse, vec_capacity}
 use Rattle.sum_list.proofs.block.split.Given as goal
 
 abbrev pub invariant-loop-upper : goal.invariant-loop-upper

@@ -1,4 +1,4 @@
-use Rattle.std.proofs.Common.{◌≡◌, ◌+◌, ◌-◌, ◌<◌, ◌≤◌, ◌++◌, List, length, take, drop, sym, ap, ◌∙◌, subst, arith}
+use Rattle.std.proofs.Common.{◌≡◌, ◌+◌, ◌-◌, ◌≤◌, ◌++◌, List, take, drop, sym, ap, ◌∙◌, subst, arith}
 use Rattle.std.proofs.lemmas.List.{take_all}
 use Rattle.sum_list.specs.declared.at.At.{At}
 use Rattle.sum_list.specs.Blocks.{joined}
@@ -28,7 +28,7 @@ behind-end-requires-clause-after g c =
 -- the place that the block finds is the list's
 pub returns-then-sum-by : goal.returns-then-sum-by
 returns-then-sum-by g c =
-    let f = g.T.Measured.before in let h = g.T.Measured.after in let m = c.args.by in let sum = c.args.sum in
+    let f = g.T.Measured.before in let h = g.T.Measured.after in let m = c.args.measure in let sum = c.args.sum in
     let bs = c.args.blocks.now in let i = c.loop-block.block-index in let b = c.block-item.result in let at = c.loop-block.at in
     let e = c.extent.result in let ex = c.extent.ensures in let inner = c.find.result in let r = c.behind.result in
     let xs = joined (take i bs) in let ys = joined (drop (i + 1) bs) in
@@ -47,5 +47,5 @@ returns-then-sum-by g c =
 pub returns-clause-reaches : goal.returns-clause-reaches
 returns-clause-reaches g c =
     let f = g.T.Measured.before in let h = g.T.Measured.after in let at = c.loop-block.at in let bs = c.args.blocks.now in
-    let w = subst (λ (l : List g.row.T.Denot). Walk f h c.args.by c.args.sum l at) (ap joined (take_all c.loop-block.block-index bs c.loop-block-test.false)) c.loop-block.invariant in
-    (walk_end f h c.args.by c.args.sum (joined bs) at w).1
+    let w = subst (λ (l : List g.row.T.Denot). Walk f h c.args.measure c.args.sum l at) (ap joined (take_all c.loop-block.block-index bs c.loop-block-test.false)) c.loop-block.invariant in
+    (walk_end f h c.args.measure c.args.sum (joined bs) at w).1

@@ -1,4 +1,4 @@
-use Rattle.std.proofs.Common.{◌≡◌, ◌<◌, ◌≤◌, refl, length, arith}
+use Rattle.std.proofs.Common.{◌<◌, ◌≤◌, refl, length, arith}
 use Rattle.std.proofs.lemmas.Option.{slice_get_read}
 use Rattle.sum_list.specs.Blocks.{joined}
 use Rattle.sum_list.proofs.Joined.{ends_last}
