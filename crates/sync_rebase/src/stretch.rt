@@ -1,0 +1,156 @@
+ghost use Rattle.std.specs.Prelude.{◌≡◌, ◌<◌, ◌+◌, None, Some, IfSome, IsTrue, drop, length};
+ghost use Rattle.sync_base.specs.Rules.{top};
+ghost use Rattle.sync_rebase.specs.Stretches.{laid, shown_by, Stands, Outside, IsSlot};
+ghost use Rattle.sync_rebase.specs.Settling.{CanPass, put_across};
+ghost use Rattle.sync_rebase.specs.Acrossing.{TakesAcross};
+
+use super::carried::Across;
+use super::lane::Lane;
+use super::op::prior_of;
+use super::unsent::Unsent;
+use std::alloc::Global;
+use std::collections::VecDeque;
+use sync_data::Ident;
+
+/// Unsent changesets next to each other, each of one list instruction of one cell, or of none any more: the place of the
+/// first, the ident of the client, and what the instructions do now, as a lane.
+#[derive(Drop)]
+pub(crate) struct Stretch {
+    pub(crate) start: usize,
+    pub(crate) own: Ident,
+    pub(crate) lane: Lane,
+}
+
+/// The slot of a changeset at a place, where it lies in a stretch.
+#[inline(always)]
+pub(crate) fn slot_of(stretch: &Option<Stretch>, place: usize) -> Option<usize>
+    ensures { IsSlot place stretch.now result }
+{
+    match stretch {
+        Some(stretch) if place >= stretch.start && place - stretch.start < stretch.lane.len() => {
+            Some(place - stretch.start)
+        }
+        _ => None,
+    }
+}
+
+/// The first of a stretch is written as it stands, and the stretch begins behind it. It takes no memory.
+pub(crate) fn write_first(alloc: Global, items: &mut VecDeque<Unsent>, stretch: &mut Stretch)
+    requires some { 0 < length stretch.old.lane.slots }
+    requires stands { Stands items.old.items stretch.old }
+    ensures shown { laid stretch.new.start stretch.new.lane items.new.items ≡ laid stretch.old.start stretch.old.lane items.old.items }
+    ensures stands { Stands items.new.items stretch.new }
+    ensures start { stretch.new.start ≡ stretch.old.start + 1 }
+    ensures fewer { length stretch.new.lane.slots + 1 ≡ length stretch.old.lane.slots }
+{
+    let length = stretch.lane.first();
+    let slot = stretch.lane.pop_first();
+    let unsent = &mut items[stretch.start];
+    unsent.tell(alloc, slot, length);
+    stretch.start += 1;
+}
+
+/// All of a stretch are written as they stand. It takes no memory.
+pub(crate) fn write_all(alloc: Global, items: &mut VecDeque<Unsent>, stretch: Stretch)
+    requires { Stands items.old.items stretch }
+    ensures { items.new.items ≡ laid stretch.start stretch.lane items.old.items }
+{
+    let mut rest = stretch;
+    while rest.lane.len() > 0 {
+        write_first(alloc, items, &mut rest);
+    }
+}
+
+/// Where the place lies in the stretch all of that is written, so that what stands at the place is what is shown there.
+pub(crate) fn write_around(
+    alloc: Global,
+    items: &mut VecDeque<Unsent>,
+    stretch: &mut Option<Stretch>,
+    place: usize,
+)
+    requires { IfSome stretch.old (Stands items.old.items) }
+    ensures shown { shown_by stretch.new items.new.items ≡ shown_by stretch.old items.old.items }
+    ensures stands { IfSome stretch.new (Stands items.new.items) }
+    ensures outside { IfSome stretch.new (Outside place) }
+{
+    if slot_of(stretch, place).is_some() {
+        write_whole(alloc, items, stretch);
+    }
+}
+
+/// The whole stretch is written, where there is one.
+pub(crate) fn write_whole(
+    alloc: Global,
+    items: &mut VecDeque<Unsent>,
+    stretch: &mut Option<Stretch>,
+)
+    requires { IfSome stretch.old (Stands items.old.items) }
+    ensures shown { items.new.items ≡ shown_by stretch.old items.old.items }
+    ensures none { stretch.new ≡ None }
+{
+    if let Some(whole) = stretch.take() {
+        write_all(alloc, items, whole);
+    }
+}
+
+/// Where the stretch begins with the first of all, that one is written, and the stretch begins behind it.
+pub(crate) fn write_head(
+    alloc: Global,
+    items: &mut VecDeque<Unsent>,
+    stretch: &mut Option<Stretch>,
+)
+    requires { IfSome stretch.old (Stands items.old.items) }
+    ensures shown { shown_by stretch.new items.new.items ≡ shown_by stretch.old items.old.items }
+    ensures stands { IfSome stretch.new (Stands items.new.items) }
+    ensures behind { IfSome stretch.new (λ s. 0 < s.start) }
+{
+    let Some(mut rest) = stretch.take() else {
+        return;
+    };
+    if rest.start == 0 {
+        if rest.lane.len() == 0 {
+            return;
+        }
+        write_first(alloc, items, &mut rest);
+    }
+    *stretch = Some(rest);
+}
+
+/// So many of them, from a place on, meet an action of another, one after the other. It takes no memory.
+pub(crate) fn cross_each(alloc: Global, items: &mut VecDeque<Unsent>, across: Across)
+    requires { CanPass across.own across.stamp across.count (Some across.action) (drop across.start items.old.items) }
+    ensures { items.new.items ≡ put_across across items.old.items }
+{
+    let mut left = Some(across.action);
+    let mut place = across.start;
+    let mut count = across.count;
+    while count > 0 {
+        let Some(action) = left else {
+            return;
+        };
+        let unsent = &mut items[place];
+        left = unsent.meet(alloc, across.own, &action, across.stamp);
+        place += 1;
+        count -= 1;
+    }
+}
+
+/// Whether an action that comes to these crosses the lane of a stretch.
+pub(crate) fn takes(stretch: &Stretch, across: &Across) -> bool
+    ensures { IsTrue result → TakesAcross stretch.now across.now }
+{
+    let lane = &stretch.lane;
+    stretch.start == across.start
+        && stretch.own == across.own
+        && lane.len() == across.count
+        && lane.first() == prior_of(across.action)
+        && has_room(lane.first(), across.count)
+}
+
+/// Whether a list of that length stays short enough for so many more.
+pub(crate) fn has_room(length: u32, count: usize) -> bool
+    ensures { IsTrue result → length + count + 1 < top }
+{
+    let most = u32::MAX as usize;
+    count < most && length as usize + count + 1 < most
+}
