@@ -22,6 +22,7 @@ use Rattle.sync_rebase.specs.StubOps.{lane_later, moved}
 use Rattle.sync_rebase.specs.StubLanes.{LaneOf, crossed, length_after, length_at_end, lane_after, Chains}
 use Rattle.sync_rebase.specs.StubTold.{action, prior_in, told, told_set, told_sets, IsTold, AreTold}
 use Rattle.sync_rebase.specs.StubLaws.{CrossesLeft}
+use Rattle.sync_rebase.specs.Acrossing.{left_action}
 use Rattle.sync_rebase.specs.Stretches.{told_unsent, overlaid, Holds, AllHold}
 use Rattle.sync_rebase.specs.Settling.{action_there, own_left, other_left, instrs_left, passed, Meets, CanPass}
 use Rattle.sync_rebase.specs.declared.op.Op.{Op}
@@ -148,10 +149,6 @@ are_told own c [] (suc k) us e h = absurd (omega (arith, e))
 are_told own c (s ∷ ss) zero us e h = absurd (omega (arith, e))
 are_told own c (s ∷ ss) (suc k) [] e h = absurd h
 are_told own c (s ∷ ss) (suc k) (u ∷ us) e h = (told_one own c s u h.0, are_told own c ss k us (omega (arith, e)) h.1)
-
-abbrev pub left_action : ℕ → Option Op → Option ListAction
-left_action n None = None
-left_action n (Some b) = Some (action b.does b.place n)
 
 told_left : (n : ℕ) (s : Option Op) (is : List Instr) → told n s is ≡ instrs_left (left_action n s) is
 told_left n None is = refl

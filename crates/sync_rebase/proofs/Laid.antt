@@ -180,3 +180,12 @@ step_shown i n (s ∷ ss) us u v m l e h = ap (λ w. laid (suc i) (record { firs
 pub step_fewer : (n : ℕ) (ss : List (Option Op)) → 0 < length ss → length (without_first n ss).slots + 1 ≡ length ss
 step_fewer n [] m = absurd (omega (arith, m))
 step_fewer n (s ∷ ss) m = omega arith
+
+pub laid_none : (i : ℕ) (a : LaneOf) (us : List (Unsent Instr)) → length a.slots ≡ 0 → laid i a us ≡ us
+laid_none i a us h = no_slots i a.first a.slots us h
+  where
+    no_slots : (i n : ℕ) (ss : List (Option Op)) (us : List (Unsent Instr)) → length ss ≡ 0 → laid i (record { first = n; slots = ss }) us ≡ us
+    no_slots i n (s ∷ ss) us h = absurd (omega (arith, h))
+    no_slots zero n [] us h = refl
+    no_slots (suc i) n [] [] h = refl
+    no_slots (suc i) n [] (u ∷ us) h = ap (λ t. u ∷ t) (no_slots i n [] us h)

@@ -1,11 +1,11 @@
 -- A stretch of unsent changesets, whose one list instruction each stands as a lane tells it.
-use Rattle.std.specs.Prelude.{◌≡◌, ◌<◌, ◌≤◌, ◌+◌, ◌⊎◌, ℕ, zero, suc, List, [], ◌∷◌, Option, None, Some, IfSome, drop, length, slice_index_or}
+use Rattle.std.specs.Prelude.{◌≡◌, ◌<◌, ◌≤◌, ◌+◌, ◌-◌, ◌⊎◌, ℕ, zero, suc, List, [], ◌∷◌, Option, None, Some, IfSome, drop, length, slice_index_or}
 use Rattle.sync_data.specs.declared.instr.Instr.{Instr}
 use Rattle.sync_data.specs.declared.entry.Stamp.{Stamp}
 use Rattle.sync_base.specs.Effects.{CellPath}
 use Rattle.sync_model.specs.Clients.{Unsent}
 use Rattle.sync_transform.specs.Moves.{kind_in, first_cell}
-use Rattle.sync_rebase.specs.StubLanes.{LaneOf, length_after}
+use Rattle.sync_rebase.specs.StubLanes.{LaneOf, length_after, length_before, slot_at}
 use Rattle.sync_rebase.specs.StubTold.{told}
 use Rattle.sync_rebase.specs.declared.op.Op.{Op}
 use Rattle.sync_rebase.specs.declared.stretch.Stretch.{Stretch}
@@ -59,12 +59,19 @@ pub record Stands (us : List (Unsent Instr)) (s : Stretch) : Type 0 where
 abbrev pub Outside : ℕ → Stretch → Type 0
 Outside n s = (n < s.start) ⊎ (s.start + length s.lane.slots ≤ n)
 
--- the slot of a place, where it lies in a stretch
-abbrev pub IsSlot : ℕ → Option Stretch → Option ℕ → Type 0
-IsSlot n None None = Unit {0}
-IsSlot n None (Some j) = ⊥
-IsSlot n (Some s) None = Outside n s
-IsSlot n (Some s) (Some j) = (n ≡ s.start + j) × (j < length s.lane.slots)
+-- what a stretch tells at a place, and the length of the list there
+abbrev pub IsSlotAt : ℕ → Stretch → Option (Option Op × ℕ) → Type 0
+IsSlotAt n s None = Outside n s
+IsSlotAt n s (Some p) = (j : ℕ) × (n ≡ s.start + j) × (j < length s.lane.slots) × (p.0 ≡ slot_at j s.lane.slots) × (p.1 ≡ length_before j s.lane.first s.lane.slots)
+
+abbrev pub IsToldAt : ℕ → Option Stretch → Option (Option Op × ℕ) → Type 0
+IsToldAt n None o = o ≡ None
+IsToldAt n (Some s) o = IsSlotAt n s o
+
+-- a stretch begins one place sooner
+abbrev pub StepsBack : Option Stretch → Option Stretch → Type 0
+StepsBack None o = o ≡ None
+StepsBack (Some s) o = o ≡ Some (record s { start = s.start - 1 })
 
 -- an unsent changeset stands at a place
 abbrev pub IsAt : ℕ → List (Unsent Instr) → Unsent Instr → Type 0

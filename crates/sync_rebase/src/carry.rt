@@ -1,7 +1,9 @@
-ghost use Rattle.std.specs.Prelude.{◌≡◌, ◌≢◌, ◌++◌, ◌∷◌, [], ℕ, Some, Ok, Err, IfOk, IfErr, IfSome, OnOk};
+ghost use Rattle.std.specs.Prelude.{◌≡◌, ◌≢◌, ◌++◌, ◌∷◌, [], ℕ, Some, Ok, Err, IfOk, IfErr, IfSome, OnOk, length};
 ghost use Rattle.sync_theory.specs.Changesets.{cross_sets};
 ghost use Rattle.sync_law.specs.Instrs.{meet};
 ghost use Rattle.sync_index.specs.Touched.{Covers};
+ghost use Rattle.sync_data.specs.declared.instr.Instr.{Instr};
+ghost use Rattle.sync_model.specs.Clients as clients;
 ghost use Rattle.sync_model.specs.Clients.{changeset_of};
 ghost use Rattle.sync_transform.specs.Sets.{made_by};
 ghost use Rattle.sync_transform.specs.Moves.{kind_in, kind_of};
@@ -9,12 +11,13 @@ ghost use Rattle.sync_rivals.specs.Lists.{Lists, Serves};
 ghost use Rattle.sync_rebase.specs.Settling.{settled, Fits, currents};
 ghost use Rattle.sync_rebase.specs.Taking.{Crosses, Refuses};
 ghost use Rattle.sync_rebase.specs.Passing.{StopsAt};
+ghost use Rattle.sync_rebase.specs.Stretches.{IsAt};
 ghost use Rattle.sync_rebase.specs.Acrossing.{changes_left};
 
 use super::carried::{Became, Carried, Crossed};
 use super::items::{Items, Passing};
 use super::refusal::RebaseRefusal;
-use super::unsent::{Unsent, nothing};
+use super::unsent::nothing;
 use std::alloc::Global;
 use sync_data::{Changeset, Entry, Ident};
 use sync_index::Index;
@@ -85,20 +88,16 @@ fn walk(
             continue;
         }
         from = place + 1;
-        if items.stays_apart(place, index) {
-            continue;
-        }
-        let unsent = items.at(place);
-        if let Some(moves) = unsent.moves(own, &changes, entry.origin) {
+        if let Some(moves) = items.moves(place, own, &changes, entry.origin, index) {
             changes.shift_to(moves.right);
             let became = Became::Moved(moves.left);
             push(&mut crossed, Crossed::One { place, became })?;
             continue;
         }
-        if unsent.stays_apart(index) {
+        if items.stays_apart(place, index) {
             continue;
         }
-        match pass(unsent, own, changes.into_changes(), entry.origin, index) {
+        match pass(items, place, own, changes.into_changes(), entry.origin, index) {
             Err(refusal) => return Err(refusal),
             Ok((current, carried)) => {
                 changes = Shifted::new(carried);
@@ -135,27 +134,29 @@ fn codes_of(alloc: Global, rivals: &RivalIndex, entry: &Entry) -> Result<Vec<u64
     }
 }
 
-/// An unsent changeset crosses a changeset of another client: both as crossed.
+/// The unsent changeset at a place crosses a changeset of another client: both as crossed.
 fn pass(
-    unsent: &Unsent,
+    items: &Items,
+    place: usize,
     own: Ident,
     changes: Changeset,
     origin: Ident,
     index: &Index,
 ) -> Result<(Changeset, Changeset), RebaseRefusal>
+    requires within { place < length items.now }
     requires differ { own ≢ origin }
     requires indexed { Covers index.now changes.instrs }
-    ensures ok { IfOk result (λ p. (n : ℕ) → cross_sets meet (changeset_of own unsent.now) (made_by origin n changes) ≡ Ok (made_by own unsent.now.original.number p.0, made_by origin n p.1)) }
+    ensures ok { IfOk result (λ p. (u : clients.Unsent Instr) → IsAt place items.now u → (n : ℕ) → cross_sets meet (changeset_of own u) (made_by origin n changes) ≡ Ok (made_by own u.original.number p.0, made_by origin n p.1)) }
     ensures indexed { IfOk result (λ p. Covers index.now p.1.instrs) }
-    ensures stuck { IfErr result (StopsAt own unsent.now origin changes) }
+    ensures stuck { IfErr result (λ refusal. (u : clients.Unsent Instr) → IsAt place items.now u → StopsAt own u origin changes refusal) }
 {
-    let Ok(current) = unsent.current() else {
+    let Ok(current) = items.current(place) else {
         return Err(RebaseRefusal::NoMemory);
     };
     match cross_sets_indexed(current, own, changes, origin, index) {
         Ok(crossed) => Ok(crossed),
         Err(stop) => Err(RebaseRefusal::Mismatch {
-            number: unsent.original().number(),
+            number: items.number(place),
             kind: stop.kind,
         }),
     }

@@ -6,16 +6,16 @@ ghost use Rattle.sync_law.specs.Instrs.{meet};
 ghost use Rattle.sync_index.specs.Touched.{Covers};
 ghost use Rattle.sync_model.specs.Clients as clients;
 ghost use Rattle.sync_rivals.specs.Lists.{StandsAt, StaysListed};
-ghost use Rattle.sync_rebase.specs.Acrossing.{CrossesStretch};
+ghost use Rattle.sync_rebase.specs.Acrossing.{BothMove, CrossesStretch};
 ghost use Rattle.sync_rebase.specs.Settling.{CanPass, FitsAt, currents, put_across, put_became};
 ghost use Rattle.sync_rebase.specs.Stretches.{IsAt};
 ghost use Rattle.sync_rebase.specs.Taking.{IsHead};
 
 use super::carried::{Across, Became};
-use super::op::{action_of, op_of, prior_of};
 use super::original::Original;
 use super::stretch::{
-    Stretch, cross_each, has_room, slot_of, takes, write_around, write_head, write_whole,
+    Stretch, cross_each, cross_lane, left_by, step_back, takes, told_at, write_around, write_head,
+    write_whole,
 };
 use super::unsent::Unsent;
 use std::alloc::Global;
@@ -23,7 +23,7 @@ use std::collections::VecDeque;
 use std::marker::Model;
 use sync_data::{Changeset, Entry, Ident, Instr, NoMemory, Stamp};
 use sync_index::Index;
-use sync_transform::{ListAction, Shifted, same_first_cell};
+use sync_transform::{ListAction, Moves, Shifted, same_first_cell};
 
 /// Unsent changesets, from the oldest on. Of a stretch of them what they do now is kept in a lane, and written once one of them
 /// is looked at.
@@ -84,10 +84,11 @@ impl Items {
         ensures there { IsSome result ↔ (place < length self.now) }
         ensures value { IfSome result (λ o. (u : clients.Unsent Instr) → IsAt place self.now u → o.now ≡ u.original) }
     {
-        match self.items.get(place) {
-            Some(unsent) => Some(unsent.original()),
-            None => None,
+        if place >= self.items.len() {
+            return None;
         }
+        let unsent = &self.items[place];
+        Some(unsent.original())
     }
 
     /// A copy of the changeset at a place as it was rebased since.
@@ -96,13 +97,9 @@ impl Items {
         ensures { IfOk result (λ c. (u : clients.Unsent Instr) → IsAt place self.now u → c ≡ record { ms = u.original.ms; instrs = u.current }) }
     {
         let unsent = &self.items[place];
-        match (&self.stretch, slot_of(&self.stretch, place)) {
-            (Some(stretch), Some(at)) => unsent.current_told(
-                self.alloc,
-                stretch.lane.slot(at),
-                stretch.lane.length_before(at),
-            ),
-            _ => unsent.current(),
+        match told_at(&self.stretch, place) {
+            Some((slot, length)) => unsent.current_told(self.alloc, slot, length),
+            None => unsent.current(),
         }
     }
 
@@ -114,22 +111,46 @@ impl Items {
         self.items[place].listed()
     }
 
-    /// Whether the place lies in the stretch, and an index tells that the changeset there meets nothing of what that is of.
+    /// The number of the changeset at a place.
+    pub(crate) fn number(&self, place: usize) -> u32
+        requires { place < length self.now }
+        ensures { (u : clients.Unsent Instr) → IsAt place self.now u → result ≡ u.original.number }
+    {
+        let unsent = &self.items[place];
+        unsent.original().number()
+    }
+
+    /// Whether an index tells that the changeset at a place meets nothing of what that is of.
+    #[inline(always)]
     pub(crate) fn stays_apart(&self, place: usize, index: &Index) -> bool
         requires { place < length self.now }
         ensures { IsTrue result → (u : clients.Unsent Instr) → IsAt place self.now u → (others : List Instr) → Covers index.now others → (later : Bool) → crossed (λ a b. meet a b later) u.current others ≡ Ok (u.current, others) }
     {
-        slot_of(&self.stretch, place).is_some() && self.items[place].stays_apart(index)
+        let unsent = &self.items[place];
+        unsent.stays_apart(index)
     }
 
-    /// The changeset at a place. Where that lies in the stretch, all of that is written.
-    pub(crate) fn at(&mut self, place: usize) -> &Unsent
+    /// What the changeset at a place and one of another do after they crossed, where each is one instruction of one list, and
+    /// both stay. Where the place lies in the stretch, all of that is written, unless an index tells that they don't meet.
+    #[inline(always)]
+    pub(crate) fn moves(
+        &mut self,
+        place: usize,
+        own: Ident,
+        changes: &Shifted,
+        origin: Ident,
+        index: &Index,
+    ) -> Option<Moves>
         requires { place < length self.old }
         ensures same { self.new ≡ self.old }
-        ensures value { IsAt place self.old result.now }
+        ensures moves { (u : clients.Unsent Instr) → IsAt place self.old u → IfSome result (BothMove own u origin changes.now) }
     {
+        if told_at(&self.stretch, place).is_some() && self.items[place].stays_apart(index) {
+            return None;
+        }
         write_around(self.alloc, &mut self.items, &mut self.stretch, place);
-        &self.items[place]
+        let unsent = &self.items[place];
+        unsent.moves(own, changes, origin)
     }
 
     /// What an entry that came as far as one place does to the stretch around another, which it would meet next: where it is one
@@ -148,10 +169,9 @@ impl Items {
             return None;
         };
         let action = changes.action()?;
-        let (start, lane) = (stretch.start, &stretch.lane);
         let across = Across {
-            start,
-            count: lane.len(),
+            start: stretch.start,
+            count: stretch.lane.len(),
             own,
             action,
             stamp: Stamp {
@@ -159,19 +179,13 @@ impl Items {
                 ident: origin,
             },
         };
-        if from > start || place < start || place - start >= across.count {
+        if from > across.start || place < across.start || place - across.start >= across.count {
             return None;
         }
-        if !takes(stretch, &across) {
+        if !takes(stretch, &across) || !same_first_cell(self.items[across.start].written(), changes.written()) {
             return None;
         }
-        if !same_first_cell(self.items[start].written(), changes.written()) {
-            return None;
-        }
-        let left = match lane.left(op_of(action, across.stamp), true) {
-            Some(op) => Some(action_of(op, lane.last())),
-            None => None,
-        };
+        let left = left_by(stretch, &across);
         Some(Passing { across, left })
     }
 
@@ -182,10 +196,7 @@ impl Items {
     {
         write_around(self.alloc, &mut self.items, &mut self.stretch, place);
         let unsent = &mut self.items[place];
-        match became {
-            Became::Moved(action) => unsent.shift_to(action),
-            Became::Changed(current) => unsent.rebase(current),
-        }
+        unsent.stand_as(became);
     }
 
     /// Those of a stretch meet an action of another. It takes no memory.
@@ -195,9 +206,7 @@ impl Items {
     {
         if let Some(stretch) = &mut self.stretch {
             if takes(stretch, &across) {
-                stretch
-                    .lane
-                    .cross(op_of(across.action, across.stamp), true);
+                cross_lane(stretch, &across);
                 return;
             }
         }
@@ -223,10 +232,8 @@ impl Items {
         ensures { self.new ≡ tail self.old }
     {
         write_head(self.alloc, &mut self.items, &mut self.stretch);
-        self.items.pop_front();
-        if let Some(stretch) = &mut self.stretch {
-            stretch.start -= 1;
-        }
+        drop_front(&mut self.items);
+        step_back(&mut self.stretch);
     }
 
     /// An equal list.
@@ -255,4 +262,10 @@ fn push_back<T: Drop>(items: &mut VecDeque<T>, item: T) -> Result<(), NoMemory>
         Ok(()) => Ok(()),
         Err(_) => Err(NoMemory),
     }
+}
+
+fn drop_front(items: &mut VecDeque<Unsent>)
+    ensures { items.new.items ≡ tail items.old.items }
+{
+    items.pop_front();
 }

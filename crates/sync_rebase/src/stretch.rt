@@ -1,16 +1,19 @@
 ghost use Rattle.std.specs.Prelude.{◌≡◌, ◌<◌, ◌+◌, None, Some, IfSome, IsTrue, drop, length};
 ghost use Rattle.sync_base.specs.Rules.{top};
-ghost use Rattle.sync_rebase.specs.Stretches.{laid, shown_by, Stands, Outside, IsSlot};
+ghost use Rattle.sync_rebase.specs.Stretches.{laid, shown_by, Stands, Outside, IsSlotAt, IsToldAt, StepsBack};
 ghost use Rattle.sync_rebase.specs.Settling.{CanPass, put_across};
-ghost use Rattle.sync_rebase.specs.Acrossing.{TakesAcross};
+ghost use Rattle.sync_rebase.specs.Acrossing.{op_across, LeavesAction, TakesAcross};
+ghost use Rattle.sync_rebase.specs.StubOps.{lane_later};
+ghost use Rattle.sync_rebase.specs.StubLanes.{lane_after, Chains, Fits};
 
 use super::carried::Across;
 use super::lane::Lane;
-use super::op::prior_of;
+use super::op::{Op, action_of, op_of, prior_of};
 use super::unsent::Unsent;
 use std::alloc::Global;
 use std::collections::VecDeque;
 use sync_data::Ident;
+use sync_transform::ListAction;
 
 /// Unsent changesets next to each other, each of one list instruction of one cell, or of none any more: the place of the
 /// first, the ident of the client, and what the instructions do now, as a lane.
@@ -21,16 +24,56 @@ pub(crate) struct Stretch {
     pub(crate) lane: Lane,
 }
 
-/// The slot of a changeset at a place, where it lies in a stretch.
-#[inline(always)]
-pub(crate) fn slot_of(stretch: &Option<Stretch>, place: usize) -> Option<usize>
-    ensures { IsSlot place stretch.now result }
+/// What a stretch tells of the changeset at a place, and the length of the list on which that acts; none where it doesn't lie in
+/// the stretch.
+pub(crate) fn told_at(stretch: &Option<Stretch>, place: usize) -> Option<(Option<Op>, u32)>
+    ensures told { IsToldAt place stretch.now result }
+    ensures fits { IfSome result (λ p. Fits p.1 p.0) }
 {
     match stretch {
-        Some(stretch) if place >= stretch.start && place - stretch.start < stretch.lane.len() => {
-            Some(place - stretch.start)
-        }
-        _ => None,
+        Some(stretch) => slot_at(stretch, place),
+        None => None,
+    }
+}
+
+fn slot_at(stretch: &Stretch, place: usize) -> Option<(Option<Op>, u32)>
+    ensures told { IsSlotAt place stretch.now result }
+    ensures fits { IfSome result (λ p. Fits p.1 p.0) }
+{
+    if place < stretch.start || place - stretch.start >= stretch.lane.len() {
+        return None;
+    }
+    let at = place - stretch.start;
+    Some((stretch.lane.slot(at), stretch.lane.length_before(at)))
+}
+
+/// What is left of an action that crosses the lane of a stretch, which stays as it is.
+pub(crate) fn left_by(stretch: &Stretch, across: &Across) -> Option<ListAction>
+    requires { TakesAcross stretch.now across.now }
+    ensures { LeavesAction stretch.now across.now result }
+{
+    let lane = &stretch.lane;
+    match lane.left(op_of(across.action, across.stamp), true) {
+        Some(op) => Some(action_of(op, lane.last())),
+        None => None,
+    }
+}
+
+/// An action crosses the lane of a stretch. It takes no memory.
+pub(crate) fn cross_lane(stretch: &mut Stretch, across: &Across)
+    requires { TakesAcross stretch.old across.now }
+    ensures { stretch.new ≡ record stretch.old { lane = lane_after (lane_later true) stretch.old.lane (op_across across.now) } }
+{
+    stretch.lane.cross(op_of(across.action, across.stamp), true);
+}
+
+/// A stretch that doesn't begin with the first of all begins one place sooner, where there is one.
+pub(crate) fn step_back(stretch: &mut Option<Stretch>)
+    requires { IfSome stretch.old (λ s. 0 < s.start) }
+    ensures { StepsBack stretch.old stretch.new }
+{
+    if let Some(stretch) = stretch {
+        stretch.start -= 1;
     }
 }
 
@@ -73,7 +116,7 @@ pub(crate) fn write_around(
     ensures stands { IfSome stretch.new (Stands items.new.items) }
     ensures outside { IfSome stretch.new (Outside place) }
 {
-    if slot_of(stretch, place).is_some() {
+    if told_at(stretch, place).is_some() {
         write_whole(alloc, items, stretch);
     }
 }
@@ -137,14 +180,15 @@ pub(crate) fn cross_each(alloc: Global, items: &mut VecDeque<Unsent>, across: Ac
 
 /// Whether an action that comes to these crosses the lane of a stretch.
 pub(crate) fn takes(stretch: &Stretch, across: &Across) -> bool
-    ensures { IsTrue result → TakesAcross stretch.now across.now }
+    ensures takes { IsTrue result → TakesAcross stretch.now across.now }
+    ensures chains { Chains stretch.now.lane.first stretch.now.lane.slots }
 {
-    let lane = &stretch.lane;
+    let (count, first) = (stretch.lane.len(), stretch.lane.first());
     stretch.start == across.start
         && stretch.own == across.own
-        && lane.len() == across.count
-        && lane.first() == prior_of(across.action)
-        && has_room(lane.first(), across.count)
+        && count == across.count
+        && first == prior_of(across.action)
+        && has_room(first, count)
 }
 
 /// Whether a list of that length stays short enough for so many more.

@@ -12,10 +12,11 @@ ghost use Rattle.sync_transform.specs.declared.moves.ListAction.{ListAction as A
 ghost use Rattle.sync_rebase.specs.StubLanes.{Fits};
 ghost use Rattle.sync_rebase.specs.StubTold.{told};
 ghost use Rattle.sync_rebase.specs.Stretches.{told_unsent};
-ghost use Rattle.sync_rebase.specs.Settling.{instrs_left, own_left, other_left, Meets};
+ghost use Rattle.sync_rebase.specs.Settling.{instrs_left, left_of, own_left, other_left, Meets, Suits};
 ghost use Rattle.sync_rebase.specs.Taking.{IsEntryOf};
 
 use super::actions::action_left;
+use super::carried::Became;
 use super::op::{Op, action_of};
 use super::original::Original;
 use std::alloc::Global;
@@ -207,6 +208,17 @@ impl Unsent {
     {
         self.spot = shared_spot(current.instrs());
         self.current = Shifted::new(current);
+    }
+
+    /// It became another.
+    pub(crate) fn stand_as(&mut self, became: Became)
+        requires { Suits became self.old }
+        ensures { self.new ≡ record self.old { current = left_of became self.old.current } }
+    {
+        match became {
+            Became::Moved(action) => self.shift_to(action),
+            Became::Changed(current) => self.rebase(current),
+        }
     }
 
     /// Nothing of it is left. It takes no memory.
