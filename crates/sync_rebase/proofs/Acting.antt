@@ -110,6 +110,14 @@ told_listed n (Some a) (i ∷ is) = λ m k h. (
   h.1,
 )
 
+pub left_listed : (o : Option ListAction) (is : List Instr) → StaysListed is (instrs_left o is)
+left_listed None is = λ m k h. tt
+left_listed (Some a) [] = λ m k h. h
+left_listed (Some a) (i ∷ is) = λ m k h. (
+  subst (λ q. AllByRecursion (λ p. is_at m k p ≡ true) (listed q)) (sym (same_elsewhere place_of (λ c v s t. refl) (λ c s t. refl) (λ c v s t. refl) a i)) h.0,
+  h.1,
+)
+
 pub left_known : (codes : List ℕ) (o : Option ListAction) (is : List Instr) → Knows codes is → Knows codes (instrs_left o is)
 left_known codes None is h = λ test none. tt
 left_known codes (Some a) [] h = h

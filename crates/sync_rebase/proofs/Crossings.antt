@@ -17,6 +17,7 @@ use Rattle.sync_transform.specs.declared.moves.ListAction.{ListAction}
 use Rattle.sync_rebase.specs.StubOps.{lane_later, moved}
 use Rattle.sync_rebase.specs.StubLanes.{LaneOf, crossed, lane_after, length_at_end, Chains}
 use Rattle.sync_rebase.specs.StubTold.{action, place_in, prior_in, IsTold}
+use Rattle.sync_rebase.specs.StubLaws.{CrossesLeft}
 use Rattle.sync_rebase.specs.Acrossing.{op_across, left_action, changes_left, LeavesAction, TakesAcross, CrossesStretch}
 use Rattle.sync_rebase.specs.Settling.{instrs_left, passed, put_across, CanPass}
 use Rattle.sync_rebase.specs.Stretches.{from_place, overlaid, laid, Holds, AllHold, Stands}
@@ -24,7 +25,7 @@ use Rattle.sync_rebase.specs.declared.carried.Across.{Across}
 use Rattle.sync_rebase.specs.declared.items.Passing.{Passing}
 use Rattle.sync_rebase.specs.declared.op.Op.{Op}
 use Rattle.sync_rebase.specs.declared.stretch.Stretch.{Stretch}
-use Rattle.sync_rebase.proofs.Acting.{action_parts, told_itself, kind_known, in_cell, one_of}
+use Rattle.sync_rebase.proofs.Acting.{action_parts, kind_action, told_itself, kind_known, in_cell, one_of}
 use Rattle.sync_rebase.proofs.Across.{lane_passes, lane_can_pass, lane_rebases}
 use Rattle.sync_rebase.proofs.Laid.{from_twice, from_same, drop_from, length_laid}
 
@@ -124,3 +125,29 @@ crosses_stretch from place own origin us s c p r st t leaves reached before behi
           ∙ lane_rebases s.own known.cell s.lane k op leaves.op part e (sym size) held leaves.chains leaves.within leaves.law told itself
           ∙ (λ i. Ok (map (changeset_of ((t.own ∙ own_is) i)) (passed (t.own i) a.stamp k (Some (same i)) (take k (sym shown i))), record e { instrs = instrs_left (sym leaves.is i) c.instrs }));
     }
+
+-- ---- what the lane leaves
+within_there : (s : Stretch) (a : Across) (b : Op) → TakesAcross s a → b ≡ op_across a → Within b.does b.place (prior_in a.action) → Within (kind_of a.action) (place_in a.action) s.lane.first
+within_there s a b t is w = subst (Within (kind_of a.action) (place_in a.action)) (sym t.sizes) (subst (λ (x : Op). Within x.does x.place (prior_in a.action)) is w)
+
+pub leaves_some : (s : Stretch) (a : Across) (b op : Op) (left : ListAction) (last : ℕ) → TakesAcross s a → Chains s.lane.first s.lane.slots → b ≡ op_across a → Within b.does b.place (prior_in a.action)
+    → last ≡ length_at_end s.lane.first s.lane.slots → left ≡ action op.does op.place last → op.does ≡ b.does → CrossesLeft s.lane b (Some op) (lane_after (lane_later true) s.lane b) → LeavesAction s a (Some left)
+leaves_some s a b op left last t chains is w end acts does law = record {
+  op = Some op;
+  is = ap Some (acts ∙ ap (action op.does op.place) end);
+  kind = ap kind_of acts ∙ kind_action op.does op.place last ∙ does ∙ ap (λ (x : Op). x.does) is;
+  chains = chains;
+  within = within_there s a b t is w;
+  law = subst (λ (x : Op). CrossesLeft s.lane x (Some op) (lane_after (lane_later true) s.lane x)) is law;
+}
+
+pub leaves_none : (s : Stretch) (a : Across) (b : Op) → TakesAcross s a → Chains s.lane.first s.lane.slots → b ≡ op_across a → Within b.does b.place (prior_in a.action)
+    → CrossesLeft s.lane b None (lane_after (lane_later true) s.lane b) → LeavesAction s a None
+leaves_none s a b t chains is w law = record {
+  op = None;
+  is = refl;
+  kind = tt;
+  chains = chains;
+  within = within_there s a b t is w;
+  law = subst (λ (x : Op). CrossesLeft s.lane x None (lane_after (lane_later true) s.lane x)) is law;
+}

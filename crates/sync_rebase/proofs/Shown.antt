@@ -8,9 +8,14 @@ use Rattle.sync_data.specs.declared.entry.Entry.{Entry}
 use Rattle.sync_data.specs.Payload.{Changes}
 use Rattle.sync_base.specs.Effects.{CellPath}
 use Rattle.sync_theory.specs.Grid.{tail}
-use Rattle.sync_model.specs.Clients.{Original, Unsent}
+use Rattle.sync_model.specs.Clients.{Original, Unsent, changeset_of}
 use Rattle.sync_rivals.specs.Lists.{StandsAt, StaysListed}
-use Rattle.sync_transform.specs.Moves.{kind_in, kind_of, moved_first}
+use Rattle.sync_theory.specs.Changesets.{cross_sets}
+use Rattle.sync_law.specs.Instrs.{meet}
+use Rattle.sync_transform.specs.Moves.{kind_in, kind_of, moved_changes, moved_first}
+use Rattle.sync_transform.specs.Sets.{made_by}
+use Rattle.sync_transform.specs.declared.moves.Moves.{Moves}
+use Rattle.sync_rebase.specs.Acrossing.{BothMove}
 use Rattle.sync_transform.specs.declared.moves.ListAction.{ListAction}
 use Rattle.sync_rebase.specs.StubLanes.{LaneOf, length_after, slot_at}
 use Rattle.sync_rebase.specs.StubTold.{action, told}
@@ -226,3 +231,13 @@ dropped_stands (Some s) p us vs l e h st = subst (λ x. IfSome x (Stands vs)) (s
 pub dropped_shown : (o p : Option Stretch) (us vs : List (Unsent Instr)) → IfSome o (λ s. 0 < s.start) → StepsBack o p → vs ≡ tail us → shown_by p vs ≡ tail (shown_by o us)
 dropped_shown None p us vs l e h = (λ i. shown_by (e i) (h i))
 dropped_shown (Some s) p us vs l e h = (λ i. shown_by (e i) (h i)) ∙ shown_back s (record s { start = s.start - 1 }) us l refl
+
+pub behind_out : (o : Option Stretch) → IfSome o (λ s. 0 < s.start) → IfSome o (Outside 0)
+behind_out None h = tt
+behind_out (Some s) h = inl h
+
+pub both_moves : (own origin : ℕ) (u : Unsent Instr) (c : Changes) (r : Option Moves)
+    → IfSome r (λ m. (n : ℕ) → cross_sets meet (changeset_of own u) (made_by origin n c) ≡ Ok (changeset_of own (record u { current = moved_first m.left u.current }), made_by origin n (moved_changes m.right c)))
+    → IfSome r (λ m. kind_in u.current ≡ Some (kind_of m.left)) → IfSome r (λ m. kind_in c.instrs ≡ Some (kind_of m.right)) → IfSome r (BothMove own u origin c)
+both_moves own origin u c None a b d = tt
+both_moves own origin u c (Some m) a b d = record { crosses = a; left = b; right = d }

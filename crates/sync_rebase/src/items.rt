@@ -219,7 +219,7 @@ impl Items {
         ensures same { self.new ≡ self.old }
         ensures told { IsTrue result ↔ IsHead entry.now self.old }
     {
-        if self.items.is_empty() {
+        if self.items.len() == 0 {
             return false;
         }
         write_head(self.alloc, &mut self.items, &mut self.stretch);

@@ -1,12 +1,12 @@
-ghost use Rattle.std.specs.Prelude.{◌≡◌, ◌≢◌, ◌<◌, ◌↔◌, ◌++◌, ◌∷◌, [], IsTrue, IsSome, IfOk, IfErr, IfSome, OnOk, OnErr, length};
+ghost use Rattle.std.specs.Prelude.{◌≡◌, ◌≢◌, ◌<◌, ◌↔◌, ◌++◌, ◌∷◌, [], IsTrue, IsSome, IfOk, IfErr, IfSome, OnOk, OnErr, Some, drop, length};
 ghost use Rattle.sync_data.specs.declared.instr.Instr.{Instr};
 ghost use Rattle.sync_model.specs.Clients as clients;
 ghost use Rattle.sync_theory.specs.Grid.{tail};
 ghost use Rattle.sync_rebase.specs.Taking.{Crosses, IsHead, Refuses};
-ghost use Rattle.sync_rebase.specs.Settling.{settled, Fits, FitsAt, FitsCrossed, put_became, put_crossed};
+ghost use Rattle.sync_rebase.specs.Settling.{settled, CanPass, Fits, FitsAt, FitsCrossed, put_across, put_became, put_crossed};
 ghost use Rattle.sync_rebase.specs.Stretches.{IsAt};
 
-use super::carried::{Became, Carried, Crossed};
+use super::carried::{Across, Became, Carried, Crossed};
 use super::carry::carry_over;
 use super::items::Items;
 use super::original::Original;
@@ -16,6 +16,7 @@ use std::alloc::Global;
 use std::marker::Model;
 use sync_data::{Changeset, Entry, Ident, NoMemory};
 use sync_rivals::RivalIndex;
+use sync_transform::ListAction;
 
 /// After so many looks at a changeset it has paid to list it.
 const LOOKS: usize = 64;
@@ -123,10 +124,11 @@ impl PendingList {
     pub fn drop_head(&mut self)
         ensures { self.new ≡ tail self.old }
     {
-        if self.items.len() > 0 {
-            self.index.drop_first(self.items.listed(0));
-            self.items.drop_first();
+        if self.items.len() == 0 {
+            return;
         }
+        self.index.drop_first(self.items.listed(0));
+        self.items.drop_first();
     }
 
     /// The changesets stand as they crossed an entry that was carried over them, and the entry is answered as carried. Where
@@ -192,19 +194,36 @@ impl PendingList {
         ensures { self.new ≡ put_crossed crossed self.old }
     {
         match crossed {
-            Crossed::One { place, became } => self.change(place, became),
-            Crossed::Stretch(across) => self.items.cross(across),
+            Crossed::One { place, became } => match became {
+                Became::Moved(action) => self.shift_at(place, action),
+                Became::Changed(current) => self.change_at(place, current),
+            },
+            Crossed::Stretch(across) => self.cross(across),
         }
     }
 
-    fn change(&mut self, place: usize, became: Became)
-        requires { FitsAt place became self.old }
-        ensures { self.new ≡ put_became place became self.old }
+    /// The one list instruction of a changeset does the same elsewhere. Its home stays, and so does the index.
+    fn shift_at(&mut self, place: usize, action: ListAction)
+        requires { FitsAt place (Became.Moved action) self.old }
+        ensures { self.new ≡ put_became place (Became.Moved action) self.old }
     {
-        if let Became::Changed(current) = &became {
-            let before = self.items.listed(place);
-            self.index.change(place, before, current.instrs());
-        }
-        self.items.put(place, became);
+        self.items.put(place, Became::Moved(action));
+    }
+
+    fn change_at(&mut self, place: usize, current: Changeset)
+        requires { FitsAt place (Became.Changed current) self.old }
+        ensures { self.new ≡ put_became place (Became.Changed current) self.old }
+    {
+        let before = self.items.listed(place);
+        self.index.change(place, before, current.instrs());
+        self.items.put(place, Became::Changed(current));
+    }
+
+    /// Those of a stretch meet an action of another. Their homes stay, and so does the index.
+    fn cross(&mut self, across: Across)
+        requires { CanPass across.own across.stamp across.count (Some across.action) (drop across.start self.old) }
+        ensures { self.new ≡ put_across across self.old }
+    {
+        self.items.cross(across);
     }
 }

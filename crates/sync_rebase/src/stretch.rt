@@ -1,10 +1,13 @@
-ghost use Rattle.std.specs.Prelude.{◌≡◌, ◌<◌, ◌+◌, None, Some, IfSome, IsTrue, drop, length};
+ghost use Rattle.std.specs.Prelude.{◌≡◌, ◌<◌, ◌+◌, None, Some, IfSome, IsTrue, true, drop, length};
 ghost use Rattle.sync_base.specs.Rules.{top};
 ghost use Rattle.sync_rebase.specs.Stretches.{laid, shown_by, Stands, Outside, IsSlotAt, IsToldAt, StepsBack};
 ghost use Rattle.sync_rebase.specs.Settling.{CanPass, put_across};
 ghost use Rattle.sync_rebase.specs.Acrossing.{op_across, LeavesAction, TakesAcross};
 ghost use Rattle.sync_rebase.specs.StubOps.{lane_later};
 ghost use Rattle.sync_rebase.specs.StubLanes.{lane_after, Chains, Fits};
+ghost use Rattle.sync_rebase.specs.StubTold.{place_in, prior_in};
+ghost use Rattle.sync_transform.specs.Moves.{kind_of};
+ghost use Rattle.sync_transform.specs.Places.{Within};
 
 use super::carried::Across;
 use super::lane::Lane;
@@ -53,6 +56,7 @@ pub(crate) fn left_by(stretch: &Stretch, across: &Across) -> Option<ListAction>
     ensures { LeavesAction stretch.now across.now result }
 {
     let lane = &stretch.lane;
+    let _ = lane.first();
     match lane.left(op_of(across.action, across.stamp), true) {
         Some(op) => Some(action_of(op, lane.last())),
         None => None,
@@ -62,7 +66,8 @@ pub(crate) fn left_by(stretch: &Stretch, across: &Across) -> Option<ListAction>
 /// An action crosses the lane of a stretch. It takes no memory.
 pub(crate) fn cross_lane(stretch: &mut Stretch, across: &Across)
     requires { TakesAcross stretch.old across.now }
-    ensures { stretch.new ≡ record stretch.old { lane = lane_after (lane_later true) stretch.old.lane (op_across across.now) } }
+    ensures crossed { stretch.new ≡ record stretch.old { lane = lane_after (lane_later true) stretch.old.lane (op_across across.now) } }
+    ensures within { Within (kind_of across.now.action) (place_in across.now.action) (prior_in across.now.action) }
 {
     stretch.lane.cross(op_of(across.action, across.stamp), true);
 }
