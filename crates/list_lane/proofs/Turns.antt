@@ -1,0 +1,45 @@
+-- Loops over slots, from one turn to the next.
+use Rattle.std.proofs.Common.{◌≡◌, ℕ, zero, suc, ◌+◌, ◌-◌, ◌<◌, ◌≤◌, Bool, true, false, cond, not, List, [], ◌∷◌, ◌++◌, length, take, drop, get_or, set, Option, Some, None, refl, sym, ap, ◌∙◌, subst, append_assoc, arith}
+use Rattle.std.proofs.lemmas.List.{drop_more, take_more_set}
+use Rattle.sync_data.specs.declared.entry.Stamp.{Stamp}
+use Rattle.sync_base.specs.Rules.{top}
+use Rattle.sync_transform.specs.Places.{place_after}
+use Rattle.list_lane.specs.Ops.{moved, op_after}
+use Rattle.list_lane.specs.Lanes.{Crossed, behind, crossed}
+use Rattle.list_lane.specs.Flat.{done, Placed}
+use Rattle.list_lane.specs.Bursts.{lift, lift_all}
+use Rattle.list_lane.specs.declared.op.Op.{Op}
+use Rattle.list_lane.proofs.Chain.{crossed_none}
+
+module _ (l : Stamp → Stamp → Bool) where
+  -- one slot further
+  pub met : (xs zs : List (Option Op)) (i : ℕ) (d s : Option Op) (b : Op) (t x : Option Op) → i < length xs → s ≡ get_or xs i d
+      → crossed l (s ∷ drop (i + 1) xs) (Some b) ≡ behind t (crossed l (drop (i + 1) xs) x)
+      → take (i + 1) zs ≡ take i xs ++ t ∷ [] → drop (i + 1) zs ≡ drop (i + 1) xs
+      → done (take i xs) (crossed l (drop i xs) (Some b)) ≡ done (take (i + 1) zs) (crossed l (drop (i + 1) zs) x)
+  met xs zs i d s b t x lt at e front rest =
+      ap (λ ys. done (take i xs) (crossed l ys (Some b))) (drop_more xs i d lt ∙ ap (λ y. y ∷ drop (i + 1) xs) (sym at))
+      ∙ ap (done (take i xs)) e
+      ∙ ap (λ ys. record { slots = ys; left = (crossed l (drop (i + 1) xs) x).left }) (sym (append_assoc (take i xs) (t ∷ []) (crossed l (drop (i + 1) xs) x).slots))
+      ∙ (λ k. done (sym front k) (crossed l (sym rest k) x))
+
+  -- nothing is left, or it goes on
+  pub over : (whole : Crossed) (cs bs : List (Option Op)) (stays : Bool) (x : Op) → stays ≡ false → whole ≡ done cs (crossed l bs (cond stays (Some x) None)) → whole ≡ record { slots = cs ++ bs; left = None }
+  over whole cs bs true x h e = cc
+  over whole cs bs false x h e = e ∙ ap (done cs) (crossed_none l bs)
+
+  pub on : (whole : Crossed) (cs bs : List (Option Op)) (stays : Bool) (x : Op) → stays ≡ true → whole ≡ done cs (crossed l bs (cond stays (Some x) None)) → whole ≡ done cs (crossed l bs (Some x))
+  on whole cs bs true x h e = e
+  on whole cs bs false x h e = cc
+
+pub placed_rest : (s : Option Op) (ss : List (Option Op)) → Placed (s ∷ ss) → Placed ss
+placed_rest None ss h = h
+placed_rest (Some a) ss h = h.1
+
+pub placed_more : (xs ys : List (Option Op)) (r : ℕ) (d : Option Op) → r < length xs → drop (r + 1) ys ≡ drop (r + 1) xs → Placed (drop r xs) → Placed (drop (r + 1) ys)
+placed_more xs ys r d within e h = subst Placed (sym e) (placed_rest (get_or xs r d) (drop (r + 1) xs) (subst Placed (drop_more xs r d within) h))
+
+pub placed_here : (xs : List (Option Op)) (r : ℕ) (d : Option Op) (a : Op) → r < length xs → Some a ≡ get_or xs r d → Placed (drop r xs) → a.place < top
+placed_here xs r d a within e h =
+    let k : Placed (Some a ∷ drop (r + 1) xs) = subst (λ s. Placed (s ∷ drop (r + 1) xs)) (sym e) (subst Placed (drop_more xs r d within) h) in
+    k.0
