@@ -1,12 +1,14 @@
 -- The bounds of a burst tell on which side of an instruction it lies.
-use Rattle.std.proofs.Common.{◌≡◌, ℕ, ◌+◌, ◌-◌, ◌<◌, ◌≤◌, List, [], ◌∷◌, Option, Some, None, refl, sym, ap, ◌∙◌, length, arith}
+use Rattle.std.proofs.Common.{◌≡◌, ℕ, zero, suc, ◌+◌, ◌-◌, ◌<◌, ◌≤◌, List, [], ◌∷◌, ◌++◌, Option, Some, None, refl, sym, ap, ◌∙◌, subst, length, take, drop, get_or, append_assoc, arith}
 use Rattle.std.specs.Prelude.{min, max}
+use Rattle.std.proofs.lemmas.List.{drop_more}
 use Rattle.sync_base.specs.Rules.{top}
 use Rattle.sync_transform.specs.Places.{longer}
 use Rattle.sync_transform.specs.declared.places.Does.{Does}
 use Rattle.sync_transform.specs.declared.places.Does.TheVariants.{Inserts, Erases, Updates}
-use Rattle.list_lane.specs.Lanes.{length_at_end}
-use Rattle.list_lane.specs.Bursts.{lift_all, AllBehind, AllBefore, pushed_all, unpushed, is_insertion, is_erasure, bounds_of}
+use Rattle.list_lane.specs.Lanes.{length_at_end, slot_at}
+use Rattle.list_lane.specs.Flat.{Placed}
+use Rattle.list_lane.specs.Bursts.{lift, lift_all, AllBehind, AllBefore, pushed_all, unpushed, is_insertion, is_erasure, bounds_of}
 use Rattle.list_lane.specs.declared.op.Op.{Op}
 
 -- ---- no place is before the least one
@@ -60,7 +62,7 @@ lift_none (Some a ∷ ss) =
 
 pub lift_length : (ss : List (Option Op)) (up down : ℕ) → length (lift_all up down ss) ≡ length ss
 lift_length [] up down = refl
-lift_length (s ∷ ss) up down = ap (λ n. n + 1) (lift_length ss up down)
+lift_length (s ∷ ss) up down = ap (λ n. suc n) (lift_length ss up down)
 
 -- ---- all are before a place that is past them
 pub before_more : (ss : List (Option Op)) (p q : ℕ) → p ≤ q → AllBefore p ss → AllBefore q ss
@@ -114,7 +116,42 @@ counts_few [] = omega arith
 counts_few (None ∷ ss) = let h = counts_few ss in omega (arith, h)
 counts_few (Some a ∷ ss) = let h = counts_few ss in one a.does (bounds_of ss).inserted (length ss) h
   where
-    one : (d : Does) (i n : ℕ) → i ≤ n → i + is_insertion d ≤ n + 1
+    one : (d : Does) (i n : ℕ) → i ≤ n → i + is_insertion d ≤ suc n
     one Inserts i n h = omega (arith, h)
     one Erases i n h = omega (arith, h)
     one Updates i n h = omega (arith, h)
+
+pub lift_drop : (ss : List (Option Op)) (i up down : ℕ) → lift_all up down (drop i ss) ≡ drop i (lift_all up down ss)
+lift_drop [] zero up down = refl
+lift_drop [] (suc i) up down = refl
+lift_drop (s ∷ ss) zero up down = refl
+lift_drop (s ∷ ss) (suc i) up down = lift_drop ss i up down
+
+pub placed_drop : (ss : List (Option Op)) (i : ℕ) → Placed ss → Placed (drop i ss)
+placed_drop [] zero h = tt
+placed_drop [] (suc i) h = tt
+placed_drop (s ∷ ss) zero h = h
+placed_drop (None ∷ ss) (suc i) h = placed_drop ss i h
+placed_drop (Some a ∷ ss) (suc i) h = placed_drop ss i h.1
+
+-- what is lifted up to a place, and the rest
+pub lift_turn : (xs zs : List (Option Op)) (whole : List (Option Op)) (i up down : ℕ) (d : Option Op) → i < length xs → whole ≡ take i xs ++ lift_all up down (drop i xs) → take (i + 1) zs ≡ take i xs ++ lift_all up down (take 1 (drop i xs))
+    → whole ≡ take (i + 1) zs ++ lift_all up down (drop (i + 1) xs)
+lift_turn xs zs whole i up down d lt e front =
+    e
+    ∙ ap (λ r. take i xs ++ lift_all up down r) (drop_more xs i d lt)
+    ∙ sym (append_assoc (take i xs) (lift up down (get_or xs i d) ∷ []) (lift_all up down (drop (i + 1) xs)))
+    ∙ ap (λ r. (take i xs ++ lift_all up down (take 1 r)) ++ lift_all up down (drop (i + 1) xs)) (sym (drop_more xs i d lt))
+    ∙ ap (λ r. r ++ lift_all up down (drop (i + 1) xs)) (sym front)
+
+-- an op that is lifted has a place
+pub lifted_placed : (xs : List (Option Op)) (i up down : ℕ) (d : Option Op) (a : Op) → i < length xs → Some a ≡ get_or xs i d → Placed (lift_all up down xs) → a.place + up - down < top
+lifted_placed xs i up down d a lt e h =
+    let k : Placed (lift_all up down (drop i xs)) = subst Placed (sym (lift_drop xs i up down)) (placed_drop (lift_all up down xs) i h) in
+    let g : Placed (lift_all up down (Some a ∷ drop (i + 1) xs)) = subst (λ r. Placed (lift_all up down r)) (drop_more xs i d lt ∙ ap (λ y. y ∷ drop (i + 1) xs) (sym e)) k in
+    g.0
+
+pub slot_lifted : (xs : List (Option Op)) (i up down : ℕ) (d : Option Op) → i < length xs → slot_at i (lift_all up down xs) ≡ lift up down (get_or xs i d)
+slot_lifted [] i up down d lt = absurd (omega (arith, lt))
+slot_lifted (s ∷ xs) zero up down d lt = refl
+slot_lifted (s ∷ xs) (suc i) up down d lt = slot_lifted xs i up down d (omega (arith, lt))

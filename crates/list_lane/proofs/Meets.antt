@@ -68,7 +68,7 @@ module _ (c : CellName) where
       → cross (λ x y. meet x y l) (told n (Some a) is) (told n (Some b) js) ≡ Ok (told (longer b.does n) (op_after l a b) is, told (longer a.does n) (op_after (not l) b a) js)
   both_told l a b is js n f g s =
       (λ i. cross (λ x y. meet x y l) (is_told a is f n i) (is_told b js g n i))
-      ∙ ones_cross (λ x y. meet x y l) _ _ _ _ (pair l c f.value g.value a.does b.does a.place b.place n (below_top a.does b.does n s))
+      ∙ ones_cross (λ x y. meet x y l) (instr_at c f.value a.does a.place n) (instr_at c g.value b.does b.place n) _ _ (pair l c f.value g.value a.does b.does a.place b.place n (below_top a.does b.does n s))
       ∙ (λ i. Ok (left_told a is f (longer b.does n) (place_after l a.does a.place b.does b.place) i, left_told b js g (longer a.does n) (place_after (not l) b.does b.place a.does a.place) i))
 
   -- ---- two changesets, the lane's on the left

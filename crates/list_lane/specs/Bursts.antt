@@ -64,10 +64,13 @@ is_erasure Updates = 0
 abbrev pub with_op : Op → Bounds → Bounds
 with_op a b = record { low = min a.place b.low; past = max (a.place + 1) (unpushed a.does b.past); inserted = b.inserted + is_insertion a.does; erased = b.erased + is_erasure a.does }
 
+abbrev pub with_slot : Option Op → Bounds → Bounds
+with_slot None b = b
+with_slot (Some a) b = with_op a b
+
 abbrev pub bounds_of : List (Option Op) → Bounds
 bounds_of [] = no_bounds
-bounds_of (None ∷ ss) = bounds_of ss
-bounds_of (Some a ∷ ss) = with_op a (bounds_of ss)
+bounds_of (s ∷ ss) = with_slot s (bounds_of ss)
 
 -- what is kept of a burst: its bounds as it was written, and it wasn't moved back beyond the front of the list
 pub record IsBurst (up down : ℕ) (b : Bounds) (ss : List (Option Op)) : Type 0 where

@@ -1,5 +1,5 @@
-ghost use Rattle.std.specs.Prelude.{◌≡◌, ◌≤◌, length};
-ghost use Rattle.list_lane.specs.Bursts.{bounds_of as bounds, no_bounds as none, with_op as with};
+ghost use Rattle.std.specs.Prelude.{◌≡◌, ◌≤◌, ◌+◌, max, length};
+ghost use Rattle.list_lane.specs.Bursts.{bounds_of as bounds, no_bounds as none, with_slot as with};
 ghost use Rattle.sync_base.specs.Rules.{top};
 
 use super::op::Op;
@@ -36,20 +36,24 @@ pub(crate) fn bounds_of(slots: &[Option<Op>]) -> Bounds
     let mut i = slots.len();
     while i > 0 {
         i -= 1;
-        if let Some(op) = slots[i] {
-            result = with_op(op, result);
-        }
+        result = with_slot(slots[i], result);
     }
     result
 }
 
-/// The same with an op in front.
-fn with_op(op: Op, bounds: Bounds) -> Bounds
+/// The same with a slot in front.
+fn with_slot(slot: Option<Op>, bounds: Bounds) -> Bounds
     requires past { bounds.past ≤ 9223372036854775807 }
     requires inserted { bounds.inserted ≤ 9223372036854775807 }
     requires erased { bounds.erased ≤ 9223372036854775807 }
-    ensures { result ≡ with op bounds }
+    ensures is { result ≡ with slot bounds }
+    ensures past { result.past ≤ max (bounds.past + 1) 4294967296 }
+    ensures inserted { result.inserted ≤ bounds.inserted + 1 }
+    ensures erased { result.erased ≤ bounds.erased + 1 }
 {
+    let Some(op) = slot else {
+        return bounds;
+    };
     let (past, inserted, erased) = match op.does {
         Does::Inserts => (bounds.past.saturating_sub(1), 1, 0),
         Does::Erases => (bounds.past + 1, 0, 1),

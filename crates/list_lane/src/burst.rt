@@ -1,4 +1,4 @@
-ghost use Rattle.std.specs.Prelude.{◌≡◌, ◌≤◌, ◌<◌, ◌+◌, ◌∷◌, ◌++◌, [], Some, OnOk, OnErr, IsTrue, IsFalse, length};
+ghost use Rattle.std.specs.Prelude.{◌≡◌, ◌≤◌, ◌<◌, ◌+◌, ◌∷◌, ◌++◌, [], Some, ◌↔◌, OnOk, OnErr, IsTrue, IsFalse, length};
 ghost use Rattle.sync_base.specs.Rules.{top};
 ghost use Rattle.list_lane.specs.Lanes.{crossed as crosses, first_slot, length_at_end, slot_at};
 ghost use Rattle.list_lane.specs.Ops.{lane_later as later};
@@ -164,8 +164,10 @@ impl Burst {
     fn is_before(&self, place: u32) -> bool
         ensures { IsTrue result → AllBefore place self.now }
     {
-        let past = self.bounds.past.saturating_add(self.up as u64);
-        place as u64 + self.down as u64 >= past
+        match self.bounds.past.checked_add(self.up as u64) {
+            Some(past) => place as u64 + self.down as u64 >= past,
+            None => false,
+        }
     }
 
     /// Whether all are behind that place.
@@ -198,17 +200,21 @@ impl Burst {
     {
         match does {
             Does::Inserts if self.up < u32::MAX => self.up += 1,
-            Does::Erases if self.can_go_back() => self.down += 1,
+            Does::Erases if self.down < u32::MAX && is_below(self.down, self.bounds.low, self.up) => {
+                self.down += 1
+            }
             Does::Updates => {}
             _ => return false,
         }
         true
     }
+}
 
-    #[inline(always)]
-    fn can_go_back(&self) -> bool {
-        self.down < u32::MAX && (self.down as u64) < self.bounds.low as u64 + self.up as u64
-    }
+#[inline(always)]
+fn is_below(down: u32, low: u32, up: u32) -> bool
+    ensures { IsTrue result ↔ (down < low + up) }
+{
+    (down as u64) < low as u64 + up as u64
 }
 
 /// The slots as they were lifted.
