@@ -1,6 +1,8 @@
 -- Loops over slots, from one turn to the next.
-use Rattle.std.proofs.Common.{◌≡◌, ℕ, zero, suc, ◌+◌, ◌-◌, ◌<◌, ◌≤◌, Bool, true, false, cond, not, List, [], ◌∷◌, ◌++◌, length, take, drop, get_or, set, Option, Some, None, refl, sym, ap, ◌∙◌, subst, append_assoc, arith}
+use Rattle.std.proofs.Common.{◌≡◌, ℕ, zero, suc, ◌+◌, ◌-◌, ◌<◌, ◌≤◌, Bool, true, false, cond, not, List, [], ◌∷◌, ◌++◌, length, take, drop, get_or, set, Option, Some, None, Result, Ok, Err, refl, sym, ap, ◌∙◌, subst, append_assoc, arith}
 use Rattle.std.proofs.lemmas.List.{drop_more, take_more_set}
+use Rattle.std.specs.Prelude.{OnOk, OnErr}
+use Rattle.sync_theory.specs.Grid.{tail}
 use Rattle.sync_data.specs.declared.entry.Stamp.{Stamp}
 use Rattle.sync_base.specs.Rules.{top}
 use Rattle.sync_transform.specs.Places.{place_after}
@@ -43,3 +45,34 @@ pub placed_here : (xs : List (Option Op)) (r : ℕ) (d : Option Op) (a : Op) →
 placed_here xs r d a within e h =
     let k : Placed (Some a ∷ drop (r + 1) xs) = subst (λ s. Placed (s ∷ drop (r + 1) xs)) (sym e) (subst Placed (drop_more xs r d within) h) in
     k.0
+
+-- the parts of a list
+pub whole_again : {A : Type 0} (xs : List A) (n : ℕ) → take n xs ++ drop n xs ≡ xs
+whole_again [] zero = refl
+whole_again [] (suc n) = refl
+whole_again (x ∷ xs) zero = refl
+whole_again (x ∷ xs) (suc n) = ap (λ l. x ∷ l) (whole_again xs n)
+
+pub rest_more : {A : Type 0} (xs ys : List A) (n : ℕ) → drop n xs ≡ drop n ys → drop (n + 1) xs ≡ drop (n + 1) ys
+rest_more xs ys n e =
+    let k : n + 1 ≡ suc n = omega arith in
+    ap (λ m. drop m xs) k ∙ sym (one xs n) ∙ ap (drop 1) e ∙ one ys n ∙ ap (λ m. drop m ys) (sym k)
+  where
+    one : {A : Type 0} (xs : List A) (n : ℕ) → drop 1 (drop n xs) ≡ drop (suc n) xs
+    one [] zero = refl
+    one [] (suc n) = refl
+    one (x ∷ xs) zero = refl
+    one (x ∷ xs) (suc n) = one xs n
+
+pub tail_of : {A : Type 0} (xs : List A) → take 0 xs ++ drop (0 + 1) xs ≡ tail xs
+tail_of [] = refl
+tail_of (x ∷ xs) = refl
+
+-- what a call ensures, and what follows
+pub ok_then : {A E : Type 0} {P Q : Type 0} (r : Result A E) → (P → Q) → OnOk r P → OnOk r Q
+ok_then (Ok a) f h = f h
+ok_then (Err e) f h = tt
+
+pub err_then : {A E : Type 0} {P Q : Type 0} (r : Result A E) → (P → Q) → OnErr r P → OnErr r Q
+err_then (Ok a) f h = tt
+err_then (Err e) f h = f h

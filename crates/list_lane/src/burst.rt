@@ -134,9 +134,22 @@ impl Burst {
         if self.is_before(traveller.place) {
             return Some(self.beyond(traveller));
         }
-        if self.is_behind(traveller.place) && self.shift(traveller.does) {
-            return Some(traveller);
+        if !self.is_behind(traveller.place) {
+            return self.cross_each(traveller, lane_left);
         }
+        if !self.shift(traveller.does) {
+            return self.cross_each(traveller, lane_left);
+        }
+        Some(traveller)
+    }
+
+    /// It meets each of them.
+    fn cross_each(&mut self, traveller: Op, lane_left: bool) -> Option<Op>
+        requires room { traveller.place + length self.old ≤ top }
+        requires placed { Placed self.old }
+        ensures slots { self.new ≡ (crosses (later lane_left) self.old (Some traveller)).slots }
+        ensures left { result ≡ (crosses (later lane_left) self.old (Some traveller)).left }
+    {
         settle(&mut self.slots, self.up, self.down);
         (self.up, self.down) = (0, 0);
         let left = cross_vec(&mut self.slots, traveller, lane_left);

@@ -79,8 +79,10 @@ pub(crate) fn left_behind(
     let mut now = traveller;
     for i in 0..slots.len() {
         if let Some(op) = slots[i] {
-            let place = left_of(now, lifted(op, up, down), lane_left)?;
-            now.place = place;
+            match left_of(now, lifted(op, up, down), lane_left) {
+                Some(place) => now.place = place,
+                None => return None,
+            }
         }
     }
     Some(now)

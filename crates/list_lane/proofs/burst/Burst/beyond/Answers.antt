@@ -1,4 +1,4 @@
-use Rattle.std.proofs.Common.{◌≡◌, ◌+◌, ℕ, length, sym, ap, ◌∙◌, subst, arith}
+use Rattle.std.proofs.Common.{◌≡◌, ◌≤◌, ◌+◌, ◌-◌, length, sym, ap, ◌∙◌, subst, arith}
 use Rattle.list_lane.specs.declared.bounds.Bounds.{Bounds}
 use Rattle.list_lane.specs.declared.op.Op.{Op}
 use Rattle.list_lane.specs.Lanes.{length_at_end}
