@@ -51,3 +51,53 @@ module _ (l : Stamp → Stamp → Bool) where
       ∙ (λ k. done (joined (take i xs) ++ sym is k) (crossed l (joined (drop (i + 1) xs)) (sym left k)))
       ∙ ap (λ r. done r (crossed l (joined (drop (i + 1) xs)) z)) (ap (λ r. joined (take i xs) ++ r) (sym (append-nil y)) ∙ sym (joined_append (take i xs) (y ∷ [])) ∙ ap joined (sym (take_more_set xs i y lt)))
 
+
+-- ---- one of them
+pub placed_at : (xs : List (List (Option Op))) (i : ℕ) (d x : List (Option Op)) → i < length xs → x ≡ get_or xs i d → Placed (joined xs) → Placed x
+placed_at [] i d x lt e h = absurd (omega (arith, lt))
+placed_at (z ∷ xs) zero d x lt e h = subst Placed (sym e) (placed_left z (joined xs) h)
+placed_at (z ∷ xs) (suc i) d x lt e h = placed_at xs i d x (omega (arith, lt)) e (placed_right z (joined xs) h)
+
+pub length_at : (xs : List (List (Option Op))) (i : ℕ) (d x : List (Option Op)) → i < length xs → x ≡ get_or xs i d → length x ≤ length (joined xs)
+length_at [] i d x lt e = absurd (omega (arith, lt))
+length_at (z ∷ xs) zero d x lt e = let k = length-append z (joined xs) in let n = ap length e in omega (arith, k, n)
+length_at (z ∷ xs) (suc i) d x lt e = let k = length-append z (joined xs) in let n = length_at xs i d x (omega (arith, lt)) e in omega (arith, k, n)
+
+-- a slot more in the last
+pub joined_last : (xs : List (List (Option Op))) (i : ℕ) (d x y : List (Option Op)) (s : Option Op) → suc i ≡ length xs → x ≡ get_or xs i d → y ≡ x ++ s ∷ [] → joined (set xs i y) ≡ joined xs ++ s ∷ []
+joined_last [] i d x y s n e h = absurd (omega (arith, n))
+joined_last (z ∷ []) zero d x y s n e h = append-nil y ∙ h ∙ ap (λ w. w ++ s ∷ []) (e ∙ sym (append-nil z))
+joined_last (z ∷ []) (suc i) d x y s n e h = absurd (omega (arith, n))
+joined_last (z ∷ w ∷ xs) zero d x y s n e h = absurd (omega (arith, n))
+joined_last (z ∷ w ∷ xs) (suc i) d x y s n e h =
+    ap (λ r. z ++ r) (joined_last (w ∷ xs) i d x y s (omega (arith, n)) e h) ∙ sym (append_assoc z (joined (w ∷ xs)) (s ∷ []))
+
+pub last_same : (xs : List (List (Option Op))) (i : ℕ) (d x y : List (Option Op)) → i < length xs → x ≡ get_or xs i d → y ≡ x → joined (set xs i y) ≡ joined xs
+last_same [] i d x y lt e h = refl
+last_same (z ∷ xs) zero d x y lt e h = ap (λ w. w ++ joined xs) (h ∙ e)
+last_same (z ∷ xs) (suc i) d x y lt e h = ap (λ w. z ++ w) (last_same xs i d x y (omega (arith, lt)) e h)
+
+pub joined_one : (xs : List (List (Option Op))) (y : List (Option Op)) (s : Option Op) → y ≡ [] ++ s ∷ [] → joined (xs ++ y ∷ []) ≡ joined xs ++ s ∷ []
+joined_one xs y s h = joined_append xs (y ∷ []) ∙ ap (λ w. joined xs ++ w) (append-nil y ∙ h)
+
+-- ---- the rest, from a place on
+pub joined_more : (xs : List (List (Option Op))) (i : ℕ) (d x : List (Option Op)) → i < length xs → x ≡ get_or xs i d → joined (drop i xs) ≡ x ++ joined (drop (i + 1) xs)
+joined_more xs i d x lt e = ap joined (drop_more xs i d lt) ∙ ap (λ y. y ++ joined (drop (i + 1) xs)) (sym e)
+
+pub placed_here : (xs : List (List (Option Op))) (i : ℕ) (d x : List (Option Op)) → i < length xs → x ≡ get_or xs i d → Placed (joined (drop i xs)) → Placed x × Placed (joined (drop (i + 1) xs))
+placed_here xs i d x lt e h = let k = subst Placed (joined_more xs i d x lt e) h in (placed_left x (joined (drop (i + 1) xs)) k, placed_right x (joined (drop (i + 1) xs)) k)
+
+pub length_here : (xs : List (List (Option Op))) (i : ℕ) (d x : List (Option Op)) → i < length xs → x ≡ get_or xs i d → length (joined (drop i xs)) ≡ length x + length (joined (drop (i + 1) xs))
+length_here xs i d x lt e = ap length (joined_more xs i d x lt e) ∙ length-append x (joined (drop (i + 1) xs))
+
+pub slot_before : (xs ys : List (Option Op)) (i : ℕ) → i < length xs → slot_at i (xs ++ ys) ≡ slot_at i xs
+slot_before [] ys i lt = absurd (omega (arith, lt))
+slot_before (s ∷ xs) ys zero lt = refl
+slot_before (s ∷ xs) ys (suc i) lt = slot_before xs ys i (omega (arith, lt))
+
+pub slot_behind : (xs ys : List (Option Op)) (i : ℕ) → length xs ≤ i → slot_at i (xs ++ ys) ≡ slot_at (i - length xs) ys
+slot_behind [] ys i le = let k : i - 0 ≡ i = omega arith in ap (λ n. slot_at n ys) (sym k)
+slot_behind (s ∷ xs) ys zero le = absurd (omega (arith, le))
+slot_behind (s ∷ xs) ys (suc i) le =
+    let k : suc i - suc (length xs) ≡ i - length xs = omega arith in
+    slot_behind xs ys i (omega (arith, le)) ∙ ap (λ n. slot_at n ys) (sym k)

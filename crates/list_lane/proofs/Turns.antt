@@ -9,7 +9,7 @@ use Rattle.sync_transform.specs.Places.{place_after}
 use Rattle.list_lane.specs.Ops.{moved, op_after}
 use Rattle.list_lane.specs.Lanes.{Crossed, behind, crossed}
 use Rattle.list_lane.specs.Flat.{done, Placed}
-use Rattle.list_lane.specs.Bursts.{lift, lift_all}
+use Rattle.list_lane.specs.Bursts.{lifted, lift_all}
 use Rattle.list_lane.specs.declared.op.Op.{Op}
 use Rattle.list_lane.proofs.Chain.{crossed_none}
 
@@ -33,6 +33,19 @@ module _ (l : Stamp → Stamp → Bool) where
   pub on : (whole : Crossed) (cs bs : List (Option Op)) (stays : Bool) (x : Op) → stays ≡ true → whole ≡ done cs (crossed l bs (cond stays (Some x) None)) → whole ≡ done cs (crossed l bs (Some x))
   on whole cs bs true x h e = e
   on whole cs bs false x h e = cc
+
+  -- nothing is left at a slot that was lifted
+  pub left_gone : (whole : Option Op) (xs : List (Option Op)) (i up down : ℕ) (d : Option Op) (a b now : Op) (x : Option ℕ) → i < length xs → whole ≡ (crossed l (lift_all up down (drop i xs)) (Some now)).left → Some a ≡ get_or xs i d → b ≡ lifted up down a
+      → ((ss : List (Option Op)) → (crossed l (Some b ∷ ss) (Some now)).left ≡ (crossed l ss (moved now x)).left) → x ≡ None → None ≡ whole
+  left_gone whole xs i up down d a b now x lt e at is meets gone =
+      let rest = lift_all up down (drop (i + 1) xs) in
+      sym
+      (e
+      ∙ ap (λ ys. (crossed l (lift_all up down ys) (Some now)).left) (drop_more xs i d lt ∙ ap (λ y. y ∷ drop (i + 1) xs) (sym at))
+      ∙ ap (λ y. (crossed l (Some y ∷ rest) (Some now)).left) (sym is)
+      ∙ meets rest
+      ∙ ap (λ y. (crossed l rest (moved now y)).left) gone
+      ∙ ap (λ (r : Crossed). r.left) (crossed_none l rest))
 
 pub placed_rest : (s : Option Op) (ss : List (Option Op)) → Placed (s ∷ ss) → Placed ss
 placed_rest None ss h = h

@@ -61,12 +61,46 @@ pub(crate) fn push_slot(
     ensures err { OnErr result (joined bursts.new.items ≡ joined bursts.old.items) }
 {
     let count = bursts.len();
-    if count > 0 && goes_into(&bursts[count - 1], slot) {
-        let last = &mut bursts[count - 1];
-        return last.push(slot);
+    if count == 0 {
+        return push_new(alloc, bursts, slot);
     }
+    if !goes_into(&bursts[count - 1], slot) {
+        return push_new(alloc, bursts, slot);
+    }
+    push_last(bursts, slot)
+}
+
+/// Appends a slot to the last burst.
+fn push_last(bursts: &mut VecDeque<Burst>, slot: Option<Op>) -> Result<(), NoMemory>
+    requires there { 0 < length bursts.old.items }
+    requires room { length (joined bursts.old.items) < top }
+    requires placed { Placed (joined bursts.old.items) }
+    ensures ok { OnOk result (joined bursts.new.items ≡ joined bursts.old.items ++ slot ∷ []) }
+    ensures err { OnErr result (joined bursts.new.items ≡ joined bursts.old.items) }
+{
+    let place = bursts.len() - 1;
+    let last = &mut bursts[place];
+    last.push(slot)
+}
+
+/// Appends a burst of one slot.
+fn push_new(
+    alloc: Global,
+    bursts: &mut VecDeque<Burst>,
+    slot: Option<Op>,
+) -> Result<(), NoMemory>
+    ensures ok { OnOk result (joined bursts.new.items ≡ joined bursts.old.items ++ slot ∷ []) }
+    ensures err { OnErr result (joined bursts.new.items ≡ joined bursts.old.items) }
+{
     let mut burst = Burst::new(alloc);
     burst.push(slot)?;
+    push_burst(bursts, burst)
+}
+
+fn push_burst(bursts: &mut VecDeque<Burst>, burst: Burst) -> Result<(), NoMemory>
+    ensures ok { OnOk result (bursts.new.items ≡ bursts.old.items ++ burst ∷ []) }
+    ensures err { OnErr result (bursts.new.items ≡ bursts.old.items) }
+{
     match bursts.push_back(burst) {
         Ok(()) => Ok(()),
         Err(_) => Err(NoMemory),

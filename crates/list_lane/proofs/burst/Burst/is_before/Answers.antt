@@ -12,4 +12,4 @@ returns-in-Some c =
     let k = leb-true _ _ h in
     subst (AllBefore c.args.place) c.self.view_is
     (lifted_before a.slots.items a.bounds.low a.up a.down c.args.place a.bounds.past (subst (λ (b : Bounds). AllFrom b.low a.slots.items) (sym c.self.invariant.bounds) (all_from a.slots.items)) c.self.invariant.front
-    (subst (λ (b : Bounds). AllBefore b.past a.slots.items) (sym c.self.invariant.bounds) (all_before a.slots.items _ (le_refl _))) (let e = c.in-Some.ensures tt in let sum = e.1 in omega (arith, sum, k)))
+    (subst (λ (b : Bounds). AllBefore b.past a.slots.items) (sym c.self.invariant.bounds) (all_before a.slots.items _ (le_refl _))) (let e = c.in-Some.ensures in let sum = e.1 in omega (arith, sum, k)))
