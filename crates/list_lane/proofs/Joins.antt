@@ -10,7 +10,7 @@ use Rattle.list_lane.specs.Lanes.{Crossed, behind, crossed, first_slot, slot_at}
 use Rattle.list_lane.specs.Flat.{done, joined, Placed}
 use Rattle.list_lane.specs.declared.op.Op.{Op}
 use Rattle.list_lane.proofs.Chain.{crossed_none}
-use Rattle.list_lane.proofs.Turns.{placed_rest}
+use Rattle.list_lane.proofs.Turns.{whole_again}
 
 pub joined_append : (xs ys : List (List (Option Op))) → joined (xs ++ ys) ≡ joined xs ++ joined ys
 joined_append [] ys = refl
@@ -25,6 +25,14 @@ pub placed_right : (xs ys : List (Option Op)) → Placed (xs ++ ys) → Placed y
 placed_right [] ys h = h
 placed_right (None ∷ xs) ys h = placed_right xs ys h
 placed_right (Some a ∷ xs) ys h = placed_right xs ys h.1
+
+pub drop_set : {A : Type 0} (xs : List A) (i : ℕ) (y : A) → drop (i + 1) (set xs i y) ≡ drop (i + 1) xs
+drop_set xs i y = let k : i + 1 ≡ suc i = omega arith in ap (λ n. drop n (set xs i y)) k ∙ one xs i y ∙ ap (λ n. drop n xs) (sym k)
+  where
+    one : {A : Type 0} (xs : List A) (i : ℕ) (y : A) → drop (suc i) (set xs i y) ≡ drop (suc i) xs
+    one [] i y = refl
+    one (x ∷ xs) zero y = refl
+    one (x ∷ xs) (suc i) y = one xs i y
 
 module _ (l : Stamp → Stamp → Bool) where
   pub crossed_append : (xs ys : List (Option Op)) (x : Option Op) → crossed l (xs ++ ys) x ≡ done (crossed l xs x).slots (crossed l ys (crossed l xs x).left)
@@ -51,6 +59,27 @@ module _ (l : Stamp → Stamp → Bool) where
       ∙ (λ k. done (joined (take i xs) ++ sym is k) (crossed l (joined (drop (i + 1) xs)) (sym left k)))
       ∙ ap (λ r. done r (crossed l (joined (drop (i + 1) xs)) z)) (ap (λ r. joined (take i xs) ++ r) (sym (append-nil y)) ∙ sym (joined_append (take i xs) (y ∷ [])) ∙ ap joined (sym (take_more_set xs i y lt)))
 
+
+  -- where nothing is left of it
+  pub burst_end : (whole : Crossed) (xs : List (List (Option Op))) (i : ℕ) (y : List (Option Op)) (z : Option Op) → z ≡ None → whole ≡ done (joined (take (i + 1) (set xs i y))) (crossed l (joined (drop (i + 1) xs)) z) → whole ≡ record { slots = joined (set xs i y); left = None }
+  burst_end whole xs i y z gone e =
+      e
+      ∙ ap (λ o. done (joined (take (i + 1) (set xs i y))) (crossed l (joined (drop (i + 1) xs)) o)) gone
+      ∙ ap (done (joined (take (i + 1) (set xs i y)))) (crossed_none l (joined (drop (i + 1) xs)))
+      ∙ ap (λ r. record { slots = joined (take (i + 1) (set xs i y)) ++ joined r; left = None }) (sym (drop_set xs i y))
+      ∙ ap (λ r. record { slots = r; left = None }) (sym (joined_append (take (i + 1) (set xs i y)) (drop (i + 1) (set xs i y))) ∙ ap joined (whole_again (set xs i y) (i + 1)))
+
+  -- the same, where they stay
+  pub left_turn : (whole : Option Op) (xs : List (List (Option Op))) (i : ℕ) (d x : List (Option Op)) (b : Op) (z : Option Op) → i < length xs → x ≡ get_or xs i d → whole ≡ (crossed l (joined (drop i xs)) (Some b)).left → z ≡ (crossed l x (Some b)).left
+      → whole ≡ (crossed l (joined (drop (i + 1) xs)) z).left
+  left_turn whole xs i d x b z lt at e left =
+      e
+      ∙ ap (λ ys. (crossed l (joined ys) (Some b)).left) (drop_more xs i d lt ∙ ap (λ y. y ∷ drop (i + 1) xs) (sym at))
+      ∙ ap (λ (r : Crossed). r.left) (crossed_append x (joined (drop (i + 1) xs)) (Some b))
+      ∙ ap (λ o. (crossed l (joined (drop (i + 1) xs)) o).left) (sym left)
+
+  pub left_end : (whole : Option Op) (ss : List (Option Op)) (z : Option Op) → z ≡ None → whole ≡ (crossed l ss z).left → None ≡ whole
+  left_end whole ss z gone e = sym (e ∙ ap (λ o. (crossed l ss o).left) gone ∙ ap (λ (r : Crossed). r.left) (crossed_none l ss))
 
 -- ---- one of them
 pub placed_at : (xs : List (List (Option Op))) (i : ℕ) (d x : List (Option Op)) → i < length xs → x ≡ get_or xs i d → Placed (joined xs) → Placed x

@@ -1,6 +1,6 @@
 -- The numbers that are kept of a lane, as it grows, is crossed, and loses its first slot.
-use Rattle.std.proofs.Common.{◌≡◌, ℕ, zero, suc, ◌+◌, ◌-◌, ◌<◌, ◌≤◌, Bool, true, false, not, List, [], ◌∷◌, ◌++◌, length, length-append, Option, Some, None, refl, sym, ap, ◌∙◌, subst, arith}
-use Rattle.std.specs.Prelude.{IfSome}
+use Rattle.std.proofs.Common.{◌≡◌, ℕ, zero, suc, ◌+◌, ◌-◌, ◌<◌, ◌≤◌, Bool, true, false, cond, not, ◌&&◌, ◌||◌, List, [], ◌∷◌, ◌++◌, length, length-append, Option, Some, None, refl, sym, ap, ◌∙◌, subst, arith}
+use Rattle.std.specs.Prelude.{◌==◌, nat_lt, nat_le, IfSome}
 use Rattle.sync_data.specs.declared.entry.Stamp.{Stamp}
 use Rattle.sync_base.specs.Rules.{top}
 use Rattle.sync_theory.specs.Grid.{tail}
@@ -8,7 +8,7 @@ use Rattle.sync_transform.specs.Places.{longer, Within, place_after}
 use Rattle.sync_transform.specs.declared.places.Does.{Does}
 use Rattle.sync_transform.specs.declared.places.Does.TheVariants.{Inserts, Erases, Updates}
 use Rattle.list_lane.specs.Ops.{moved, op_after, lane_later}
-use Rattle.list_lane.specs.Lanes.{LaneOf, crossed, length_after, length_at_end, length_before, Fits, Chains, first_slot, without_first, slot_at, lane_after, IsLeftOf}
+use Rattle.list_lane.specs.Lanes.{LaneOf, Crossed, crossed, length_after, length_at_end, length_before, Fits, Chains, first_slot, without_first, slot_at, lane_after, IsLeftOf}
 use Rattle.list_lane.specs.Flat.{Placed, IsLane}
 use Rattle.list_lane.specs.Laws.{CrossesLeft, CrossesRight, StillTold}
 use Rattle.list_lane.specs.Told.{told_set, told_sets}
@@ -66,6 +66,35 @@ module _ (l : Stamp → Stamp → Bool) where
         count_is = h.count_is ∙ sym k;
         room = omega (arith, m, room, k);
       }
+
+-- ---- how far on what is left may be
+near : (l : Bool) (d e : Does) (p q : ℕ) → IfSome (place_after l d p e q) (λ r. r ≤ p + 1)
+near l Inserts Inserts p q = elim (nat_lt p q || ((p == q) && not l)) as (λ s. cond s p (p + 1) ≤ p + 1) [ true ↦ omega arith | false ↦ omega arith ]
+near l Inserts Erases p q = elim (nat_le p q) as (λ s. cond s p (p - 1) ≤ p + 1) [ true ↦ omega arith | false ↦ omega arith ]
+near l Inserts Updates p q = omega arith
+near l Erases Inserts p q = elim (nat_le q p) as (λ s. cond s (p + 1) p ≤ p + 1) [ true ↦ omega arith | false ↦ omega arith ]
+near l Erases Erases p q = elim (p == q) as (λ t. IfSome (cond t None (Some (cond (nat_lt p q) p (p - 1)))) (λ r. r ≤ p + 1)) [ true ↦ tt | false ↦ elim (nat_lt p q) as (λ s. cond s p (p - 1) ≤ p + 1) [ true ↦ omega arith | false ↦ omega arith ] ]
+near l Erases Updates p q = omega arith
+near l Updates Inserts p q = elim (nat_le q p) as (λ s. cond s (p + 1) p ≤ p + 1) [ true ↦ omega arith | false ↦ omega arith ]
+near l Updates Erases p q = elim (p == q) as (λ t. IfSome (cond t None (Some (cond (nat_lt p q) p (p - 1)))) (λ r. r ≤ p + 1)) [ true ↦ tt | false ↦ elim (nat_lt p q) as (λ s. cond s p (p - 1) ≤ p + 1) [ true ↦ omega arith | false ↦ omega arith ] ]
+near l Updates Updates p q = elim (p == q) as (λ t. IfSome (cond t (cond l (Some p) None) (Some p)) (λ r. r ≤ p + 1)) [ true ↦ elim l as (λ b. IfSome (cond b (Some p) None) (λ r. r ≤ p + 1)) [ true ↦ omega arith | false ↦ tt ] | false ↦ omega arith ]
+
+at_most_more : (r : Option Op) (m k : ℕ) → m ≤ k → IfSome r (λ z. z.place ≤ m) → IfSome r (λ z. z.place ≤ k)
+at_most_more None m k h f = tt
+at_most_more (Some z) m k h f = omega (arith, h, f)
+
+module _ (l : Stamp → Stamp → Bool) where
+  near_one : (ss : List (Option Op)) (b : Op) (x : Option ℕ) → IfSome x (λ q. q ≤ b.place + 1) → ((q : ℕ) → IfSome (crossed l ss (Some (record b { place = q }))).left (λ z. z.place ≤ q + length ss)) → IfSome (crossed l ss (moved b x)).left (λ z. z.place ≤ b.place + suc (length ss))
+  near_one ss b None h f = subst (λ (r : Crossed). IfSome r.left (λ z. z.place ≤ b.place + suc (length ss))) (sym (crossed_none l ss)) tt
+  near_one ss b (Some q) h f = at_most_more (crossed l ss (Some (record b { place = q }))).left (q + length ss) (b.place + suc (length ss)) (omega (arith, h)) (f q)
+
+  pub left_near : (ss : List (Option Op)) (b : Op) → IfSome (crossed l ss (Some b)).left (λ z. z.place ≤ b.place + length ss)
+  left_near [] b = omega arith
+  left_near (None ∷ ss) b = at_most_more (crossed l ss (Some b)).left (b.place + length ss) (b.place + suc (length ss)) (omega arith) (left_near ss b)
+  left_near (Some a ∷ ss) b = near_one ss b (place_after (not (l a.stamp b.stamp)) b.does b.place a.does a.place) (near (not (l a.stamp b.stamp)) b.does a.does b.place a.place) (λ q. left_near ss (record b { place = q }))
+
+  pub left_at : (ss : List (Option Op)) (b z : Op) → Some z ≡ (crossed l ss (Some b)).left → z.place ≤ b.place + length ss
+  left_at ss b z e = subst (λ r. IfSome r (λ y. y.place ≤ b.place + length ss)) (sym e) (left_near ss b)
 
 -- ---- a slot more
 chains_more : (ss : List (Option Op)) (n : ℕ) (s : Option Op) → Chains n ss → Fits (length_at_end n ss) s → Chains n (ss ++ s ∷ [])

@@ -121,7 +121,7 @@ pub(crate) fn pop_slot(bursts: &mut VecDeque<Burst>) -> Option<Op>
     ensures rest { joined bursts.new.items ≡ tail (joined bursts.old.items) }
     ensures slot { result ≡ first_slot (joined bursts.old.items) }
 {
-    while !bursts.is_empty() {
+    while bursts.len() > 0 {
         if bursts[0].len() > 0 {
             let first = &mut bursts[0];
             return first.pop_first();
