@@ -1,5 +1,5 @@
 -- Of two instructions the one before the other stands, and pushes the other; so do many.
-use Rattle.std.proofs.Common.{◌≡◌, ℕ, ◌+◌, ◌-◌, ◌<◌, ◌≤◌, Bool, true, false, cond, not, ◌&&◌, ◌||◌, List, [], ◌∷◌, Option, Some, None, refl, sym, ap, ◌∙◌, arith}
+use Rattle.std.proofs.Common.{◌≡◌, ℕ, ◌+◌, ◌-◌, ◌<◌, ◌≤◌, Bool, true, false, cond, not, ◌&&◌, ◌||◌, List, [], ◌∷◌, Option, Some, None, refl, ap, ◌∙◌, arith}
 use Rattle.std.specs.Prelude.{◌==◌}
 use Rattle.std.proofs.lemmas.Bool.{lt-ltb, le-ltb, le-leb, lt-leb, ne_eqb}
 use Rattle.sync_data.specs.declared.entry.Stamp.{Stamp}
@@ -7,7 +7,7 @@ use Rattle.sync_transform.specs.Places.{longer, place_after}
 use Rattle.sync_transform.specs.declared.places.Does.{Does}
 use Rattle.sync_transform.specs.declared.places.Does.TheVariants.{Inserts, Erases, Updates}
 use Rattle.list_lane.specs.Ops.{moved}
-use Rattle.list_lane.specs.Lanes.{Crossed, behind, crossed, length_at_end}
+use Rattle.list_lane.specs.Lanes.{behind, crossed, length_at_end}
 use Rattle.list_lane.specs.Bursts.{AllBehind, AllBefore, pushed_all}
 use Rattle.list_lane.specs.declared.op.Op.{Op}
 

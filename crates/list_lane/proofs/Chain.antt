@@ -5,7 +5,7 @@ use Rattle.sync_data.specs.declared.entry.Stamp.{Stamp}
 use Rattle.sync_transform.specs.Places.{longer, Within, place_after}
 use Rattle.sync_transform.specs.declared.places.Does.{Does}
 use Rattle.sync_transform.proofs.Stands.{WithinIf, within_after}
-use Rattle.list_lane.specs.Ops.{moved, op_after}
+use Rattle.list_lane.specs.Ops.{moved}
 use Rattle.list_lane.specs.Lanes.{Crossed, crossed, length_after, length_at_end, Chains, IsLeftOf}
 use Rattle.list_lane.specs.declared.op.Op.{Op}
 use Rattle.list_lane.proofs.Lengths.{Lengths, lengths}

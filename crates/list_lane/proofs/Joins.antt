@@ -1,12 +1,12 @@
 -- Bursts one after another.
 use Rattle.std.proofs.Common.{◌≡◌, ℕ, zero, suc, ◌+◌, ◌-◌, ◌<◌, ◌≤◌, Bool, not, List, [], ◌∷◌, ◌++◌, length, length-append, take, drop, get_or, set, Option, Some, None, refl, sym, ap, ◌∙◌, subst, append_assoc, append-nil, arith}
-use Rattle.std.specs.Prelude.{IfSome}
 use Rattle.std.proofs.lemmas.List.{drop_more, take_more_set}
 use Rattle.sync_data.specs.declared.entry.Stamp.{Stamp}
-use Rattle.sync_base.specs.Rules.{top}
-use Rattle.sync_theory.specs.Grid.{tail}
-use Rattle.list_lane.specs.Ops.{moved, op_after}
-use Rattle.list_lane.specs.Lanes.{Crossed, behind, crossed, first_slot, slot_at}
+use Rattle.list_lane.specs.Ops.{op_after}
+use Rattle.sync_transform.specs.Places.{longer}
+use Rattle.list_lane.specs.Lanes.{Crossed, behind, crossed, length_after, length_before, slot_at}
+use Rattle.list_lane.specs.Bursts.{lift_all}
+use Rattle.list_lane.proofs.Rooms.{after_more}
 use Rattle.list_lane.specs.Flat.{done, joined, Placed}
 use Rattle.list_lane.specs.declared.op.Op.{Op}
 use Rattle.list_lane.proofs.Chain.{crossed_none}
@@ -58,7 +58,6 @@ module _ (l : Stamp → Stamp → Bool) where
       ∙ next_burst (joined (take i xs)) x (joined (drop (i + 1) xs)) b
       ∙ (λ k. done (joined (take i xs) ++ sym is k) (crossed l (joined (drop (i + 1) xs)) (sym left k)))
       ∙ ap (λ r. done r (crossed l (joined (drop (i + 1) xs)) z)) (ap (λ r. joined (take i xs) ++ r) (sym (append-nil y)) ∙ sym (joined_append (take i xs) (y ∷ [])) ∙ ap joined (sym (take_more_set xs i y lt)))
-
 
   -- where nothing is left of it
   pub burst_end : (whole : Crossed) (xs : List (List (Option Op))) (i : ℕ) (y : List (Option Op)) (z : Option Op) → z ≡ None → whole ≡ done (joined (take (i + 1) (set xs i y))) (crossed l (joined (drop (i + 1) xs)) z) → whole ≡ record { slots = joined (set xs i y); left = None }
@@ -130,3 +129,40 @@ slot_behind (s ∷ xs) ys zero le = absurd (omega (arith, le))
 slot_behind (s ∷ xs) ys (suc i) le =
     let k : suc i - suc (length xs) ≡ i - length xs = omega arith in
     slot_behind xs ys i (omega (arith, le)) ∙ ap (λ n. slot_at n ys) (sym k)
+
+-- ---- lengths of the list
+pub before_none : (n : ℕ) (ss : List (Option Op)) → length_before 0 n ss ≡ n
+before_none n [] = refl
+before_none n (s ∷ ss) = refl
+
+pub before_first : (xs ys : List (Option Op)) (i n : ℕ) → i < length xs → length_before i n (xs ++ ys) ≡ length_before i n xs
+before_first [] ys i n lt = absurd (omega (arith, lt))
+before_first (s ∷ xs) ys zero n lt = refl
+before_first (s ∷ xs) ys (suc i) n lt = before_first xs ys i (length_after s n) (omega (arith, lt))
+
+pub before_rest : (xs ys : List (Option Op)) (i n : ℕ) → length xs ≤ i → length_before i n (xs ++ ys) ≡ length_before (i - length xs) (length_before (length xs) n xs) ys
+before_rest [] ys i n le = let k : i - 0 ≡ i = omega arith in ap (λ m. length_before m n ys) (sym k)
+before_rest (s ∷ xs) ys zero n le = absurd (omega (arith, le))
+before_rest (s ∷ xs) ys (suc i) n le =
+    let k : suc i - suc (length xs) ≡ i - length xs = omega arith in
+    before_rest xs ys i (length_after s n) (omega (arith, le)) ∙ ap (λ m. length_before m (length_before (length xs) (length_after s n) xs) ys) (sym k)
+
+pub before_most : (ss : List (Option Op)) (i n : ℕ) → length_before i n ss ≤ n + i
+before_most [] i n = omega arith
+before_most (s ∷ ss) zero n = omega arith
+before_most (s ∷ ss) (suc i) n = let m = after_more s n in let k = before_most ss i (length_after s n) in omega (arith, m, k)
+
+pub lift_before : (ss : List (Option Op)) (up down i n : ℕ) → length_before i n (lift_all up down ss) ≡ length_before i n ss
+lift_before [] up down i n = refl
+lift_before (s ∷ ss) up down zero n = refl
+lift_before (None ∷ ss) up down (suc i) n = lift_before ss up down i n
+lift_before (Some a ∷ ss) up down (suc i) n = lift_before ss up down i (longer a.does n)
+
+-- one slot further
+pub before_turn : (whole : ℕ) (ss : List (Option Op)) (at i n m : ℕ) (d s : Option Op) → i < length ss → i < at → s ≡ get_or ss i d → whole ≡ length_before (at - i) n (drop i ss) → m ≡ length_after s n → whole ≡ length_before (at - (i + 1)) m (drop (i + 1) ss)
+before_turn whole ss at i n m d s lt more here e is =
+    let k : at - i ≡ suc (at - (i + 1)) = omega (arith, more) in
+    e
+    ∙ (λ j. length_before (k j) n (drop_more ss i d lt j))
+    ∙ ap (λ y. length_before (at - (i + 1)) (length_after y n) (drop (i + 1) ss)) (sym here)
+    ∙ ap (λ y. length_before (at - (i + 1)) y (drop (i + 1) ss)) (sym is)

@@ -1,12 +1,11 @@
 -- Changesets that a lane tells cross as the lane does, one by one.
-use Rattle.std.proofs.Common.{◌≡◌, ℕ, ◌<◌, Bool, true, false, not, ◌&&◌, List, [], ◌∷◌, ◌++◌, Option, Some, None, Result, Ok, Err, refl, sym, ap, ◌∙◌, subst, arith}
+use Rattle.std.proofs.Common.{◌≡◌, ℕ, ◌<◌, Bool, true, false, not, ◌&&◌, List, [], ◌∷◌, Option, Some, None, Result, Ok, refl, sym, ap, ◌∙◌, arith}
 use Rattle.std.specs.Prelude.{◌==◌, IfSome}
 use Rattle.std.proofs.lemmas.Bool.Decides.{nat_tests}
 use Rattle.sync_data.specs.declared.value.Value.{Value}
 use Rattle.sync_data.specs.declared.entry.Stamp.{Stamp}
 use Rattle.sync_data.specs.declared.instr.CellName.{CellName}
 use Rattle.sync_data.specs.declared.instr.Instr.{Instr}
-use Rattle.sync_base.specs.declared.answers.Mismatch.{Mismatch}
 use Rattle.sync_base.specs.Rules.{top}
 use Rattle.sync_theory.specs.Lists.{kept, row, cross, met, rowed, step_down}
 use Rattle.sync_theory.specs.Changesets.{Changeset, cross_sets, with_lists, later_stamp}
@@ -19,7 +18,7 @@ use Rattle.sync_transform.specs.declared.places.Does.TheVariants.{Inserts, Erase
 use Rattle.sync_transform.proofs.Rows.{grows, pair}
 use Rattle.sync_transform.proofs.Stands.{within_after}
 use Rattle.list_lane.specs.Ops.{moved, op_after, lane_later}
-use Rattle.list_lane.specs.Lanes.{Crossed, crossed, length_after, length_at_end, Chains}
+use Rattle.list_lane.specs.Lanes.{crossed, length_after, length_at_end, Chains}
 use Rattle.list_lane.specs.Told.{action, told, told_set, told_sets, IsOne, stamp_of, IsTold, AreTold}
 use Rattle.list_lane.specs.declared.op.Op.{Op}
 use Rattle.list_lane.proofs.Lengths.{Lengths}

@@ -8,12 +8,11 @@ use Rattle.sync_transform.specs.Places.{longer, Within, place_after}
 use Rattle.sync_transform.specs.declared.places.Does.{Does}
 use Rattle.sync_transform.specs.declared.places.Does.TheVariants.{Inserts, Erases, Updates}
 use Rattle.list_lane.specs.Ops.{moved, op_after, lane_later}
-use Rattle.list_lane.specs.Lanes.{LaneOf, Crossed, crossed, length_after, length_at_end, length_before, Fits, Chains, first_slot, without_first, slot_at, lane_after, IsLeftOf}
+use Rattle.list_lane.specs.Lanes.{Crossed, crossed, length_after, length_at_end, length_before, Fits, Chains, first_slot, without_first, slot_at, lane_after, IsLeftOf}
 use Rattle.list_lane.specs.Flat.{Placed, IsLane}
 use Rattle.list_lane.specs.Laws.{CrossesLeft, CrossesRight, StillTold}
-use Rattle.list_lane.specs.Told.{told_set, told_sets}
 use Rattle.list_lane.specs.declared.op.Op.{Op}
-use Rattle.list_lane.proofs.Chain.{crossed_none, still_chains, Ends, ends}
+use Rattle.list_lane.proofs.Chain.{crossed_none, still_chains, ends}
 use Rattle.list_lane.proofs.Meets.{Below, left_is, right_is, still_told}
 
 pub within_most : (d : Does) (p n : ℕ) → Within d p n → p ≤ n
@@ -26,7 +25,7 @@ one_longer Inserts n = omega arith
 one_longer Erases n = omega arith
 one_longer Updates n = omega arith
 
-after_more : (s : Option Op) (n : ℕ) → length_after s n ≤ n + 1
+pub after_more : (s : Option Op) (n : ℕ) → length_after s n ≤ n + 1
 after_more None n = omega arith
 after_more (Some a) n = one_longer a.does n
 

@@ -1,12 +1,11 @@
 -- Loops over slots, from one turn to the next.
-use Rattle.std.proofs.Common.{◌≡◌, ℕ, zero, suc, ◌+◌, ◌-◌, ◌<◌, ◌≤◌, Bool, true, false, cond, not, List, [], ◌∷◌, ◌++◌, length, take, drop, get_or, set, Option, Some, None, Result, Ok, Err, refl, sym, ap, ◌∙◌, subst, append_assoc, arith}
-use Rattle.std.proofs.lemmas.List.{drop_more, take_more_set}
+use Rattle.std.proofs.Common.{◌≡◌, ℕ, zero, suc, ◌+◌, ◌<◌, Bool, true, false, cond, List, [], ◌∷◌, ◌++◌, length, take, drop, get_or, Option, Some, None, Result, Ok, Err, refl, sym, ap, ◌∙◌, subst, append_assoc, arith}
+use Rattle.std.proofs.lemmas.List.{drop_more}
 use Rattle.std.specs.Prelude.{OnOk, OnErr}
 use Rattle.sync_theory.specs.Grid.{tail}
 use Rattle.sync_data.specs.declared.entry.Stamp.{Stamp}
 use Rattle.sync_base.specs.Rules.{top}
-use Rattle.sync_transform.specs.Places.{place_after}
-use Rattle.list_lane.specs.Ops.{moved, op_after}
+use Rattle.list_lane.specs.Ops.{moved}
 use Rattle.list_lane.specs.Lanes.{Crossed, behind, crossed}
 use Rattle.list_lane.specs.Flat.{done, Placed}
 use Rattle.list_lane.specs.Bursts.{lifted, lift_all}

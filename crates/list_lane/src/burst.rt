@@ -1,13 +1,13 @@
 ghost use Rattle.std.specs.Prelude.{◌≡◌, ◌≤◌, ◌<◌, ◌+◌, ◌∷◌, ◌++◌, [], Some, ◌↔◌, OnOk, OnErr, IsTrue, IsFalse, length};
 ghost use Rattle.sync_base.specs.Rules.{top};
-ghost use Rattle.list_lane.specs.Lanes.{crossed as crosses, first_slot, length_at_end, slot_at};
+ghost use Rattle.list_lane.specs.Lanes.{crossed as crosses, first_slot, length_at_end, length_before as before, slot_at};
 ghost use Rattle.list_lane.specs.Ops.{lane_later as later};
 ghost use Rattle.list_lane.specs.Flat.{Placed};
 ghost use Rattle.list_lane.specs.Bursts.{lift_all, pushed_all, AllBefore, AllBehind};
 ghost use Rattle.sync_theory.specs.Grid.{tail};
 
 use super::bounds::{Bounds, bounds_of, no_bounds};
-use super::flat::{cross_slots, left_behind, lift_slots, lifted};
+use super::flat::{cross_slots, left_behind, length_in, lift_slots, lifted};
 use super::op::Op;
 use std::alloc::Global;
 use std::marker::Model;
@@ -124,6 +124,15 @@ impl Burst {
         }
     }
 
+    /// The length of a list behind the first of them, where it was `first` before them all.
+    pub(crate) fn length_before(&self, at: usize, first: u32) -> u32
+        requires within { at ≤ length self.now }
+        requires room { first + at < top }
+        ensures { result ≡ before at first self.now }
+    {
+        length_in(self.slots.as_slice(), at, first)
+    }
+
     /// What is left of an instruction that crosses the slots in turn. They stand as crossed.
     pub(crate) fn cross(&mut self, traveller: Op, lane_left: bool) -> Option<Op>
         requires room { traveller.place + length self.old ≤ top }
@@ -169,7 +178,13 @@ impl Burst {
         if self.is_behind(traveller.place) {
             return Some(traveller);
         }
-        left_behind(self.slots.as_slice(), self.up, self.down, traveller, lane_left)
+        left_behind(
+            self.slots.as_slice(),
+            self.up,
+            self.down,
+            traveller,
+            lane_left,
+        )
     }
 
     /// Whether all are before an instruction at that place, as each that it crosses pushes it on.
@@ -213,9 +228,8 @@ impl Burst {
     {
         match does {
             Does::Inserts if self.up < u32::MAX => self.up += 1,
-            Does::Erases if self.down < u32::MAX && is_below(self.down, self.bounds.low, self.up) => {
-                self.down += 1
-            }
+            Does::Erases if self.down < u32::MAX && is_below(self.down, self.bounds.low, self.up) =>
+                { self.down += 1 }
             Does::Updates => {}
             _ => return false,
         }

@@ -1,7 +1,7 @@
 ghost use Rattle.std.specs.Prelude.{◌≡◌, ◌≤◌, ◌<◌, ◌+◌, ◌∷◌, ◌++◌, [], Some, OnOk, OnErr, length};
 ghost use Rattle.sync_base.specs.Rules.{top};
 ghost use Rattle.sync_theory.specs.Grid.{tail};
-ghost use Rattle.list_lane.specs.Lanes.{crossed as crosses, first_slot, slot_at};
+ghost use Rattle.list_lane.specs.Lanes.{crossed as crosses, first_slot, length_before as before, slot_at};
 ghost use Rattle.list_lane.specs.Ops.{lane_later as later};
 ghost use Rattle.list_lane.specs.Flat.{joined, Placed};
 
@@ -84,11 +84,7 @@ fn push_last(bursts: &mut VecDeque<Burst>, slot: Option<Op>) -> Result<(), NoMem
 }
 
 /// Appends a burst of one slot.
-fn push_new(
-    alloc: Global,
-    bursts: &mut VecDeque<Burst>,
-    slot: Option<Op>,
-) -> Result<(), NoMemory>
+fn push_new(alloc: Global, bursts: &mut VecDeque<Burst>, slot: Option<Op>) -> Result<(), NoMemory>
     ensures ok { OnOk result (joined bursts.new.items ≡ joined bursts.old.items ++ slot ∷ []) }
     ensures err { OnErr result (joined bursts.new.items ≡ joined bursts.old.items) }
 {
@@ -145,4 +141,23 @@ pub(crate) fn slot_in(bursts: &VecDeque<Burst>, place: usize) -> Option<Op>
         rest -= burst.len();
     }
     None
+}
+
+/// The length of a list behind so many slots, where it was `first` before them all.
+pub(crate) fn length_within(bursts: &VecDeque<Burst>, place: usize, first: u32) -> u32
+    requires { first + place < top }
+    ensures { result ≡ before place first (joined bursts.now.items) }
+{
+    let mut rest = place;
+    let mut result = first;
+    for i in 0..bursts.len() {
+        let burst = &bursts[i];
+        let len = burst.len();
+        if rest < len {
+            return burst.length_before(rest, result);
+        }
+        result = burst.length_before(len, result);
+        rest -= len;
+    }
+    result
 }

@@ -1,14 +1,14 @@
 ghost use Rattle.std.specs.Prelude.{◌≡◌, ◌≤◌, ◌<◌, ◌+◌, ◌∷◌, ◌++◌, [], Some, None, IfSome, List, Option, cond, not, length, take, drop};
 ghost use Rattle.sync_base.specs.Rules.{top};
 ghost use Rattle.list_lane.specs.declared.op.Op as ops;
-ghost use Rattle.list_lane.specs.Lanes.{crossed as crosses, behind};
+ghost use Rattle.list_lane.specs.Lanes.{crossed as crosses, behind, length_after as after, length_before as before};
 ghost use Rattle.list_lane.specs.Ops.{lane_later as later, moved};
 ghost use Rattle.list_lane.specs.Flat.{done, Placed};
 ghost use Rattle.list_lane.specs.Bursts.{lifted as lifts, lift_all};
 
 use super::op::Op;
-use sync_transform::{is_later, place_after};
 use sync_data::Stamp;
+use sync_transform::{is_later, length_after, place_after};
 
 /// What is left of an instruction that crosses the slots in turn. They stand as crossed, by places alone.
 pub(crate) fn cross_slots(slots: &mut [Option<Op>], traveller: Op, lane_left: bool) -> Option<Op>
@@ -128,6 +128,32 @@ fn lift_at(slots: &mut [Option<Op>], at: usize, up: u32, down: u32)
 {
     if let Some(op) = slots[at] {
         slots[at] = Some(lifted(op, up, down));
+    }
+}
+
+/// The length of a list behind so many slots.
+pub(crate) fn length_in(slots: &[Option<Op>], at: usize, first: u32) -> u32
+    requires within { at ≤ length slots.now }
+    requires room { first + at < top }
+    ensures { result ≡ before at first slots.now }
+{
+    let mut result = first;
+    for i in 0..at {
+        result = length_behind(slots[i], result);
+    }
+    result
+}
+
+/// The length of a list behind an instruction, if it is there.
+#[inline(always)]
+pub(crate) fn length_behind(slot: Option<Op>, length: u32) -> u32
+    requires { length < top }
+    ensures is { result ≡ after slot length }
+    ensures more { result ≤ length + 1 }
+{
+    match slot {
+        Some(op) => length_after(op.does, length),
+        None => length,
     }
 }
 

@@ -2,11 +2,12 @@ ghost use Rattle.std.specs.Prelude.{◌≡◌, ◌+◌, ◌<◌, ◌≤◌, ◌�
 ghost use Rattle.sync_base.specs.Rules.{top};
 ghost use Rattle.sync_transform.specs.Places.{Within};
 ghost use Rattle.list_lane.specs.Ops.{lane_later};
-ghost use Rattle.list_lane.specs.Lanes.{crossed, first_slot, length_after as after, length_at_end, length_before, slot_at, without_first, lane_after, Fits, IsLeftOf};
+ghost use Rattle.list_lane.specs.Lanes.{crossed, first_slot, length_at_end, length_before as before, slot_at, without_first, lane_after, Chains, Fits, IsLeftOf};
 ghost use Rattle.list_lane.specs.Laws.{CrossesLeft, CrossesRight};
 
 use super::burst::Burst;
-use super::bursts::{cross_bursts, left_over, pop_slot, push_slot, slot_in};
+use super::bursts::{cross_bursts, left_over, length_within, pop_slot, push_slot, slot_in};
+use super::flat::length_behind;
 use super::op::Op;
 use std::alloc::Global;
 use std::collections::VecDeque;
@@ -59,7 +60,8 @@ impl Lane {
 
     /// The length of the list on which the first instruction acts.
     pub fn first(&self) -> u32
-        ensures { result ≡ self.now.first }
+        ensures is { result ≡ self.now.first }
+        ensures chains { Chains self.now.first self.now.slots }
     {
         self.first
     }
@@ -117,9 +119,17 @@ impl Lane {
     /// What is in the slot at a place; none past the end. It may take as long as a walk.
     pub fn slot(&self, place: usize) -> Option<Op>
         ensures slot { result ≡ slot_at place self.now.slots }
-        ensures fits { Fits (length_before place self.now.first self.now.slots) result }
+        ensures fits { Fits (before place self.now.first self.now.slots) result }
     {
         slot_in(&self.bursts, place)
+    }
+
+    /// The length of the list on which the instruction in the slot at a place acts. It may take as long as a walk.
+    pub fn length_before(&self, place: usize) -> u32
+        requires { place < length self.now.slots }
+        ensures { result ≡ before place self.now.first self.now.slots }
+    {
+        length_within(&self.bursts, place, self.first)
     }
 
     /// What is left of an instruction that was made on the list before the lane, where it crosses the lane, which stays.
@@ -148,16 +158,5 @@ impl Lane {
         self.first = length_after(traveller.does, self.first);
         self.last = length_behind(left, self.last);
         left
-    }
-}
-
-/// The length of a list behind an instruction, if it is there.
-fn length_behind(slot: Option<Op>, length: u32) -> u32
-    requires { length < top }
-    ensures { result ≡ after slot length }
-{
-    match slot {
-        Some(op) => length_after(op.does, length),
-        None => length,
     }
 }

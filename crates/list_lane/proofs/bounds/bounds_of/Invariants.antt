@@ -1,4 +1,4 @@
-use Rattle.std.proofs.Common.{◌≡◌, ◌≤◌, ◌+◌, ◌-◌, length, drop}
+use Rattle.std.proofs.Common.{◌≡◌, ◌≤◌, ◌+◌, length, drop}
 use Rattle.list_lane.specs.Bursts.{bounds_of}
 use Rattle.list_lane.proofs.bounds.bounds_of.Given as goal
 

@@ -1,6 +1,5 @@
-use Rattle.std.proofs.Common.{◌<◌, Some, length, drop, sym, ap, ◌∙◌, arith}
+use Rattle.std.proofs.Common.{◌<◌, Some, length, sym, ◌∙◌, arith}
 use Rattle.list_lane.specs.Ops.{lane_later as later}
-use Rattle.list_lane.specs.Flat.{joined}
 use Rattle.list_lane.proofs.Rooms.{left_at}
 use Rattle.list_lane.proofs.Joins.{placed_here, length_here, left_turn, left_end}
 use Rattle.list_lane.proofs.bursts.left_over.Goals as goal

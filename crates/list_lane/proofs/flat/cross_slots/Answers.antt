@@ -1,4 +1,4 @@
-use Rattle.std.proofs.Common.{◌≡◌, ◌+◌, None, take, drop, sym, ap, ◌∙◌, arith}
+use Rattle.std.proofs.Common.{◌+◌, None, take, drop, sym, ap, ◌∙◌, arith}
 use Rattle.list_lane.specs.Lanes.{Crossed}
 use Rattle.list_lane.specs.Ops.{lane_later as later}
 use Rattle.list_lane.proofs.Turns.{over, on, placed_more, whole_again}

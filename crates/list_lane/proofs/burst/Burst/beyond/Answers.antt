@@ -1,6 +1,5 @@
 use Rattle.std.proofs.Common.{◌≡◌, ◌≤◌, ◌+◌, ◌-◌, length, sym, ap, ◌∙◌, subst, arith}
 use Rattle.list_lane.specs.declared.bounds.Bounds.{Bounds}
-use Rattle.list_lane.specs.declared.op.Op.{Op}
 use Rattle.list_lane.specs.Lanes.{length_at_end}
 use Rattle.list_lane.specs.Bursts.{AllBefore, lift_all}
 use Rattle.list_lane.proofs.Rooms.{last_below}

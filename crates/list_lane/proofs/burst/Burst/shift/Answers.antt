@@ -1,5 +1,4 @@
-use Rattle.std.proofs.Common.{◌≤◌, ◌+◌, sym, ap, ◌∙◌, subst, arith}
-use Rattle.sync_transform.specs.declared.places.Does.TheVariants.{Inserts, Erases, Updates}
+use Rattle.std.proofs.Common.{sym, ap, ◌∙◌, subst}
 use Rattle.list_lane.specs.declared.bounds.Bounds.{Bounds}
 use Rattle.list_lane.specs.Bursts.{pushed_all}
 use Rattle.list_lane.proofs.Bounded.{AllFrom, all_from, lift_insertion, lift_erasure, pushed_same}

@@ -1,4 +1,4 @@
-use Rattle.std.proofs.Common.{◌<◌, ◌≡◌, length, Some, None, get_or, sym, ap, ◌∙◌, subst, arith}
+use Rattle.std.proofs.Common.{length, Some, sym, ap, ◌∙◌, subst, arith}
 use Rattle.list_lane.specs.Lanes.{slot_at}
 use Rattle.list_lane.specs.Bursts.{lift}
 use Rattle.list_lane.specs.Flat.{Placed}

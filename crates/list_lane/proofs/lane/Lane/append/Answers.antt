@@ -1,4 +1,4 @@
-use Rattle.std.proofs.Common.{◌+◌, ◌<◌, [], ◌∷◌, ◌++◌, length, sym, subst, arith}
+use Rattle.std.proofs.Common.{◌+◌, ◌<◌, length, sym, subst, arith}
 use Rattle.sync_base.specs.Rules.{top}
 use Rattle.list_lane.specs.Lanes.{LaneOf, length_at_end, Fits}
 use Rattle.list_lane.specs.Flat.{joined, IsLane}
@@ -21,5 +21,5 @@ invariant_of-self-2 c =
     let ss = joined a.bursts.items in
     let fits = subst (λ (v : LaneOf). Fits (length_at_end v.first v.slots) c.args.slot) (sym c.self.view_is) c.requires.fits in
     let room = subst (λ (v : LaneOf). v.first + length v.slots + 1 < top) (sym c.self.view_is) c.requires.room in
-    subst (λ n. IsLane a.first n (a.count + 1) (joined c.push_slot.new.bursts.items)) (sym c.length_behind-self-inside.ensures)
+    subst (λ n. IsLane a.first n (a.count + 1) (joined c.push_slot.new.bursts.items)) (sym c.length_behind-self-inside.ensures.is)
     (subst (λ l. IsLane a.first (Rattle.list_lane.specs.Lanes.length_after c.args.slot a.last) (a.count + 1) l) (sym c.in_ok-push_slot.ensures.ok) (lane_more a.first a.last a.count ss c.args.slot c.self.invariant fits room))

@@ -28,7 +28,7 @@ invariant_of-self c =
     let l = lane_later c.args.lane_left in
     let within = subst (λ (v : LaneOf). Within b.does b.place v.first) (sym c.self.view_is) c.requires.within in
     let room = subst (λ (v : LaneOf). v.first + length v.slots + 1 < top) (sym c.self.view_is) c.requires.room in
-    let last = c.length_behind-self-inside.ensures ∙ ap (λ o. after o a.last) c.cross_bursts-left.ensures.left in
+    let last = c.length_behind-self-inside.ensures.is ∙ ap (λ o. after o a.last) c.cross_bursts-left.ensures.left in
     subst (λ n. IsLane n c.length_behind-self-inside.result a.count (joined c.cross_bursts-left.new.bursts.items)) (sym c.length_after-self-inside.ensures)
     (subst (λ n. IsLane (longer b.does a.first) n a.count (joined c.cross_bursts-left.new.bursts.items)) (sym last)
     (subst (IsLane (longer b.does a.first) (after (crossed l ss (Some b)).left a.last) a.count) (sym c.cross_bursts-left.ensures.slots) (crossed_lane l a.first a.last a.count ss b c.self.invariant within room)))
