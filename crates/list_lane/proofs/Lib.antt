@@ -6,3 +6,5 @@ pub mod Beside
 pub mod Bounded
 pub mod Turns
 pub mod Joins
+pub mod Further
+pub mod Apart

@@ -4,3 +4,4 @@ pub mod Told
 pub mod Laws
 pub mod Flat
 pub mod Bursts
+pub mod Parts

@@ -10,5 +10,5 @@ mod laws;
 mod op;
 
 pub use lane::Lane;
-pub use laws::lanes_stay_told;
+pub use laws::{elements_part_a_lane, lanes_stay_told};
 pub use op::{Op, action_of, op_of, prior_of};
