@@ -1,4 +1,4 @@
-ghost use Rattle.std.specs.Prelude.{◌≡◌, ◌≢◌, ◌++◌, ◌∷◌, [], ℕ, Some, Ok, Err, IfOk, IfErr, IfSome, OnOk, length};
+ghost use Rattle.std.specs.Prelude.{◌≡◌, ◌≢◌, ◌<◌, ◌++◌, ◌∷◌, [], ℕ, Some, Ok, Err, IfOk, IfErr, IfSome, OnOk, length};
 ghost use Rattle.sync_theory.specs.Changesets.{cross_sets};
 ghost use Rattle.sync_law.specs.Instrs.{meet};
 ghost use Rattle.sync_index.specs.Touched.{Covers};
