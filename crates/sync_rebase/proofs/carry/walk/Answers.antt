@@ -49,7 +49,7 @@ loop-from-preserved-in-Some c =
     in
     let W : List Crossed → Changes → Type 0 = Walked c.args.index.now c.args.rivals.now c.args.codes.now c.args.own c.args.items.now c.args.entry.now (passing.across.start + passing.across.count) in
     record {
-      walked = subst (λ l. W l c.passed_on.result) (sym c.in_ok-push.ensures.ok) (subst (W (c.loop-from.crossed.items ++ Stretch passing.across ∷ [])) (sym c.passed_on.ensures)
+      walked = subst (λ l. W l c.passed_on-changes.result) (sym c.in_ok-push.ensures.ok) (subst (W (c.loop-from.crossed.items ++ Stretch passing.across ∷ [])) (sym c.passed_on-changes.ensures)
           (walk_across c.args.index.now c.args.rivals.now c.args.codes.now c.args.own c.args.items.now c.args.entry.now c.loop-from.crossed.items c.loop-from.changes c.loop-from.from c.next-place.result passing pass crosses c.loop-from.invariant.walked));
       within = crosses.within;
       same = c.loop-from.invariant.same;
@@ -77,7 +77,7 @@ loop-from-preserved-in-Some-moves c =
     let within : c.next-place.result < length all = omega (arith, c.if-place-end.false, c.len-end.ensures) in
     let u = element all c.next-place.result within in
     let same = c.loop-from.invariant.same in
-    let left : c.moves.new.items ≡ all = c.moves.ensures.same ∙ same in
+    let left : c.moves.new.self ≡ all = c.moves.ensures.same ∙ same in
     let W : List Crossed → Changes → Type 0 = Walked c.args.index.now c.args.rivals.now c.args.codes.now c.args.own c.args.items.now c.args.entry.now (c.next-place.result + 1) in
     let moves = c.in-Some-moves.moves in
     let both = c.in-Some-moves.ensures.moves u.0 (subst (λ l. IsAt c.next-place.result l u.0) (sym same) u.1) in
@@ -97,7 +97,7 @@ loop-from-preserved-then-stays_apart c =
     let within : c.next-place.result < length all = omega (arith, c.if-place-end.false, c.len-end.ensures) in
     let u = element all c.next-place.result within in
     let same = c.loop-from.invariant.same in
-    let left : c.moves.new.items ≡ all = c.moves.ensures.same ∙ same in
+    let left : c.moves.new.self ≡ all = c.moves.ensures.same ∙ same in
     record {
       walked = walk_stays c.args.index.now c.args.rivals.now c.args.codes.now c.args.own c.args.items.now c.args.entry.now c.next-place.result c.loop-from.crossed.items c.loop-from.changes there u.0 within u.1
           (c.if-stays_apart.ensures refl u.0 (subst (λ l. IsAt c.next-place.result l u.0) (sym left) u.1) c.loop-from.changes.instrs c.loop-from.invariant.walked.indexed);
@@ -114,7 +114,7 @@ returns-in-Err-clause-refused c =
     let within : c.next-place.result < length all = omega (arith, c.if-place-end.false, c.len-end.ensures) in
     let u = element all c.next-place.result within in
     let same = c.loop-from.invariant.same in
-    let left : c.moves.new.items ≡ all = c.moves.ensures.same ∙ same in
+    let left : c.moves.new.self ≡ all = c.moves.ensures.same ∙ same in
     walk_stops c.args.index.now c.args.rivals.now c.args.codes.now c.args.own c.args.items.now c.args.entry.now c.next-place.result c.loop-from.crossed.items c.loop-from.changes there u.0 within u.1 c.in-Err.refusal c.requires.differ
     (subst (λ y. StopsAt c.args.own u.0 c.args.entry.now.origin y c.in-Err.refusal) c.into_changes-in-loop-from.ensures (c.in-Err.ensures.stuck u.0 (subst (λ l. IsAt c.next-place.result l u.0) (sym left) u.1)))
 
@@ -127,7 +127,7 @@ loop-from-preserved c =
     let within : c.next-place.result < length all = omega (arith, c.if-place-end.false, c.len-end.ensures) in
     let u = element all c.next-place.result within in
     let same = c.loop-from.invariant.same in
-    let left : c.moves.new.items ≡ all = c.moves.ensures.same ∙ same in
+    let left : c.moves.new.self ≡ all = c.moves.ensures.same ∙ same in
     let W : List Crossed → Changes → Type 0 = Walked c.args.index.now c.args.rivals.now c.args.codes.now c.args.own c.args.items.now c.args.entry.now (c.next-place.result + 1) in
     let crosses = subst (λ y. cross_sets meet (changeset_of c.args.own u.0) (made_by c.args.entry.now.origin c.args.entry.now.number y) ≡ Ok (made_by c.args.own u.0.original.number c.in-Ok.current, made_by c.args.entry.now.origin c.args.entry.now.number c.in-Ok.carried)) c.into_changes-in-loop-from.ensures (c.in-Ok.ensures.ok u.0 (subst (λ l. IsAt c.next-place.result l u.0) (sym left) u.1) c.args.entry.now.number) in
     record {
