@@ -82,7 +82,7 @@ loop-from-preserved-in-Some-moves c =
     let moves = c.in-Some-moves.moves in
     let both = c.in-Some-moves.ensures.moves u.0 (subst (λ l. IsAt c.next-place.result l u.0) (sym same) u.1) in
     record {
-      walked = subst (λ l. W l c.shift_to.new.self) (sym c.in_ok-push-in-Some-moves.ensures.ok) (subst (W (c.loop-from.crossed.items ++ One c.next-place.result (Moved moves.left) ∷ [])) (sym c.shift_to.ensures)
+      walked = subst (λ l. W l c.shift_to.new.self) (sym c.in_ok-push-2.ensures.ok) (subst (W (c.loop-from.crossed.items ++ One c.next-place.result (Moved moves.left) ∷ [])) (sym c.shift_to.ensures)
           (walk_moves c.args.index.now c.args.rivals.now c.args.codes.now c.args.own c.args.items.now c.args.entry.now c.next-place.result c.loop-from.crossed.items c.loop-from.changes there u.0 within u.1 moves.left (moved_changes moves.right c.loop-from.changes) both.left (both.crosses c.args.entry.now.number) (shown_covered c.args.index.now (Some moves.right) c.loop-from.changes.instrs c.loop-from.invariant.walked.indexed)));
       within = omega (arith, within);
       same = left;
