@@ -18,16 +18,16 @@ use Rattle.sync_transform.specs.declared.places.Does.{Does}
 use Rattle.sync_transform.specs.declared.places.Does.TheVariants.{Inserts, Erases, Updates}
 use Rattle.sync_transform.specs.declared.moves.ListAction.{ListAction}
 use Rattle.sync_transform.proofs.Stands.{WithinIf, within_after}
-use Rattle.sync_rebase.specs.StubOps.{lane_later, moved}
-use Rattle.sync_rebase.specs.StubLanes.{LaneOf, crossed, length_after, length_at_end, lane_after, Chains}
-use Rattle.sync_rebase.specs.StubTold.{action, prior_in, told, told_set, told_sets, IsTold, AreTold}
-use Rattle.sync_rebase.specs.StubLaws.{CrossesLeft}
+use Rattle.list_lane.specs.Ops.{lane_later, moved}
+use Rattle.list_lane.specs.Lanes.{LaneOf, crossed, length_after, length_at_end, lane_after, Chains}
+use Rattle.list_lane.specs.Told.{action, prior_in, told, told_set, told_sets, IsTold, AreTold}
+use Rattle.list_lane.specs.Laws.{CrossesLeft}
 use Rattle.sync_rebase.specs.Acrossing.{left_action}
 use Rattle.sync_rebase.specs.Stretches.{told_unsent, overlaid, Holds, AllHold}
 use Rattle.sync_rebase.specs.Settling.{action_there, own_left, other_left, instrs_left, passed, Meets, CanPass}
-use Rattle.sync_rebase.specs.declared.op.Op.{Op}
+use Rattle.list_lane.specs.declared.op.Op.{Op}
 use Rattle.sync_rebase.proofs.Acting.{kind_action, prior_action, after_is, told_action, told_over, one_of}
-use Rattle.sync_rebase.proofs.StubLengths.{Lengths, lengths}
+use Rattle.list_lane.proofs.Lengths.{Lengths, lengths}
 
 crossed_none : (l : Stamp → Stamp → Bool) (ss : List (Option Op)) → (crossed l ss None).slots ≡ ss
 crossed_none l [] = refl

@@ -20,9 +20,9 @@ use Rattle.sync_transform.specs.declared.places.Does.TheVariants.{Inserts, Erase
 use Rattle.sync_transform.specs.declared.moves.ListAction.{ListAction}
 use Rattle.sync_transform.specs.declared.moves.ListAction.TheVariants.{Insert, Erase, Update}
 use Rattle.sync_transform.proofs.Stands.{same_elsewhere, shown_itself, shown_action, shown_kind, moved_over}
-use Rattle.sync_rebase.specs.StubTold.{action, place_in, prior_in, told, IsOne}
+use Rattle.list_lane.specs.Told.{action, place_in, prior_in, told, IsOne}
 use Rattle.sync_rebase.specs.Settling.{action_there, action_after, instrs_left}
-use Rattle.sync_rebase.specs.declared.op.Op.{Op}
+use Rattle.list_lane.specs.declared.op.Op.{Op}
 
 -- ---- an action by its parts
 pub kind_action : (d : Does) (p n : ℕ) → kind_of (action d p n) ≡ d

@@ -14,16 +14,16 @@ use Rattle.sync_transform.specs.Places.{Within}
 use Rattle.sync_transform.specs.Moves.{action_in, kind_in, kind_of, first_cell, moved_first}
 use Rattle.sync_transform.specs.Sets.{made_by}
 use Rattle.sync_transform.specs.declared.moves.ListAction.{ListAction}
-use Rattle.sync_rebase.specs.StubOps.{lane_later, moved}
-use Rattle.sync_rebase.specs.StubLanes.{LaneOf, crossed, lane_after, length_at_end, Chains}
-use Rattle.sync_rebase.specs.StubTold.{action, place_in, prior_in, IsTold}
-use Rattle.sync_rebase.specs.StubLaws.{CrossesLeft}
+use Rattle.list_lane.specs.Ops.{lane_later, moved}
+use Rattle.list_lane.specs.Lanes.{LaneOf, crossed, lane_after, length_at_end, Chains}
+use Rattle.list_lane.specs.Told.{action, place_in, prior_in, IsTold}
+use Rattle.list_lane.specs.Laws.{CrossesLeft}
 use Rattle.sync_rebase.specs.Acrossing.{op_across, left_action, changes_left, LeavesAction, TakesAcross, CrossesStretch}
 use Rattle.sync_rebase.specs.Settling.{instrs_left, passed, put_across, CanPass}
 use Rattle.sync_rebase.specs.Stretches.{from_place, overlaid, laid, Holds, AllHold, Stands}
 use Rattle.sync_rebase.specs.declared.carried.Across.{Across}
 use Rattle.sync_rebase.specs.declared.items.Passing.{Passing}
-use Rattle.sync_rebase.specs.declared.op.Op.{Op}
+use Rattle.list_lane.specs.declared.op.Op.{Op}
 use Rattle.sync_rebase.specs.declared.stretch.Stretch.{Stretch}
 use Rattle.sync_rebase.proofs.Acting.{action_parts, kind_action, told_itself, kind_known, in_cell, one_of}
 use Rattle.sync_rebase.proofs.Across.{lane_passes, lane_can_pass, lane_rebases}

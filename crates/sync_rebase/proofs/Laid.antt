@@ -4,9 +4,9 @@ use Rattle.std.proofs.lemmas.List.{drop-set-lt, drop-set-add}
 use Rattle.sync_data.specs.declared.instr.Instr.{Instr}
 use Rattle.sync_base.specs.Effects.{CellPath}
 use Rattle.sync_model.specs.Clients.{Original, Unsent}
-use Rattle.sync_rebase.specs.StubLanes.{LaneOf, first_slot, length_after, length_before, slot_at, without_first}
+use Rattle.list_lane.specs.Lanes.{LaneOf, first_slot, length_after, length_before, slot_at, without_first}
 use Rattle.sync_rebase.specs.Stretches.{from_place, told_unsent, overlaid, laid, Holds, AllHold}
-use Rattle.sync_rebase.specs.declared.op.Op.{Op}
+use Rattle.list_lane.specs.declared.op.Op.{Op}
 
 -- ---- a list from a place on
 pub from_twice : {A : Type 0} (i : ℕ) (f g : List A → List A) (us : List A) → from_place i f (from_place i g us) ≡ from_place i (λ l. f (g l)) us

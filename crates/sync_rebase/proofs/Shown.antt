@@ -17,12 +17,12 @@ use Rattle.sync_transform.specs.Sets.{made_by}
 use Rattle.sync_transform.specs.declared.moves.Moves.{Moves}
 use Rattle.sync_rebase.specs.Acrossing.{BothMove}
 use Rattle.sync_transform.specs.declared.moves.ListAction.{ListAction}
-use Rattle.sync_rebase.specs.StubLanes.{LaneOf, length_after, slot_at}
-use Rattle.sync_rebase.specs.StubTold.{action, told}
+use Rattle.list_lane.specs.Lanes.{LaneOf, length_after, slot_at}
+use Rattle.list_lane.specs.Told.{action, told}
 use Rattle.sync_rebase.specs.Settling.{currents}
 use Rattle.sync_rebase.specs.Stretches.{told_unsent, overlaid, laid, shown_by, Holds, AllHold, Stands, Outside, IsSlotAt, IsToldAt, IsAt, StepsBack}
 use Rattle.sync_rebase.specs.Taking.{IsEntryOf, IsHead}
-use Rattle.sync_rebase.specs.declared.op.Op.{Op}
+use Rattle.list_lane.specs.declared.op.Op.{Op}
 use Rattle.sync_rebase.specs.declared.stretch.Stretch.{Stretch}
 use Rattle.sync_rebase.proofs.Acting.{kind_action, told_listed}
 use Rattle.sync_rebase.proofs.Laid.{originals_of, laid_originals, length_laid, get_before, get_behind, get_at, set_before, set_behind, holds_before, holds_behind, holds_push, holds_within, laid_push, drop_push}

@@ -12,11 +12,11 @@ use Rattle.sync_transform.specs.Moves.{kind_in, kind_of, moved_changes, moved_fi
 use Rattle.sync_transform.specs.declared.moves.Moves.{Moves}
 use Rattle.sync_transform.specs.Sets.{made_by}
 use Rattle.sync_transform.specs.declared.moves.ListAction.{ListAction}
-use Rattle.sync_rebase.specs.StubTold.{action, place_in, prior_in}
-use Rattle.sync_rebase.specs.StubOps.{lane_later}
-use Rattle.sync_rebase.specs.StubLanes.{lane_after, length_at_end, Chains}
-use Rattle.sync_rebase.specs.StubLaws.{CrossesLeft}
-use Rattle.sync_rebase.specs.declared.op.Op.{Op}
+use Rattle.list_lane.specs.Told.{action, place_in, prior_in}
+use Rattle.list_lane.specs.Ops.{lane_later}
+use Rattle.list_lane.specs.Lanes.{lane_after, length_at_end, Chains}
+use Rattle.list_lane.specs.Laws.{CrossesLeft}
+use Rattle.list_lane.specs.declared.op.Op.{Op}
 use Rattle.sync_rebase.specs.Settling.{CanPass, instrs_left, passed}
 use Rattle.sync_rebase.specs.declared.carried.Across.{Across}
 use Rattle.sync_rebase.specs.declared.items.Passing.{Passing}

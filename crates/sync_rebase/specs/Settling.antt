@@ -11,7 +11,7 @@ use Rattle.sync_transform.specs.Places.{longer, place_after}
 use Rattle.sync_transform.specs.Moves.{action_in, kind_in, kind_of, moved_first}
 use Rattle.sync_transform.specs.declared.places.Does.{Does}
 use Rattle.sync_transform.specs.declared.moves.ListAction.{ListAction}
-use Rattle.sync_rebase.specs.StubTold.{action, place_in, prior_in}
+use Rattle.list_lane.specs.Told.{action, place_in, prior_in}
 use Rattle.sync_rebase.specs.Stretches.{from_place}
 use Rattle.sync_rebase.specs.declared.carried.Across.{Across}
 use Rattle.sync_rebase.specs.declared.carried.Became.{Became}

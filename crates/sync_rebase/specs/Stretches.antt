@@ -5,9 +5,9 @@ use Rattle.sync_data.specs.declared.entry.Stamp.{Stamp}
 use Rattle.sync_base.specs.Effects.{CellPath}
 use Rattle.sync_model.specs.Clients.{Unsent}
 use Rattle.sync_transform.specs.Moves.{kind_in, first_cell}
-use Rattle.sync_rebase.specs.StubLanes.{LaneOf, length_after, length_before, slot_at}
-use Rattle.sync_rebase.specs.StubTold.{told}
-use Rattle.sync_rebase.specs.declared.op.Op.{Op}
+use Rattle.list_lane.specs.Lanes.{LaneOf, length_after, length_before, slot_at}
+use Rattle.list_lane.specs.Told.{told}
+use Rattle.list_lane.specs.declared.op.Op.{Op}
 use Rattle.sync_rebase.specs.declared.stretch.Stretch.{Stretch}
 
 -- a list from a place on

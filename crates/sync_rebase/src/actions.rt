@@ -2,10 +2,10 @@ ghost use Rattle.std.specs.Prelude.{◌≡◌, ◌<◌};
 ghost use Rattle.sync_base.specs.Rules.{top};
 ghost use Rattle.sync_transform.specs.Places.{Within};
 ghost use Rattle.sync_transform.specs.Moves.{kind_of};
-ghost use Rattle.sync_rebase.specs.StubTold.{place_in, prior_in};
+ghost use Rattle.list_lane.specs.Told.{place_in, prior_in};
 ghost use Rattle.sync_rebase.specs.Settling.{action_after};
 
-use super::op::{Op, action_of};
+use list_lane::{Op, action_of};
 use sync_data::Stamp;
 use sync_transform::{Does, ListAction, length_after, place_after};
 

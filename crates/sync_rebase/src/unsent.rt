@@ -9,15 +9,15 @@ ghost use Rattle.sync_rivals.specs.Lists.{StaysListed};
 ghost use Rattle.sync_transform.specs.Sets.{made_by};
 ghost use Rattle.sync_transform.specs.Moves.{action_in, kind_in, kind_of, moved_changes, moved_first, IsShown};
 ghost use Rattle.sync_transform.specs.declared.moves.ListAction.{ListAction as Action};
-ghost use Rattle.sync_rebase.specs.StubLanes.{Fits};
-ghost use Rattle.sync_rebase.specs.StubTold.{told};
+ghost use Rattle.list_lane.specs.Lanes.{Fits};
+ghost use Rattle.list_lane.specs.Told.{told};
 ghost use Rattle.sync_rebase.specs.Stretches.{told_unsent};
 ghost use Rattle.sync_rebase.specs.Settling.{instrs_left, left_of, own_left, other_left, Meets, Suits};
 ghost use Rattle.sync_rebase.specs.Taking.{IsEntryOf};
 
 use super::actions::action_left;
 use super::carried::Became;
-use super::op::{Op, action_of};
+use list_lane::{Op, action_of};
 use super::original::Original;
 use std::alloc::Global;
 use std::marker::Model;
