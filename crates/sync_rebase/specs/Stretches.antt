@@ -4,9 +4,10 @@ use Rattle.sync_data.specs.declared.instr.Instr.{Instr}
 use Rattle.sync_data.specs.declared.entry.Stamp.{Stamp}
 use Rattle.sync_base.specs.Effects.{CellPath}
 use Rattle.sync_model.specs.Clients.{Unsent}
-use Rattle.sync_transform.specs.Moves.{kind_in, first_cell}
+use Rattle.sync_transform.specs.Places.{Within}
+use Rattle.sync_transform.specs.Moves.{action_in, kind_in, first_cell}
 use Rattle.list_lane.specs.Lanes.{LaneOf, length_after, length_before, slot_at}
-use Rattle.list_lane.specs.Told.{told}
+use Rattle.list_lane.specs.Told.{action, told}
 use Rattle.list_lane.specs.declared.op.Op.{Op}
 use Rattle.sync_rebase.specs.declared.stretch.Stretch.{Stretch}
 
@@ -76,3 +77,10 @@ StepsBack (Some s) o = o ≡ Some (record s { start = s.start - 1 })
 -- an unsent changeset stands at a place
 abbrev pub IsAt : ℕ → List (Unsent Instr) → Unsent Instr → Type 0
 IsAt n us u = u ≡ slice_index_or us n u
+
+-- what a changeset is in the lane of a client, where it is one list instruction that acts on a list of that length
+pub record IsOpOn (own : ℕ) (u : Unsent Instr) (n : ℕ) (b : Op) : Type 0 where
+  pub acts : action_in u.current ≡ Some (action b.does b.place n)
+  pub kind : kind_in u.current ≡ Some b.does
+  pub stamp : b.stamp ≡ stamp_by own u
+  pub within : Within b.does b.place n

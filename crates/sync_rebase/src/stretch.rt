@@ -15,7 +15,7 @@ use super::unsent::Unsent;
 use std::alloc::Global;
 use std::collections::VecDeque;
 use sync_data::Ident;
-use sync_transform::ListAction;
+use sync_transform::{ListAction, same_first_cell};
 
 /// Unsent changesets next to each other, each of one list instruction of one cell, or of none any more: the place of the
 /// first, the ident of the client, and what the instructions do now, as a lane.
@@ -79,6 +79,90 @@ pub(crate) fn step_back(stretch: &mut Option<Stretch>)
     if let Some(stretch) = stretch {
         stretch.start -= 1;
     }
+}
+
+/// The changeset behind a stretch joins it, where it is one list instruction of that cell, and acts on the list behind the lane.
+/// Whether it does.
+pub(crate) fn extend(items: &VecDeque<Unsent>, stretch: &mut Stretch) -> bool
+    requires { Stands items.now.items stretch.old }
+    ensures shown { laid stretch.new.start stretch.new.lane items.now.items ≡ laid stretch.old.start stretch.old.lane items.now.items }
+    ensures stands { Stands items.now.items stretch.new }
+    ensures more { IsTrue result → length stretch.new.lane.slots ≡ length stretch.old.lane.slots + 1 }
+{
+    let (start, count) = (stretch.start, stretch.lane.len());
+    if start + count >= items.len() {
+        return false;
+    }
+    let (first, next) = (&items[start], &items[start + count]);
+    if !same_first_cell(first.written(), next.written()) {
+        return false;
+    }
+    let Some(op) = next.op_on(stretch.own, stretch.lane.last()) else {
+        return false;
+    };
+    if !has_room(stretch.lane.first(), count) {
+        return false;
+    }
+    stretch.lane.push(op).is_ok()
+}
+
+/// The last changeset joins the stretch, where that ends before it.
+pub(crate) fn extend_last(items: &VecDeque<Unsent>, stretch: &mut Option<Stretch>)
+    requires { IfSome stretch.old (Stands items.now.items) }
+    ensures shown { shown_by stretch.new items.now.items ≡ shown_by stretch.old items.now.items }
+    ensures stands { IfSome stretch.new (Stands items.now.items) }
+{
+    if let Some(stretch) = stretch {
+        if stretch.start + stretch.lane.len() + 1 == items.len() {
+            extend(items, stretch);
+        }
+    }
+}
+
+/// The longest stretch of a client's changesets from a place on.
+pub(crate) fn stretch_from(
+    alloc: Global,
+    items: &VecDeque<Unsent>,
+    own: Ident,
+    start: usize,
+) -> Stretch
+    requires { start < length items.now.items }
+    ensures shown { laid result.start result.lane items.now.items ≡ items.now.items }
+    ensures stands { Stands items.now.items result }
+{
+    let first = match items[start].action() {
+        Some(action) => prior_of(action).min(u32::MAX - 1),
+        None => 0,
+    };
+    let mut stretch = Stretch {
+        start,
+        own,
+        lane: Lane::new(alloc, first),
+    };
+    while extend(items, &mut stretch) {}
+    stretch
+}
+
+/// The first stretch of a client's changesets that has so many.
+pub(crate) fn first_stretch(
+    alloc: Global,
+    items: &VecDeque<Unsent>,
+    own: Ident,
+    least: usize,
+) -> Option<Stretch>
+    ensures shown { shown_by result items.now.items ≡ items.now.items }
+    ensures stands { IfSome result (Stands items.now.items) }
+{
+    let mut start = 0;
+    while start < items.len() {
+        let stretch = stretch_from(alloc, items, own, start);
+        let count = stretch.lane.len();
+        if count >= least {
+            return Some(stretch);
+        }
+        start = start.saturating_add(count.max(1));
+    }
+    None
 }
 
 /// The first of a stretch is written as it stands, and the stretch begins behind it. It takes no memory.

@@ -11,13 +11,13 @@ ghost use Rattle.sync_transform.specs.Moves.{action_in, kind_in, kind_of, moved_
 ghost use Rattle.sync_transform.specs.declared.moves.ListAction.{ListAction as Action};
 ghost use Rattle.list_lane.specs.Lanes.{Fits};
 ghost use Rattle.list_lane.specs.Told.{told};
-ghost use Rattle.sync_rebase.specs.Stretches.{told_unsent};
+ghost use Rattle.sync_rebase.specs.Stretches.{told_unsent, IsOpOn};
 ghost use Rattle.sync_rebase.specs.Settling.{instrs_left, left_of, own_left, other_left, Meets, Suits};
 ghost use Rattle.sync_rebase.specs.Taking.{IsEntryOf};
 
 use super::actions::action_left;
 use super::carried::Became;
-use list_lane::{Op, action_of};
+use list_lane::{Op, action_of, op_of, prior_of};
 use super::original::Original;
 use std::alloc::Global;
 use std::marker::Model;
@@ -130,6 +130,28 @@ impl Unsent {
         ensures { StaysListed result.now self.now.current }
     {
         self.current.written().instrs()
+    }
+
+    /// What it does, where it is one list instruction.
+    #[inline(always)]
+    pub(crate) fn action(&self) -> Option<ListAction>
+        ensures { result ≡ action_in self.now.current }
+    {
+        self.current.action()
+    }
+
+    /// What it is in the lane of a client with that ident, where it is one list instruction that acts on a list of that length.
+    pub(crate) fn op_on(&self, own: Ident, length: u32) -> Option<Op>
+        ensures { IfSome result (IsOpOn own self.now length) }
+    {
+        let stamp = Stamp {
+            ms: self.current.ms(),
+            ident: own,
+        };
+        if prior_of(self.current.action()?) != length {
+            return None;
+        }
+        Some(op_of(self.current.action()?, stamp))
     }
 
     /// What it and a changeset of another do after they crossed, where each is one instruction of one list, and both stay.
