@@ -1,5 +1,5 @@
+pub mod Acting
+pub mod Laid
 pub mod Covered
 pub mod Carries
-pub mod Entries
 pub mod Versions
-pub mod Turns
