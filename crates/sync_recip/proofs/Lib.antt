@@ -1,8 +1,10 @@
 pub mod Acting
+pub mod Standing
 pub mod Laid
 pub mod Each
 pub mod Across
 pub mod Crossings
+pub mod Shown
 pub mod Covered
 pub mod Carries
 pub mod Versions
