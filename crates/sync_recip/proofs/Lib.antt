@@ -7,4 +7,6 @@ pub mod Crossings
 pub mod Shown
 pub mod Covered
 pub mod Carries
+pub mod Entries
+pub mod Turns
 pub mod Versions
