@@ -29,7 +29,7 @@ use Rattle.sync_recip.specs.declared.items.Passing.{Passing}
 use Rattle.list_lane.specs.declared.op.Op.{Op}
 use Rattle.sync_recip.specs.declared.stretch.Stretch.{Stretch}
 use Rattle.sync_recip.proofs.Acting.{action_parts, kind_action, told_itself, kind_known, in_cell, one_of}
-use Rattle.sync_recip.proofs.Across.{lane_passes, lane_can_pass, lane_carries}
+use Rattle.sync_recip.proofs.Lanes.{lane_passes, lane_can_pass, lane_carries}
 use Rattle.sync_recip.proofs.Laid.{bare_of, drop_from, laid_bare, length_laid}
 
 -- ---- the lane still tells them

@@ -2,7 +2,7 @@ pub mod Acting
 pub mod Standing
 pub mod Laid
 pub mod Each
-pub mod Across
+pub mod Lanes
 pub mod Crossings
 pub mod Shown
 pub mod Covered

@@ -204,3 +204,7 @@ pub both_moves : (own : ℕ) (c : Changes) (u : Kept) (r : Option Moves)
     → IfSome r (λ m. kind_in c.instrs ≡ Some (kind_of m.left)) → IfSome r (λ m. kind_in (instrs_in u) ≡ Some (kind_of m.right)) → IfSome r (BothMove own c u)
 both_moves own c u None a b d = tt
 both_moves own c u (Some m) a b d = record { crosses = a; left = b; right = d }
+
+pub ok_map : {A E : Type 0} {P Q : A → Type 0} (r : Result A E) → ((a : A) → P a → Q a) → IfOk r P → IfOk r Q
+ok_map (Ok a) f h = f a h
+ok_map (Err e) f h = tt
