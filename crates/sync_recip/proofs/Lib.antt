@@ -5,6 +5,7 @@ pub mod Each
 pub mod Lanes
 pub mod Crossings
 pub mod Shown
+pub mod Puts
 pub mod Covered
 pub mod Carries
 pub mod Entries
