@@ -6,6 +6,7 @@ pub mod Lanes
 pub mod Crossings
 pub mod Shown
 pub mod Puts
+pub mod Behind
 pub mod Covered
 pub mod Carries
 pub mod Entries
