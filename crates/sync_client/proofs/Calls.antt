@@ -1,10 +1,12 @@
 -- A call of a client that appends one record, or none.
-use Rattle.std.proofs.Common.{◌≡◌, ℕ, suc, ◌≤◌, Bool, true, false, List, [], ◌∷◌, ◌++◌, length, Option, Some, None, Result, Ok, Err, refl, ap, ◌∙◌, sym, subst, append-nil, length-append, add-one, if◌then◌else◌, inl, inr}
-use Rattle.std.specs.Prelude.{⊤, ◌⊎◌, ◌↔◌, IfOk, IfErr, OnOk}
+use Rattle.std.proofs.Common.{◌≡◌, ℕ, suc, ◌≤◌, Bool, true, false, List, [], ◌∷◌, ◌++◌, length, Option, Some, None, Result, Ok, Err, refl, ap, ◌∙◌, sym, subst, append-nil, length-append, add-one, if◌then◌else◌, inl, inr, le_refl}
+use Rattle.std.specs.Prelude.{⊤, ◌⊎◌, IfOk, IfErr, OnOk}
 use Rattle.std.specs.Option.{is_some}
 use Rattle.sync_data.specs.declared.instr.Instr.{Instr}
 use Rattle.sync_base.specs.States.{State}
 use Rattle.sync_disk.specs.declared.disk.Disk.{Ghosts}
+use Rattle.sync_journal.specs.Stands.{disk_of}
+use Rattle.sync_journal.specs.declared.journal.Journal.{Journal}
 use Rattle.sync_model.specs.Bytes.{Tables, Uuid}
 use Rattle.sync_model.specs.Clients.{Born, Client as Model, ClientRecord, ClientRefusal, ClientStep, NotBorn, Subscribed, TooLate, after_record, appends, answers, refuse, born, born_once, client_of, commit, commit_born, if_born, is_late, no_client, subscribe, subscribed_once, upgrade}
 use Rattle.sync_model.specs.Files.{client_opens}
@@ -17,7 +19,7 @@ use Rattle.sync_exchange.specs.Profile.{the_profile}
 use Rattle.sync_exchange.specs.Lemmas.Lawful.{real_lawful}
 use Rattle.sync_client.specs.declared.client.Client.{Client}
 use Rattle.sync_client.specs.declared.replica.Replica.{Replica}
-use Rattle.sync_client.specs.Clients.{Did, IsClientOf, Says}
+use Rattle.sync_client.specs.Clients.{Closes, Did, IsClientOf, Says, UsesDisk}
 use Rattle.sync_client.specs.Keeping.{Keeps}
 use Rattle.sync_client.specs.Seen.{Past, and_made, seen}
 use Rattle.sync_client.specs.Transactions.{Commits, Uncommitted, next_original}
@@ -25,6 +27,7 @@ use Rattle.sync_client.specs.declared.refusal.ClientRefusal.TheVariants as codes
 use Rattle.sync_client.specs.Refusals.{refusal_seen, IfSeen, IsPlain}
 use Rattle.sync_client.specs.declared.refusal.ClientRefusal.{ClientRefusal as CodeRefusal}
 use Rattle.sync_client.specs.declared.transactions.Made.{Made}
+use Rattle.sync_client.proofs.OneEntry.{if_seen_on}
 
 -- a record more
 pub keeps_next : (records : List ClientRecord) (next : ClientRecord) (r s : Replica) (past : Past) (k : Keeps records r) → client_opens the_profile (client_of the_profile records) (next ∷ []) ≡ true → IsClientRecord the_profile next
@@ -105,15 +108,12 @@ commit_keeps records r s ms edits m k some did small =
     did.after
     (length-append k.past.made (next_original r m.number ms edits ∷ []) ∙ add-one (length k.past.made) ∙ ap suc k.count ∙ sym did.count)
 
-module _ {D : Type 0} {G : Ghosts D} where
-  pub commit_refused : (records : List ClientRecord) (c n : Client D G) (s : Replica) (ms : ℕ) (edits : List Instr) (why : CodeRefusal) (k : IsClientOf records c) → is_some c.replica.id ≡ true
-      → IfSeen (refusal_seen why) (Uncommitted k.kept.past c.replica s ms edits) → IfSeen (refusal_seen why) (λ w. n ≡ record c { replica = s })
-      → IfSeen (refusal_seen why) (λ w. Did (commit the_profile (client_of the_profile records) ms edits) (Err w) records n)
-  commit_refused records c n s ms edits why k some did same =
-      if_seen_both (refusal_seen why) (Uncommitted k.kept.past c.replica s ms edits) (λ w. n ≡ record c { replica = s }) (λ w. Did (commit the_profile (client_of the_profile records) ms edits) (Err w) records n)
-      (λ w h g. did_refuse (commit the_profile (client_of the_profile records) ms edits) w records n (committing records c.replica ms edits k.kept some ∙ h.step)
-      (subst (IsClientOf records) (sym (g ∙ ap (λ (r : Replica). record c { replica = r }) h.unchanged)) k))
-      did same
+-- where it is refused it appends nothing
+pub uncommitted : (records : List ClientRecord) (r s : Replica) (ms : ℕ) (edits : List Instr) (why : CodeRefusal) (k : Keeps records r) → is_some r.id ≡ true → IfSeen (refusal_seen why) (Uncommitted k.past r s ms edits)
+    → IfSeen (refusal_seen why) (λ w. (commit the_profile (client_of the_profile records) ms edits).records ≡ [])
+uncommitted records r s ms edits why k some did =
+    if_seen_on (refusal_seen why) (Uncommitted k.past r s ms edits) (λ w. (commit the_profile (client_of the_profile records) ms edits).records ≡ [])
+    (λ w h. ap (λ d. d.records) (committing records r ms edits k some ∙ h.step)) did
 
 -- ---- the form
 pub upgrade_is : (records : List ClientRecord) (r : Replica) → Keeps records r → is_some r.id ≡ true → r.second ≡ false → upgrade (client_of the_profile records) ≡ appends ClientRecord.Form true
@@ -172,25 +172,24 @@ subscribe_keeps records r tables k some first early =
 abbrev Told : Type 0 → CodeRefusal → CodeRefusal → Type 0
 Told A why other = ◌≡◌ {A = Result A CodeRefusal} (Err why) (Err other)
 
-module _ {A : Type 0} where
-  same_told : (why other : CodeRefusal) → Told A why other → why ≡ other
-  same_told why other e = cc
+same_told : (A : Type 0) (why other : CodeRefusal) → Told A why other → why ≡ other
+same_told A why other e = cc
 
-  pub plain_closed : (why refusal : CodeRefusal) (b : Bool) → why ≡ refusal → IsPlain refusal → b ≡ false → Told A why codes.Closed ↔ (b ≡ true)
-  plain_closed why refusal b same plain open_ = (λ e. absurd (subst IsPlain (sym same ∙ same_told why codes.Closed e) plain), λ e. absurd (false_true (sym open_ ∙ e)))
-    where
-      false_true : false ≡ true → ⊥
-      false_true e = cc
+module _ {D : Type 0} {G : Ghosts D} (A : Type 0) (old new : Client D G) (why refusal : CodeRefusal) (same : why ≡ refusal) (plain : IsPlain refusal) where
+  pub plain_closes : old.closed ≡ false → (refusal ≡ codes.NoMemory → new.closed ≡ true) → Closes {B = A} old new (Err why)
+  plain_closes open_ closes = record {
+    closed = (λ e. absurd (subst IsPlain (sym same ∙ same_told A why codes.Closed e) plain), λ e. let both : false ≡ true = sym open_ ∙ e in cc);
+    unchanged = λ e. absurd (subst IsPlain (sym same ∙ same_told A why codes.Closed e) plain);
+    closes = λ e. elim e [ | inl fault ↦ absurd (subst IsPlain (sym same ∙ same_told A why codes.DiskFault fault) plain) | inr none ↦ closes (sym same ∙ same_told A why codes.NoMemory none) ];
+  }
 
-  pub plain_shut : {P : Type 0} (why refusal : CodeRefusal) → why ≡ refusal → IsPlain refusal → Told A why codes.Closed → P
-  plain_shut why refusal same plain e = absurd (subst IsPlain (sym same ∙ same_told why codes.Closed e) plain)
-
-  pub plain_fault : {P : Type 0} (why refusal : CodeRefusal) → why ≡ refusal → IsPlain refusal → Told A why codes.DiskFault → P
-  plain_fault why refusal same plain e = absurd (subst IsPlain (sym same ∙ same_told why codes.DiskFault e) plain)
-
-  pub plain_closes : (why refusal : CodeRefusal) (b : Bool) → why ≡ refusal → IsPlain refusal → (refusal ≡ codes.NoMemory → b ≡ true) → Told A why codes.DiskFault ⊎ Told A why codes.NoMemory → b ≡ true
-  plain_closes why refusal b same plain closes (inl e) = plain_fault why refusal same plain e
-  plain_closes why refusal b same plain closes (inr e) = closes (sym same ∙ same_told why codes.NoMemory e)
+  pub plain_disk : new.journal ≡ old.journal → UsesDisk (Told A why codes.DiskFault) old new
+  plain_disk still = record {
+    same_origin = ap (λ (j : Journal D G). G.origin (disk_of j)) still;
+    told = λ b told. (b, ap (λ (j : Journal D G). G.content (disk_of j)) still ∙ told);
+    later = subst (λ (j : Journal D G). G.faults (disk_of old.journal) ≤ G.faults (disk_of j)) (sym still) (le_refl (G.faults (disk_of old.journal)));
+    fault = λ e. absurd (subst IsPlain (sym same ∙ same_told A why codes.DiskFault e) plain);
+  }
 
 -- a record that can't be added is told elsewhere
 pub unseen : (why : CodeRefusal) (P : ClientRefusal → Type 0) → (why ≡ codes.DiskFault) ⊎ (why ≡ codes.NoMemory) → IfSeen (refusal_seen why) P

@@ -1,12 +1,9 @@
 -- The loop that takes the entries of a Download.
-use Rattle.std.proofs.Common.{append-nil, append_assoc, ◌≡◌, ℕ, zero, suc, ◌+◌, ◌-◌, ◌≤◌, ◌<◌, false, List, [], ◌∷◌, ◌++◌, length, map, drop, get_or, drop-cons, add-one, Option, Some, None, Ok, Err, refl, ap, ap₂, ◌∙◌, sym, subst, arith, le_refl}
+use Rattle.std.proofs.Common.{append-nil, append_assoc, ◌≡◌, ℕ, zero, suc, ◌+◌, ◌-◌, ◌≤◌, ◌<◌, false, List, [], ◌∷◌, ◌++◌, length, map, drop, get_or, drop-cons, add-one, Option, Some, None, Result, Ok, Err, refl, ap, ap₂, ◌∙◌, sym, subst, arith, le_refl}
 use Rattle.std.proofs.Math.ListN.{drop_of_length-le}
 use Rattle.sync_disk.specs.declared.disk.Disk.{Ghosts}
 use Rattle.sync_disk.specs.Disk.{Told}
-use Rattle.sync_disk.specs.Origin.{Origin}
-use Rattle.sync_disk.specs.Strokes.{Stroke}
 use Rattle.sync_journal.specs.Several.{Asks}
-use Rattle.sync_journal.specs.Stands.{disk_of}
 use Rattle.sync_data.specs.declared.instr.Instr.{Instr}
 use Rattle.sync_base.specs.States.{State}
 use Rattle.sync_messages.specs.Parts.{SentParts}
@@ -18,15 +15,15 @@ use Rattle.sync_exchange.specs.Profile.{the_profile}
 use Rattle.sync_exchange.specs.Seen.{client_bytes, sent_seen}
 use Rattle.sync_client.specs.declared.client.Client.{Client}
 use Rattle.sync_client.specs.declared.refusal.ClientRefusal.{ClientRefusal as CodeRefusal}
-use Rattle.sync_client.specs.Clients.{AskedFor, Did, IsClientOf, IsStored}
+use Rattle.sync_client.specs.Clients.{AskedFor, Did, IsClientOf, IsStored, Leaves, Survives}
 use Rattle.sync_client.specs.Refusals.{refusal_seen, IfSeen}
 use Rattle.sync_client.specs.Taking.{SentRefused, SentTaken}
 use Rattle.sync_client.specs.declared.replica.Replica.{Replica}
 use Rattle.sync_client.specs.Keeping.{Keeps}
 use Rattle.sync_client.proofs.Calls.{if_seen_both}
 use Rattle.sync_client.proofs.Taken.{downloading}
-use Rattle.sync_client.proofs.Leaving.{Leaves, both, leaves_none, part}
-use Rattle.sync_client.proofs.OneEntry.{behind_first, entry_taken, first_and_behind, if_seen_on}
+use Rattle.sync_client.proofs.Leaving.{both, leaves_none, part}
+use Rattle.sync_client.proofs.OneEntry.{behind_first, entry_refused, entry_taken, first_and_behind, if_seen_on}
 use Rattle.sync_client.proofs.Strokes.{both_asked, none_asked, stopped_asked}
 
 -- what is left at an index below the end
@@ -40,41 +37,38 @@ length_map (e ∷ es) = ap suc (length_map es)
 pub none_left : (es : List SentParts) (i : ℕ) → length es ≤ i → map sent_seen (drop i es) ≡ []
 none_left es i h = ap (map sent_seen) (drop_of_length-le es h)
 
-module _ {D : Type 0} {G : Ghosts D} (content : D → Option (List ℕ)) (images : D → List ℕ → Type 0) (moment : D → ℕ) (images_since : D → ℕ → List ℕ → Type 0) (strokes : D → List Stroke) where
+module _ {D : Type 0} {G : Ghosts D} where
   -- these records were written so far, and these entries are left
   pub record SoFar (old now : Client D G) (records : List ClientRecord) (all rest : List Sent) : Type 0 where
     pub written : List ClientRecord
     pub taken : TakenSoFar the_profile records written all rest
     pub client : IsClientOf written now
-    pub stored : IsStored content images records old → IsStored content images written now
+    pub stored : IsStored records old → IsStored written now
     pub added : List ClientRecord
     pub written_is : written ≡ records ++ added
     pub whole : (take_entries the_profile (client_of the_profile records) all).records ≡ added ++ (take_entries the_profile (client_of the_profile written) rest).records
-    pub leaves : IsStored content images records old → Leaves moment images_since records added (disk_of old.journal) (disk_of now.journal)
-    pub asks : IsStored content images records old → Asks strokes (map client_bytes added) old.journal now.journal
+    pub leaves : IsStored records old → Leaves records added old.journal now.journal
+    pub asks : IsStored records old → Asks G.strokes (map client_bytes added) old.journal now.journal
 
   -- what an entry leaves and asks
-  abbrev pub LeavesSent : Client D G → Client D G → Sent → Type 0
-  LeavesSent now next e = (records : List ClientRecord) → IsClientOf records now → IsStored content images records now → Leaves moment images_since records (take_entries the_profile (client_of the_profile records) (e ∷ [])).records (disk_of now.journal) (disk_of next.journal)
+  abbrev pub SurvivesSent : Client D G → Client D G → Sent → Result (Unit {0}) CodeRefusal → Type 0
+  SurvivesSent now next e result = (records : List ClientRecord) → IsClientOf records now → IsStored records now → Survives (take_entries the_profile (client_of the_profile records) (e ∷ [])) records now next result
 
-  abbrev pub AsksSent : Client D G → Client D G → Sent → Option CodeRefusal → Type 0
-  AsksSent now next e why = (records : List ClientRecord) → IsClientOf records now → IsStored content images records now → AskedFor strokes (take_entries the_profile (client_of the_profile records) (e ∷ [])).records now.journal next.journal why
-
-  pub record LoopSoFar (faults : D → ℕ) (origin : D → Origin) (old now : Client D G) (all rest : List Sent) : Type 0 where
+  pub record LoopSoFar (old now : Client D G) (all rest : List Sent) : Type 0 where
     pub open_ : now.closed ≡ false
     pub named : 1 ≤ now.replica.ident
     pub room : now.replica.cursor + length rest ≤ 4294967295
-    pub later : faults old.journal.disk ≤ faults now.journal.disk
-    pub same_origin : origin now.journal.disk ≡ origin old.journal.disk
-    pub told : Told (content old.journal.disk) (λ b. (c : List ℕ) × (content now.journal.disk ≡ Some c))
+    pub later : G.faults old.journal.disk ≤ G.faults now.journal.disk
+    pub same_origin : G.origin now.journal.disk ≡ G.origin old.journal.disk
+    pub told : Told (G.content old.journal.disk) (λ b. (c : List ℕ) × (G.content now.journal.disk ≡ Some c))
     pub so_far : (records : List ClientRecord) → IsClientOf records old → SoFar old now records all rest
 
-  pub at_first : ((disk : D) (c : List ℕ) → images_since disk (moment disk) c → images disk c) → (faults : D → ℕ) (origin : D → Origin) (c : Client D G) (all : List Sent) → c.closed ≡ false → 1 ≤ c.replica.ident → c.replica.cursor + length all ≤ 4294967295 → LoopSoFar faults origin c c all all
-  at_first only_now faults origin c all open_ named room = record {
+  pub at_first : (c : Client D G) (all : List Sent) → ((disk : D) (b : List ℕ) → G.images_since disk (G.moment disk) b → G.images disk b) → c.closed ≡ false → 1 ≤ c.replica.ident → c.replica.cursor + length all ≤ 4294967295 → LoopSoFar c c all all
+  at_first c all only_now open_ named room = record {
     open_ = open_;
     named = named;
     room = room;
-    later = le_refl (faults c.journal.disk);
+    later = le_refl (G.faults c.journal.disk);
     same_origin = refl;
     told = λ b is. (b, is);
     so_far = λ records k. record {
@@ -85,17 +79,17 @@ module _ {D : Type 0} {G : Ghosts D} (content : D → Option (List ℕ)) (images
       added = [];
       written_is = sym (append-nil records);
       whole = refl;
-      leaves = λ s. leaves_none content images moment images_since only_now records [] c.journal c.journal refl s;
-      asks = λ s. none_asked strokes [] c.journal c.journal refl refl;
+      leaves = λ s. leaves_none records [] c.journal c.journal only_now refl s;
+      asks = λ s. none_asked [] c.journal c.journal refl refl;
     };
   }
 
-  pub goes_on : (faults : D → ℕ) (origin : D → Origin) (old now next : Client D G) (all rest left : List Sent) (e : Sent) → LoopSoFar faults origin old now all left → left ≡ e ∷ rest
-      → next.closed ≡ false → next.replica.ident ≡ now.replica.ident → next.replica.cursor ≡ now.replica.cursor + 1 → faults now.journal.disk ≤ faults next.journal.disk
-      → ((records : List ClientRecord) → IsClientOf records now → SentTaken records next e) → ((records : List ClientRecord) → IsStored content images records now → IsStored content images (records ++ took e ∷ []) next)
-      → LeavesSent now next e → AsksSent now next e None → origin next.journal.disk ≡ origin now.journal.disk → Told (content now.journal.disk) (λ b. (c : List ℕ) × (content next.journal.disk ≡ Some c))
-      → LoopSoFar faults origin old next all rest
-  goes_on faults origin old now next all rest left e l is open_ ident cursor later step stored leaves asks same told =
+  pub goes_on : (old now next : Client D G) (all rest left : List Sent) (e : Sent) → LoopSoFar old now all left → left ≡ e ∷ rest
+      → next.closed ≡ false → next.replica.ident ≡ now.replica.ident → next.replica.cursor ≡ now.replica.cursor + 1 → G.faults now.journal.disk ≤ G.faults next.journal.disk
+      → ((records : List ClientRecord) → IsClientOf records now → SentTaken records next e) → SurvivesSent now next e (Ok tt)
+      → G.origin next.journal.disk ≡ G.origin now.journal.disk → Told (G.content now.journal.disk) (λ b. (c : List ℕ) × (G.content next.journal.disk ≡ Some c))
+      → LoopSoFar old next all rest
+  goes_on old now next all rest left e l is open_ ident cursor later step survives same told =
       let count = ap length is in
       let room = l.room in
       let before = l.later in
@@ -115,7 +109,7 @@ module _ {D : Type 0} {G : Ghosts D} (content : D → Option (List ℕ)) (images
               written = s.written ++ took e ∷ [];
               taken = taken_next the_profile records all s.written e rest (subst (TakenSoFar the_profile records s.written all) is s.taken) t.fine;
               client = t.client;
-              stored = λ h. stored s.written (s.stored h);
+              stored = λ h. subst (λ rs. IsStored (s.written ++ rs) next) one (survives s.written s.client (s.stored h)).stored;
               added = s.added ++ took e ∷ [];
               written_is = ap (λ ws. ws ++ took e ∷ []) s.written_is ∙ append_assoc records s.added (took e ∷ []);
               whole = s.whole
@@ -123,18 +117,17 @@ module _ {D : Type 0} {G : Ghosts D} (content : D → Option (List ℕ)) (images
                   ∙ ap (λ o. s.added ++ (take_one o (took e) (take_entries the_profile (after_record the_profile (client_of the_profile s.written) (took e)) rest)).records) t.fine
                   ∙ ap (λ c. s.added ++ took e ∷ after c) (sym (client_step the_profile s.written (took e)))
                   ∙ sym (append_assoc s.added (took e ∷ []) (after (client_of the_profile (s.written ++ took e ∷ []))));
-              leaves = λ h. both moment images_since records s.added (took e ∷ []) (disk_of old.journal) (disk_of now.journal) (disk_of next.journal) (s.leaves h)
-                  (subst (λ ws. Leaves moment images_since ws (took e ∷ []) (disk_of now.journal) (disk_of next.journal)) s.written_is
-                  (subst (λ rs. Leaves moment images_since s.written rs (disk_of now.journal) (disk_of next.journal)) one (leaves s.written s.client (s.stored h))));
-              asks = λ h. both_asked strokes s.added (took e ∷ []) old.journal now.journal next.journal (s.asks h)
-                  (subst (λ rs. Asks strokes (map client_bytes rs) now.journal next.journal) one (asks s.written s.client (s.stored h)));
+              leaves = λ h. both records s.added (took e ∷ []) old.journal now.journal next.journal (s.leaves h)
+                  (subst (λ ws. Leaves ws (took e ∷ []) now.journal next.journal) s.written_is (subst (λ rs. Leaves s.written rs now.journal next.journal) one (survives s.written s.client (s.stored h)).any_moment));
+              asks = λ h. both_asked s.added (took e ∷ []) old.journal now.journal next.journal (s.asks h)
+                  (subst (λ rs. Asks G.strokes (map client_bytes rs) now.journal next.journal) one (survives s.written s.client (s.stored h)).asked);
             };
       }
 
-  pub stops : (faults : D → ℕ) (origin : D → Origin) (old now next : Client D G) (all rest left : List Sent) (e : Sent) (why : CodeRefusal) → LoopSoFar faults origin old now all left → left ≡ e ∷ rest
+  pub stops : (old now next : Client D G) (all rest left : List Sent) (e : Sent) (why : CodeRefusal) → LoopSoFar old now all left → left ≡ e ∷ rest
       → ((records : List ClientRecord) → IsClientOf records now → IfSeen (refusal_seen why) (SentRefused records next e))
       → (records : List ClientRecord) → IsClientOf records old → IfSeen (refusal_seen why) (λ w. Did (take_entries the_profile (client_of the_profile records) all) (Err w) records next)
-  stops faults origin old now next all rest left e why l is step records k =
+  stops old now next all rest left e why l is step records k =
       let s = l.so_far records k in
       if_seen_both (refusal_seen why) (SentRefused s.written next e) (λ w. Unit {0}) (λ w. Did (take_entries the_profile (client_of the_profile records) all) (Err w) records next)
       (λ w h u.
@@ -146,33 +139,14 @@ module _ {D : Type 0} {G : Ghosts D} (content : D → Option (List ℕ)) (images
       all_units None = tt
       all_units (Some w) = tt
 
-  pub stops_stored : (faults : D → ℕ) (origin : D → Origin) (old now next : Client D G) (all rest left : List Sent) (e : Sent) (why : CodeRefusal) → LoopSoFar faults origin old now all left → left ≡ e ∷ rest
-      → ((records : List ClientRecord) → IsClientOf records now → IfSeen (refusal_seen why) (SentRefused records next e))
-      → ((records : List ClientRecord) → IsStored content images records now → IfSeen (refusal_seen why) (λ w. IsStored content images records next))
-      → (records : List ClientRecord) → IsClientOf records old → IsStored content images records old → IfSeen (refusal_seen why) (λ w. IsStored content images (records ++ (take_entries the_profile (client_of the_profile records) all).records) next)
-  stops_stored faults origin old now next all rest left e why l is step stored records k h =
-      let s = l.so_far records k in
-      if_seen_both (refusal_seen why) (SentRefused s.written next e) (λ w. IsStored content images s.written next) (λ w. IsStored content images (records ++ (take_entries the_profile (client_of the_profile records) all).records) next)
-      (λ w r kept.
-      let t = taken_stops the_profile records all s.written e rest w (subst (TakenSoFar the_profile records s.written all) is s.taken) r.cause in
-      subst (λ rs. IsStored content images rs next) t.1 kept)
-      (step s.written s.client) (stored s.written (s.stored h))
-
-  pub ends : (faults : D → ℕ) (origin : D → Origin) (old now : Client D G) (all left : List Sent) → LoopSoFar faults origin old now all left → left ≡ [] → (records : List ClientRecord) → IsClientOf records old → Did (take_entries the_profile (client_of the_profile records) all) (Ok now.replica.cursor) records now
-  ends faults origin old now all left l is records k =
+  pub ends : (old now : Client D G) (all left : List Sent) → LoopSoFar old now all left → left ≡ [] → (records : List ClientRecord) → IsClientOf records old → Did (take_entries the_profile (client_of the_profile records) all) (Ok now.replica.cursor) records now
+  ends old now all left l is records k =
       let s = l.so_far records k in
       let t = taken_ends the_profile records all s.written (subst (TakenSoFar the_profile records s.written all) is s.taken) in
       record {
         answer_is = t.0 ∙ ap (λ (c : Model Instr State). Ok c.cursor) s.client.kept.stands_for;
         client = subst (λ rs. IsClientOf rs now) t.1 s.client;
       }
-
-  pub ends_stored : (faults : D → ℕ) (origin : D → Origin) (old now : Client D G) (all left : List Sent) → LoopSoFar faults origin old now all left → left ≡ [] → (records : List ClientRecord) → IsClientOf records old → IsStored content images records old
-      → IsStored content images (records ++ (take_entries the_profile (client_of the_profile records) all).records) now
-  ends_stored faults origin old now all left l is records k h =
-      let s = l.so_far records k in
-      let t = taken_ends the_profile records all s.written (subst (TakenSoFar the_profile records s.written all) is s.taken) in
-      subst (λ rs. IsStored content images rs now) t.1 (s.stored h)
 
   -- ---- the records of the whole, where the loop stops or ends
   all_records : (old now : Client D G) (records : List ClientRecord) (all rest left : List Sent) (e : Sent) → left ≡ e ∷ rest → (s : SoFar old now records all left)
@@ -186,44 +160,43 @@ module _ {D : Type 0} {G : Ghosts D} (content : D → Option (List ℕ)) (images
       ∙ ap (λ es. s.added ++ (take_entries the_profile c es).records) is
       ∙ ap (λ l. s.added ++ l) (first_and_behind (entry_refusal the_profile c e) (took e) (take_entries the_profile then_ []) (take_entries the_profile then_ rest) refl)
 
-  pub stops_leaves : (faults : D → ℕ) (origin : D → Origin) (old now next : Client D G) (all rest left : List Sent) (e : Sent) → LoopSoFar faults origin old now all left → left ≡ e ∷ rest → LeavesSent now next e
-      → (records : List ClientRecord) → IsClientOf records old → IsStored content images records old → Leaves moment images_since records (take_entries the_profile (client_of the_profile records) all).records (disk_of old.journal) (disk_of next.journal)
-  stops_leaves faults origin old now next all rest left e l is leaves records k h =
-      let s = l.so_far records k in
-      let one = (take_entries the_profile (client_of the_profile s.written) (e ∷ [])).records in
-      let behind = behind_first (entry_refusal the_profile (client_of the_profile s.written) e) (take_entries the_profile (after_record the_profile (client_of the_profile s.written) (took e)) rest) in
-      subst (λ rs. Leaves moment images_since records rs (disk_of old.journal) (disk_of next.journal)) (sym (all_records old now records all rest left e is s))
-      (both moment images_since records s.added (one ++ behind) (disk_of old.journal) (disk_of now.journal) (disk_of next.journal) (s.leaves h)
-      (subst (λ ws. Leaves moment images_since ws (one ++ behind) (disk_of now.journal) (disk_of next.journal)) s.written_is
-      (part moment images_since s.written one behind (disk_of now.journal) (disk_of next.journal) (leaves s.written s.client (s.stored h)))))
-
-  pub stops_asked : (faults : D → ℕ) (origin : D → Origin) (old now next : Client D G) (all rest left : List Sent) (e : Sent) (why : CodeRefusal) → LoopSoFar faults origin old now all left → left ≡ e ∷ rest
-      → ((records : List ClientRecord) → IsClientOf records now → IfSeen (refusal_seen why) (SentRefused records next e)) → AsksSent now next e (Some why)
-      → (records : List ClientRecord) → IsClientOf records old → IsStored content images records old → AskedFor strokes (take_entries the_profile (client_of the_profile records) all).records old.journal next.journal (Some why)
-  stops_asked faults origin old now next all rest left e why l is step asks records k h =
+  pub stops_survives : (old now next : Client D G) (all rest left : List Sent) (e : Sent) (why : CodeRefusal) → LoopSoFar old now all left → left ≡ e ∷ rest
+      → ((records : List ClientRecord) → IsClientOf records now → IfSeen (refusal_seen why) (SentRefused records next e)) → SurvivesSent now next e (Err why)
+      → (records : List ClientRecord) → IsClientOf records old → IsStored records old → Survives {B = ℕ} (take_entries the_profile (client_of the_profile records) all) records old next (Err why)
+  stops_survives old now next all rest left e why l is step survives records k h =
       let s = l.so_far records k in
       let c = client_of the_profile s.written in
       let more = take_entries the_profile (after_record the_profile c (took e)) rest in
       let one = (take_entries the_profile c (e ∷ [])).records in
       let behind = behind_first (entry_refusal the_profile c e) more in
-      subst (λ rs. AskedFor strokes rs old.journal next.journal (Some why)) (sym (all_records old now records all rest left e is s))
-      (stopped_asked strokes why s.added one behind old.journal now.journal next.journal (s.asks h) (asks s.written s.client (s.stored h))
-      (if_seen_on (refusal_seen why) (SentRefused s.written next e) (λ w. behind ≡ []) (λ w r. ap (λ o. behind_first o more) r.cause) (step s.written s.client)))
+      let whole = sym (all_records old now records all rest left e is s) in
+      let refused = step s.written s.client in
+      let sent = survives s.written s.client (s.stored h) in
+      record {
+        stored = if_seen_both (refusal_seen why) (SentRefused s.written next e) (λ w. IsStored (s.written ++ one) next) (λ w. IsStored (records ++ (take_entries the_profile (client_of the_profile records) all).records) next)
+            (λ w r kept.
+            let t = taken_stops the_profile records all s.written e rest w (subst (TakenSoFar the_profile records s.written all) is s.taken) r.cause in
+            subst (λ rs. IsStored rs next) (ap (λ l. s.written ++ l) (entry_refused s.written e w r.cause) ∙ append-nil s.written ∙ t.1) kept)
+            refused sent.stored;
+        any_moment = subst (λ rs. Leaves records rs old.journal next.journal) whole
+            (both records s.added (one ++ behind) old.journal now.journal next.journal (s.leaves h)
+            (subst (λ ws. Leaves ws (one ++ behind) now.journal next.journal) s.written_is (part s.written one behind now.journal next.journal sent.any_moment)));
+        asked = subst (λ rs. AskedFor rs old.journal next.journal (Some why)) whole
+            (stopped_asked why s.added one behind old.journal now.journal next.journal (s.asks h) sent.asked
+            (if_seen_on (refusal_seen why) (SentRefused s.written next e) (λ w. behind ≡ []) (λ w r. ap (λ o. behind_first o more) r.cause) refused));
+      }
 
-  end_records : (old now : Client D G) (records : List ClientRecord) (all left : List Sent) → left ≡ [] → (s : SoFar old now records all left) → (take_entries the_profile (client_of the_profile records) all).records ≡ s.added
-  end_records old now records all left is s = s.whole ∙ ap (λ es. s.added ++ (take_entries the_profile (client_of the_profile s.written) es).records) is ∙ append-nil s.added
-
-  pub ends_leaves : (faults : D → ℕ) (origin : D → Origin) (old now : Client D G) (all left : List Sent) → LoopSoFar faults origin old now all left → left ≡ [] → (records : List ClientRecord) → IsClientOf records old → IsStored content images records old
-      → Leaves moment images_since records (take_entries the_profile (client_of the_profile records) all).records (disk_of old.journal) (disk_of now.journal)
-  ends_leaves faults origin old now all left l is records k h =
+  pub ends_survives : (old now : Client D G) (all left : List Sent) → LoopSoFar old now all left → left ≡ [] → (records : List ClientRecord) → IsClientOf records old → IsStored records old
+      → Survives (take_entries the_profile (client_of the_profile records) all) records old now (Ok now.replica.cursor)
+  ends_survives old now all left l is records k h =
       let s = l.so_far records k in
-      subst (λ rs. Leaves moment images_since records rs (disk_of old.journal) (disk_of now.journal)) (sym (end_records old now records all left is s)) (s.leaves h)
-
-  pub ends_asked : (faults : D → ℕ) (origin : D → Origin) (old now : Client D G) (all left : List Sent) → LoopSoFar faults origin old now all left → left ≡ [] → (records : List ClientRecord) → IsClientOf records old → IsStored content images records old
-      → Asks strokes (map client_bytes (take_entries the_profile (client_of the_profile records) all).records) old.journal now.journal
-  ends_asked faults origin old now all left l is records k h =
-      let s = l.so_far records k in
-      subst (λ rs. Asks strokes (map client_bytes rs) old.journal now.journal) (sym (end_records old now records all left is s)) (s.asks h)
+      let t = taken_ends the_profile records all s.written (subst (TakenSoFar the_profile records s.written all) is s.taken) in
+      let whole = sym (s.whole ∙ ap (λ es. s.added ++ (take_entries the_profile (client_of the_profile s.written) es).records) is ∙ append-nil s.added) in
+      record {
+        stored = subst (λ rs. IsStored rs now) t.1 (s.stored h);
+        any_moment = subst (λ rs. Leaves records rs old.journal now.journal) whole (s.leaves h);
+        asked = subst (λ rs. Asks G.strokes (map client_bytes rs) old.journal now.journal) whole (s.asks h);
+      }
 
 pub map_drop : (n : ℕ) (es : List SentParts) → drop n (map sent_seen es) ≡ map sent_seen (drop n es)
 map_drop zero es = refl

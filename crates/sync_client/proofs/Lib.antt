@@ -17,4 +17,5 @@ pub mod Uploads
 pub mod Leaving
 pub mod Strokes
 pub mod OneEntry
+pub mod Surviving
 pub mod BadFiles

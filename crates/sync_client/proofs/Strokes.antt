@@ -1,11 +1,10 @@
 -- What the calls of a client ask of the disk.
 use Rattle.std.proofs.Common.{◌≡◌, ℕ, ◌≤◌, ◌<◌, Bool, true, false, List, [], ◌∷◌, ◌++◌, length, map, Some, Result, Err, refl, sym, ap, ◌∙◌, subst, inl, inr, append-nil}
 use Rattle.std.specs.Prelude.{◌↔◌, IsErrOf}
-use Rattle.std.specs.Result.{result_err}
 use Rattle.std.proofs.lemmas.Bool.{cases_lt}
 use Rattle.std.proofs.lemmas.List.{map-append}
 use Rattle.sync_disk.specs.declared.disk.Disk.{Ghosts}
-use Rattle.sync_disk.specs.Strokes.{Stroke, CutByFault}
+use Rattle.sync_disk.specs.Strokes.{CutByFault}
 use Rattle.sync_journal.specs.Journal.{strokes_of}
 use Rattle.sync_journal.specs.Records.{longest}
 use Rattle.sync_journal.specs.Several.{Asks, AsksSome}
@@ -13,11 +12,10 @@ use Rattle.sync_journal.specs.declared.journal.Journal.{Journal}
 use Rattle.sync_journal.specs.declared.journal.JournalRefusal.{JournalRefusal}
 use Rattle.sync_journal.specs.declared.journal.JournalRefusal.TheVariants as journals
 use Rattle.sync_journal.proofs.Stops.{asks_none, asks_both, part_one, part_before, part_later}
-use Rattle.sync_model.specs.Clients.{ClientRecord, ClientStep, appends}
+use Rattle.sync_model.specs.Clients.{ClientRecord}
 use Rattle.sync_exchange.specs.Seen.{client_bytes}
-use Rattle.sync_client.specs.Clients.{Asked, AskedFor}
+use Rattle.sync_client.specs.Clients.{AskedFor}
 use Rattle.sync_client.specs.Refusals.{refusal_seen, IfSeen, IsPlain}
-use Rattle.sync_client.specs.declared.client.Client.{Client}
 use Rattle.sync_client.specs.declared.refusal.ClientRefusal.{ClientRefusal as CodeRefusal}
 use Rattle.sync_client.specs.declared.refusal.ClientRefusal.TheVariants as codes
 
@@ -35,42 +33,39 @@ no_other r other is differs e = differs (same_error (sym is ∙ e))
     same_error : {a b : JournalRefusal} → ◌≡◌ {A = Result (Unit {0}) JournalRefusal} (Err a) (Err b) → a ≡ b
     same_error e = cc
 
-module _ {D : Type 0} {G : Ghosts D} (strokes : D → List Stroke) where
+module _ {D : Type 0} {G : Ghosts D} where
   -- ---- nothing is appended
-  pub none_asked : (next : List ClientRecord) (old new : Journal D G) → next ≡ [] → new ≡ old → Asks strokes (map client_bytes next) old new
+  pub none_asked : (next : List ClientRecord) (old new : Journal D G) → next ≡ [] → new ≡ old → Asks G.strokes (map client_bytes next) old new
   none_asked next old new none same =
-      subst (λ (l : List ClientRecord). Asks strokes (map client_bytes l) old new) (sym none) (subst (λ (j : Journal D G). Asks strokes [] old j) (sym same) (asks_none old.end (strokes old.disk)))
+      subst (λ (l : List ClientRecord). Asks G.strokes (map client_bytes l) old new) (sym none) (subst (λ (j : Journal D G). Asks G.strokes [] old j) (sym same) (asks_none old.end (G.strokes old.disk)))
 
-  pub refused_asked : (why : CodeRefusal) (next : List ClientRecord) (old new : Journal D G) → IsPlain why → IfSeen (refusal_seen why) (λ w. next ≡ []) → new ≡ old → AskedFor strokes next old new (Some why)
+  pub refused_asked : (why : CodeRefusal) (next : List ClientRecord) (old new : Journal D G) → IsPlain why → IfSeen (refusal_seen why) (λ w. next ≡ []) → new ≡ old → AskedFor next old new (Some why)
   refused_asked codes.Closed next old new plain none same = tt
   refused_asked codes.DiskFault next old new plain none same = absurd plain
   refused_asked codes.NoMemory next old new plain none same = tt
   refused_asked why next old new plain none same = none_asked next old new none same
 
   -- ---- one record
-  pub one_asked : {A B : Type 0} (did : ClientStep A) (next : ClientRecord) (a : A) (old new : Client D G) (r : Result B CodeRefusal) → did ≡ appends next a → AskedFor strokes (next ∷ []) old.journal new.journal (result_err r) → Asked strokes did old new r
-  one_asked did next a old new r is asked = subst (λ (rs : List ClientRecord). AskedFor strokes rs old.journal new.journal (result_err r)) (sym (ap (λ d. d.records) is)) asked
-
-  pub cut_asked : (next : ClientRecord) (bytes : List ℕ) (old new : Journal D G) → bytes ≡ client_bytes next → length bytes ≤ longest → CutByFault (strokes_of old.end bytes) (strokes old.disk) (strokes new.disk) → AsksSome strokes (client_bytes next ∷ []) old new
-  cut_asked next bytes old new is fits cut = subst (λ (b : List ℕ). AsksSome strokes (b ∷ []) old new) is (part_one bytes old.end (strokes old.disk) (strokes new.disk) fits cut)
+  pub cut_asked : (next : ClientRecord) (bytes : List ℕ) (old new : Journal D G) → bytes ≡ client_bytes next → length bytes ≤ longest → CutByFault (strokes_of old.end bytes) (G.strokes old.disk) (G.strokes new.disk) → AsksSome G.strokes (client_bytes next ∷ []) old new
+  cut_asked next bytes old new is fits cut = subst (λ (b : List ℕ). AsksSome G.strokes (b ∷ []) old new) is (part_one bytes old.end (G.strokes old.disk) (G.strokes new.disk) fits cut)
 
   -- ---- some records behind others
-  pub both_asked : (a b : List ClientRecord) (old mid new : Journal D G) → Asks strokes (map client_bytes a) old mid → Asks strokes (map client_bytes b) mid new → Asks strokes (map client_bytes (a ++ b)) old new
+  pub both_asked : (a b : List ClientRecord) (old mid new : Journal D G) → Asks G.strokes (map client_bytes a) old mid → Asks G.strokes (map client_bytes b) mid new → Asks G.strokes (map client_bytes (a ++ b)) old new
   both_asked a b old mid new first second =
-      subst (λ (l : List (List ℕ)). Asks strokes l old new) (sym (map-append client_bytes a b))
-      (asks_both (map client_bytes a) (map client_bytes b) old.end mid.end new.end (strokes old.disk) (strokes mid.disk) (strokes new.disk) first second)
+      subst (λ (l : List (List ℕ)). Asks G.strokes l old new) (sym (map-append client_bytes a b))
+      (asks_both (map client_bytes a) (map client_bytes b) old.end mid.end new.end (G.strokes old.disk) (G.strokes mid.disk) (G.strokes new.disk) first second)
 
-  some_asked : (a b rest : List ClientRecord) (old mid new : Journal D G) → Asks strokes (map client_bytes a) old mid → AsksSome strokes (map client_bytes b) mid new → AsksSome strokes (map client_bytes (a ++ (b ++ rest))) old new
+  some_asked : (a b rest : List ClientRecord) (old mid new : Journal D G) → Asks G.strokes (map client_bytes a) old mid → AsksSome G.strokes (map client_bytes b) mid new → AsksSome G.strokes (map client_bytes (a ++ (b ++ rest))) old new
   some_asked a b rest old mid new first second =
-      subst (λ (l : List (List ℕ)). AsksSome strokes l old new) (sym (map-append client_bytes a (b ++ rest) ∙ ap (λ (l : List (List ℕ)). map client_bytes a ++ l) (map-append client_bytes b rest)))
-      (part_later (map client_bytes a) (map client_bytes b ++ map client_bytes rest) old.end mid.end (strokes old.disk) (strokes mid.disk) (strokes new.disk) first
-      (part_before (map client_bytes b) (map client_bytes rest) mid.end (strokes mid.disk) (strokes new.disk) second))
+      subst (λ (l : List (List ℕ)). AsksSome G.strokes l old new) (sym (map-append client_bytes a (b ++ rest) ∙ ap (λ (l : List (List ℕ)). map client_bytes a ++ l) (map-append client_bytes b rest)))
+      (part_later (map client_bytes a) (map client_bytes b ++ map client_bytes rest) old.end mid.end (G.strokes old.disk) (G.strokes mid.disk) (G.strokes new.disk) first
+      (part_before (map client_bytes b) (map client_bytes rest) mid.end (G.strokes mid.disk) (G.strokes new.disk) second))
 
   -- the last of them is refused, and then the rest isn't reached
-  pub stopped_asked : (why : CodeRefusal) (a b rest : List ClientRecord) (old mid new : Journal D G) → Asks strokes (map client_bytes a) old mid → AskedFor strokes b mid new (Some why) → IfSeen (refusal_seen why) (λ w. rest ≡ [])
-      → AskedFor strokes (a ++ (b ++ rest)) old new (Some why)
+  pub stopped_asked : (why : CodeRefusal) (a b rest : List ClientRecord) (old mid new : Journal D G) → Asks G.strokes (map client_bytes a) old mid → AskedFor b mid new (Some why) → IfSeen (refusal_seen why) (λ w. rest ≡ [])
+      → AskedFor (a ++ (b ++ rest)) old new (Some why)
   stopped_asked codes.DiskFault a b rest old mid new first second none = some_asked a b rest old mid new first second
   stopped_asked codes.NoMemory a b rest old mid new first second none = tt
   stopped_asked codes.Closed a b rest old mid new first second none = tt
   stopped_asked why a b rest old mid new first second none =
-      subst (λ (l : List ClientRecord). Asks strokes (map client_bytes (a ++ l)) old new) (sym (ap (λ (l : List ClientRecord). b ++ l) none ∙ append-nil b)) (both_asked a b old mid new first second)
+      subst (λ (l : List ClientRecord). Asks G.strokes (map client_bytes (a ++ l)) old new) (sym (ap (λ (l : List ClientRecord). b ++ l) none ∙ append-nil b)) (both_asked a b old mid new first second)

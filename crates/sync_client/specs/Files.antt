@@ -1,5 +1,5 @@
 -- How a file of a client is opened.
-use Rattle.std.specs.Prelude.{◌≡◌, ℕ, List, map, Option, Ok, Err}
+use Rattle.std.specs.Prelude.{◌≡◌, ℕ, List, map, Ok, Err}
 use Rattle.sync_disk.specs.declared.disk.Disk.{Ghosts}
 use Rattle.sync_journal.specs.Opening as journals
 use Rattle.sync_journal.specs.Records.{records_of}
@@ -21,11 +21,11 @@ BadPlace = journals.BadPlace Refuses
 
 module _ {D : Type 0} {G : Ghosts D} where
   -- the client of the records for which the bytes stand
-  pub record Opened (content : D → Option (List ℕ)) (images : D → List ℕ → Type 0) (bytes : List ℕ) (c : Client D G) : Type 0 where
+  pub record Opened (bytes : List ℕ) (c : Client D G) : Type 0 where
     pub file : List (List ℕ)
     pub holds : records_of bytes ≡ Good file
     pub records : List ClientRecord
     pub reads : client_reads the_profile read_client (no_client the_profile) file ≡ Ok records
     pub spelled : map client_bytes records ≡ file
     pub client : IsClientOf records c
-    pub stored : IsStored content images records c
+    pub stored : IsStored records c

@@ -1,12 +1,12 @@
 -- What an entry of a Download does to a client of these records.
-use Rattle.std.specs.Prelude.{◌≡◌, ℕ, List, [], ◌∷◌, ◌++◌, Option, Some, None, Result, Ok, Err}
+use Rattle.std.specs.Prelude.{◌≡◌, List, [], ◌∷◌, ◌++◌, Some, None, Result, Ok, Err}
 use Rattle.sync_disk.specs.declared.disk.Disk.{Ghosts}
 use Rattle.sync_model.specs.Clients.{ClientRecord, ClientRefusal, client_of, entry_refusal, took}
 use Rattle.sync_model.specs.Messages.{Sent}
 use Rattle.sync_exchange.specs.Profile.{the_profile}
 use Rattle.sync_client.specs.declared.client.Client.{Client}
 use Rattle.sync_client.specs.declared.refusal.ClientRefusal.{ClientRefusal as CodeRefusal}
-use Rattle.sync_client.specs.Clients.{IsClientOf, IsStored}
+use Rattle.sync_client.specs.Clients.{IsClientOf}
 use Rattle.sync_client.specs.Refusals.{refusal_seen, IfSeen}
 
 module _ {D : Type 0} {G : Ghosts D} where
@@ -23,7 +23,3 @@ module _ {D : Type 0} {G : Ghosts D} where
   abbrev pub SentSays : List ClientRecord → Client D G → Sent → Result (Unit {0}) CodeRefusal → Type 0
   SentSays records new e (Ok u) = SentTaken records new e
   SentSays records new e (Err why) = IfSeen (refusal_seen why) (SentRefused records new e)
-
-  abbrev pub SentStores : (content : D → Option (List ℕ)) (images : D → List ℕ → Type 0) → List ClientRecord → Client D G → Sent → Result (Unit {0}) CodeRefusal → Type 0
-  SentStores content images records new e (Ok u) = IsStored content images (records ++ took e ∷ []) new
-  SentStores content images records new e (Err why) = IfSeen (refusal_seen why) (λ w. IsStored content images records new)

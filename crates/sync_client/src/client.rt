@@ -1,14 +1,11 @@
-ghost use Rattle.std.specs.Prelude.{◌≡◌, ◌↔◌, ◌⊎◌, ◌≤◌, ◌++◌, ◌∷◌, [], ℕ, List, length, map, Some, IsErrOf, IfErr, IfOk, OnOk, OnErr, true, false};
-ghost use Rattle.std.specs.Result.{result_err};
+ghost use Rattle.std.specs.Prelude.{◌≡◌, ◌⊎◌, ◌≤◌, ◌∷◌, [], ℕ, List, length, Some, IsErrOf, IfErr, IfOk, OnOk, OnErr, true, false};
 ghost use Rattle.sync_data.specs.Payload.{IsSmall};
-ghost use Rattle.sync_disk.specs.Disk.{LeavesOnly, Rose, SameDisk, Told};
+ghost use Rattle.sync_disk.specs.Disk.{SameDisk};
 ghost use Rattle.sync_disk.specs.Faults.{armed, begun, disarmed, has_stopped};
 ghost use Rattle.sync_model.specs.Clients as model;
 ghost use Rattle.sync_exchange.specs.Profile.{the_profile};
-ghost use Rattle.sync_exchange.specs.Seen.{client_bytes, client_seen};
-ghost use Rattle.sync_journal.specs.Records.{StandsForPrefix};
+ghost use Rattle.sync_exchange.specs.Seen.{client_seen};
 ghost use Rattle.sync_journal.specs.Stands.{Stands, disk_of};
-ghost use Rattle.sync_journal.specs.Uses.{UsesDisk};
 ghost use Rattle.sync_client.specs.Refusals.{refusal_seen, IfSeen};
 
 use crate::refusal::ClientRefusal;
@@ -32,22 +29,14 @@ pub struct Client<D: Disk> {
 }
 
 impl<D: Disk> Client<D> {
-    ghost use Rattle.sync_client.specs.Clients.{Asked, AskedFor, IsClientOf, IsStored, LeavesPrefix, Says, Stores, is_closed, journal_of, replica_of};
+    ghost use Rattle.sync_client.specs.Clients.{Appends, Closes, IsClientOf, IsStored, Says, Survives, UsesDisk, is_closed, journal_of, replica_of};
 
     /// Records the client's uuid. Errors: Closed, AlreadyBorn, DiskFault, NoMemory.
     pub fn born(&mut self, id: Id) -> Result<(), ClientRefusal>
-        ensures step { (records : List model.ClientRecord) → IsClientOf records self.old → Says (model.born (model.client_of the_profile records) id) records self.new result }
-        ensures stored { (records : List model.ClientRecord) → IsClientOf records self.old → IsStored D.content D.images records self.old → Stores D.content D.images (model.born (model.client_of the_profile records) id) records self.new result }
-        ensures any_moment { (records : List model.ClientRecord) → IsClientOf records self.old → IsStored D.content D.images records self.old
-            → LeavesOnly D.moment D.images_since (disk_of (journal_of self.old)) (disk_of (journal_of self.new)) (StandsForPrefix (map client_bytes records) (map client_bytes (model.born (model.client_of the_profile records) id).records)) }
-        ensures strokes { (records : List model.ClientRecord) → IsClientOf records self.old → IsStored D.content D.images records self.old → Asked D.strokes (model.born (model.client_of the_profile records) id) self.old self.new result }
-        ensures closed { IsErrOf result ClientRefusal.Closed ↔ (is_closed self.old ≡ true) }
-        ensures shut { IsErrOf result ClientRefusal.Closed → self.new ≡ self.old }
-        ensures closes { IsErrOf result ClientRefusal.DiskFault ⊎ IsErrOf result ClientRefusal.NoMemory → is_closed self.new ≡ true }
-        ensures later { D.faults (disk_of (journal_of self.old)) ≤ D.faults (disk_of (journal_of self.new)) }
-        ensures fault { IsErrOf result ClientRefusal.DiskFault → Rose (D.faults (disk_of (journal_of self.old))) (D.faults (disk_of (journal_of self.new))) }
-        ensures origin { D.origin (disk_of (journal_of self.new)) ≡ D.origin (disk_of (journal_of self.old)) }
-        ensures told { Told (D.content (disk_of (journal_of self.old))) (λ b. (c : List ℕ) × (D.content (disk_of (journal_of self.new)) ≡ Some c)) }
+        ensures does { (records : List model.ClientRecord) → IsClientOf records self.old → Says (model.born (model.client_of the_profile records) id) records self.new result }
+        ensures survives { (records : List model.ClientRecord) → IsClientOf records self.old → IsStored records self.old → Survives (model.born (model.client_of the_profile records) id) records self.old self.new result }
+        ensures closes { Closes self.old self.new result }
+        ensures disk { UsesDisk (IsErrOf result ClientRefusal.DiskFault) self.old self.new }
     {
         if self.closed {
             return Err(ClientRefusal::Closed);
@@ -68,19 +57,11 @@ impl<D: Disk> Client<D> {
     /// an ident. Errors, in this order: Closed, NotBorn, TooLarge, NumbersFull, OldForm, NotSubscribed,
     /// Break; and DiskFault, NoMemory.
     pub fn commit(&mut self, ms: u64, edits: Vec<Instr>) -> Result<u32, ClientRefusal>
-        ensures step { (records : List model.ClientRecord) → IsClientOf records self.old → Says (model.commit the_profile (model.client_of the_profile records) ms edits.items) records self.new result }
-        ensures stored { (records : List model.ClientRecord) → IsClientOf records self.old → IsStored D.content D.images records self.old → Stores D.content D.images (model.commit the_profile (model.client_of the_profile records) ms edits.items) records self.new result }
-        ensures any_moment { (records : List model.ClientRecord) → IsClientOf records self.old → IsStored D.content D.images records self.old
-            → LeavesOnly D.moment D.images_since (disk_of (journal_of self.old)) (disk_of (journal_of self.new)) (StandsForPrefix (map client_bytes records) (map client_bytes (model.commit the_profile (model.client_of the_profile records) ms edits.items).records)) }
-        ensures strokes { (records : List model.ClientRecord) → IsClientOf records self.old → IsStored D.content D.images records self.old → Asked D.strokes (model.commit the_profile (model.client_of the_profile records) ms edits.items) self.old self.new result }
+        ensures does { (records : List model.ClientRecord) → IsClientOf records self.old → Says (model.commit the_profile (model.client_of the_profile records) ms edits.items) records self.new result }
+        ensures survives { (records : List model.ClientRecord) → IsClientOf records self.old → IsStored records self.old → Survives (model.commit the_profile (model.client_of the_profile records) ms edits.items) records self.old self.new result }
         ensures large { IsErrOf result ClientRefusal.TooLarge → IsSmall edits.items → ⊥ }
-        ensures closed { IsErrOf result ClientRefusal.Closed ↔ (is_closed self.old ≡ true) }
-        ensures shut { IsErrOf result ClientRefusal.Closed → self.new ≡ self.old }
-        ensures closes { IsErrOf result ClientRefusal.DiskFault ⊎ IsErrOf result ClientRefusal.NoMemory → is_closed self.new ≡ true }
-        ensures later { D.faults (disk_of (journal_of self.old)) ≤ D.faults (disk_of (journal_of self.new)) }
-        ensures fault { IsErrOf result ClientRefusal.DiskFault → Rose (D.faults (disk_of (journal_of self.old))) (D.faults (disk_of (journal_of self.new))) }
-        ensures origin { D.origin (disk_of (journal_of self.new)) ≡ D.origin (disk_of (journal_of self.old)) }
-        ensures told { Told (D.content (disk_of (journal_of self.old))) (λ b. (c : List ℕ) × (D.content (disk_of (journal_of self.new)) ≡ Some c)) }
+        ensures closes { Closes self.old self.new result }
+        ensures disk { UsesDisk (IsErrOf result ClientRefusal.DiskFault) self.old self.new }
     {
         if self.closed {
             return Err(ClientRefusal::Closed);
@@ -98,15 +79,13 @@ impl<D: Disk> Client<D> {
     /// The record of a transaction.
     fn append_made(&mut self, ms: u64, made: Made) -> Result<u32, ClientRefusal>
         requires { is_closed self.old ≡ false }
-        ensures stored { (records : List model.ClientRecord) → IsStored D.content D.images records self.old → OnOk result (IsStored D.content D.images (records ++ model.Made made.number ms made.body.items ∷ []) self.new) }
-        ensures any_moment { LeavesPrefix D.content D.images D.moment D.images_since (model.Made made.number ms made.body.items ∷ []) self.old self.new }
-        ensures strokes { Told (D.content (disk_of (journal_of self.old))) (λ b. AskedFor D.strokes (model.Made made.number ms made.body.items ∷ []) (journal_of self.old) (journal_of self.new) (result_err result)) }
+        ensures appends { Appends (model.Made made.number ms made.body.items ∷ []) self.old self.new result }
         ensures number { IfOk result (λ number. number ≡ made.number) }
         ensures replica { replica_of self.new ≡ replica_of self.old }
         ensures stays_open { OnOk result (is_closed self.new ≡ false) }
         ensures closes { OnErr result (is_closed self.new ≡ true) }
         ensures refused { IfErr result (λ why. (why ≡ ClientRefusal.DiskFault) ⊎ (why ≡ ClientRefusal.NoMemory)) }
-        ensures disk { UsesDisk D.content D.faults D.origin (IsErrOf result ClientRefusal.DiskFault) (journal_of self.old) (journal_of self.new) }
+        ensures disk { UsesDisk (IsErrOf result ClientRefusal.DiskFault) self.old self.new }
     {
         let Ok(body) = Blob::new(self.alloc, made.body.as_slice()) else {
             self.closed = true;
@@ -122,18 +101,10 @@ impl<D: Disk> Client<D> {
     /// From now on the file may hold changesets of version 2: true where it is new. Errors: Closed, NotBorn, DiskFault,
     /// NoMemory.
     pub fn upgrade(&mut self) -> Result<bool, ClientRefusal>
-        ensures step { (records : List model.ClientRecord) → IsClientOf records self.old → Says (model.upgrade (model.client_of the_profile records)) records self.new result }
-        ensures stored { (records : List model.ClientRecord) → IsClientOf records self.old → IsStored D.content D.images records self.old → Stores D.content D.images (model.upgrade (model.client_of the_profile records)) records self.new result }
-        ensures any_moment { (records : List model.ClientRecord) → IsClientOf records self.old → IsStored D.content D.images records self.old
-            → LeavesOnly D.moment D.images_since (disk_of (journal_of self.old)) (disk_of (journal_of self.new)) (StandsForPrefix (map client_bytes records) (map client_bytes (model.upgrade (model.client_of the_profile records)).records)) }
-        ensures strokes { (records : List model.ClientRecord) → IsClientOf records self.old → IsStored D.content D.images records self.old → Asked D.strokes (model.upgrade (model.client_of the_profile records)) self.old self.new result }
-        ensures closed { IsErrOf result ClientRefusal.Closed ↔ (is_closed self.old ≡ true) }
-        ensures shut { IsErrOf result ClientRefusal.Closed → self.new ≡ self.old }
-        ensures closes { IsErrOf result ClientRefusal.DiskFault ⊎ IsErrOf result ClientRefusal.NoMemory → is_closed self.new ≡ true }
-        ensures later { D.faults (disk_of (journal_of self.old)) ≤ D.faults (disk_of (journal_of self.new)) }
-        ensures fault { IsErrOf result ClientRefusal.DiskFault → Rose (D.faults (disk_of (journal_of self.old))) (D.faults (disk_of (journal_of self.new))) }
-        ensures origin { D.origin (disk_of (journal_of self.new)) ≡ D.origin (disk_of (journal_of self.old)) }
-        ensures told { Told (D.content (disk_of (journal_of self.old))) (λ b. (c : List ℕ) × (D.content (disk_of (journal_of self.new)) ≡ Some c)) }
+        ensures does { (records : List model.ClientRecord) → IsClientOf records self.old → Says (model.upgrade (model.client_of the_profile records)) records self.new result }
+        ensures survives { (records : List model.ClientRecord) → IsClientOf records self.old → IsStored records self.old → Survives (model.upgrade (model.client_of the_profile records)) records self.old self.new result }
+        ensures closes { Closes self.old self.new result }
+        ensures disk { UsesDisk (IsErrOf result ClientRefusal.DiskFault) self.old self.new }
     {
         if self.closed {
             return Err(ClientRefusal::Closed);
@@ -155,18 +126,10 @@ impl<D: Disk> Client<D> {
     /// From now on the client makes and gets changes of these tables alone. Errors, in this order: Closed, NotBorn,
     /// Subscribed, TooLate; and DiskFault, NoMemory.
     pub fn subscribe(&mut self, tables: Subset) -> Result<(), ClientRefusal>
-        ensures step { (records : List model.ClientRecord) → IsClientOf records self.old → Says (model.subscribe (model.client_of the_profile records) tables) records self.new result }
-        ensures stored { (records : List model.ClientRecord) → IsClientOf records self.old → IsStored D.content D.images records self.old → Stores D.content D.images (model.subscribe (model.client_of the_profile records) tables) records self.new result }
-        ensures any_moment { (records : List model.ClientRecord) → IsClientOf records self.old → IsStored D.content D.images records self.old
-            → LeavesOnly D.moment D.images_since (disk_of (journal_of self.old)) (disk_of (journal_of self.new)) (StandsForPrefix (map client_bytes records) (map client_bytes (model.subscribe (model.client_of the_profile records) tables).records)) }
-        ensures strokes { (records : List model.ClientRecord) → IsClientOf records self.old → IsStored D.content D.images records self.old → Asked D.strokes (model.subscribe (model.client_of the_profile records) tables) self.old self.new result }
-        ensures closed { IsErrOf result ClientRefusal.Closed ↔ (is_closed self.old ≡ true) }
-        ensures shut { IsErrOf result ClientRefusal.Closed → self.new ≡ self.old }
-        ensures closes { IsErrOf result ClientRefusal.DiskFault ⊎ IsErrOf result ClientRefusal.NoMemory → is_closed self.new ≡ true }
-        ensures later { D.faults (disk_of (journal_of self.old)) ≤ D.faults (disk_of (journal_of self.new)) }
-        ensures fault { IsErrOf result ClientRefusal.DiskFault → Rose (D.faults (disk_of (journal_of self.old))) (D.faults (disk_of (journal_of self.new))) }
-        ensures origin { D.origin (disk_of (journal_of self.new)) ≡ D.origin (disk_of (journal_of self.old)) }
-        ensures told { Told (D.content (disk_of (journal_of self.old))) (λ b. (c : List ℕ) × (D.content (disk_of (journal_of self.new)) ≡ Some c)) }
+        ensures does { (records : List model.ClientRecord) → IsClientOf records self.old → Says (model.subscribe (model.client_of the_profile records) tables) records self.new result }
+        ensures survives { (records : List model.ClientRecord) → IsClientOf records self.old → IsStored records self.old → Survives (model.subscribe (model.client_of the_profile records) tables) records self.old self.new result }
+        ensures closes { Closes self.old self.new result }
+        ensures disk { UsesDisk (IsErrOf result ClientRefusal.DiskFault) self.old self.new }
     {
         if self.closed {
             return Err(ClientRefusal::Closed);
@@ -215,14 +178,12 @@ impl<D: Disk> Client<D> {
     /// Adds a record to the journal. It closes the client where that fails.
     pub(crate) fn append(&mut self, added: &ClientRecord) -> Result<(), ClientRefusal>
         requires { is_closed self.old ≡ false }
-        ensures stored { (records : List model.ClientRecord) → IsStored D.content D.images records self.old → OnOk result (IsStored D.content D.images (records ++ client_seen added.now ∷ []) self.new) }
-        ensures any_moment { LeavesPrefix D.content D.images D.moment D.images_since (client_seen added.now ∷ []) self.old self.new }
-        ensures strokes { Told (D.content (disk_of (journal_of self.old))) (λ b. AskedFor D.strokes (client_seen added.now ∷ []) (journal_of self.old) (journal_of self.new) (result_err result)) }
+        ensures appends { Appends (client_seen added.now ∷ []) self.old self.new result }
         ensures replica { replica_of self.new ≡ replica_of self.old }
         ensures stays_open { OnOk result (is_closed self.new ≡ false) }
         ensures closes { IsErrOf result ClientRefusal.DiskFault ⊎ IsErrOf result ClientRefusal.NoMemory → is_closed self.new ≡ true }
         ensures refused { IfErr result (λ why. (why ≡ ClientRefusal.DiskFault) ⊎ (why ≡ ClientRefusal.NoMemory)) }
-        ensures disk { UsesDisk D.content D.faults D.origin (IsErrOf result ClientRefusal.DiskFault) (journal_of self.old) (journal_of self.new) }
+        ensures disk { UsesDisk (IsErrOf result ClientRefusal.DiskFault) self.old self.new }
     {
         let Ok(bytes) = added.record_bytes(self.alloc) else {
             self.closed = true;

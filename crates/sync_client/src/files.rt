@@ -18,7 +18,7 @@ impl<D: Disk> Client<D> {
     /// Opens the client of a disk. Besides what a journal refuses, `BadFile` comes where a record isn't one that a client would
     /// have written after those before it, with the place of its gate. An `Err` hands the disk back.
     pub fn open(alloc: Global, disk: D) -> Result<Client<D>, OpenRefusal<D>>
-        ensures opened { Told (D.content disk) (λ b. IfOk result (Opened D.content D.images b)) }
+        ensures opened { Told (D.content disk) (λ b. IfOk result (Opened b)) }
         ensures bad { Told (D.content disk) (λ b. IfErr result (λ e. (place : ℕ) → e.cause ≡ OpenCause.BadFile place → BadPlace b place)) }
         ensures kept { Told (D.content disk) (λ b. IfErr result (λ e. (place : ℕ) → e.cause ≡ OpenCause.BadFile place → D.content e.disk ≡ Some b)) }
 

@@ -1,30 +1,28 @@
-use Rattle.std.proofs.Common.{◌++◌, ◌∷◌, [], Some, not, ap, sym, subst, ◌∙◌}
+use Rattle.std.proofs.Common.{◌++◌, ◌∷◌, [], Some, None, not, ap, sym, subst, ◌∙◌}
 use Rattle.sync_model.specs.Clients.{ClientRecord, client_of, subscribe}
 use Rattle.sync_exchange.specs.Profile.{the_profile}
 use Rattle.sync_client.specs.declared.replica.Replica.{Replica}
 use Rattle.sync_client.specs.Keeping.{Keeps}
-use Rattle.sync_client.specs.Clients.{LeavesPrefix}
+use Rattle.sync_client.specs.Clients.{JournalAppends}
 use Rattle.sync_client.proofs.Calls.{did_append, subscribe_is, subscribe_keeps}
-use Rattle.sync_client.proofs.Leaving.{leaves_one}
+use Rattle.sync_client.proofs.Surviving.{survives_one}
 use Rattle.sync_client.proofs.client.Client.subscribe.Goals as goal
 
-pub returns-clause-step : goal.returns-clause-step
-returns-clause-step g c = λ records before.
+pub returns-clause-does : goal.returns-clause-does
+returns-clause-does g c = λ records before.
     did_append (subscribe (client_of the_profile records) c.args.tables) (ClientRecord.Subset c.args.tables) _ records _
     (subscribe_is records c.args.self.now.replica c.args.tables before.kept (c.is_none.ensures ∙ ap not c.if-is_none.false) (sym c.is_some.ensures ∙ c.if-is_some.false) (sym (c.is_late.ensures before.kept.past before.kept.count) ∙ c.if-is_late.false))
     (subst (λ (r : Replica). Keeps (records ++ ClientRecord.Subset c.args.tables ∷ []) (record r { subset = Some c.args.tables })) (sym c.in-Ok-append.ensures.replica) (subscribe_keeps records c.args.self.now.replica c.args.tables before.kept (c.is_none.ensures ∙ ap not c.if-is_none.false) (sym c.is_some.ensures ∙ c.if-is_some.false) (sym (c.is_late.ensures before.kept.past before.kept.count) ∙ c.if-is_late.false)))
     c.in-Ok-append.ensures.stays_open
 
-pub returns-in-Err-clause-any_moment : goal.returns-in-Err-clause-any_moment
-returns-in-Err-clause-any_moment g c = λ records before stored.
-    let D = g.D.Disk in
-    leaves_one D.content D.images D.moment D.images_since (subscribe (client_of the_profile records) c.args.tables) (ClientRecord.Subset c.args.tables) _ records c.args.self.now c.append.new.self
+pub returns-in-Err-clause-survives : goal.returns-in-Err-clause-survives
+returns-in-Err-clause-survives g c = λ records before stored.
+    survives_one (subscribe (client_of the_profile records) c.args.tables) (ClientRecord.Subset c.args.tables) _ records c.args.self.now c.append.new.self _
     (subscribe_is records c.args.self.now.replica c.args.tables before.kept (c.is_none.ensures ∙ ap not c.if-is_none.false) (sym c.is_some.ensures ∙ c.if-is_some.false) (sym (c.is_late.ensures before.kept.past before.kept.count) ∙ c.if-is_late.false))
-    (subst (λ t. LeavesPrefix D.content D.images D.moment D.images_since (ClientRecord.Subset t ∷ []) c.args.self.now c.append.new.self) c.in-Ok.ensures.equal c.append.ensures.any_moment) stored
+    (subst (λ t. JournalAppends (ClientRecord.Subset t ∷ []) c.args.self.now.journal c.append.new.self.journal (Some c.in-Err.refusal)) c.in-Ok.ensures.equal c.in-Err.ensures.appends) c.in-Err.ensures.refused stored
 
-pub returns-clause-any_moment : goal.returns-clause-any_moment
-returns-clause-any_moment g c = λ records before stored.
-    let D = g.D.Disk in
-    leaves_one D.content D.images D.moment D.images_since (subscribe (client_of the_profile records) c.args.tables) (ClientRecord.Subset c.args.tables) _ records c.args.self.now c.append.new.self
+pub returns-clause-survives : goal.returns-clause-survives
+returns-clause-survives g c = λ records before stored.
+    survives_one (subscribe (client_of the_profile records) c.args.tables) (ClientRecord.Subset c.args.tables) _ records c.args.self.now _ _
     (subscribe_is records c.args.self.now.replica c.args.tables before.kept (c.is_none.ensures ∙ ap not c.if-is_none.false) (sym c.is_some.ensures ∙ c.if-is_some.false) (sym (c.is_late.ensures before.kept.past before.kept.count) ∙ c.if-is_late.false))
-    (subst (λ t. LeavesPrefix D.content D.images D.moment D.images_since (ClientRecord.Subset t ∷ []) c.args.self.now c.append.new.self) c.in-Ok.ensures.equal c.append.ensures.any_moment) stored
+    (subst (λ t. JournalAppends (ClientRecord.Subset t ∷ []) c.args.self.now.journal c.append.new.self.journal None) c.in-Ok.ensures.equal c.in-Ok-append.ensures.appends) tt stored

@@ -7,22 +7,21 @@ use Rattle.sync_client.specs.Entries.{TakesIt}
 use Rattle.sync_client.specs.Seen.{seen}
 use Rattle.sync_client.specs.Refusals.{refusal_seen, IfSeen, IsPlain}
 use Rattle.sync_client.specs.Taking.{SentRefused}
-use Rattle.sync_client.proofs.Leaving.{leaves_one}
 use Rattle.sync_client.proofs.OneEntry.{entry_refused, entry_taken, if_seen_on}
-use Rattle.sync_client.proofs.Strokes.{one_asked, refused_asked}
+use Rattle.sync_client.proofs.Surviving.{survives_one, survives_refused}
 use Rattle.sync_client.proofs.Taken.{fine_of, lists_of, sent_refused, sent_says}
 use Rattle.sync_client.proofs.client.Client.take_sent.Goals as goal
 
-pub returns-in-Err-clause-step : goal.returns-in-Err-clause-step
-returns-in-Err-clause-step g c = λ records before.
+pub returns-in-Err-clause-does : goal.returns-in-Err-clause-does
+returns-in-Err-clause-does g c = λ records before.
     let e : Sent = sent_seen c.args.sent.now in
     let given : ◌≡◌ {A = Sent} (record { origin = c.origin.result; number = c.number.result; ms = c.ms.result; body = c.body.result.now }) e = λ i. record { origin = c.origin.ensures.value i; number = c.number.ensures.value i; ms = c.ms.ensures i; body = c.body.ensures.value i } in
     subst (λ w. IfSeen (refusal_seen w) (SentRefused records c.refused.new.self e)) (sym c.refused.ensures.same)
     (subst (λ x. IfSeen (refusal_seen c.in-Err.refusal) (SentRefused records c.refused.new.self x)) given
     (sent_refused records c.args.self.now c.refused.new.self c.take_entry.new.self (record { origin = c.origin.result; number = c.number.result; ms = c.ms.result; body = c.body.result.now }) c.in-Err.refusal before (c.in-Err.ensures.step before.kept.past (lists_of records c.args.self.now.replica before.kept)) c.refused.ensures.unchanged c.take_entry.ensures.count))
 
-pub returns-clause-step : goal.returns-clause-step
-returns-clause-step g c = λ records before.
+pub returns-clause-does : goal.returns-clause-does
+returns-clause-does g c = λ records before.
     let e : Sent = sent_seen c.args.sent.now in
     let given : ◌≡◌ {A = Sent} (record { origin = c.origin.result; number = c.number.result; ms = c.ms.result; body = c.body.result.now }) e = λ i. record { origin = c.origin.ensures.value i; number = c.number.ensures.value i; ms = c.ms.ensures i; body = c.body.ensures.value i } in
     sent_says records c.args.self.now.replica c.take_entry.new.self c.append_took.new.self e c.append_took.result before.kept
@@ -30,28 +29,17 @@ returns-clause-step g c = λ records before.
     (subst (TakesIt (seen before.kept.past c.args.self.now.replica) (seen before.kept.past c.take_entry.new.self)) given (c.in-Ok.ensures.step before.kept.past (lists_of records c.args.self.now.replica before.kept)))
     c.take_entry.ensures.count c.append_took.ensures.replica c.append_took.ensures.stays_open c.append_took.ensures.refused
 
-pub returns-in-Err-clause-strokes : goal.returns-in-Err-clause-strokes
-returns-in-Err-clause-strokes g c = λ records before stored.
-    let D = g.D.Disk in
+pub returns-in-Err-clause-survives : goal.returns-in-Err-clause-survives
+returns-in-Err-clause-survives g c = λ records before stored.
     let e : Sent = sent_seen c.args.sent.now in
-    let next = (take_entries the_profile (client_of the_profile records) (e ∷ [])).records in
-    let none = if_seen_on (refusal_seen c.refused.result) (SentRefused records c.refused.new.self e) (λ w. next ≡ []) (λ w h. entry_refused records e w h.cause) (returns-in-Err-clause-step g c records before) in
-    refused_asked D.strokes c.refused.result next c.args.self.now.journal c.refused.new.self.journal (subst IsPlain (sym c.refused.ensures.same) c.in-Err.ensures.plain) none c.refused.ensures.journal
+    let did = take_entries the_profile (client_of the_profile records) (e ∷ []) in
+    let none = if_seen_on (refusal_seen c.refused.result) (SentRefused records c.refused.new.self e) (λ w. did.records ≡ []) (λ w h. entry_refused records e w h.cause) (returns-in-Err-clause-does g c records before) in
+    survives_refused did c.refused.result records c.args.self.now c.refused.new.self g.met.D.Disk.only_now (subst IsPlain (sym c.refused.ensures.same) c.in-Err.ensures.plain) none c.refused.ensures.journal stored
 
-pub returns-clause-any_moment : goal.returns-clause-any_moment
-returns-clause-any_moment g c = λ records before stored.
-    let D = g.D.Disk in
+pub returns-clause-survives : goal.returns-clause-survives
+returns-clause-survives g c = λ records before stored.
     let e : Sent = sent_seen c.args.sent.now in
     let given : ◌≡◌ {A = Sent} (record { origin = c.origin.result; number = c.number.result; ms = c.ms.result; body = c.body.result.now }) e = λ i. record { origin = c.origin.ensures.value i; number = c.number.ensures.value i; ms = c.ms.ensures i; body = c.body.ensures.value i } in
     let takes = subst (TakesIt (seen before.kept.past c.args.self.now.replica) (seen before.kept.past c.take_entry.new.self)) given (c.in-Ok.ensures.step before.kept.past (lists_of records c.args.self.now.replica before.kept)) in
-    leaves_one D.content D.images D.moment D.images_since (take_entries the_profile (client_of the_profile records) (e ∷ [])) (took e) _ records c.args.self.now c.append_took.new.self
-    (entry_taken records e (fine_of records c.args.self.now.replica e None before.kept takes.fine)) c.append_took.ensures.any_moment stored
-
-pub returns-clause-strokes : goal.returns-clause-strokes
-returns-clause-strokes g c = λ records before stored.
-    let D = g.D.Disk in
-    let e : Sent = sent_seen c.args.sent.now in
-    let given : ◌≡◌ {A = Sent} (record { origin = c.origin.result; number = c.number.result; ms = c.ms.result; body = c.body.result.now }) e = λ i. record { origin = c.origin.ensures.value i; number = c.number.ensures.value i; ms = c.ms.ensures i; body = c.body.ensures.value i } in
-    let takes = subst (TakesIt (seen before.kept.past c.args.self.now.replica) (seen before.kept.past c.take_entry.new.self)) given (c.in-Ok.ensures.step before.kept.past (lists_of records c.args.self.now.replica before.kept)) in
-    one_asked D.strokes (take_entries the_profile (client_of the_profile records) (e ∷ [])) (took e) _ c.args.self.now c.append_took.new.self c.append_took.result
-    (entry_taken records e (fine_of records c.args.self.now.replica e None before.kept takes.fine)) (c.append_took.ensures.strokes stored.settled.file stored.settled.told)
+    survives_one (take_entries the_profile (client_of the_profile records) (e ∷ [])) (took e) _ records c.args.self.now c.append_took.new.self c.append_took.result
+    (entry_taken records e (fine_of records c.args.self.now.replica e None before.kept takes.fine)) c.append_took.ensures.appends c.append_took.ensures.refused stored
