@@ -1,5 +1,5 @@
 -- What a crash leaves of records that are added one after the other.
-use Rattle.std.proofs.Common.{◌≡◌, ℕ, suc, ◌+◌, List, [], ◌∷◌, ◌++◌, Option, length, map, take, refl, sym, ap, ◌∙◌, subst, arith, append_assoc, length-append}
+use Rattle.std.proofs.Common.{◌≡◌, ℕ, suc, ◌+◌, List, [], ◌∷◌, ◌++◌, length, map, take, refl, sym, ap, ◌∙◌, subst, arith, append_assoc, length-append}
 use Rattle.std.proofs.lemmas.List.{map-append, take-append-le}
 use Rattle.sync_disk.specs.declared.disk.Disk.{Ghosts}
 use Rattle.sync_disk.specs.Disk.{LeavesOnly}
@@ -7,6 +7,7 @@ use Rattle.sync_disk.proofs.Moments.{and_then, weaker}
 use Rattle.sync_journal.specs.Records.{StandsForPrefix}
 use Rattle.sync_journal.specs.Records.Reading.{Good}
 use Rattle.sync_journal.specs.Stands.{disk_of}
+use Rattle.sync_journal.specs.declared.journal.Journal.{Journal}
 use Rattle.sync_journal.proofs.Steps.{at_rest}
 use Rattle.sync_model.specs.Servers.{ServerRecord}
 use Rattle.sync_records.specs.declared.server.ServerRecord.{ServerRecord as CodeRecord}
@@ -14,7 +15,6 @@ use Rattle.sync_records.specs.declared.server.ServerRecord.TheVariants as server
 use Rattle.sync_records.specs.Spelling.{server_spelling}
 use Rattle.sync_exchange.specs.Seen.{server_bytes, server_seen}
 use Rattle.sync_server.specs.Serving.{Adds, LeavesPrefix}
-use Rattle.sync_server.specs.declared.server.Server.{Server}
 
 take_part : {A : Type 0} (xs ys : List A) (k : ℕ) → take (length xs + k) (xs ++ ys) ≡ xs ++ take k ys
 take_part [] ys k = let e : 0 + k ≡ k = omega arith in ap (λ n. take n ys) e
@@ -26,26 +26,25 @@ longer rs xs ys c s = (s.0, omega (arith, s.1, length-append xs ys), s.2 ∙ ap 
 pub later : (rs xs ys : List (List ℕ)) (c : List ℕ) → StandsForPrefix (rs ++ xs) ys c → StandsForPrefix rs (xs ++ ys) c
 later rs xs ys c s = (length xs + s.0, omega (arith, s.1, length-append xs ys), s.2 ∙ ap Good (append_assoc rs xs (take s.0 ys) ∙ ap (λ l. rs ++ l) (sym (take_part xs ys s.0))))
 
-module _ {D : Type 0} {G : Ghosts D} (content : D → Option (List ℕ)) (images : D → List ℕ → Type 0) (moment : D → ℕ) (images_since : D → ℕ → List ℕ → Type 0) where
+module _ {D : Type 0} {G : Ghosts D} where
   -- those of the first part of a call
-  pub part : (a b : List ServerRecord) (old new : Server D G) → LeavesPrefix content images moment images_since a old new → LeavesPrefix content images moment images_since (a ++ b) old new
+  pub part : (a b : List ServerRecord) (old new : Journal D G) → LeavesPrefix a old new → LeavesPrefix (a ++ b) old new
   part a b old new first = λ rs s.
-      weaker moment images_since (disk_of old.journal) (disk_of new.journal) (StandsForPrefix rs (map server_bytes a)) (StandsForPrefix rs (map server_bytes (a ++ b))) (first rs s)
+      weaker G.moment G.images_since (disk_of old) (disk_of new) (StandsForPrefix rs (map server_bytes a)) (StandsForPrefix rs (map server_bytes (a ++ b))) (first rs s)
       (λ c p. subst (λ l. StandsForPrefix rs l c) (sym (map-append server_bytes a b)) (longer rs (map server_bytes a) (map server_bytes b) c p))
 
   -- and of its second
-  pub both : (a b : List ServerRecord) (old mid new : Server D G) → Adds content images a old mid → LeavesPrefix content images moment images_since a old mid → LeavesPrefix content images moment images_since b mid new → LeavesPrefix content images moment images_since (a ++ b) old new
+  pub both : (a b : List ServerRecord) (old mid new : Journal D G) → Adds a old mid → LeavesPrefix a old mid → LeavesPrefix b mid new → LeavesPrefix (a ++ b) old new
   both a b old mid new added first second = λ rs s.
-      and_then moment images_since (disk_of old.journal) (disk_of mid.journal) (disk_of new.journal) (StandsForPrefix rs (map server_bytes (a ++ b))) (part a b old mid first rs s)
-      (weaker moment images_since (disk_of mid.journal) (disk_of new.journal) (StandsForPrefix (rs ++ map server_bytes a) (map server_bytes b)) (StandsForPrefix rs (map server_bytes (a ++ b))) (second (rs ++ map server_bytes a) (added rs s))
+      and_then G.moment G.images_since (disk_of old) (disk_of mid) (disk_of new) (StandsForPrefix rs (map server_bytes (a ++ b))) (part a b old mid first rs s)
+      (weaker G.moment G.images_since (disk_of mid) (disk_of new) (StandsForPrefix (rs ++ map server_bytes a) (map server_bytes b)) (StandsForPrefix rs (map server_bytes (a ++ b))) (second (rs ++ map server_bytes a) (added rs s))
       (λ c p. subst (λ l. StandsForPrefix rs l c) (sym (map-append server_bytes a b)) (later rs (map server_bytes a) (map server_bytes b) c p)))
 
   -- where nothing is added
-  module _ (only_now : (disk : D) (c : List ℕ) → images_since disk (moment disk) c → images disk c) where
-    pub untouched : (next : List ServerRecord) (old new : Server D G) → new.journal ≡ old.journal → LeavesPrefix content images moment images_since next old new
-    untouched next old new e = λ rs s.
-        subst (λ j. LeavesOnly moment images_since (disk_of old.journal) (disk_of j) (StandsForPrefix rs (map server_bytes next))) (sym e)
-        (at_rest content images moment images_since only_now rs (map server_bytes next) old.journal.end old.journal.disk s.settled)
+  pub untouched : (next : List ServerRecord) (old new : Journal D G) → ((disk : D) (c : List ℕ) → G.images_since disk (G.moment disk) c → G.images disk c) → new ≡ old → LeavesPrefix next old new
+  untouched next old new only_now e = λ rs s.
+      subst (λ j. LeavesOnly G.moment G.images_since (disk_of old) (disk_of j) (StandsForPrefix rs (map server_bytes next))) (sym e)
+      (at_rest G.content G.images G.moment G.images_since only_now rs (map server_bytes next) old.end old.disk s.settled)
 
 pub bytes_back : (r : CodeRecord) → server_spelling r ≡ server_bytes (server_seen r)
 bytes_back (servers.Client id) = refl

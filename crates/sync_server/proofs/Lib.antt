@@ -9,6 +9,7 @@ pub mod Steps
 pub mod Sending
 pub mod Adding
 pub mod Changed
+pub mod Appending
 pub mod Uploading
 pub mod Continuing
 pub mod Spelled

@@ -6,8 +6,6 @@ use Rattle.sync_data.specs.declared.instr.Instr.{Instr}
 use Rattle.sync_base.specs.States.{State}
 use Rattle.sync_disk.specs.declared.disk.Disk.{Ghosts}
 use Rattle.sync_disk.specs.Disk.{Told}
-use Rattle.sync_disk.specs.Strokes.{Stroke}
-use Rattle.sync_journal.specs.Several.{Asks}
 use Rattle.sync_journal.specs.Stands.{disk_of}
 use Rattle.sync_messages.specs.Parts.{ChangeParts}
 use Rattle.sync_model.specs.Messages.{Change, Message}
@@ -16,20 +14,19 @@ use Rattle.sync_model.specs.Servers.{ServerRecord, ServerRefusal}
 use Rattle.sync_model.specs.Worlds.{at}
 use Rattle.sync_model.proofs.Loops.{by_parts_begins, by_parts_skips, by_parts_merges, by_parts_refuses, by_parts_ends}
 use Rattle.sync_exchange.specs.Profile.{the_profile}
-use Rattle.sync_exchange.specs.Seen.{change_seen, message_seen, server_bytes}
+use Rattle.sync_exchange.specs.Seen.{change_seen, message_seen}
 use Rattle.sync_messages.specs.declared.message.Message.{Message as CodeMessage}
 use Rattle.sync_server.specs.Kept.{parts}
 use Rattle.sync_server.specs.Merging.{records_of}
 use Rattle.sync_server.specs.Refusals.{refusal_seen}
 use Rattle.sync_server.specs.Sending.{refusal_message}
-use Rattle.sync_server.specs.Serving.{Adds, Asked, LeavesPrefix, IsMerged, IsServed, IsTaken, UploadedSoFar, change_records, merged_records}
+use Rattle.sync_server.specs.Serving.{IsMerged, IsServed, IsTaken, JournalAppends, UploadedSoFar, change_records, merged_records}
 use Rattle.sync_server.specs.declared.kept.Kept.{Kept}
 use Rattle.sync_server.specs.declared.refusal.Refusal.{Refusal}
 use Rattle.sync_server.specs.declared.refusal.ServerRefusal.{ServerRefusal as CodeRefusal}
 use Rattle.sync_server.specs.declared.server.Server.{Server}
-use Rattle.sync_server.proofs.Adding.{adds_more, adds_none}
-use Rattle.sync_server.proofs.Strokes.{asked_more, asked_part, asks_more, asks_nothing, told_both}
-use Rattle.sync_server.proofs.Leaving.{both, part, untouched}
+use Rattle.sync_server.proofs.Appending.{appends_more, appends_none, appends_part}
+use Rattle.sync_server.proofs.Strokes.{told_both}
 
 pub is_taken : (why : Option Refusal) (c : ℕ) (g : Given Instr) (h : Change) (old new : Kept) → nat_le h.number g.count ≡ false → IsMerged why (merge_by the_profile (parts old) c g h) old new → IsTaken why c g h old new
 is_taken None c g h old new e m = inr (e, m)
@@ -97,71 +94,58 @@ begins_with kept c g h rest = go (nat_le h.number g.count) (merge_by the_profile
     go false (Ok m) = ((upload_by the_profile m.parts c (at_ident c m.parts.idents) rest).records, refl)
     go false (Err why) = ([], refl)
 
-module _ {D : Type 0} {G : Ghosts D} (content : D → Option (List ℕ)) (images : D → List ℕ → Type 0) (moment : D → ℕ) (images_since : D → ℕ → List ℕ → Type 0) (strokes : D → List Stroke)
-    (only_now : (disk : D) (c : List ℕ) → images_since disk (moment disk) c → images disk c) (c : ℕ) where
-  pub begins : (now : Server D G) (all : List Change) → UploadedSoFar content images moment images_since strokes c now now all all
-  begins now all = record { records = []; so_far = by_parts_begins the_profile c (parts now.kept) all; added = adds_none content images now now refl; leaves = untouched content images moment images_since only_now [] now now refl; told = λ b is. (b, is); asked = λ b is. asks_nothing strokes now now refl }
+module _ {D : Type 0} {G : Ghosts D} (c : ℕ) where
+  pub begins : (now : Server D G) (all : List Change) → ((disk : D) (b : List ℕ) → G.images_since disk (G.moment disk) b → G.images disk b) → UploadedSoFar c now now all all
+  begins now all only_now = record { records = []; so_far = by_parts_begins the_profile c (parts now.kept) all; appends = appends_none now.journal now.journal only_now refl; told = λ b is. (b, is) }
 
   -- one change further
-  pub goes_on : (old now new : Server D G) (all rest : List Change) (h : Change) (g : Given Instr) → at_ident c now.kept.history.idents ≡ Some g → UploadedSoFar content images moment images_since strokes c old now all (h ∷ rest) → IsTaken None c g h now.kept new.kept
-      → Adds content images (change_records (parts now.kept) c g h) now new → LeavesPrefix content images moment images_since (change_records (parts now.kept) c g h) now new → Told (content (disk_of now.journal)) (λ b. (bytes : List ℕ) × (content (disk_of new.journal) ≡ Some bytes)) → Told (content (disk_of now.journal)) (λ b. Asks strokes (map server_bytes (change_records (parts now.kept) c g h)) now.journal new.journal) → UploadedSoFar content images moment images_since strokes c old new all rest
-  goes_on old now new all rest h g there so (inl t) added leaves told asked =
+  pub goes_on : (old now new : Server D G) (all rest : List Change) (h : Change) (g : Given Instr) → at_ident c now.kept.history.idents ≡ Some g → UploadedSoFar c old now all (h ∷ rest) → IsTaken None c g h now.kept new.kept
+      → JournalAppends (change_records (parts now.kept) c g h) now.journal new.journal None → Told (G.content (disk_of now.journal)) (λ b. (bytes : List ℕ) × (G.content (disk_of new.journal) ≡ Some bytes)) → UploadedSoFar c old new all rest
+  goes_on old now new all rest h g there so (inl t) appended told =
       record {
         records = so.records ++ change_records (parts now.kept) c g h;
         so_far = subst (λ l. ServedByPartsSoFar the_profile c (parts old.kept) (parts new.kept) l all rest) (sym (ap (λ l. so.records ++ l) (skipped (nat_le h.number g.count) (merged_records (merge_by the_profile (parts now.kept) c g h)) t.0) ∙ append-nil so.records))
             (subst (λ k. ServedByPartsSoFar the_profile c (parts old.kept) k so.records all rest) (sym t.1) (by_parts_skips the_profile c h g there so.so_far t.0));
-        added = adds_more content images so.records (change_records (parts now.kept) c g h) old now new so.added added;
-        leaves = both content images moment images_since so.records (change_records (parts now.kept) c g h) old now new so.added so.leaves leaves;
-        told = told_both (content (disk_of old.journal)) (content (disk_of now.journal)) (content (disk_of new.journal)) so.told told;
-        asked = λ b is. let m = so.told b is in asks_more strokes so.records (change_records (parts now.kept) c g h) old now new (so.asked b is) (asked m.0 m.1);
+        appends = appends_more so.records (change_records (parts now.kept) c g h) old.journal now.journal new.journal None so.appends so.told appended;
+        told = told_both (G.content (disk_of old.journal)) (G.content (disk_of now.journal)) (G.content (disk_of new.journal)) so.told told;
       }
-  goes_on old now new all rest h g there so (inr t) added leaves told asked =
+  goes_on old now new all rest h g there so (inr t) appended told =
       record {
         records = so.records ++ change_records (parts now.kept) c g h;
         so_far = subst (λ l. ServedByPartsSoFar the_profile c (parts old.kept) (parts new.kept) l all rest) (sym (ap (λ l. so.records ++ l) (looked (nat_le h.number g.count) (merged_records (merge_by the_profile (parts now.kept) c g h)) t.0 ∙ ap merged_records t.1.1)))
             (subst (λ k. ServedByPartsSoFar the_profile c (parts old.kept) k (so.records ++ t.1.0.records) all rest) (sym t.1.2) (by_parts_merges the_profile c h g there so.so_far t.1.0 t.0 t.1.1));
-        added = adds_more content images so.records (change_records (parts now.kept) c g h) old now new so.added added;
-        leaves = both content images moment images_since so.records (change_records (parts now.kept) c g h) old now new so.added so.leaves leaves;
-        told = told_both (content (disk_of old.journal)) (content (disk_of now.journal)) (content (disk_of new.journal)) so.told told;
-        asked = λ b is. let m = so.told b is in asks_more strokes so.records (change_records (parts now.kept) c g h) old now new (so.asked b is) (asked m.0 m.1);
+        appends = appends_more so.records (change_records (parts now.kept) c g h) old.journal now.journal new.journal None so.appends so.told appended;
+        told = told_both (G.content (disk_of old.journal)) (G.content (disk_of now.journal)) (G.content (disk_of new.journal)) so.told told;
       }
 
   -- what is answered at a refusal, and what is added
   pub record Answered (old new : Server D G) (s : Served Instr State) (reply : CodeMessage) : Type 0 where
     pub served : IsServed s reply new.kept
-    pub stored : Adds content images s.records old new
-    pub leaves : LeavesPrefix content images moment images_since s.records old new
-    pub asked : Told (content (disk_of old.journal)) (λ b. Asks strokes (map server_bytes s.records) old.journal new.journal)
+    pub appends : JournalAppends s.records old.journal new.journal None
 
-  pub stops : (old now new : Server D G) (all rest : List Change) (h : Change) (g : Given Instr) (why : Refusal) (reply : CodeMessage) → at_ident c now.kept.history.idents ≡ Some g → UploadedSoFar content images moment images_since strokes c old now all (h ∷ rest) → IsTaken (Some why) c g h now.kept new.kept
-      → Adds content images (change_records (parts now.kept) c g h) now new → LeavesPrefix content images moment images_since (change_records (parts now.kept) c g h) now new → Told (content (disk_of now.journal)) (λ b. (bytes : List ℕ) × (content (disk_of new.journal) ≡ Some bytes)) → Told (content (disk_of now.journal)) (λ b. Asks strokes (map server_bytes (change_records (parts now.kept) c g h)) now.journal new.journal) → message_seen reply ≡ refusal_message c h.number (refusal_seen why)
+  pub stops : (old now new : Server D G) (all rest : List Change) (h : Change) (g : Given Instr) (why : Refusal) (reply : CodeMessage) → at_ident c now.kept.history.idents ≡ Some g → UploadedSoFar c old now all (h ∷ rest) → IsTaken (Some why) c g h now.kept new.kept
+      → JournalAppends (change_records (parts now.kept) c g h) now.journal new.journal None → message_seen reply ≡ refusal_message c h.number (refusal_seen why)
       → Answered old new (upload_by the_profile (parts old.kept) c (at_ident c old.kept.history.idents) all) reply
-  stops old now new all rest h g why reply there so t added leaves told asked is =
+  stops old now new all rest h g why reply there so t appended is =
       let whole = by_parts_refuses the_profile c h g there so.so_far (refusal_seen why) t.0 t.1.0 in
       let none = looked (nat_le h.number g.count) (merged_records (merge_by the_profile (parts now.kept) c g h)) t.0 ∙ ap merged_records t.1.0 in
       record {
         served = record { reply_is = is ∙ ap (λ s. s.answer) (sym whole); parts_are = t.1.1 ∙ ap (λ s. s.parts) (sym whole) };
-        stored = subst (λ l. Adds content images l old new) (ap (λ l. so.records ++ l) none ∙ append-nil so.records ∙ ap (λ s. s.records) (sym whole)) (adds_more content images so.records (change_records (parts now.kept) c g h) old now new so.added added);
-        leaves = subst (λ l. LeavesPrefix content images moment images_since l old new) (ap (λ l. so.records ++ l) none ∙ append-nil so.records ∙ ap (λ s. s.records) (sym whole))
-            (both content images moment images_since so.records (change_records (parts now.kept) c g h) old now new so.added so.leaves leaves);
-        asked = λ b is. let m = so.told b is in
-            subst (λ l. Asks strokes (map server_bytes l) old.journal new.journal) (ap (λ l. so.records ++ l) none ∙ append-nil so.records ∙ ap (λ s. s.records) (sym whole))
-            (asks_more strokes so.records (change_records (parts now.kept) c g h) old now new (so.asked b is) (asked m.0 m.1));
+        appends = subst (λ l. JournalAppends l old.journal new.journal None) (ap (λ l. so.records ++ l) none ∙ append-nil so.records ∙ ap (λ s. s.records) (sym whole))
+            (appends_more so.records (change_records (parts now.kept) c g h) old.journal now.journal new.journal None so.appends so.told appended);
       }
 
-  pub ends : (old now : Server D G) (all : List Change) (g : Given Instr) (reply : CodeMessage) → at_ident c now.kept.history.idents ≡ Some g → UploadedSoFar content images moment images_since strokes c old now all [] → message_seen reply ≡ Message.Stored c g.count
+  pub ends : (old now : Server D G) (all : List Change) (g : Given Instr) (reply : CodeMessage) → at_ident c now.kept.history.idents ≡ Some g → UploadedSoFar c old now all [] → message_seen reply ≡ Message.Stored c g.count
       → Answered old now (upload_by the_profile (parts old.kept) c (at_ident c old.kept.history.idents) all) reply
   ends old now all g reply there so is =
       let whole = by_parts_ends the_profile c g there so.so_far in
       record {
         served = record { reply_is = is ∙ ap (λ s. s.answer) (sym whole); parts_are = ap (λ s. s.parts) (sym whole) };
-        stored = subst (λ l. Adds content images l old now) (ap (λ s. s.records) (sym whole)) so.added;
-        leaves = subst (λ l. LeavesPrefix content images moment images_since l old now) (ap (λ s. s.records) (sym whole)) so.leaves;
-        asked = subst (λ l. Told (content (disk_of old.journal)) (λ b. Asks strokes (map server_bytes l) old.journal now.journal)) (ap (λ s. s.records) (sym whole)) so.asked;
+        appends = subst (λ l. JournalAppends l old.journal now.journal None) (ap (λ s. s.records) (sym whole)) so.appends;
       }
 
   -- the records of all changes begin with those up to one of them
-  up_to : (old now : Server D G) (all rest : List Change) (h : Change) (g : Given Instr) → at_ident c now.kept.history.idents ≡ Some g → (so : UploadedSoFar content images moment images_since strokes c old now all (h ∷ rest))
+  up_to : (old now : Server D G) (all rest : List Change) (h : Change) (g : Given Instr) → at_ident c now.kept.history.idents ≡ Some g → (so : UploadedSoFar c old now all (h ∷ rest))
       → (more : List ServerRecord) × ((upload_by the_profile (parts old.kept) c (at_ident c old.kept.history.idents) all).records ≡ (so.records ++ change_records (parts now.kept) c g h) ++ more)
   up_to old now all rest h g there so =
       let more = begins_with (parts now.kept) c g h rest in (
@@ -172,20 +156,10 @@ module _ {D : Type 0} {G : Ghosts D} (content : D → Option (List ℕ)) (images
             ∙ sym (append_assoc so.records (change_records (parts now.kept) c g h) more.0),
       )
 
-  -- a call that ends at a change leaves some of the records of all changes
-  pub fails : (old now new : Server D G) (all rest : List Change) (h : Change) (g : Given Instr) → at_ident c now.kept.history.idents ≡ Some g → UploadedSoFar content images moment images_since strokes c old now all (h ∷ rest)
-      → LeavesPrefix content images moment images_since (change_records (parts now.kept) c g h) now new → LeavesPrefix content images moment images_since (upload_by the_profile (parts old.kept) c (at_ident c old.kept.history.idents) all).records old new
-  fails old now new all rest h g there so leaves =
+  -- a call that ends at a change leaves some of the records of all changes, and asked for some of their appends
+  pub fails : (old now new : Server D G) (all rest : List Change) (h : Change) (g : Given Instr) (why : CodeRefusal) → at_ident c now.kept.history.idents ≡ Some g → UploadedSoFar c old now all (h ∷ rest)
+      → JournalAppends (change_records (parts now.kept) c g h) now.journal new.journal (Some why) → JournalAppends (upload_by the_profile (parts old.kept) c (at_ident c old.kept.history.idents) all).records old.journal new.journal (Some why)
+  fails old now new all rest h g why there so appended =
       let whole = up_to old now all rest h g there so in
-      subst (λ l. LeavesPrefix content images moment images_since l old new) (sym whole.1)
-      (part content images moment images_since (so.records ++ change_records (parts now.kept) c g h) whole.0 old new (both content images moment images_since so.records (change_records (parts now.kept) c g h) old now new so.added so.leaves leaves))
-
-  -- and asked for some of their appends
-  pub fails_asked : (A B : Type 0) (old now new : Server D G) (all rest : List Change) (h : Change) (g : Given Instr) (why : CodeRefusal) → at_ident c now.kept.history.idents ≡ Some g → UploadedSoFar content images moment images_since strokes c old now all (h ∷ rest)
-      → Told (content (disk_of now.journal)) (λ b. Asked {B = A} strokes (change_records (parts now.kept) c g h) now new (Err why))
-      → Told (content (disk_of old.journal)) (λ b. Asked {B = B} strokes (upload_by the_profile (parts old.kept) c (at_ident c old.kept.history.idents) all).records old new (Err why))
-  fails_asked A B old now new all rest h g why there so asked = λ b is.
-      let m = so.told b is in
-      let whole = up_to old now all rest h g there so in
-      subst (λ l. Asked {B = B} strokes l old new (Err why)) (sym whole.1)
-      (asked_part strokes A B (so.records ++ change_records (parts now.kept) c g h) whole.0 old new why (asked_more strokes {B = A} so.records (change_records (parts now.kept) c g h) old now new (Err why) (so.asked b is) (asked m.0 m.1)))
+      subst (λ l. JournalAppends l old.journal new.journal (Some why)) (sym whole.1)
+      (appends_part (so.records ++ change_records (parts now.kept) c g h) whole.0 old.journal new.journal why (appends_more so.records (change_records (parts now.kept) c g h) old.journal now.journal new.journal (Some why) so.appends so.told appended))

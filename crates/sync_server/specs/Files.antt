@@ -1,5 +1,5 @@
 -- How a file of a server is opened.
-use Rattle.std.specs.Prelude.{◌≡◌, ℕ, List, map, Option, Err}
+use Rattle.std.specs.Prelude.{◌≡◌, ℕ, List, map, Err}
 use Rattle.sync_disk.specs.declared.disk.Disk.{Ghosts}
 use Rattle.sync_journal.specs.Opening as journals
 use Rattle.sync_journal.specs.Records.{records_of}
@@ -22,10 +22,10 @@ BadPlace = journals.BadPlace Refuses
 
 module _ {D : Type 0} {G : Ghosts D} where
   -- the server of the records for which the bytes stand
-  pub record Opened (content : D → Option (List ℕ)) (images : D → List ℕ → Type 0) (bytes : List ℕ) (s : Server D G) : Type 0 where
+  pub record Opened (bytes : List ℕ) (s : Server D G) : Type 0 where
     pub file : List (List ℕ)
     pub holds : records_of bytes ≡ Good file
     pub records : List ServerRecord
     pub are : AreRecords file records
     pub server : IsServerOf records s
-    pub stored : IsStored content images records s
+    pub stored : IsStored records s

@@ -1,14 +1,15 @@
 -- What the calls of a server answer, and what they leave.
-use Rattle.std.specs.Prelude.{◌≡◌, ◌⊎◌, ℕ, Bool, true, false, List, [], ◌++◌, map, Option, None, Some, Result, Ok, Err, IsErrOf, OnOk, OnErr, nat_le, if◌then◌else◌}
+use Rattle.std.specs.Prelude.{◌≡◌, ◌⊎◌, ◌↔◌, ℕ, Bool, true, false, List, [], ◌++◌, map, Option, None, Some, Result, Ok, Err, IfNone, IsErrOf, OnOk, OnErr, nat_le, if◌then◌else◌}
+use Rattle.std.specs.Result.{result_err}
 use Rattle.sync_data.specs.declared.instr.Instr.{Instr}
 use Rattle.sync_base.specs.States.{State}
 use Rattle.sync_disk.specs.declared.disk.Disk.{Ghosts}
 use Rattle.sync_journal.specs.declared.journal.Journal.{Journal}
 use Rattle.sync_disk.specs.Disk.{LeavesOnly, Told}
-use Rattle.sync_disk.specs.Strokes.{Stroke}
 use Rattle.sync_journal.specs.Records.{StandsForPrefix}
 use Rattle.sync_journal.specs.Several.{Asks, AsksSome}
 use Rattle.sync_journal.specs.Stands.{Stands, disk_of}
+use Rattle.sync_journal.specs.Uses as journals
 use Rattle.sync_model.specs.Fronts.{file_gives}
 use Rattle.sync_model.specs.Messages.{Change}
 use Rattle.sync_model.specs.Parts.{Given, Merged, Parts, Served, ServedByPartsSoFar, merge_by}
@@ -62,20 +63,33 @@ module _ {D : Type 0} {G : Ghosts D} where
   is_closed s = s.closed
 
   -- the journal holds these records more
-  abbrev pub Adds : (content : D → Option (List ℕ)) (images : D → List ℕ → Type 0) → List ServerRecord → Server D G → Server D G → Type 0
-  Adds content images next old new = (rs : List (List ℕ)) → Stands content images rs old.journal → Stands content images (rs ++ map server_bytes next) new.journal
+  abbrev pub Adds : List ServerRecord → Journal D G → Journal D G → Type 0
+  Adds next old new = (rs : List (List ℕ)) → Stands G.content G.images rs old → Stands G.content G.images (rs ++ map server_bytes next) new
 
-  -- a crash at any moment of a call leaves what the journal held and some of these records, from the first on
-  abbrev pub LeavesPrefix : (content : D → Option (List ℕ)) (images : D → List ℕ → Type 0) (moment : D → ℕ) (images_since : D → ℕ → List ℕ → Type 0) → List ServerRecord → Server D G → Server D G → Type 0
-  LeavesPrefix content images moment images_since next old new = (rs : List (List ℕ)) → Stands content images rs old.journal → LeavesOnly moment images_since (disk_of old.journal) (disk_of new.journal) (StandsForPrefix rs (map server_bytes next))
+  -- a crash at any moment left what the journal held and some of these records, from the first on
+  abbrev pub LeavesPrefix : List ServerRecord → Journal D G → Journal D G → Type 0
+  LeavesPrefix next old new = (rs : List (List ℕ)) → Stands G.content G.images rs old → LeavesOnly G.moment G.images_since (disk_of old) (disk_of new) (StandsForPrefix rs (map server_bytes next))
 
   -- A call that answers asked the disk for the appends of these records and for nothing else; one that ends at a fault, for the first
   -- of them up to the stroke that failed. Out of memory, nothing is said.
-  abbrev pub Asked : {B : Type 0} → (D → List Stroke) → List ServerRecord → Server D G → Server D G → Result B CodeRefusal → Type 0
-  Asked strokes next old new (Ok b) = Asks strokes (map server_bytes next) old.journal new.journal
-  Asked strokes next old new (Err causes.DiskFault) = AsksSome strokes (map server_bytes next) old.journal new.journal
-  Asked strokes next old new (Err causes.NoMemory) = Unit {0}
-  Asked strokes next old new (Err causes.Closed) = Unit {0}
+  abbrev pub AskedFor : List ServerRecord → Journal D G → Journal D G → Option CodeRefusal → Type 0
+  AskedFor next old new None = Asks G.strokes (map server_bytes next) old new
+  AskedFor next old new (Some causes.DiskFault) = AsksSome G.strokes (map server_bytes next) old new
+  AskedFor next old new (Some causes.NoMemory) = Unit {0}
+  AskedFor next old new (Some causes.Closed) = Unit {0}
+
+  -- a call that appends these records, whatever those before them are
+  pub record JournalAppends (next : List ServerRecord) (old new : Journal D G) (why : Option CodeRefusal) : Type 0 where
+    pub stored : IfNone why (Adds next old new)
+    pub any_moment : LeavesPrefix next old new
+    pub asked : Told (G.content (disk_of old)) (λ b. AskedFor next old new why)
+
+  abbrev pub Appends : {B : Type 0} → List ServerRecord → Server D G → Server D G → Result B CodeRefusal → Type 0
+  Appends next old new result = JournalAppends next old.journal new.journal (result_err result)
+
+  -- how a call uses the disk
+  abbrev pub UsesDisk : Type 0 → Server D G → Server D G → Type 0
+  UsesDisk failed old new = journals.UsesDisk G.content G.faults G.origin failed old.journal new.journal
 
   -- an open server stays open at an answer, and closes at any refusal
   pub record StaysOpen {B : Type 0} (result : Result B CodeRefusal) (s : Server D G) : Type 0 where
@@ -89,8 +103,8 @@ module _ {D : Type 0} {G : Ghosts D} where
     pub open_ : s.closed ≡ false
 
   -- its disk holds them
-  abbrev pub IsStored : (content : D → Option (List ℕ)) (images : D → List ℕ → Type 0) → List ServerRecord → Server D G → Type 0
-  IsStored content images records s = Stands content images (map server_bytes records) s.journal
+  abbrev pub IsStored : List ServerRecord → Server D G → Type 0
+  IsStored records s = Stands G.content G.images (map server_bytes records) s.journal
 
   -- a message is answered by the step's reply, and the server keeps what the step leaves, and is one of the records with
   -- the step's
@@ -99,13 +113,24 @@ module _ {D : Type 0} {G : Ghosts D} where
     pub parts_are : parts s.kept ≡ did.parts
     pub server : IsServerOf (records ++ did.records) s
 
+  -- What a call answers survives a crash: then the disk holds the step's records too. A crash at any moment of the call left those
+  -- before it and some of these, from the first on. The disk was asked for their appends and for nothing else.
+  pub record Survives {B : Type 0} (did : Served Instr State) (records : List ServerRecord) (old new : Server D G) (result : Result B CodeRefusal) : Type 0 where
+    pub stored : OnOk result (IsStored (records ++ did.records) new)
+    pub any_moment : LeavesOnly G.moment G.images_since (disk_of old.journal) (disk_of new.journal) (StandsForPrefix (map server_bytes records) (map server_bytes did.records))
+    pub asked : AskedFor did.records old.journal new.journal (result_err result)
+
+  -- `Closed` comes exactly where the server was closed, and then nothing changes; any refusal leaves it closed
+  pub record Closes {B : Type 0} (old new : Server D G) (result : Result B CodeRefusal) : Type 0 where
+    pub closed : IsErrOf result causes.Closed ↔ (old.closed ≡ true)
+    pub unchanged : IsErrOf result causes.Closed → new ≡ old
+    pub closes : OnErr result (new.closed ≡ true)
+
 -- ---- the loop over the changes of an Upload
 module _ {D : Type 0} {G : Ghosts D} where
   -- these records were added, the parts are these, and these changes are left
-  pub record UploadedSoFar (content : D → Option (List ℕ)) (images : D → List ℕ → Type 0) (moment : D → ℕ) (images_since : D → ℕ → List ℕ → Type 0) (strokes : D → List Stroke) (c : ℕ) (old now : Server D G) (all rest : List Change) : Type 0 where
+  pub record UploadedSoFar (c : ℕ) (old now : Server D G) (all rest : List Change) : Type 0 where
     pub records : List ServerRecord
     pub so_far : ServedByPartsSoFar the_profile c (parts old.kept) (parts now.kept) records all rest
-    pub added : Adds content images records old now
-    pub leaves : LeavesPrefix content images moment images_since records old now
-    pub told : Told (content (disk_of old.journal)) (λ b. (bytes : List ℕ) × (content (disk_of now.journal) ≡ Some bytes))
-    pub asked : Told (content (disk_of old.journal)) (λ b. Asks strokes (map server_bytes records) old.journal now.journal)
+    pub appends : JournalAppends records old.journal now.journal None
+    pub told : Told (G.content (disk_of old.journal)) (λ b. (bytes : List ℕ) × (G.content (disk_of now.journal) ≡ Some bytes))

@@ -18,7 +18,7 @@ impl<D: Disk> Server<D> {
     /// Opens the server of a disk. Besides what a journal refuses, `BadFile` comes where a record isn't one that a server would
     /// have written after those before it, with the place of its gate. An `Err` hands the disk back.
     pub fn open(alloc: Global, disk: D) -> Result<Server<D>, OpenRefusal<D>>
-        ensures opened { Told (D.content disk) (λ b. IfOk result (Opened D.content D.images b)) }
+        ensures opened { Told (D.content disk) (λ b. IfOk result (Opened b)) }
         ensures open_ { IfOk result (λ s. is_closed s ≡ false) }
         ensures bad { Told (D.content disk) (λ b. IfErr result (λ e. (place : ℕ) → e.cause ≡ OpenCause.BadFile place → BadPlace b place)) }
         ensures kept { Told (D.content disk) (λ b. IfErr result (λ e. (place : ℕ) → e.cause ≡ OpenCause.BadFile place → D.content e.disk ≡ Some b)) }

@@ -1,15 +1,13 @@
-ghost use Rattle.std.specs.Prelude.{◌≡◌, ◌↔◌, ◌⊎◌, ◌≤◌, ◌++◌, ◌∷◌, [], ℕ, List, map, length, slice_get, if◌then◌else◌, false, true, Some, IsErrOf, IfErr, IfOk, OnOk, OnErr};
+ghost use Rattle.std.specs.Prelude.{◌≡◌, ◌≤◌, ◌∷◌, [], ℕ, List, map, length, slice_get, if◌then◌else◌, false, true, Some, IsErrOf, IfOk, OnOk};
 ghost use Rattle.std.specs.Option.{option_copied, option_map};
 ghost use Rattle.sync_data.specs.declared.instr.Instr.{Instr};
-ghost use Rattle.sync_disk.specs.Disk.{LeavesOnly, Rose, SameDisk, Told};
+ghost use Rattle.sync_disk.specs.Disk.{SameDisk};
 ghost use Rattle.sync_disk.specs.Faults.{armed, begun, disarmed, has_stopped};
-ghost use Rattle.sync_journal.specs.Records.{StandsForPrefix};
 ghost use Rattle.sync_journal.specs.Stands.{Stands, disk_of};
-ghost use Rattle.sync_journal.specs.Uses.{UsesDisk};
 ghost use Rattle.sync_model.specs.Servers as model;
 ghost use Rattle.sync_model.specs.Parts.{Given as GivenParts, at_ident, bind_by, serve_by, upload_by};
 ghost use Rattle.sync_exchange.specs.Profile.{the_profile};
-ghost use Rattle.sync_exchange.specs.Seen.{change_seen, message_seen, server_bytes, server_seen};
+ghost use Rattle.sync_exchange.specs.Seen.{change_seen, message_seen, server_seen};
 ghost use Rattle.sync_recip.specs.Lists.{entry_of};
 ghost use Rattle.sync_server.specs.Integrating.{found};
 ghost use Rattle.sync_server.specs.Merging.{records_of};
@@ -57,17 +55,15 @@ fn entry_record(alloc: Global, ident: Ident, change: &Change) -> Result<ServerRe
 
 impl<D: Disk> Server<D> {
     ghost use Rattle.sync_server.specs.Kept.{parts};
-    ghost use Rattle.sync_server.specs.Serving.{Adds, Asked, Did, IsServed, IsServerOf, IsStored, IsTaken, LeavesPrefix, StaysOpen, change_records, is_closed, journal_of, kept_of};
+    ghost use Rattle.sync_server.specs.Serving.{Appends, Closes, Did, IsServed, IsServerOf, IsStored, IsTaken, StaysOpen, Survives, UsesDisk, change_records, is_closed, journal_of, kept_of};
 
     /// Adds a record to the journal. It closes the server where that fails.
     fn append(&mut self, added: &ServerRecord) -> Result<(), ServerRefusal>
         requires { is_closed self.old ≡ false }
-        ensures stored { OnOk result (Adds D.content D.images (server_seen added.now ∷ []) self.old self.new) }
-        ensures any_moment { LeavesPrefix D.content D.images D.moment D.images_since (server_seen added.now ∷ []) self.old self.new }
+        ensures appends { Appends (server_seen added.now ∷ []) self.old self.new result }
         ensures kept { kept_of self.new ≡ kept_of self.old }
         ensures stays { StaysOpen result self.new }
-        ensures strokes { Told (D.content (disk_of (journal_of self.old))) (λ b. Asked D.strokes (server_seen added.now ∷ []) self.old self.new result) }
-        ensures disk { UsesDisk D.content D.faults D.origin (IsErrOf result ServerRefusal.DiskFault) (journal_of self.old) (journal_of self.new) }
+        ensures disk { UsesDisk (IsErrOf result ServerRefusal.DiskFault) self.old self.new }
     {
         let Ok(bytes) = added.record_bytes(self.alloc) else {
             self.closed = true;
@@ -94,12 +90,10 @@ impl<D: Disk> Server<D> {
         change: &Change,
     ) -> Result<(), ServerRefusal>
         requires { is_closed self.old ≡ false }
-        ensures stored { OnOk result (Adds D.content D.images (records_of form ident (change_seen change.now)) self.old self.new) }
-        ensures any_moment { LeavesPrefix D.content D.images D.moment D.images_since (records_of form ident (change_seen change.now)) self.old self.new }
+        ensures appends { Appends (records_of form ident (change_seen change.now)) self.old self.new result }
         ensures kept { kept_of self.new ≡ kept_of self.old }
         ensures stays { StaysOpen result self.new }
-        ensures strokes { Told (D.content (disk_of (journal_of self.old))) (λ b. Asked D.strokes (records_of form ident (change_seen change.now)) self.old self.new result) }
-        ensures disk { UsesDisk D.content D.faults D.origin (IsErrOf result ServerRefusal.DiskFault) (journal_of self.old) (journal_of self.new) }
+        ensures disk { UsesDisk (IsErrOf result ServerRefusal.DiskFault) self.old self.new }
     {
         if form {
             match self.append(&ServerRecord::Form) {
@@ -125,12 +119,10 @@ impl<D: Disk> Server<D> {
         requires open_ { is_closed self.old ≡ false }
         requires given { (g : GivenParts Instr) × (at_ident ident (kept_of self.old).history.idents ≡ Some g) }
         ensures taken { (g : GivenParts Instr) → at_ident ident (kept_of self.old).history.idents ≡ Some g → IfOk result (λ why. IsTaken why ident g (change_seen change.now) (kept_of self.old) (kept_of self.new)) }
-        ensures stored { (g : GivenParts Instr) → at_ident ident (kept_of self.old).history.idents ≡ Some g → OnOk result (Adds D.content D.images (change_records (parts (kept_of self.old)) ident g (change_seen change.now)) self.old self.new) }
-        ensures any_moment { (g : GivenParts Instr) → at_ident ident (kept_of self.old).history.idents ≡ Some g → LeavesPrefix D.content D.images D.moment D.images_since (change_records (parts (kept_of self.old)) ident g (change_seen change.now)) self.old self.new }
+        ensures appends { (g : GivenParts Instr) → at_ident ident (kept_of self.old).history.idents ≡ Some g → Appends (change_records (parts (kept_of self.old)) ident g (change_seen change.now)) self.old self.new result }
         ensures given { OnOk result (length (kept_of self.new).history.idents ≡ length (kept_of self.old).history.idents) }
         ensures stays { StaysOpen result self.new }
-        ensures strokes { (g : GivenParts Instr) → at_ident ident (kept_of self.old).history.idents ≡ Some g → Told (D.content (disk_of (journal_of self.old))) (λ b. Asked D.strokes (change_records (parts (kept_of self.old)) ident g (change_seen change.now)) self.old self.new result) }
-        ensures disk { UsesDisk D.content D.faults D.origin (IsErrOf result ServerRefusal.DiskFault) (journal_of self.old) (journal_of self.new) }
+        ensures disk { UsesDisk (IsErrOf result ServerRefusal.DiskFault) self.old self.new }
     {
         let Some(given) = self.kept.history.at(ident) else {
             unreachable!()
@@ -157,11 +149,9 @@ impl<D: Disk> Server<D> {
     fn take_upload(&mut self, upload: &Upload) -> Result<Message, ServerRefusal>
         requires { is_closed self.old ≡ false }
         ensures served { IfOk result (λ reply. IsServed (upload_by the_profile (parts (kept_of self.old)) upload.now.ident (at_ident upload.now.ident (kept_of self.old).history.idents) (map change_seen upload.now.changes)) reply (kept_of self.new)) }
-        ensures stored { OnOk result (Adds D.content D.images (upload_by the_profile (parts (kept_of self.old)) upload.now.ident (at_ident upload.now.ident (kept_of self.old).history.idents) (map change_seen upload.now.changes)).records self.old self.new) }
-        ensures any_moment { LeavesPrefix D.content D.images D.moment D.images_since (upload_by the_profile (parts (kept_of self.old)) upload.now.ident (at_ident upload.now.ident (kept_of self.old).history.idents) (map change_seen upload.now.changes)).records self.old self.new }
+        ensures appends { Appends (upload_by the_profile (parts (kept_of self.old)) upload.now.ident (at_ident upload.now.ident (kept_of self.old).history.idents) (map change_seen upload.now.changes)).records self.old self.new result }
         ensures stays { StaysOpen result self.new }
-        ensures strokes { Told (D.content (disk_of (journal_of self.old))) (λ b. Asked D.strokes (upload_by the_profile (parts (kept_of self.old)) upload.now.ident (at_ident upload.now.ident (kept_of self.old).history.idents) (map change_seen upload.now.changes)).records self.old self.new result) }
-        ensures disk { UsesDisk D.content D.faults D.origin (IsErrOf result ServerRefusal.DiskFault) (journal_of self.old) (journal_of self.new) }
+        ensures disk { UsesDisk (IsErrOf result ServerRefusal.DiskFault) self.old self.new }
     {
         let ident = upload.ident();
         if self.kept.history.at(ident).is_none() {
@@ -185,11 +175,9 @@ impl<D: Disk> Server<D> {
     fn take_bind(&mut self, uuid: Id) -> Result<Message, ServerRefusal>
         requires { is_closed self.old ≡ false }
         ensures served { IfOk result (λ reply. IsServed (bind_by the_profile (parts (kept_of self.old)) uuid (model.place_of uuid (map (λ g. g.uuid) (kept_of self.old).history.idents))) reply (kept_of self.new)) }
-        ensures stored { OnOk result (Adds D.content D.images (bind_by the_profile (parts (kept_of self.old)) uuid (model.place_of uuid (map (λ g. g.uuid) (kept_of self.old).history.idents))).records self.old self.new) }
-        ensures any_moment { LeavesPrefix D.content D.images D.moment D.images_since (bind_by the_profile (parts (kept_of self.old)) uuid (model.place_of uuid (map (λ g. g.uuid) (kept_of self.old).history.idents))).records self.old self.new }
+        ensures appends { Appends (bind_by the_profile (parts (kept_of self.old)) uuid (model.place_of uuid (map (λ g. g.uuid) (kept_of self.old).history.idents))).records self.old self.new result }
         ensures stays { StaysOpen result self.new }
-        ensures strokes { Told (D.content (disk_of (journal_of self.old))) (λ b. Asked D.strokes (bind_by the_profile (parts (kept_of self.old)) uuid (model.place_of uuid (map (λ g. g.uuid) (kept_of self.old).history.idents))).records self.old self.new result) }
-        ensures disk { UsesDisk D.content D.faults D.origin (IsErrOf result ServerRefusal.DiskFault) (journal_of self.old) (journal_of self.new) }
+        ensures disk { UsesDisk (IsErrOf result ServerRefusal.DiskFault) self.old self.new }
     {
         if let Some(ident) = self.kept.history.ident_of(&uuid) {
             return Ok(Message::Ident(Given::new(uuid, ident)));
@@ -220,11 +208,9 @@ impl<D: Disk> Server<D> {
     ) -> Result<Message, ServerRefusal>
         requires { is_closed self.old ≡ false }
         ensures served { IfOk result (λ reply. IsServed (asked (parts (kept_of self.old)) ask.now.ident ask.now.cursor ask.now.settled (option_copied tables.entry) second) reply (kept_of self.new)) }
-        ensures stored { OnOk result (Adds D.content D.images (asked (parts (kept_of self.old)) ask.now.ident ask.now.cursor ask.now.settled (option_copied tables.entry) second).records self.old self.new) }
-        ensures any_moment { LeavesPrefix D.content D.images D.moment D.images_since (asked (parts (kept_of self.old)) ask.now.ident ask.now.cursor ask.now.settled (option_copied tables.entry) second).records self.old self.new }
+        ensures appends { Appends (asked (parts (kept_of self.old)) ask.now.ident ask.now.cursor ask.now.settled (option_copied tables.entry) second).records self.old self.new result }
         ensures stays { StaysOpen result self.new }
-        ensures strokes { Told (D.content (disk_of (journal_of self.old))) (λ b. Asked D.strokes (asked (parts (kept_of self.old)) ask.now.ident ask.now.cursor ask.now.settled (option_copied tables.entry) second).records self.old self.new result) }
-        ensures disk { UsesDisk D.content D.faults D.origin (IsErrOf result ServerRefusal.DiskFault) (journal_of self.old) (journal_of self.new) }
+        ensures disk { UsesDisk (IsErrOf result ServerRefusal.DiskFault) self.old self.new }
     {
         let reply = match self.kept.ask(self.alloc, ask, second, tables) {
             Ok(reply) => reply,
@@ -248,11 +234,9 @@ impl<D: Disk> Server<D> {
     fn take_retire(&mut self, retire: &Retire) -> Result<Message, ServerRefusal>
         requires { is_closed self.old ≡ false }
         ensures served { IfOk result (λ reply. IsServed (retiring (parts (kept_of self.old)) retire.now.ident retire.now.by) reply (kept_of self.new)) }
-        ensures stored { OnOk result (Adds D.content D.images (retiring (parts (kept_of self.old)) retire.now.ident retire.now.by).records self.old self.new) }
-        ensures any_moment { LeavesPrefix D.content D.images D.moment D.images_since (retiring (parts (kept_of self.old)) retire.now.ident retire.now.by).records self.old self.new }
+        ensures appends { Appends (retiring (parts (kept_of self.old)) retire.now.ident retire.now.by).records self.old self.new result }
         ensures stays { StaysOpen result self.new }
-        ensures strokes { Told (D.content (disk_of (journal_of self.old))) (λ b. Asked D.strokes (retiring (parts (kept_of self.old)) retire.now.ident retire.now.by).records self.old self.new result) }
-        ensures disk { UsesDisk D.content D.faults D.origin (IsErrOf result ServerRefusal.DiskFault) (journal_of self.old) (journal_of self.new) }
+        ensures disk { UsesDisk (IsErrOf result ServerRefusal.DiskFault) self.old self.new }
     {
         let (ident, by) = (retire.ident(), retire.by());
         let retirement = match self.kept.retirement(ident, by) {
@@ -280,11 +264,9 @@ impl<D: Disk> Server<D> {
     fn serve(&mut self, message: &Message) -> Result<Message, ServerRefusal>
         requires { is_closed self.old ≡ false }
         ensures served { IfOk result (λ reply. IsServed (serve_by the_profile (parts (kept_of self.old)) (message_seen message.now)) reply (kept_of self.new)) }
-        ensures stored { OnOk result (Adds D.content D.images (serve_by the_profile (parts (kept_of self.old)) (message_seen message.now)).records self.old self.new) }
-        ensures any_moment { LeavesPrefix D.content D.images D.moment D.images_since (serve_by the_profile (parts (kept_of self.old)) (message_seen message.now)).records self.old self.new }
+        ensures appends { Appends (serve_by the_profile (parts (kept_of self.old)) (message_seen message.now)).records self.old self.new result }
         ensures stays { StaysOpen result self.new }
-        ensures strokes { Told (D.content (disk_of (journal_of self.old))) (λ b. Asked D.strokes (serve_by the_profile (parts (kept_of self.old)) (message_seen message.now)).records self.old self.new result) }
-        ensures disk { UsesDisk D.content D.faults D.origin (IsErrOf result ServerRefusal.DiskFault) (journal_of self.old) (journal_of self.new) }
+        ensures disk { UsesDisk (IsErrOf result ServerRefusal.DiskFault) self.old self.new }
     {
         match message {
             Message::Bind { uuid } => self.take_bind(*uuid),
@@ -306,27 +288,10 @@ impl<D: Disk> Server<D> {
     /// Takes a message, and answers the reply (docs/GUARANTEES.md, "Nodes"). What it answers is on the disk. `Closed` comes exactly
     /// after an earlier `DiskFault` or `NoMemory`.
     pub fn take(&mut self, message: Message) -> Result<Message, ServerRefusal>
-        // It answers by what its records give, and keeps what they give with the new ones.
-        ensures step { (records : List model.ServerRecord) → IsServerOf records self.old → IfOk result (λ reply. Did (serve_by the_profile (parts (kept_of self.old)) (message_seen message)) reply records self.new) }
-        // The disk holds the new records too.
-        ensures stored { (records : List model.ServerRecord) → IsServerOf records self.old → IsStored D.content D.images records self.old
-            → OnOk result (IsStored D.content D.images (records ++ (serve_by the_profile (parts (kept_of self.old)) (message_seen message)).records) self.new) }
-        // A crash at any moment of the call leaves the old records and some of the new ones, from the first on.
-        ensures any_moment { (records : List model.ServerRecord) → IsServerOf records self.old → IsStored D.content D.images records self.old
-            → LeavesOnly D.moment D.images_since (disk_of (journal_of self.old)) (disk_of (journal_of self.new)) (StandsForPrefix (map server_bytes records) (map server_bytes (serve_by the_profile (parts (kept_of self.old)) (message_seen message)).records)) }
-        // At an answer the disk was asked for the appends of the new records and for nothing else, at a fault for the first of them, up to
-        // the stroke that failed.
-        ensures strokes { (records : List model.ServerRecord) → IsServerOf records self.old → IsStored D.content D.images records self.old
-            → Asked D.strokes (serve_by the_profile (parts (kept_of self.old)) (message_seen message)).records self.old self.new result }
-        // What no call of the disk changes.
-        ensures origin { D.origin (disk_of (journal_of self.new)) ≡ D.origin (disk_of (journal_of self.old)) }
-        ensures told { Told (D.content (disk_of (journal_of self.old))) (λ b. (c : List ℕ) × (D.content (disk_of (journal_of self.new)) ≡ Some c)) }
-        // The refusals and their causes.
-        ensures closed { IsErrOf result ServerRefusal.Closed ↔ (is_closed self.old ≡ true) }
-        ensures shut { IsErrOf result ServerRefusal.Closed → self.new ≡ self.old }
-        ensures closes { OnErr result (is_closed self.new ≡ true) }
-        ensures later { D.faults (disk_of (journal_of self.old)) ≤ D.faults (disk_of (journal_of self.new)) }
-        ensures fault { IsErrOf result ServerRefusal.DiskFault → Rose (D.faults (disk_of (journal_of self.old))) (D.faults (disk_of (journal_of self.new))) }
+        ensures does { (records : List model.ServerRecord) → IsServerOf records self.old → IfOk result (λ reply. Did (serve_by the_profile (parts (kept_of self.old)) (message_seen message)) reply records self.new) }
+        ensures survives { (records : List model.ServerRecord) → IsServerOf records self.old → IsStored records self.old → Survives (serve_by the_profile (parts (kept_of self.old)) (message_seen message)) records self.old self.new result }
+        ensures closes { Closes self.old self.new result }
+        ensures disk { UsesDisk (IsErrOf result ServerRefusal.DiskFault) self.old self.new }
     {
         if self.closed {
             return Err(ServerRefusal::Closed);

@@ -8,31 +8,37 @@ use Rattle.sync_server.proofs.Leaving.{bytes_back}
 use Rattle.sync_server.proofs.Strokes.{is_short}
 use Rattle.sync_server.proofs.server.Server.append.Goals as goal
 
-pub returns-in-Ok-append-clause-any_moment : goal.returns-in-Ok-append-clause-any_moment
-returns-in-Ok-append-clause-any_moment g c = λ rs s.
+pub returns-in-Ok-append-clause-appends : goal.returns-in-Ok-append-clause-appends
+returns-in-Ok-append-clause-appends g c =
     let D = g.D.Disk in
     let e = c.as_slice.ensures.value ∙ c.in-Ok.ensures.spelled ∙ bytes_back c.args.added.now in
-    subst (λ b. LeavesOnly D.moment D.images_since (disk_of c.args.self.now.journal) (disk_of c.append.new.self) (StandsForPrefix rs (b ∷ []))) e (c.append.ensures.any_moment rs s)
+    record {
+      stored = search rules;
+      any_moment = λ rs s. subst (λ b. LeavesOnly D.moment D.images_since (disk_of c.args.self.now.journal) (disk_of c.append.new.self) (StandsForPrefix rs (b ∷ []))) e (c.append.ensures.any_moment rs s);
+      asked = search rules;
+    }
 
-pub returns-in-Err-DiskFault-clause-any_moment : goal.returns-in-Err-DiskFault-clause-any_moment
-returns-in-Err-DiskFault-clause-any_moment g c = λ rs s.
-    let D = g.D.Disk in
-    let e = c.as_slice.ensures.value ∙ c.in-Ok.ensures.spelled ∙ bytes_back c.args.added.now in
-    subst (λ b. LeavesOnly D.moment D.images_since (disk_of c.args.self.now.journal) (disk_of c.append.new.self) (StandsForPrefix rs (b ∷ []))) e (c.append.ensures.any_moment rs s)
-
-pub returns-clause-any_moment : goal.returns-clause-any_moment
-returns-clause-any_moment g c = λ rs s.
-    let D = g.D.Disk in
-    let e = c.as_slice.ensures.value ∙ c.in-Ok.ensures.spelled ∙ bytes_back c.args.added.now in
-    subst (λ b. LeavesOnly D.moment D.images_since (disk_of c.args.self.now.journal) (disk_of c.append.new.self) (StandsForPrefix rs (b ∷ []))) e (c.append.ensures.any_moment rs s)
-
-pub returns-in-Err-DiskFault-clause-strokes : goal.returns-in-Err-DiskFault-clause-strokes
-returns-in-Err-DiskFault-clause-strokes g c = λ b told.
+pub returns-in-Err-DiskFault-clause-appends : goal.returns-in-Err-DiskFault-clause-appends
+returns-in-Err-DiskFault-clause-appends g c =
     let D = g.D.Disk in
     let e = c.as_slice.ensures.value ∙ c.in-Ok.ensures.spelled ∙ bytes_back c.args.added.now in
     let journal = c.args.self.now.journal in
     let bytes = c.as_slice.result.now in
     let failed = c.in-Err-DiskFault.is ∙ ap (λ why. Err why) c.in-Err-DiskFault.field-0-is in
     let short = is_short c.append.result (is_closed journal) (length bytes) failed c.append.ensures.closed c.append.ensures.too_long in
-    subst (λ w. AsksPart (w ∷ []) (end_of journal) (D.strokes (disk_of journal)) (D.strokes (disk_of c.append.new.self))) e
-    (part_one bytes (end_of journal) (D.strokes (disk_of journal)) (D.strokes (disk_of c.append.new.self)) short (c.append.ensures.cut b told failed))
+    record {
+      stored = tt;
+      any_moment = λ rs s. subst (λ b. LeavesOnly D.moment D.images_since (disk_of journal) (disk_of c.append.new.self) (StandsForPrefix rs (b ∷ []))) e (c.append.ensures.any_moment rs s);
+      asked = λ b told. subst (λ w. AsksPart (w ∷ []) (end_of journal) (D.strokes (disk_of journal)) (D.strokes (disk_of c.append.new.self))) e
+          (part_one bytes (end_of journal) (D.strokes (disk_of journal)) (D.strokes (disk_of c.append.new.self)) short (c.append.ensures.cut b told failed));
+    }
+
+pub returns-clause-appends : goal.returns-clause-appends
+returns-clause-appends g c =
+    let D = g.D.Disk in
+    let e = c.as_slice.ensures.value ∙ c.in-Ok.ensures.spelled ∙ bytes_back c.args.added.now in
+    record {
+      stored = tt;
+      any_moment = λ rs s. subst (λ b. LeavesOnly D.moment D.images_since (disk_of c.args.self.now.journal) (disk_of c.append.new.self) (StandsForPrefix rs (b ∷ []))) e (c.append.ensures.any_moment rs s);
+      asked = λ b told. tt;
+    }

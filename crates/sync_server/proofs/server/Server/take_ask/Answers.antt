@@ -1,20 +1,19 @@
-use Rattle.std.proofs.Common.{◌≡◌, ◌∷◌, [], Some, if◌then◌else◌, sym, ap, ◌∙◌, subst}
+use Rattle.std.proofs.Common.{◌≡◌, ◌∷◌, [], Some, None, if◌then◌else◌, sym, ap, ◌∙◌, subst}
 use Rattle.std.specs.Option.{option_copied}
 use Rattle.sync_data.specs.declared.instr.Instr.{Instr}
 use Rattle.sync_model.specs.Parts.{Given, at_ident}
 use Rattle.sync_model.specs.Servers.{ServerRecord}
 use Rattle.sync_server.specs.Kept.{parts}
 use Rattle.sync_server.specs.Sending.{asked}
-use Rattle.sync_server.specs.Serving.{LeavesPrefix}
+use Rattle.sync_server.specs.Serving.{JournalAppends}
 use Rattle.sync_server.proofs.server.Server.take_ask.Goals as goal
 
 pub settle_at-requires : goal.settle_at-requires
 settle_at-requires g c =
     subst (λ n. (x : Given Instr) × (at_ident n c.args.self.now.kept.history.idents ≡ Some x)) (sym c.ident-ident.ensures.value) (c.settles.ensures.given c.if-not-settles.false)
 
-pub returns-in-Ok-append-clause-any_moment : goal.returns-in-Ok-append-clause-any_moment
-returns-in-Ok-append-clause-any_moment g c =
-    let D = g.D.Disk in
+pub returns-in-Ok-append-clause-appends : goal.returns-in-Ok-append-clause-appends
+returns-in-Ok-append-clause-appends g c =
     let kept = parts c.args.self.now.kept in
     let fresh = c.if-not-settles.false in
     let says = c.settles.ensures.says (option_copied c.args.tables) c.args.second c.in-Ok.ensures in
@@ -22,11 +21,10 @@ returns-in-Ok-append-clause-any_moment g c =
     (λ i. ServerRecord.Settled (c.ident-ident.ensures.value i) (c.settled-settled.ensures.value i) ∷ [])
     ∙ sym (says.records ∙ ap (λ b. if b then ServerRecord.Settled c.args.ask.now.ident c.args.ask.now.settled ∷ [] else []) fresh)
     in
-    subst (λ l. LeavesPrefix D.content D.images D.moment D.images_since l c.args.self.now c.append.new.self) one c.append.ensures.any_moment
+    subst (λ l. JournalAppends l c.args.self.now.journal c.append.new.self.journal None) one c.in-Ok-append.ensures.appends
 
-pub returns-in-Err-append-clause-any_moment : goal.returns-in-Err-append-clause-any_moment
-returns-in-Err-append-clause-any_moment g c =
-    let D = g.D.Disk in
+pub returns-in-Err-append-clause-appends : goal.returns-in-Err-append-clause-appends
+returns-in-Err-append-clause-appends g c =
     let kept = parts c.args.self.now.kept in
     let fresh = c.if-not-settles.false in
     let says = c.settles.ensures.says (option_copied c.args.tables) c.args.second c.in-Ok.ensures in
@@ -34,4 +32,4 @@ returns-in-Err-append-clause-any_moment g c =
     (λ i. ServerRecord.Settled (c.ident-ident.ensures.value i) (c.settled-settled.ensures.value i) ∷ [])
     ∙ sym (says.records ∙ ap (λ b. if b then ServerRecord.Settled c.args.ask.now.ident c.args.ask.now.settled ∷ [] else []) fresh)
     in
-    subst (λ l. LeavesPrefix D.content D.images D.moment D.images_since l c.args.self.now c.append.new.self) one c.append.ensures.any_moment
+    subst (λ l. JournalAppends l c.args.self.now.journal c.append.new.self.journal (Some c.in-Err-append.refusal)) one c.in-Err-append.ensures.appends

@@ -1,23 +1,21 @@
-use Rattle.std.proofs.Common.{map, sym, ◌∙◌, subst}
+use Rattle.std.proofs.Common.{Some, None, map, sym, ◌∙◌, subst}
 use Rattle.sync_exchange.specs.Profile.{the_profile}
 use Rattle.sync_model.specs.Servers.{place_of}
 use Rattle.sync_server.specs.Kept.{parts}
-use Rattle.sync_server.specs.Serving.{LeavesPrefix}
+use Rattle.sync_server.specs.Serving.{JournalAppends}
 use Rattle.sync_server.proofs.Idents.{bind_records}
 use Rattle.sync_server.proofs.server.Server.take_bind.Goals as goal
 
-pub returns-in-Ok-append-clause-any_moment : goal.returns-in-Ok-append-clause-any_moment
-returns-in-Ok-append-clause-any_moment g c =
-    let D = g.D.Disk in
+pub returns-in-Ok-append-clause-appends : goal.returns-in-Ok-append-clause-appends
+returns-in-Ok-append-clause-appends g c =
     let kept = c.args.self.now.kept in
     let place = place_of c.args.uuid (map (λ d. d.uuid) kept.history.idents) in
     let one = bind_records the_profile (parts kept) c.args.uuid place (sym c.ident_of.ensures ∙ c.in_default.is) (λ e. c.if-given.false (c.given-given.ensures ∙ e)) in
-    subst (λ l. LeavesPrefix D.content D.images D.moment D.images_since l c.args.self.now c.append.new.self) (sym one) c.append.ensures.any_moment
+    subst (λ l. JournalAppends l c.args.self.now.journal c.append.new.self.journal None) (sym one) c.in-Ok-append.ensures.appends
 
-pub returns-clause-any_moment : goal.returns-clause-any_moment
-returns-clause-any_moment g c =
-    let D = g.D.Disk in
+pub returns-clause-appends : goal.returns-clause-appends
+returns-clause-appends g c =
     let kept = c.args.self.now.kept in
     let place = place_of c.args.uuid (map (λ d. d.uuid) kept.history.idents) in
     let one = bind_records the_profile (parts kept) c.args.uuid place (sym c.ident_of.ensures ∙ c.in_default.is) (λ e. c.if-given.false (c.given-given.ensures ∙ e)) in
-    subst (λ l. LeavesPrefix D.content D.images D.moment D.images_since l c.args.self.now c.append.new.self) (sym one) c.append.ensures.any_moment
+    subst (λ l. JournalAppends l c.args.self.now.journal c.append.new.self.journal (Some c.in-Err.refusal)) (sym one) c.in-Err.ensures.appends

@@ -1,22 +1,19 @@
-use Rattle.std.proofs.Common.{◌≡◌, ◌<◌, length, map, Option, None, Some, Err, refl, sym, ap, ◌∙◌, subst, arith}
+use Rattle.std.proofs.Common.{◌≡◌, ◌<◌, length, Option, None, Some, Err, refl, sym, ap, ◌∙◌, subst, arith}
 use Rattle.std.proofs.lemmas.Bool.{lt-leb}
 use Rattle.sync_data.specs.declared.instr.Instr.{Instr}
 use Rattle.sync_base.specs.States.{State}
-use Rattle.sync_journal.specs.Several.{Asks}
-use Rattle.sync_exchange.specs.Seen.{change_seen, server_bytes}
+use Rattle.sync_exchange.specs.Seen.{change_seen}
 use Rattle.sync_exchange.specs.Profile.{the_profile}
 use Rattle.sync_model.specs.Messages.{Change}
 use Rattle.sync_model.specs.Parts.{Parts, merge_by}
 use Rattle.sync_server.specs.Kept.{parts}
 use Rattle.sync_server.specs.Merging.{Merges, change_of, records_of}
 use Rattle.sync_server.specs.Refusals.{refusal_seen}
-use Rattle.sync_server.specs.Serving.{Adds, Asked, LeavesPrefix}
+use Rattle.sync_server.specs.Serving.{JournalAppends}
 use Rattle.sync_server.specs.declared.kept.Kept.{Kept}
 use Rattle.sync_server.specs.declared.refusal.Refusal.{Refusal}
-use Rattle.sync_server.proofs.Adding.{adds_none}
+use Rattle.sync_server.proofs.Appending.{appends_none}
 use Rattle.sync_server.proofs.Keeps.{the_same}
-use Rattle.sync_server.proofs.Leaving.{untouched}
-use Rattle.sync_server.proofs.Strokes.{asked_alike, asks_nothing}
 use Rattle.sync_server.proofs.Uploading.{is_taken, merged_change, refused_change}
 use Rattle.sync_server.proofs.server.Server.take_change.Goals as goal
 
@@ -45,9 +42,8 @@ returns-in-Err-Refused-clause-taken g c = λ d is.
     let refused = refused_change old ident d h k above (λ i. change_of (c.of-head.ensures i) (c.body.ensures.value i)) (refusal_seen why) both.0 in
     is_taken (Some why) ident d h old c.merge.new.self (lt-leb h.number d.count above) (refused.0, both.1)
 
-pub returns-in-Err-Refused-clause-stored : goal.returns-in-Err-Refused-clause-stored
-returns-in-Err-Refused-clause-stored g c = λ d is.
-    let D = g.D.Disk in
+pub returns-in-Err-Refused-clause-appends : goal.returns-in-Err-Refused-clause-appends
+returns-in-Err-Refused-clause-appends g c = λ d is.
     let self = c.args.self.now in
     let old = self.kept in
     let ident = c.args.ident in
@@ -57,12 +53,7 @@ returns-in-Err-Refused-clause-stored g c = λ d is.
     let above : d.count < h.number = omega (arith, c.count.ensures, ap (λ g. g.count) same, c.number.ensures.value, c.if-number-count.false) in
     let both = subst (λ e. Merges (Err e) (merge_by the_profile (parts old) ident d k) ident k (parts old) (parts c.merge.new.self)) c.in-Err-Refused.field-0-is (c.in-Err-Refused.ensures.merged d is) in
     let refused = refused_change old ident d h k above (λ i. change_of (c.of-head.ensures i) (c.body.ensures.value i)) (refusal_seen c.in-Err-Refused.why) both.0 in
-    subst (λ l. Adds D.content D.images l self self) (sym refused.1) (adds_none D.content D.images self self refl)
-
-pub returns-in-Err-Refused-clause-any_moment : goal.returns-in-Err-Refused-clause-any_moment
-returns-in-Err-Refused-clause-any_moment g c = λ d is.
-    let D = g.D.Disk in
-    untouched D.content D.images D.moment D.images_since g.met.D.Disk.only_now _ c.args.self.now c.args.self.now refl
+    subst (λ l. JournalAppends l self.journal self.journal None) (sym refused.1) (appends_none self.journal self.journal g.met.D.Disk.only_now refl)
 
 pub returns-in-Err-Refused-clause-given : goal.returns-in-Err-Refused-clause-given
 returns-in-Err-Refused-clause-given g c =
@@ -72,20 +63,6 @@ returns-in-Err-Refused-clause-given g c =
     let k = change_of c.of-head.result c.body.result.now in
     let both = subst (λ e. Merges (Err e) (merge_by the_profile (parts old) ident d.0 k) ident k (parts old) (parts c.merge.new.self)) c.in-Err-Refused.field-0-is (c.in-Err-Refused.ensures.merged d.0 d.1) in
     ap (λ (p : Parts Instr State). length p.idents) both.1
-
-pub returns-in-Err-Refused-clause-strokes : goal.returns-in-Err-Refused-clause-strokes
-returns-in-Err-Refused-clause-strokes g c = λ d is b told.
-    let D = g.D.Disk in
-    let self = c.args.self.now in
-    let old = self.kept in
-    let ident = c.args.ident in
-    let h = change_seen c.args.change.now in
-    let k = change_of c.of-head.result c.body.result.now in
-    let same : c.in-Some.given.now ≡ d = the_same (c.in-Some.ensures.given ∙ is) in
-    let above : d.count < h.number = omega (arith, c.count.ensures, ap (λ g. g.count) same, c.number.ensures.value, c.if-number-count.false) in
-    let both = subst (λ e. Merges (Err e) (merge_by the_profile (parts old) ident d k) ident k (parts old) (parts c.merge.new.self)) c.in-Err-Refused.field-0-is (c.in-Err-Refused.ensures.merged d is) in
-    let refused = refused_change old ident d h k above (λ i. change_of (c.of-head.ensures i) (c.body.ensures.value i)) (refusal_seen c.in-Err-Refused.why) both.0 in
-    subst (λ l. Asks D.strokes (map server_bytes l) self.journal self.journal) (sym refused.1) (asks_nothing D.strokes self self refl)
 
 -- where it is merged
 pub returns-in-Ok-append_entry-clause-taken : goal.returns-in-Ok-append_entry-clause-taken
@@ -100,9 +77,8 @@ returns-in-Ok-append_entry-clause-taken g c = λ d is.
     is_taken None ident d h old c.append_entry.new.self.kept (lt-leb h.number d.count above)
     (record { records = records_of c.in-Ok.form ident h; parts = parts c.merge.new.self }, merged.0, ap parts c.append_entry.ensures.kept)
 
-pub returns-in-Ok-append_entry-clause-stored : goal.returns-in-Ok-append_entry-clause-stored
-returns-in-Ok-append_entry-clause-stored g c = λ d is.
-    let D = g.D.Disk in
+pub returns-in-Ok-append_entry-clause-appends : goal.returns-in-Ok-append_entry-clause-appends
+returns-in-Ok-append_entry-clause-appends g c = λ d is.
     let old = c.args.self.now.kept in
     let ident = c.args.ident in
     let h = change_seen c.args.change.now in
@@ -110,39 +86,14 @@ returns-in-Ok-append_entry-clause-stored g c = λ d is.
     let same : c.in-Some.given.now ≡ d = the_same (c.in-Some.ensures.given ∙ is) in
     let above : d.count < h.number = omega (arith, c.count.ensures, ap (λ g. g.count) same, c.number.ensures.value, c.if-number-count.false) in
     let merged = merged_change old ident d h k above (λ i. change_of (c.of-head.ensures i) (c.body.ensures.value i)) c.in-Ok.form (parts c.merge.new.self) (c.in-Ok.ensures.merged d is) in
-    subst (λ l. Adds D.content D.images l c.args.self.now c.append_entry.new.self) (sym merged.1) c.in-Ok-append_entry.ensures.stored
-
-pub returns-in-Ok-append_entry-clause-any_moment : goal.returns-in-Ok-append_entry-clause-any_moment
-returns-in-Ok-append_entry-clause-any_moment g c = λ d is.
-    let D = g.D.Disk in
-    let old = c.args.self.now.kept in
-    let ident = c.args.ident in
-    let h = change_seen c.args.change.now in
-    let k = change_of c.of-head.result c.body.result.now in
-    let same : c.in-Some.given.now ≡ d = the_same (c.in-Some.ensures.given ∙ is) in
-    let above : d.count < h.number = omega (arith, c.count.ensures, ap (λ g. g.count) same, c.number.ensures.value, c.if-number-count.false) in
-    let merged = merged_change old ident d h k above (λ i. change_of (c.of-head.ensures i) (c.body.ensures.value i)) c.in-Ok.form (parts c.merge.new.self) (c.in-Ok.ensures.merged d is) in
-    subst (λ l. LeavesPrefix D.content D.images D.moment D.images_since l c.args.self.now c.append_entry.new.self) (sym merged.1) c.append_entry.ensures.any_moment
+    subst (λ l. JournalAppends l c.args.self.now.journal c.append_entry.new.self.journal None) (sym merged.1) c.in-Ok-append_entry.ensures.appends
 
 pub returns-in-Ok-append_entry-clause-given : goal.returns-in-Ok-append_entry-clause-given
 returns-in-Ok-append_entry-clause-given g c = ap (λ (k : Kept). length k.history.idents) c.append_entry.ensures.kept ∙ c.in-Ok.ensures.given
 
-pub returns-in-Ok-append_entry-clause-strokes : goal.returns-in-Ok-append_entry-clause-strokes
-returns-in-Ok-append_entry-clause-strokes g c = λ d is b told.
-    let D = g.D.Disk in
-    let old = c.args.self.now.kept in
-    let ident = c.args.ident in
-    let h = change_seen c.args.change.now in
-    let k = change_of c.of-head.result c.body.result.now in
-    let same : c.in-Some.given.now ≡ d = the_same (c.in-Some.ensures.given ∙ is) in
-    let above : d.count < h.number = omega (arith, c.count.ensures, ap (λ g. g.count) same, c.number.ensures.value, c.if-number-count.false) in
-    let merged = merged_change old ident d h k above (λ i. change_of (c.of-head.ensures i) (c.body.ensures.value i)) c.in-Ok.form (parts c.merge.new.self) (c.in-Ok.ensures.merged d is) in
-    subst (λ l. Asks D.strokes (map server_bytes l) c.args.self.now.journal c.append_entry.new.self.journal) (sym merged.1) (c.in-Ok-append_entry.ensures.strokes b told)
-
 -- where its record isn't added
-pub returns-in-Err-clause-any_moment : goal.returns-in-Err-clause-any_moment
-returns-in-Err-clause-any_moment g c = λ d is.
-    let D = g.D.Disk in
+pub returns-in-Err-clause-appends : goal.returns-in-Err-clause-appends
+returns-in-Err-clause-appends g c = λ d is.
     let old = c.args.self.now.kept in
     let ident = c.args.ident in
     let h = change_seen c.args.change.now in
@@ -150,18 +101,4 @@ returns-in-Err-clause-any_moment g c = λ d is.
     let same : c.in-Some.given.now ≡ d = the_same (c.in-Some.ensures.given ∙ is) in
     let above : d.count < h.number = omega (arith, c.count.ensures, ap (λ g. g.count) same, c.number.ensures.value, c.if-number-count.false) in
     let merged = merged_change old ident d h k above (λ i. change_of (c.of-head.ensures i) (c.body.ensures.value i)) c.in-Ok.form (parts c.merge.new.self) (c.in-Ok.ensures.merged d is) in
-    subst (λ l. LeavesPrefix D.content D.images D.moment D.images_since l c.args.self.now c.append_entry.new.self) (sym merged.1) c.append_entry.ensures.any_moment
-
-pub returns-in-Err-clause-strokes : goal.returns-in-Err-clause-strokes
-returns-in-Err-clause-strokes g c = λ d is b told.
-    let D = g.D.Disk in
-    let self = c.args.self.now in
-    let old = self.kept in
-    let ident = c.args.ident in
-    let h = change_seen c.args.change.now in
-    let k = change_of c.of-head.result c.body.result.now in
-    let same : c.in-Some.given.now ≡ d = the_same (c.in-Some.ensures.given ∙ is) in
-    let above : d.count < h.number = omega (arith, c.count.ensures, ap (λ g. g.count) same, c.number.ensures.value, c.if-number-count.false) in
-    let merged = merged_change old ident d h k above (λ i. change_of (c.of-head.ensures i) (c.body.ensures.value i)) c.in-Ok.form (parts c.merge.new.self) (c.in-Ok.ensures.merged d is) in
-    let asked = asked_alike D.strokes (Unit {0}) (Option Refusal) (records_of c.in-Ok.form ident h) self (record self { kept = c.merge.new.self }) c.append_entry.new.self c.in-Err.refusal refl (c.in-Err.ensures.strokes b told) in
-    subst (λ l. Asked {B = Option Refusal} D.strokes l self c.append_entry.new.self (Err c.in-Err.refusal)) (sym merged.1) asked
+    subst (λ l. JournalAppends l c.args.self.now.journal c.append_entry.new.self.journal (Some c.in-Err.refusal)) (sym merged.1) c.in-Err.ensures.appends

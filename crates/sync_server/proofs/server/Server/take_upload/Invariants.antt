@@ -8,7 +8,7 @@ abbrev pub invariant-loop-change : goal.invariant-loop-change
 invariant-loop-change g l = record {
   is_open : l.self.closed ≡ false;
   given : length l.self.kept.history.idents ≡ length l.fn.self.kept.history.idents;
-  so_far : UploadedSoFar g.D.Disk.content g.D.Disk.images g.D.Disk.moment g.D.Disk.images_since g.D.Disk.strokes l.ident l.fn.self l.self (map change_seen l.change-items) (map change_seen (drop l.change-index l.change-items));
+  so_far : UploadedSoFar l.ident l.fn.self l.self (map change_seen l.change-items) (map change_seen (drop l.change-index l.change-items));
   origin : g.D.Disk.origin (disk_of l.self.journal) ≡ g.D.Disk.origin (disk_of l.fn.self.journal);
   later : g.D.Disk.faults (disk_of l.fn.self.journal) ≤ g.D.Disk.faults (disk_of l.self.journal);
 }
