@@ -1,8 +1,7 @@
 -- What the heir's call answers, and what it leaves.
-use Rattle.std.specs.Prelude.{◌≡◌, ℕ, List, ◌++◌, map, Option, None, Some, Result, Ok, Err}
+use Rattle.std.specs.Prelude.{◌≡◌, ◌↔◌, ◌⊎◌, ℕ, true, List, ◌++◌, map, Option, None, Some, Result, Ok, Err, IsErrOf}
 use Rattle.std.specs.Option.{option_map}
 use Rattle.sync_disk.specs.declared.disk.Disk.{Ghosts}
-use Rattle.sync_disk.specs.Strokes.{Stroke}
 use Rattle.sync_journal.specs.Several.{Asks}
 use Rattle.sync_messages.specs.Parts.{ChangeParts, RetiredParts}
 use Rattle.sync_model.specs.Clients.{Client as Model, ClientRecord, client_of}
@@ -11,7 +10,7 @@ use Rattle.sync_data.specs.declared.instr.Instr.{Instr}
 use Rattle.sync_base.specs.States.{State}
 use Rattle.sync_exchange.specs.Profile.{the_profile, unspell}
 use Rattle.sync_exchange.specs.Seen.{change_seen, client_bytes}
-use Rattle.sync_client.specs.Clients.{AskedFor, IsClientOf, IsStored}
+use Rattle.sync_client.specs.Clients.{AskedFor, IsClientOf, IsStored, Leaves}
 use Rattle.sync_client.specs.Refusals.{refusal_seen}
 use Rattle.sync_client.specs.declared.client.Client.{Client}
 use Rattle.sync_client.specs.declared.refusal.ClientRefusal.{ClientRefusal as CodeRefusal}
@@ -67,15 +66,29 @@ module _ {D : Type 0} {G : Ghosts D} where
   HeirSays did records new (Err why) = IfReset (reset_seen why) (λ w. HeirDid did (Err w) records new)
 
   -- and the disk holds them
-  abbrev pub HeirStores : (content : D → Option (List ℕ)) (images : D → List ℕ → Type 0) → HeirStep → List ClientRecord → Client D G → Result Heir CodeReset → Type 0
-  HeirStores content images did records new (Ok a) = IsStored content images (records ++ did.records) new
-  HeirStores content images did records new (Err why) = IfReset (reset_seen why) (λ w. IsStored content images (records ++ did.records) new)
+  abbrev pub HeirStores : HeirStep → List ClientRecord → Client D G → Result Heir CodeReset → Type 0
+  HeirStores did records new (Ok a) = IsStored (records ++ did.records) new
+  HeirStores did records new (Err why) = IfReset (reset_seen why) (λ w. IsStored (records ++ did.records) new)
 
   -- the disk was asked for the appends of the step's records, as a transaction asks
-  abbrev pub HeirAsked : (D → List Stroke) → HeirStep → Client D G → Client D G → Result Heir CodeReset → Type 0
-  HeirAsked strokes did old new (Err (resets.Client why)) = AskedFor strokes did.records old.journal new.journal (Some why)
-  HeirAsked strokes did old new (Err resets.NoMemory) = Unit {0}
-  HeirAsked strokes did old new result = Asks strokes (map client_bytes did.records) old.journal new.journal
+  abbrev pub HeirAsked : HeirStep → Client D G → Client D G → Result Heir CodeReset → Type 0
+  HeirAsked did old new (Err (resets.Client why)) = AskedFor did.records old.journal new.journal (Some why)
+  HeirAsked did old new (Err resets.NoMemory) = Unit {0}
+  HeirAsked did old new result = Asks G.strokes (map client_bytes did.records) old.journal new.journal
+
+  -- it survives a crash as a transaction does
+  pub record HeirSurvives (did : HeirStep) (records : List ClientRecord) (old new : Client D G) (result : Result Heir CodeReset) : Type 0 where
+    pub stored : HeirStores did records new result
+    pub any_moment : Leaves records did.records old.journal new.journal
+    pub asked : HeirAsked did old new result
+
+  -- a closed client does nothing; a fault, and out of memory in the transaction, close it; before that, out of memory changes
+  -- nothing
+  pub record HeirCloses (old new : Client D G) (result : Result Heir CodeReset) : Type 0 where
+    pub closed : IsErrOf result (resets.Client codes.Closed) ↔ (old.closed ≡ true)
+    pub shut : IsErrOf result (resets.Client codes.Closed) → new ≡ old
+    pub closes : IsErrOf result (resets.Client codes.DiskFault) ⊎ IsErrOf result (resets.Client codes.NoMemory) → new.closed ≡ true
+    pub unchanged : IsErrOf result resets.NoMemory → new ≡ old
 
 -- an open heir's transaction is refused by these alone
 abbrev pub IsHeirCause : CodeReset → Type 0

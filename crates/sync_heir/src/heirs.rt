@@ -1,12 +1,8 @@
-ghost use Rattle.std.specs.Prelude.{◌≡◌, ◌↔◌, ◌⊎◌, ◌≤◌, ℕ, List, Some, false, true, map, IsErrOf, IfErr, IfOk, Ok};
-ghost use Rattle.sync_disk.specs.Disk.{LeavesOnly, Rose, Told};
+ghost use Rattle.std.specs.Prelude.{◌≡◌, ◌≤◌, List, false, true, IsErrOf, IfErr, IfOk, Ok};
 ghost use Rattle.sync_exchange.specs.Profile.{unspell};
-ghost use Rattle.sync_exchange.specs.Seen.{client_bytes};
-ghost use Rattle.sync_journal.specs.Records.{StandsForPrefix};
-ghost use Rattle.sync_journal.specs.Stands.{disk_of};
 ghost use Rattle.sync_model.specs.Clients.{ClientRecord};
-ghost use Rattle.sync_client.specs.Clients.{IsClientOf, IsStored, is_closed, journal_of};
-ghost use Rattle.sync_heir.specs.Heirs.{HeirAsked, HeirSays, HeirStores, IsHeirCause, IsUnread, heir_step, save_step};
+ghost use Rattle.sync_client.specs.Clients.{IsClientOf, IsStored, UsesDisk, is_closed};
+ghost use Rattle.sync_heir.specs.Heirs.{HeirCloses, HeirSays, HeirSurvives, IsHeirCause, IsUnread, heir_step, save_step};
 
 use crate::answer::Heir;
 use crate::refusal::ResetRefusal;
@@ -30,28 +26,12 @@ pub fn heir<D: Disk>(
     retired: &Retired,
     change: &Change,
 ) -> Result<Heir, ResetRefusal>
-    // It answers and appends what is defined, and the disk holds that.
-    ensures step { (records : List ClientRecord) → IsClientOf records client.old → HeirSays (heir_step records retired.now change.now) records client.new result }
-    ensures stored { (records : List ClientRecord) → IsClientOf records client.old → IsStored D.content D.images records client.old → HeirStores D.content D.images (heir_step records retired.now change.now) records client.new result }
-    ensures any_moment { (records : List ClientRecord) → IsClientOf records client.old → IsStored D.content D.images records client.old
-        → LeavesOnly D.moment D.images_since (disk_of (journal_of client.old)) (disk_of (journal_of client.new)) (StandsForPrefix (map client_bytes records) (map client_bytes (heir_step records retired.now change.now).records)) }
-    ensures strokes { (records : List ClientRecord) → IsClientOf records client.old → IsStored D.content D.images records client.old → HeirAsked D.strokes (heir_step records retired.now change.now) client.old client.new result }
-
+    ensures does { (records : List ClientRecord) → IsClientOf records client.old → HeirSays (heir_step records retired.now change.now) records client.new result }
+    ensures survives { (records : List ClientRecord) → IsClientOf records client.old → IsStored records client.old → HeirSurvives (heir_step records retired.now change.now) records client.old client.new result }
     // No break comes of the heir's transaction, and it is never too large.
     ensures causes { (records : List ClientRecord) → IsClientOf records client.old → IfErr result IsHeirCause }
-
-    // A closed client does nothing. A fault, and out of memory in the transaction, close it; before that, out of memory
-    // changes nothing.
-    ensures closed { IsErrOf result (ResetRefusal.Client ClientRefusal.Closed) ↔ (is_closed client.old ≡ true) }
-    ensures shut { IsErrOf result (ResetRefusal.Client ClientRefusal.Closed) → client.new ≡ client.old }
-    ensures closes { IsErrOf result (ResetRefusal.Client ClientRefusal.DiskFault) ⊎ IsErrOf result (ResetRefusal.Client ClientRefusal.NoMemory) → is_closed client.new ≡ true }
-    ensures unchanged { IsErrOf result ResetRefusal.NoMemory → client.new ≡ client.old }
-
-    // A fault is the disk's.
-    ensures later { D.faults (disk_of (journal_of client.old)) ≤ D.faults (disk_of (journal_of client.new)) }
-    ensures fault { IsErrOf result (ResetRefusal.Client ClientRefusal.DiskFault) → Rose (D.faults (disk_of (journal_of client.old))) (D.faults (disk_of (journal_of client.new))) }
-    ensures origin { D.origin (disk_of (journal_of client.new)) ≡ D.origin (disk_of (journal_of client.old)) }
-    ensures told { Told (D.content (disk_of (journal_of client.old))) (λ b. (c : List ℕ) × (D.content (disk_of (journal_of client.new)) ≡ Some c)) }
+    ensures closes { HeirCloses client.old client.new result }
+    ensures disk { UsesDisk (IsErrOf result (ResetRefusal.Client ClientRefusal.DiskFault)) client.old client.new }
 {
     heirs_save_once::<Instrs>();
     inherit(alloc, client, retired, change)
@@ -64,20 +44,11 @@ fn inherit<D: Disk>(
     retired: &Retired,
     change: &Change,
 ) -> Result<Heir, ResetRefusal>
-    ensures step { (records : List ClientRecord) → IsClientOf records client.old → HeirSays (heir_step records retired.now change.now) records client.new result }
-    ensures stored { (records : List ClientRecord) → IsClientOf records client.old → IsStored D.content D.images records client.old → HeirStores D.content D.images (heir_step records retired.now change.now) records client.new result }
-    ensures any_moment { (records : List ClientRecord) → IsClientOf records client.old → IsStored D.content D.images records client.old
-        → LeavesOnly D.moment D.images_since (disk_of (journal_of client.old)) (disk_of (journal_of client.new)) (StandsForPrefix (map client_bytes records) (map client_bytes (heir_step records retired.now change.now).records)) }
-    ensures strokes { (records : List ClientRecord) → IsClientOf records client.old → IsStored D.content D.images records client.old → HeirAsked D.strokes (heir_step records retired.now change.now) client.old client.new result }
+    ensures does { (records : List ClientRecord) → IsClientOf records client.old → HeirSays (heir_step records retired.now change.now) records client.new result }
+    ensures survives { (records : List ClientRecord) → IsClientOf records client.old → IsStored records client.old → HeirSurvives (heir_step records retired.now change.now) records client.old client.new result }
     ensures named { 1 ≤ retired.now.by }
-    ensures closed { IsErrOf result (ResetRefusal.Client ClientRefusal.Closed) ↔ (is_closed client.old ≡ true) }
-    ensures shut { IsErrOf result (ResetRefusal.Client ClientRefusal.Closed) → client.new ≡ client.old }
-    ensures closes { IsErrOf result (ResetRefusal.Client ClientRefusal.DiskFault) ⊎ IsErrOf result (ResetRefusal.Client ClientRefusal.NoMemory) → is_closed client.new ≡ true }
-    ensures unchanged { IsErrOf result ResetRefusal.NoMemory → client.new ≡ client.old }
-    ensures later { D.faults (disk_of (journal_of client.old)) ≤ D.faults (disk_of (journal_of client.new)) }
-    ensures fault { IsErrOf result (ResetRefusal.Client ClientRefusal.DiskFault) → Rose (D.faults (disk_of (journal_of client.old))) (D.faults (disk_of (journal_of client.new))) }
-    ensures origin { D.origin (disk_of (journal_of client.new)) ≡ D.origin (disk_of (journal_of client.old)) }
-    ensures told { Told (D.content (disk_of (journal_of client.old))) (λ b. (c : List ℕ) × (D.content (disk_of (journal_of client.new)) ≡ Some c)) }
+    ensures closes { HeirCloses client.old client.new result }
+    ensures disk { UsesDisk (IsErrOf result (ResetRefusal.Client ClientRefusal.DiskFault)) client.old client.new }
 {
     let by = retired.by();
     if is_shut(client) {
@@ -118,18 +89,10 @@ fn save<D: Disk>(
     change: &Change,
 ) -> Result<Heir, ResetRefusal>
     requires open { is_closed client.old ≡ false }
-    ensures step { (records : List ClientRecord) → IsClientOf records client.old → HeirSays (save_step records change.now) records client.new result }
-    ensures stored { (records : List ClientRecord) → IsClientOf records client.old → IsStored D.content D.images records client.old → HeirStores D.content D.images (save_step records change.now) records client.new result }
-    ensures any_moment { (records : List ClientRecord) → IsClientOf records client.old → IsStored D.content D.images records client.old
-        → LeavesOnly D.moment D.images_since (disk_of (journal_of client.old)) (disk_of (journal_of client.new)) (StandsForPrefix (map client_bytes records) (map client_bytes (save_step records change.now).records)) }
-    ensures strokes { (records : List ClientRecord) → IsClientOf records client.old → IsStored D.content D.images records client.old → HeirAsked D.strokes (save_step records change.now) client.old client.new result }
-    ensures closed { ¬ IsErrOf result (ResetRefusal.Client ClientRefusal.Closed) }
-    ensures closes { IsErrOf result (ResetRefusal.Client ClientRefusal.DiskFault) ⊎ IsErrOf result (ResetRefusal.Client ClientRefusal.NoMemory) → is_closed client.new ≡ true }
-    ensures unchanged { IsErrOf result ResetRefusal.NoMemory → client.new ≡ client.old }
-    ensures later { D.faults (disk_of (journal_of client.old)) ≤ D.faults (disk_of (journal_of client.new)) }
-    ensures fault { IsErrOf result (ResetRefusal.Client ClientRefusal.DiskFault) → Rose (D.faults (disk_of (journal_of client.old))) (D.faults (disk_of (journal_of client.new))) }
-    ensures origin { D.origin (disk_of (journal_of client.new)) ≡ D.origin (disk_of (journal_of client.old)) }
-    ensures told { Told (D.content (disk_of (journal_of client.old))) (λ b. (c : List ℕ) × (D.content (disk_of (journal_of client.new)) ≡ Some c)) }
+    ensures does { (records : List ClientRecord) → IsClientOf records client.old → HeirSays (save_step records change.now) records client.new result }
+    ensures survives { (records : List ClientRecord) → IsClientOf records client.old → IsStored records client.old → HeirSurvives (save_step records change.now) records client.old client.new result }
+    ensures closes { HeirCloses client.old client.new result }
+    ensures disk { UsesDisk (IsErrOf result (ResetRefusal.Client ClientRefusal.DiskFault)) client.old client.new }
 {
     let changes = match changes_of(alloc, change) {
         Ok(changes) => changes,

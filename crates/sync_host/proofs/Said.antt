@@ -2,7 +2,6 @@
 use Rattle.std.proofs.Common.{◌≡◌, ◌==◌, if◌then◌else◌, inl, inr, ℕ, Bool, false, List, ◌∷◌, ◌++◌, Option, None, Some, Ok, Err, map, refl, sym, ◌∙◌, ap, subst, arith}
 use Rattle.std.proofs.lemmas.Bool.Decides.{nat_tests}
 use Rattle.sync_disk.specs.declared.disk.Disk.{Ghosts}
-use Rattle.sync_disk.specs.Strokes.{Stroke}
 use Rattle.sync_journal.specs.declared.journal.Journal.{Journal}
 use Rattle.sync_journal.specs.Several.{Asks}
 use Rattle.sync_model.specs.Clients.{ClientRecord, ClientRefusal, ClientStep}
@@ -41,9 +40,9 @@ told reply why P is holds = subst (λ (r : Reply). IfTold r (P r)) (sym is) hold
 not_equal : (n : ℕ) → (n ≡ 0 → ⊥) → (n == 0) ≡ false
 not_equal n not = grind (arith, nat_tests)
 
-module _ {D : Type 0} {G : Ghosts D} (strokes : D → List Stroke) (next : List ClientRecord) (old new : Journal D G) where
+module _ {D : Type 0} {G : Ghosts D} (next : List ClientRecord) (old new : Journal D G) where
   -- what a refusal that is told asked of the disk
-  pub asked_where : (why : CodeRefusal) → AskedFor strokes next old new (Some why) → IfSeen (refusal_seen why) (λ w. Asks strokes (map client_bytes next) old new)
+  pub asked_where : (why : CodeRefusal) → AskedFor next old new (Some why) → IfSeen (refusal_seen why) (λ w. Asks G.strokes (map client_bytes next) old new)
   asked_where codes.Closed h = tt
   asked_where codes.DiskFault h = tt
   asked_where codes.NoMemory h = tt
@@ -53,10 +52,10 @@ module _ {D : Type 0} {G : Ghosts D} {A : Type 0} (tell : A → List ℕ) (did :
   abbrev AsksAll : Type 0
   AsksAll = Asks G.strokes (map client_bytes did.records) (journal_of old) (journal_of new)
 
-  pub said_ok : (a : A) (reply : Reply) → Did did (Ok a) records new → IsStored G.content G.images (records ++ did.records) new → AsksAll → reply_bytes reply ≡ 0 ∷ tell a → Answers (Some (said tell did)) records reply old new
+  pub said_ok : (a : A) (reply : Reply) → Did did (Ok a) records new → IsStored (records ++ did.records) new → AsksAll → reply_bytes reply ≡ 0 ∷ tell a → Answers (Some (said tell did)) records reply old new
   said_ok a reply step stored asked is = record { replied = is ∙ ap (answer_bytes tell) (sym step.answer_is); stands = record { client = step.client; stored = stored }; asked = asked }
 
-  pub said_err : (why : Option ClientRefusal) (reply : Reply) → IfSeen why (λ w. Did did (Err w) records new) → IfSeen why (λ w. IsStored G.content G.images (records ++ did.records) new) → IfSeen why (λ w. AsksAll) → Declines why reply
+  pub said_err : (why : Option ClientRefusal) (reply : Reply) → IfSeen why (λ w. Did did (Err w) records new) → IfSeen why (λ w. IsStored (records ++ did.records) new) → IfSeen why (λ w. AsksAll) → Declines why reply
       → IfTold reply (Answers (Some (said tell did)) records reply old new)
   said_err None reply step stored asked declines = untold reply (Answers (Some (said tell did)) records reply old new) declines
   said_err (Some why) reply step stored asked declines =

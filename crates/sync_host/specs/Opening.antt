@@ -13,10 +13,10 @@ use Rattle.sync_host.specs.declared.reply.Reply.TheVariants as replies
 module _ {D : Type 0} {G : Ghosts D} where
   -- the client of the records for which the bytes stand, and its disk holds them
   abbrev pub ClientOpens : List ℕ → Client D G → Type 0
-  ClientOpens bytes c = client_files.Opened G.content G.images bytes c
+  ClientOpens bytes c = client_files.Opened bytes c
 
   abbrev pub ServerOpens : List ℕ → Server D G → Type 0
-  ServerOpens bytes s = server_files.Opened G.content G.images bytes s
+  ServerOpens bytes s = server_files.Opened bytes s
 
 abbrev pub Unopened : OpenCause → Reply → Type 0
 Unopened causes.DiskFault reply = reply ≡ replies.Closed

@@ -138,11 +138,11 @@ module _ {D : Type 0} {G : Ghosts D} where
   -- an open client of these records, and its disk holds them
   pub record ClientStands (records : List ClientRecord) (c : Client D G) : Type 0 where
     pub client : IsClientOf records c
-    pub stored : clients_code.IsStored G.content G.images records c
+    pub stored : clients_code.IsStored records c
 
   pub record ServerStands (records : List ServerRecord) (s : Server D G) : Type 0 where
     pub server : IsServerOf records s
-    pub stored : servers_code.IsStored G.content G.images records s
+    pub stored : servers_code.IsStored records s
 
   -- it was replied so and added the records, and asked the disk for their strokes and no others
   pub record Did (answer : Answer) (records : List ClientRecord) (reply : Reply) (old new : Client D G) : Type 0 where

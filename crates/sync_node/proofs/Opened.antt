@@ -26,7 +26,7 @@ all_again (r ∷ rs) = ap (λ xs. r ∷ xs) (all_again rs)
 
 -- ---- the node of its records
 module _ {D : Type 0} {G : Ghosts D} (b : List ℕ) where
-  pub opened_client : (c : Client D G) → client_files.Opened G.content G.images b c → OpenedClient G.content G.images b c
+  pub opened_client : (c : Client D G) → client_files.Opened b c → OpenedClient G.content G.images b c
   opened_client c o = record {
     records = o.records;
     file = ap client_in o.holds ∙ ap (at_gate o.file) o.reads;
@@ -35,7 +35,7 @@ module _ {D : Type 0} {G : Ghosts D} (b : List ℕ) where
     stored = o.stored;
   }
 
-  pub opened_server : (s : Server D G) → server_files.Opened G.content G.images b s → OpenedServer G.content G.images b s
+  pub opened_server : (s : Server D G) → server_files.Opened b s → OpenedServer G.content G.images b s
   opened_server s o = record {
     records = o.records;
     file = ap server_in o.holds ∙ ap (at_gate o.file) (ap (if_given o.file) (ap (file_gives the_profile) o.are.reads ∙ o.server.gives) ∙ ap (λ rs. Ok rs) (ap all_read o.are.reads ∙ all_again o.records));

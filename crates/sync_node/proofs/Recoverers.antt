@@ -97,13 +97,13 @@ ident_after c by count h = on (heir_did the_profile c by count h)
 
 module _ {D : Type 0} {G : Ghosts D} where
   -- it was saved, or needn't be
-  pub saved_so : (number change : ℕ) (did : HeirStep) (a : HeirAnswer) (records : List ClientRecord) (old new : List ℕ) (c : Client D G) → HeirDone did (Ok a) records c → IsStored G.content G.images (records ++ did.records) c
+  pub saved_so : (number change : ℕ) (did : HeirStep) (a : HeirAnswer) (records : List ClientRecord) (old new : List ℕ) (c : Client D G) → HeirDone did (Ok a) records c → IsStored (records ++ did.records) c
       → new ≡ old ++ recovery_line number (Handled change a) → HandledSo true number change did records old new c
   saved_so number change did a records old new c done stored put = (a, done.answer_is, put, record { client = done.client; stored = stored })
 
   -- it was refused
   pub refused_so : (number change : ℕ) (did : HeirStep) (why : Option ResetRefusal) (records : List ClientRecord) (old new : List ℕ) (c : Client D G) → IfReset why (λ w. HeirDone did (Err w) records c)
-      → IfReset why (λ w. IsStored G.content G.images (records ++ did.records) c) → IsPutFor number old new why → HandledSo false number change did records old new c
+      → IfReset why (λ w. IsStored (records ++ did.records) c) → IsPutFor number old new why → HandledSo false number change did records old new c
   refused_so number change did None records old new c done stored put = absurd put
   refused_so number change did (Some why) records old new c done stored put = (why, done.answer_is, put, record { client = done.client; stored = stored })
 

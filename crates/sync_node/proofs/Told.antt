@@ -32,7 +32,7 @@ noteless meant records Stands (Err end) a = tt
 
 -- ---- a client's call is answered, or refused
 module _ {A D : Type 0} {G : Ghosts D} (words : A → List ℕ) (number : ℕ) (did : ClientStep A) (records : List ClientRecord) (new : Client D G) where
-  pub said_ok : (a : A) (result : Result (Vec ℕ Global) ItemEnd) → clients.Did did (Ok a) records new → clients.IsStored G.content G.images (records ++ did.records) new → IfOk result (λ text. text.items ≡ outcome_line number (words a))
+  pub said_ok : (a : A) (result : Result (Vec ℕ Global) ItemEnd) → clients.Did did (Ok a) records new → clients.IsStored (records ++ did.records) new → IfOk result (λ text. text.items ≡ outcome_line number (words a))
       → IfOk result (λ text. AnswersSo (Some (said number words did)) records text.items (λ rs. ClientStands rs new))
   said_ok a (Ok text) step stored says = record {
     answer = said number words did;
@@ -42,7 +42,7 @@ module _ {A D : Type 0} {G : Ghosts D} (words : A → List ℕ) (number : ℕ) (
   }
   said_ok a (Err end) step stored says = tt
 
-  pub said_err : (why : Option ClientRefusal) (result : Result (Vec ℕ Global) ItemEnd) → IfSeen why (λ w. clients.Did did (Err w) records new) → IfSeen why (λ w. clients.IsStored G.content G.images (records ++ did.records) new) → IfOk result (λ text. Declined number text.items why)
+  pub said_err : (why : Option ClientRefusal) (result : Result (Vec ℕ Global) ItemEnd) → IfSeen why (λ w. clients.Did did (Err w) records new) → IfSeen why (λ w. clients.IsStored (records ++ did.records) new) → IfOk result (λ text. Declined number text.items why)
       → IfOk result (λ text. AnswersSo (Some (said number words did)) records text.items (λ rs. ClientStands rs new))
   said_err why (Err end) step stored declined = tt
   said_err None (Ok text) step stored declined = absurd declined
@@ -89,7 +89,7 @@ plain_seen codes.TooLate a b c e = cc
 
 -- ---- a server's call is answered
 module _ {D : Type 0} {G : Ghosts D} where
-  pub replied_ok : (did : Served Instr State) (records : List ServerRecord) (new : Server D G) (reply : CodeMessage) (text : List ℕ) → servers.Did did reply records new → servers.IsStored G.content G.images (records ++ did.records) new → text ≡ frame (message_seen reply)
+  pub replied_ok : (did : Served Instr State) (records : List ServerRecord) (new : Server D G) (reply : CodeMessage) (text : List ℕ) → servers.Did did reply records new → servers.IsStored (records ++ did.records) new → text ≡ frame (message_seen reply)
       → AnswersSo (Some (replied did)) records text (λ rs. ServerStands rs new)
   replied_ok did records new reply text step stored framed = record {
     answer = replied did;

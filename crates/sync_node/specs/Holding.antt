@@ -14,12 +14,12 @@ module _ {D : Type 0} {G : Ghosts D} where
   -- an open client of these records, whose disk holds them
   pub record ClientStands (records : List ClientRecord) (c : Client D G) : Type 0 where
     pub client : clients.IsClientOf records c
-    pub stored : clients.IsStored G.content G.images records c
+    pub stored : clients.IsStored records c
 
   -- the same of a server
   pub record ServerStands (records : List ServerRecord) (s : Server D G) : Type 0 where
     pub server : servers.IsServerOf records s
-    pub stored : servers.IsStored G.content G.images records s
+    pub stored : servers.IsStored records s
 
   -- the faults of its disk
   abbrev pub client_faults : Client D G → ℕ

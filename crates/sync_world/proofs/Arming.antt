@@ -40,7 +40,7 @@ module _ {D : Type 0} {G : Ghosts D} where
   pub client_kept : (records : List ClientRecord) (old new : Client D G) → clients.IsClientOf records old → clients.is_closed new ≡ clients.is_closed old → clients.replica_of new ≡ clients.replica_of old → clients.IsClientOf records new
   client_kept records old new is closed replica = record { kept = subst (Keeps records) (sym replica) is.kept; open_ = closed ∙ is.open_ }
 
-  pub armed_client : (records : List ClientRecord) (s : Option Stop) (kept : Option CodeStop) (stop : CodeStop) (old new : Client D G) → HoldsClient records s kept old → clients.IsClientOf records new → clients.IsStored G.content G.images records new
+  pub armed_client : (records : List ClientRecord) (s : Option Stop) (kept : Option CodeStop) (stop : CodeStop) (old new : Client D G) → HoldsClient records s kept old → clients.IsClientOf records new → clients.IsStored records new
       → G.origin (disk_of (clients.journal_of new)) ≡ armed stop.at stop.leaves (G.origin (disk_of (clients.journal_of old))) (length (G.strokes (disk_of (clients.journal_of old))))
       → G.strokes (disk_of (clients.journal_of new)) ≡ G.strokes (disk_of (clients.journal_of old)) → 1 ≤ stop.at
       → HoldsClient records (Some (stop_seen stop)) (Some stop) new
@@ -53,7 +53,7 @@ module _ {D : Type 0} {G : Ghosts D} where
   }
 
   -- a client that is opened over a disk that isn't armed
-  pub opened_client : (records : List ClientRecord) (c : Client D G) (o : Origin) → clients.IsClientOf records c → clients.IsStored G.content G.images records c → G.origin (disk_of (clients.journal_of c)) ≡ o → o.stop ≡ None → o.listed ≡ 0 → HoldsClient records None None c
+  pub opened_client : (records : List ClientRecord) (c : Client D G) (o : Origin) → clients.IsClientOf records c → clients.IsStored records c → G.origin (disk_of (clients.journal_of c)) ≡ o → o.stop ≡ None → o.listed ≡ 0 → HoldsClient records None None c
   opened_client records c o is stored same stop listed = record {
     client = is;
     stored = stored;
@@ -65,7 +65,7 @@ module _ {D : Type 0} {G : Ghosts D} where
   pub server_kept : (records : List ServerRecord) (old new : Server D G) → servers.IsServerOf records old → servers.is_closed new ≡ servers.is_closed old → servers.kept_of new ≡ servers.kept_of old → servers.IsServerOf records new
   server_kept records old new is closed kept = record { gives = is.gives ∙ ap (λ k. Ok (parts k)) (sym kept); open_ = closed ∙ is.open_ }
 
-  pub armed_server : (records : List ServerRecord) (s : Option Stop) (kept : Option CodeStop) (stop : CodeStop) (old new : Server D G) → HoldsServer records s kept old → servers.IsServerOf records new → servers.IsStored G.content G.images records new
+  pub armed_server : (records : List ServerRecord) (s : Option Stop) (kept : Option CodeStop) (stop : CodeStop) (old new : Server D G) → HoldsServer records s kept old → servers.IsServerOf records new → servers.IsStored records new
       → G.origin (disk_of (servers.journal_of new)) ≡ armed stop.at stop.leaves (G.origin (disk_of (servers.journal_of old))) (length (G.strokes (disk_of (servers.journal_of old))))
       → G.strokes (disk_of (servers.journal_of new)) ≡ G.strokes (disk_of (servers.journal_of old)) → 1 ≤ stop.at
       → HoldsServer records (Some (stop_seen stop)) (Some stop) new
@@ -77,7 +77,7 @@ module _ {D : Type 0} {G : Ghosts D} where
     kept_is = refl;
   }
 
-  pub opened_server : (records : List ServerRecord) (c : Server D G) (o : Origin) → servers.IsServerOf records c → servers.IsStored G.content G.images records c → G.origin (disk_of (servers.journal_of c)) ≡ o → o.stop ≡ None → o.listed ≡ 0 → HoldsServer records None None c
+  pub opened_server : (records : List ServerRecord) (c : Server D G) (o : Origin) → servers.IsServerOf records c → servers.IsStored records c → G.origin (disk_of (servers.journal_of c)) ≡ o → o.stop ≡ None → o.listed ≡ 0 → HoldsServer records None None c
   opened_server records c o is stored same stop listed = record {
     server = is;
     stored = stored;

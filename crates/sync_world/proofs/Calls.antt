@@ -1,6 +1,5 @@
 -- After a call of a client.
 use Rattle.std.proofs.Common.{◌≡◌, ℕ, true, false, List, Option, Some, Result, Ok, Err, map, refl, ◌∙◌, ap, subst}
-use Rattle.sync_disk.specs.Disk.{Told}
 use Rattle.sync_disk.specs.Origin.{Origin}
 use Rattle.sync_disk.specs.declared.disk.Disk.{Ghosts}
 use Rattle.sync_journal.specs.Several.{Asks, AsksSome}
@@ -8,7 +7,7 @@ use Rattle.sync_journal.specs.Stands.{disk_of}
 use Rattle.sync_model.specs.Clients.{ClientRecord, ClientRefusal, ClientStep}
 use Rattle.sync_model.specs.Worlds.{Stop, stopped}
 use Rattle.sync_exchange.specs.Seen.{client_bytes}
-use Rattle.sync_client.specs.Clients.{Asked, Says, Stores, journal_of}
+use Rattle.sync_client.specs.Clients.{Asked, Says, Survives, UsesDisk, journal_of}
 use Rattle.sync_client.specs.Refusals.{refusal_seen}
 use Rattle.sync_client.specs.declared.client.Client.{Client}
 use Rattle.sync_client.specs.declared.refusal.ClientRefusal.{ClientRefusal as CodeRefusal}
@@ -22,7 +21,7 @@ module _ {D : Type 0} {G : Ghosts D} {A : Type 0} (did : ClientStep A) (old new 
   abbrev Whole : Type 0
   Whole = Asks G.strokes (map client_bytes did.records) (journal_of old) (journal_of new)
 
-  refused_whole : (why : CodeRefusal) (w : ClientRefusal) → refusal_seen why ≡ Some w → Asked {A = A} {B = A} G.strokes did old new (Err why) → Whole
+  refused_whole : (why : CodeRefusal) (w : ClientRefusal) → refusal_seen why ≡ Some w → Asked {A = A} {B = A} did old new (Err why) → Whole
   refused_whole codes.Closed w e asked = absurd (cc e)
   refused_whole codes.NotBorn w e asked = asked
   refused_whole codes.AlreadyBorn w e asked = asked
@@ -46,27 +45,25 @@ module _ {D : Type 0} {G : Ghosts D} {A : Type 0} (did : ClientStep A) (old new 
   refused_whole codes.DiskFault w e asked = absurd (cc e)
   refused_whole codes.NoMemory w e asked = absurd (cc e)
 
-  asked_whole : (answer : Result A CodeRefusal) → IsAnswer answer → Asked {A = A} {B = A} G.strokes did old new answer → Whole
+  asked_whole : (answer : Result A CodeRefusal) → IsAnswer answer → Asked {A = A} {B = A} did old new answer → Whole
   asked_whole (Ok a) is asked = asked
   asked_whole (Err why) is asked = refused_whole why is.0 is.1 asked
 
-  asked_part : (answer : Result A CodeRefusal) → answer ≡ Err codes.DiskFault → Asked {A = A} {B = A} G.strokes did old new answer → AsksSome G.strokes (map client_bytes did.records) (journal_of old) (journal_of new)
-  asked_part answer is asked = subst (λ a. Asked {A = A} {B = A} G.strokes did old new a) is asked
+  asked_part : (answer : Result A CodeRefusal) → answer ≡ Err codes.DiskFault → Asked {A = A} {B = A} did old new answer → AsksSome G.strokes (map client_bytes did.records) (journal_of old) (journal_of new)
+  asked_part answer is asked = subst (λ a. Asked {A = A} {B = A} did old new a) is asked
 
-  pub after_call : StopsTell G → (records : List ClientRecord) (s : Option Stop) (kept : Option CodeStop) (answer : Result A CodeRefusal) → HoldsClient records s kept old
-      → Says did records new answer → Stores G.content G.images did records new answer → Asked {A = A} {B = A} G.strokes did old new answer
-      → G.origin (disk_of (journal_of new)) ≡ G.origin (disk_of (journal_of old)) → Told (G.content (disk_of (journal_of old))) (λ b. (c : List ℕ) × (G.content (disk_of (journal_of new)) ≡ Some c))
-      → AfterCall did records (stopped s did.records) answer new
-  after_call tell records s kept answer h says stores asked same told =
+  pub after_call : {P : Type 0} → StopsTell G → (records : List ClientRecord) (s : Option Stop) (kept : Option CodeStop) (answer : Result A CodeRefusal) → HoldsClient records s kept old
+      → Says did records new answer → Survives did records old new answer → UsesDisk P old new → AfterCall did records (stopped s did.records) answer new
+  after_call tell records s kept answer h says survives disk =
       let settled = h.stored.settled in
       let before = disk_of (journal_of old) in
       let after = disk_of (journal_of new) in
       record {
         says = says;
-        stores = stores;
-        listed = ap (λ (o : Origin). o.listed) same ∙ h.armed.listed;
-        whole = λ is. goes G tell client_bytes records did.records _ before after settled told same s h.armed _ (asked_whole answer is asked);
-        cut = λ is. cuts G tell client_bytes records did.records _ before after settled told same s h.armed (asked_part answer is asked);
+        stores = survives.stored;
+        listed = ap (λ (o : Origin). o.listed) disk.same_origin ∙ h.armed.listed;
+        whole = λ is. goes G tell client_bytes records did.records _ before after settled disk.told disk.same_origin s h.armed _ (asked_whole answer is survives.asked);
+        cut = λ is. cuts G tell client_bytes records did.records _ before after settled disk.told disk.same_origin s h.armed (asked_part answer is survives.asked);
       }
 
 -- any other refusal is one of the model's

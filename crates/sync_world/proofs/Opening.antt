@@ -35,19 +35,19 @@ all_back [] all = refl
 all_back (r ∷ rs) (and_each one all) = ap (λ o. o ∷ map read_server (map server_bytes rs)) one ∙ ap (λ os. Some r ∷ os) (all_back rs all)
 
 module _ {D : Type 0} {G : Ghosts D} (b : List ℕ) where
-  pub opened_client : (records : List ClientRecord) (c : Client D G) → client_files.Opened G.content G.images b c → records_of b ≡ Good (map client_bytes records) → ReadsBack records
-      → clients.IsClientOf records c × clients.IsStored G.content G.images records c
+  pub opened_client : (records : List ClientRecord) (c : Client D G) → client_files.Opened b c → records_of b ≡ Good (map client_bytes records) → ReadsBack records
+      → clients.IsClientOf records c × clients.IsStored records c
   opened_client records c o holds back =
       let file : o.file ≡ map client_bytes records = one_file o.file (map client_bytes records) (sym o.holds ∙ holds) in
       let same : o.records ≡ records = one_list o.records records (sym o.reads ∙ ap (client_reads the_profile read_client (no_client the_profile)) file ∙ back) in
-      (subst (λ rs. clients.IsClientOf rs c) same o.client, subst (λ rs. clients.IsStored G.content G.images rs c) same o.stored)
+      (subst (λ rs. clients.IsClientOf rs c) same o.client, subst (λ rs. clients.IsStored rs c) same o.stored)
 
-  pub opened_server : (records : List ServerRecord) (s : Server D G) → server_files.Opened G.content G.images b s → records_of b ≡ Good (map server_bytes records) → ServerReadsBack records
-      → servers.IsServerOf records s × servers.IsStored G.content G.images records s
+  pub opened_server : (records : List ServerRecord) (s : Server D G) → server_files.Opened b s → records_of b ≡ Good (map server_bytes records) → ServerReadsBack records
+      → servers.IsServerOf records s × servers.IsStored records s
   opened_server records s o holds back =
       let file : o.file ≡ map server_bytes records = one_file o.file (map server_bytes records) (sym o.holds ∙ holds) in
       let same : o.records ≡ records = some_lists o.records records (sym o.are.reads ∙ ap (map read_server) file ∙ all_back records back.each) in
-      (subst (λ rs. servers.IsServerOf rs s) same o.server, subst (λ rs. servers.IsStored G.content G.images rs s) same o.stored)
+      (subst (λ rs. servers.IsServerOf rs s) same o.server, subst (λ rs. servers.IsStored rs s) same o.stored)
 
 -- an empty file has none
 pub no_records : records_of [] ≡ Good []

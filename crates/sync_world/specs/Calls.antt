@@ -54,7 +54,7 @@ module _ {D : Type 0} {G : Ghosts D} where
   -- After a call that would append the step's records: it answers where its disk doesn't stop, and else a crash leaves these.
   pub record AfterCall {A : Type 0} (did : ClientStep A) (records : List ClientRecord) (stand : Option (List ClientRecord)) (answer : Result A CodeRefusal) (c : Client D G) : Type 0 where
     pub says : clients.Says did records c answer
-    pub stores : clients.Stores G.content G.images did records c answer
+    pub stores : clients.Stores did records c answer
     pub listed : (G.origin (disk_of (clients.journal_of c))).listed ≡ 0
     pub whole : IsAnswer answer → (stand ≡ None) × (has_stopped (G.origin (disk_of (clients.journal_of c))).stop (length (G.strokes (disk_of (clients.journal_of c)))) ≡ false)
     pub cut : answer ≡ Err codes.DiskFault → (rs : List ClientRecord) × (stand ≡ Some rs)

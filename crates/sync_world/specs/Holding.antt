@@ -110,4 +110,4 @@ pub record IsClient {G : Ghosts MemoryDisk} (w : World) (name : Name) (c : Clien
   pub node : Node
   pub sought : seek (has_name name) w.clients ≡ Some (place, node)
   pub client : IsClientOf node.records c
-  pub stored : IsStored G.content G.images node.records c
+  pub stored : IsStored node.records c

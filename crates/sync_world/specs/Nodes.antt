@@ -40,14 +40,14 @@ module _ {D : Type 0} {G : Ghosts D} where
   -- a client of these records, over a disk that holds them and is armed so
   pub record HoldsClient (records : List ClientRecord) (s : Option Stop) (kept : Option CodeStop) (c : Client D G) : Type 0 where
     pub client : clients.IsClientOf records c
-    pub stored : clients.IsStored G.content G.images records c
+    pub stored : clients.IsStored records c
     pub armed : IsArmed s (G.origin (disk_of (clients.journal_of c))) (length (G.strokes (disk_of (clients.journal_of c))))
     pub kept_is : option_map stop_seen kept ≡ s
 
   -- the same of a server
   pub record HoldsServer (records : List ServerRecord) (s : Option Stop) (kept : Option CodeStop) (c : Server D G) : Type 0 where
     pub server : servers.IsServerOf records c
-    pub stored : servers.IsStored G.content G.images records c
+    pub stored : servers.IsStored records c
     pub armed : IsArmed s (G.origin (disk_of (servers.journal_of c))) (length (G.strokes (disk_of (servers.journal_of c))))
     pub kept_is : option_map stop_seen kept ≡ s
 

@@ -34,7 +34,7 @@ pub(crate) struct Hub {
 /// The server of a disk that holds these records.
 fn open(alloc: Global, disk: MemoryDisk) -> Result<Server<MemoryDisk>, NoMemory>
     ensures server { (records : List model.ServerRecord) (b : List ℕ) → ⟦<MemoryDisk as Disk>⟧.content disk ≡ Some b → records_of b ≡ Good (map server_bytes records) → ServerReadsBack records → IfOk result (IsServerOf records) }
-    ensures stored { (records : List model.ServerRecord) (b : List ℕ) → ⟦<MemoryDisk as Disk>⟧.content disk ≡ Some b → records_of b ≡ Good (map server_bytes records) → ServerReadsBack records → IfOk result (IsStored ⟦<MemoryDisk as Disk>⟧.content ⟦<MemoryDisk as Disk>⟧.images records) }
+    ensures stored { (records : List model.ServerRecord) (b : List ℕ) → ⟦<MemoryDisk as Disk>⟧.content disk ≡ Some b → records_of b ≡ Good (map server_bytes records) → ServerReadsBack records → IfOk result (IsStored records) }
     ensures origin { IfOk result (λ s. ⟦<MemoryDisk as Disk>⟧.origin (disk_of (journal_of s)) ≡ ⟦<MemoryDisk as Disk>⟧.origin disk) }
 {
     match Server::open(alloc, disk) {
@@ -77,7 +77,7 @@ impl Hub {
     /// Takes the stop back. What was asked of the disk is forgotten with it.
     fn disarm(&mut self)
         ensures { (records : List model.ServerRecord) → IsServerOf records self.old.server
-            → IsStored ⟦<MemoryDisk as Disk>⟧.content ⟦<MemoryDisk as Disk>⟧.images records self.old.server
+            → IsStored records self.old.server
             → (⟦<MemoryDisk as Disk>⟧.origin (disk_of (journal_of self.old.server))).listed ≡ 0
             → HoldsServer records None self.new.stop self.new.server }
     {

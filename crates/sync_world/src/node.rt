@@ -46,7 +46,7 @@ pub(crate) struct Node {
 /// The client of a disk that holds these records.
 fn open(alloc: Global, disk: MemoryDisk) -> Result<Client<MemoryDisk>, NoMemory>
     ensures client { (records : List model.ClientRecord) (b : List ℕ) → ⟦<MemoryDisk as Disk>⟧.content disk ≡ Some b → records_of b ≡ Good (map client_bytes records) → ReadsBack records → IfOk result (IsClientOf records) }
-    ensures stored { (records : List model.ClientRecord) (b : List ℕ) → ⟦<MemoryDisk as Disk>⟧.content disk ≡ Some b → records_of b ≡ Good (map client_bytes records) → ReadsBack records → IfOk result (IsStored ⟦<MemoryDisk as Disk>⟧.content ⟦<MemoryDisk as Disk>⟧.images records) }
+    ensures stored { (records : List model.ClientRecord) (b : List ℕ) → ⟦<MemoryDisk as Disk>⟧.content disk ≡ Some b → records_of b ≡ Good (map client_bytes records) → ReadsBack records → IfOk result (IsStored records) }
     ensures origin { IfOk result (λ c. ⟦<MemoryDisk as Disk>⟧.origin (disk_of (journal_of c)) ≡ ⟦<MemoryDisk as Disk>⟧.origin disk) }
 {
     match Client::open(alloc, disk) {
@@ -114,7 +114,7 @@ impl Node {
     /// Takes the stop back. What was asked of the disk is forgotten with it.
     fn disarm(&mut self)
         ensures client { (records : List model.ClientRecord) → IsClientOf records self.old.client
-            → IsStored ⟦<MemoryDisk as Disk>⟧.content ⟦<MemoryDisk as Disk>⟧.images records self.old.client
+            → IsStored records self.old.client
             → (⟦<MemoryDisk as Disk>⟧.origin (disk_of (journal_of self.old.client))).listed ≡ 0
             → HoldsClient records None self.new.stop self.new.client }
         ensures name { self.new.name ≡ self.old.name }

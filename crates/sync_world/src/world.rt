@@ -128,7 +128,7 @@ impl World {
     /// The server.
     pub fn server(&self) -> &Server<MemoryDisk>
         ensures server { (w : model.World) → Holds w self.now → IsServerOf w.server result.now }
-        ensures stored { (w : model.World) → Holds w self.now → IsStored ⟦<MemoryDisk as Disk>⟧.content ⟦<MemoryDisk as Disk>⟧.images w.server result.now }
+        ensures stored { (w : model.World) → Holds w self.now → IsStored w.server result.now }
     {
         &self.hub.server
     }

@@ -10,9 +10,9 @@ use Rattle.sync_host.proofs.client.subscribe.Goals as goal
 
 pub returns-in-Ok : goal.returns-in-Ok
 returns-in-Ok g c = λ records is.
-    said_ok nothing (subscribe (client_of the_profile records) c.args.tables) records c.args.client.now c.subscribe.new.self tt replies.Done (c.in-Ok.ensures.step records is.client) (c.in-Ok.ensures.stored records is.client is.stored) (c.in-Ok.ensures.strokes records is.client is.stored) refl
+    said_ok nothing (subscribe (client_of the_profile records) c.args.tables) records c.args.client.now c.subscribe.new.self tt replies.Done (c.in-Ok.ensures.does records is.client) (c.in-Ok.ensures.survives records is.client is.stored).stored (c.in-Ok.ensures.survives records is.client is.stored).asked refl
 
 pub returns-in-Err : goal.returns-in-Err
 returns-in-Err g c = λ records is.
-    said_err nothing (subscribe (client_of the_profile records) c.args.tables) records c.args.client.now c.subscribe.new.self (refusal_seen c.in-Err.refusal) c.decline.result (c.in-Err.ensures.step records is.client) (c.in-Err.ensures.stored records is.client is.stored)
-    (asked_where g.D.Disk.strokes (subscribe (client_of the_profile records) c.args.tables).records (journal_of c.args.client.now) (journal_of c.subscribe.new.self) c.in-Err.refusal (c.in-Err.ensures.strokes records is.client is.stored)) c.decline.ensures
+    said_err nothing (subscribe (client_of the_profile records) c.args.tables) records c.args.client.now c.subscribe.new.self (refusal_seen c.in-Err.refusal) c.decline.result (c.in-Err.ensures.does records is.client) (c.in-Err.ensures.survives records is.client is.stored).stored
+    (asked_where (subscribe (client_of the_profile records) c.args.tables).records (journal_of c.args.client.now) (journal_of c.subscribe.new.self) c.in-Err.refusal (c.in-Err.ensures.survives records is.client is.stored).asked) c.decline.ensures

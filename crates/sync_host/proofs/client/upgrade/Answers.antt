@@ -10,9 +10,9 @@ use Rattle.sync_host.proofs.client.upgrade.Goals as goal
 
 pub returns-in-Ok : goal.returns-in-Ok
 returns-in-Ok g c = λ records is.
-    said_ok nothing (upgrade (client_of the_profile records)) records c.args.client.now c.upgrade.new.self c.in-Ok.field-0 replies.Done (c.in-Ok.ensures.step records is.client) (c.in-Ok.ensures.stored records is.client is.stored) (c.in-Ok.ensures.strokes records is.client is.stored) refl
+    said_ok nothing (upgrade (client_of the_profile records)) records c.args.client.now c.upgrade.new.self c.in-Ok.field-0 replies.Done (c.in-Ok.ensures.does records is.client) (c.in-Ok.ensures.survives records is.client is.stored).stored (c.in-Ok.ensures.survives records is.client is.stored).asked refl
 
 pub returns-in-Err : goal.returns-in-Err
 returns-in-Err g c = λ records is.
-    said_err nothing (upgrade (client_of the_profile records)) records c.args.client.now c.upgrade.new.self (refusal_seen c.in-Err.refusal) c.decline.result (c.in-Err.ensures.step records is.client) (c.in-Err.ensures.stored records is.client is.stored)
-    (asked_where g.D.Disk.strokes (upgrade (client_of the_profile records)).records (journal_of c.args.client.now) (journal_of c.upgrade.new.self) c.in-Err.refusal (c.in-Err.ensures.strokes records is.client is.stored)) c.decline.ensures
+    said_err nothing (upgrade (client_of the_profile records)) records c.args.client.now c.upgrade.new.self (refusal_seen c.in-Err.refusal) c.decline.result (c.in-Err.ensures.does records is.client) (c.in-Err.ensures.survives records is.client is.stored).stored
+    (asked_where (upgrade (client_of the_profile records)).records (journal_of c.args.client.now) (journal_of c.upgrade.new.self) c.in-Err.refusal (c.in-Err.ensures.survives records is.client is.stored).asked) c.decline.ensures

@@ -12,11 +12,11 @@ use Rattle.sync_host.proofs.server.take_message.Goals as goal
 
 pub returns-in-Ok : goal.returns-in-Ok
 returns-in-Ok g c = λ records is.
-    let did = c.in-Ok.ensures.step records is.server in
+    let did = c.in-Ok.ensures.does records is.server in
     told_then c.spell.result (reply_bytes c.spell.result ≡ 0 ∷ message_spelling c.in-Ok.reply)
     (DidServe (serve_by the_profile (parts (kept_of c.args.server.now)) (message_seen c.args.message)) records c.spell.result c.args.server.now c.take.new.self)
     (λ spelled. record {
       replied = (c.in-Ok.reply, did.reply_is, spelled);
-      stands = record { server = did.server; stored = c.in-Ok.ensures.stored records is.server is.stored };
-      asked = c.in-Ok.ensures.strokes records is.server is.stored;
+      stands = record { server = did.server; stored = (c.in-Ok.ensures.survives records is.server is.stored).stored };
+      asked = (c.in-Ok.ensures.survives records is.server is.stored).asked;
     }) c.spell.ensures

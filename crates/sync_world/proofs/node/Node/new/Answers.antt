@@ -10,4 +10,4 @@ returns-in-Ok-clause-client c =
     let is = e.client [] [] d.content no_records refl in
     let stored = e.stored [] [] d.content no_records refl in
     let b = c.in-Ok.ensures in
-    opened_client _ c.born.new.self _ (b.step [] is).client (b.stored [] is stored) (b.origin ∙ e.origin) d.stop d.listed
+    opened_client _ c.born.new.self _ (b.does [] is).client (b.survives [] is stored).stored (b.disk.same_origin ∙ e.origin) d.stop d.listed

@@ -13,4 +13,4 @@ returns-clause-ends c records s h reads =
     let e = c.take-answer.ensures in
     let did = model.take the_profile (model.client_of the_profile records) (message_seen c.args.message) in
     c.end.ensures.ends did records (stopped s did.records)
-    (after_call did c.args.self.now.client c.take-answer.new.self tell records s c.args.self.now.stop c.take-answer.result h (e.step records h.client) (e.stored records h.client h.stored) (e.strokes records h.client h.stored) e.origin e.told) reads
+    (after_call did c.args.self.now.client c.take-answer.new.self tell records s c.args.self.now.stop c.take-answer.result h (e.does records h.client) (e.survives records h.client h.stored) e.disk) reads
