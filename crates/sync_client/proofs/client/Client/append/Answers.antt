@@ -1,4 +1,5 @@
-use Rattle.std.proofs.Common.{◌∷◌, [], length, Err, ◌∙◌, ap, subst}
+use Rattle.std.proofs.Common.{◌∷◌, [], length, Err, ◌∙◌, ap, subst, arith, rules}
+use Rattle.std.proofs.lemmas.Grind.{common_steps}
 use Rattle.sync_disk.specs.Disk.{LeavesOnly}
 use Rattle.sync_journal.specs.Records.{StandsForPrefix}
 use Rattle.sync_journal.specs.Stands.{disk_of}
@@ -14,9 +15,9 @@ returns-in-Ok-append-clause-appends g c =
     let D = g.D.Disk in
     let e = c.as_slice.ensures.value ∙ c.in-Ok.ensures.spelled ∙ bytes_back c.args.added.now in
     record {
-      stored = search rules;
+      stored = first_of (search rules, grind (arith, common_steps));
       any_moment = λ rs s. subst (λ b. LeavesOnly D.moment D.images_since (disk_of c.args.self.now.journal) (disk_of c.append.new.self) (StandsForPrefix rs (b ∷ []))) e (c.append.ensures.any_moment rs s);
-      asked = search rules;
+      asked = first_of (search rules, grind (arith, common_steps));
     }
 
 pub returns-in-Err-DiskFault-clause-appends : goal.returns-in-Err-DiskFault-clause-appends

@@ -13,9 +13,9 @@ returns-in-Ok-append-clause-appends g c =
     let D = g.D.Disk in
     let e = c.as_slice.ensures.value ∙ c.in-Ok.ensures.spelled ∙ bytes_back c.args.added.now in
     record {
-      stored = search rules;
+      stored = first_of (search rules, grind (arith, common_steps));
       any_moment = λ rs s. subst (λ b. LeavesOnly D.moment D.images_since (disk_of c.args.self.now.journal) (disk_of c.append.new.self) (StandsForPrefix rs (b ∷ []))) e (c.append.ensures.any_moment rs s);
-      asked = search rules;
+      asked = first_of (search rules, grind (arith, common_steps));
     }
 
 pub returns-in-Err-DiskFault-clause-appends : goal.returns-in-Err-DiskFault-clause-appends
