@@ -1,11 +1,12 @@
-use Rattle.std.proofs.Common.{◌++◌, ◌∷◌, [], Some, None, not, ap, sym, subst, ◌∙◌}
+use Rattle.std.proofs.Common.{◌++◌, ◌∷◌, [], Some, None, refl, not, ap, sym, subst, ◌∙◌}
 use Rattle.sync_model.specs.Clients.{ClientRecord, client_of, subscribe}
 use Rattle.sync_exchange.specs.Profile.{the_profile}
 use Rattle.sync_client.specs.declared.replica.Replica.{Replica}
 use Rattle.sync_client.specs.Keeping.{Keeps}
+use Rattle.sync_client.specs.declared.refusal.ClientRefusal.TheVariants as codes
 use Rattle.sync_client.specs.Clients.{JournalAppends}
-use Rattle.sync_client.proofs.Calls.{did_append, subscribe_is, subscribe_keeps}
-use Rattle.sync_client.proofs.Surviving.{survives_one}
+use Rattle.sync_client.proofs.Calls.{did_append, late_is, subscribe_is, subscribe_keeps}
+use Rattle.sync_client.proofs.Surviving.{survives_one, survives_refused}
 use Rattle.sync_client.proofs.client.Client.subscribe.Goals as goal
 
 pub returns-clause-does : goal.returns-clause-does
@@ -14,6 +15,11 @@ returns-clause-does g c = λ records before.
     (subscribe_is records c.args.self.now.replica c.args.tables before.kept (c.is_none.ensures ∙ ap not c.if-is_none.false) (sym c.is_some.ensures ∙ c.if-is_some.false) (sym (c.is_late.ensures before.kept.past before.kept.count) ∙ c.if-is_late.false))
     (subst (λ (r : Replica). Keeps (records ++ ClientRecord.Subset c.args.tables ∷ []) (record r { subset = Some c.args.tables })) (sym c.in-Ok-append.ensures.replica) (subscribe_keeps records c.args.self.now.replica c.args.tables before.kept (c.is_none.ensures ∙ ap not c.if-is_none.false) (sym c.is_some.ensures ∙ c.if-is_some.false) (sym (c.is_late.ensures before.kept.past before.kept.count) ∙ c.if-is_late.false)))
     c.in-Ok-append.ensures.stays_open
+
+pub returns-then-is_late-clause-survives : goal.returns-then-is_late-clause-survives
+returns-then-is_late-clause-survives g c = λ records before stored.
+    let late = late_is records c.args.self.now.replica c.args.tables before.kept (c.is_none.ensures ∙ ap not c.if-is_none.false) (sym c.is_some.ensures ∙ c.if-is_some.false) (sym (c.is_late.ensures before.kept.past before.kept.count) ∙ c.if-is_late.true) in
+    survives_refused (subscribe (client_of the_profile records) c.args.tables) codes.TooLate records c.args.self.now _ g.met.D.Disk.only_now tt (ap (λ d. d.records) late) refl stored
 
 pub returns-in-Err-clause-survives : goal.returns-in-Err-clause-survives
 returns-in-Err-clause-survives g c = λ records before stored.
