@@ -1,4 +1,5 @@
-use Rattle.std.proofs.Common.{◌∷◌, [], length, Err, ap, ◌∙◌, subst}
+use Rattle.std.proofs.Common.{◌∷◌, [], length, Err, ap, ◌∙◌, subst, arith, rules}
+use Rattle.std.proofs.lemmas.Grind.{common_steps}
 use Rattle.sync_disk.specs.Disk.{LeavesOnly}
 use Rattle.sync_journal.specs.Records.{StandsForPrefix}
 use Rattle.sync_journal.specs.Several.{AsksPart}

@@ -18,4 +18,4 @@ returns-clause-appends g c =
     let kept = c.args.self.now.kept in
     let place = place_of c.args.uuid (map (λ d. d.uuid) kept.history.idents) in
     let one = bind_records the_profile (parts kept) c.args.uuid place (sym c.ident_of.ensures ∙ c.in_default.is) (λ e. c.if-given.false (c.given-given.ensures ∙ e)) in
-    subst (λ l. JournalAppends l c.args.self.now.journal c.append.new.self.journal (Some c.in-Err.refusal)) (sym one) c.in-Err.ensures.appends
+    subst (λ l. JournalAppends l c.args.self.now.journal c.append.new.self.journal (Some c.in-Err-append.refusal)) (sym one) c.in-Err-append.ensures.appends
