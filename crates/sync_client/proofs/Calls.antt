@@ -180,7 +180,7 @@ module _ {D : Type 0} {G : Ghosts D} (A : Type 0) (old new : Client D G) (why re
   plain_closes open_ closes = record {
     closed = (λ e. absurd (subst IsPlain (sym same ∙ same_told A why codes.Closed e) plain), λ e. let both : false ≡ true = sym open_ ∙ e in cc);
     unchanged = λ e. absurd (subst IsPlain (sym same ∙ same_told A why codes.Closed e) plain);
-    closes = λ e. elim e [ | inl fault ↦ absurd (subst IsPlain (sym same ∙ same_told A why codes.DiskFault fault) plain) | inr none ↦ closes (sym same ∙ same_told A why codes.NoMemory none) ];
+    closes = λ e. elim e [ inl fault ↦ absurd (subst IsPlain (sym same ∙ same_told A why codes.DiskFault fault) plain) | inr none ↦ closes (sym same ∙ same_told A why codes.NoMemory none) ];
   }
 
   pub plain_disk : new.journal ≡ old.journal → UsesDisk (Told A why codes.DiskFault) old new
