@@ -1,5 +1,5 @@
 -- An heir's commit as its step.
-use Rattle.std.proofs.Common.{◌≡◌, ℕ, ◌≤◌, true, List, ◌++◌, Option, Some, None, Result, Ok, Err, refl, ap, sym, subst, ◌∙◌, arith}
+use Rattle.std.proofs.Common.{◌≡◌, ℕ, true, List, ◌++◌, Result, Ok, Err, refl, ap, sym, subst, ◌∙◌}
 use Rattle.std.specs.Prelude.{IfErr, IsErrOf}
 use Rattle.sync_disk.specs.declared.disk.Disk.{Ghosts}
 use Rattle.sync_data.specs.declared.instr.Instr.{Instr}
@@ -15,8 +15,6 @@ use Rattle.sync_client.specs.Clients.{Did, IsClientOf}
 use Rattle.sync_client.specs.declared.client.Client.{Client}
 use Rattle.sync_client.specs.declared.refusal.ClientRefusal.{ClientRefusal as CodeRefusal}
 use Rattle.sync_client.specs.declared.refusal.ClientRefusal.TheVariants as codes
-use Rattle.sync_reset.specs.declared.answer.Dropped.{Dropped}
-use Rattle.sync_reset.specs.Saved.{drops}
 use Rattle.sync_heir.specs.declared.answer.Heir.{Heir}
 use Rattle.sync_heir.specs.declared.refusal.ResetRefusal.{ResetRefusal as CodeReset}
 use Rattle.sync_heir.specs.declared.refusal.ResetRefusal.TheVariants as resets

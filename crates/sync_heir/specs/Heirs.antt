@@ -1,19 +1,16 @@
 -- What the heir's call answers, and what it leaves.
-use Rattle.std.specs.Prelude.{◌≡◌, ◌↔◌, ◌⊎◌, ℕ, true, List, ◌++◌, map, Option, None, Some, Result, Ok, Err, IsErrOf}
+use Rattle.std.specs.Prelude.{◌≡◌, ◌↔◌, ◌⊎◌, true, List, ◌++◌, map, Option, None, Some, Result, Ok, Err, IsErrOf}
 use Rattle.std.specs.Option.{option_map}
 use Rattle.sync_disk.specs.declared.disk.Disk.{Ghosts}
 use Rattle.sync_journal.specs.Several.{Asks}
 use Rattle.sync_messages.specs.Parts.{ChangeParts, RetiredParts}
-use Rattle.sync_model.specs.Clients.{Client as Model, ClientRecord, client_of}
+use Rattle.sync_model.specs.Clients.{ClientRecord, client_of}
 use Rattle.sync_model.specs.Resets.{ByClient, HeirAnswer, HeirStep, ResetRefusal, heir, heir_read}
-use Rattle.sync_data.specs.declared.instr.Instr.{Instr}
-use Rattle.sync_base.specs.States.{State}
 use Rattle.sync_exchange.specs.Profile.{the_profile, unspell}
 use Rattle.sync_exchange.specs.Seen.{change_seen, client_bytes}
 use Rattle.sync_client.specs.Clients.{AskedFor, IsClientOf, IsStored, Leaves}
 use Rattle.sync_client.specs.Refusals.{refusal_seen}
 use Rattle.sync_client.specs.declared.client.Client.{Client}
-use Rattle.sync_client.specs.declared.refusal.ClientRefusal.{ClientRefusal as CodeRefusal}
 use Rattle.sync_client.specs.declared.refusal.ClientRefusal.TheVariants as codes
 use Rattle.sync_heir.specs.declared.answer.Heir.{Heir}
 use Rattle.sync_heir.specs.declared.answer.Heir.TheVariants as heirs

@@ -32,7 +32,7 @@ returns-in-Ok-entry_record-clause-appends g c =
       | then-form+in-Ok w ↦
           let first = subst (λ s. JournalAppends (ServerRecord.Form ∷ []) old.journal s.journal None) (sym w.self-is) w.in-Ok.ensures.appends in
           subst (λ f. Appends (records_of f c.args.ident h) old new result) (sym w.if-form.true) (appends_more (ServerRecord.Form ∷ []) last old.journal mid.journal new.journal (result_err result) first
-              (λ b told. subst (λ s. (bytes : List ℕ) × (D.content (disk_of s.journal) ≡ Some bytes)) (sym w.self-is) (w.in-Ok.ensures.disk.told b told)) one)
+          (λ b told. subst (λ s. (bytes : List ℕ) × (D.content (disk_of s.journal) ≡ Some bytes)) (sym w.self-is) (w.in-Ok.ensures.disk.told b told)) one)
       | else-form w ↦ subst (λ f. Appends (records_of f c.args.ident h) old new result) (sym w.if-form.false) (subst (λ s. Appends last s new result) w.self-is one)
     ]
 

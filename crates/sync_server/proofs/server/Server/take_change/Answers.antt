@@ -1,4 +1,4 @@
-use Rattle.std.proofs.Common.{◌≡◌, ◌<◌, length, Option, None, Some, Err, refl, sym, ap, ◌∙◌, subst, arith}
+use Rattle.std.proofs.Common.{◌≡◌, ◌<◌, length, None, Some, Err, refl, sym, ap, ◌∙◌, subst, arith}
 use Rattle.std.proofs.lemmas.Bool.{lt-leb}
 use Rattle.sync_data.specs.declared.instr.Instr.{Instr}
 use Rattle.sync_base.specs.States.{State}
@@ -11,7 +11,6 @@ use Rattle.sync_server.specs.Merging.{Merges, change_of, records_of}
 use Rattle.sync_server.specs.Refusals.{refusal_seen}
 use Rattle.sync_server.specs.Serving.{JournalAppends}
 use Rattle.sync_server.specs.declared.kept.Kept.{Kept}
-use Rattle.sync_server.specs.declared.refusal.Refusal.{Refusal}
 use Rattle.sync_server.proofs.Appending.{appends_none}
 use Rattle.sync_server.proofs.Keeps.{the_same}
 use Rattle.sync_server.proofs.Uploading.{is_taken, merged_change, refused_change}

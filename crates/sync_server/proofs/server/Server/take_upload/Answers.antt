@@ -9,7 +9,6 @@ use Rattle.sync_messages.specs.declared.message.Message.TheVariants as CodeMessa
 use Rattle.sync_server.specs.Kept.{parts}
 use Rattle.sync_server.specs.Refusals.{refusal_seen}
 use Rattle.sync_server.specs.Sending.{refusal_message}
-use Rattle.sync_server.specs.declared.refusal.Refusal.{Refusal}
 use Rattle.sync_server.specs.Serving.{IsServed, IsTaken, JournalAppends, UploadedSoFar}
 use Rattle.sync_server.proofs.Keeps.{the_same}
 use Rattle.sync_server.proofs.Sending.{copied_some}
