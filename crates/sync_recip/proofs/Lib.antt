@@ -1,5 +1,14 @@
+pub mod Acting
+pub mod Standing
+pub mod Laid
+pub mod Each
+pub mod Lanes
+pub mod Crossings
+pub mod Shown
+pub mod Puts
+pub mod Behind
 pub mod Covered
 pub mod Carries
 pub mod Entries
-pub mod Versions
 pub mod Turns
+pub mod Versions

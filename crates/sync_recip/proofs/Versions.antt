@@ -4,20 +4,15 @@ use Rattle.std.specs.List.Sorted.{IsNonDecreasingBy}
 use Rattle.std.specs.Prelude.{◌==◌}
 use Rattle.std.proofs.lemmas.Bool.{lt-ltb, le-ltb, eq-eqb}
 use Rattle.std.proofs.lemmas.Bool.Decides.{nat_tests}
-use Rattle.std.proofs.lemmas.List.{drop_all, drop_more, map-append, take-append-drop, length-map, length-take-le, with_items_is}
-use Rattle.std.proofs.Math.ListN.{drop_of_length-le}
-use Rattle.std.specs.Vec.{with_items}
-use borrow.Rule.Slice.PartMut.{put_mid}
+use Rattle.std.proofs.lemmas.List.{drop_all, drop_more, map-append, take-append-drop}
 use Rattle.std.proofs.lemmas.List.Elements.{All-nil, All-cons, All-head, All-tail, All-push}
-use Rattle.sync_data.specs.declared.entry.Entry.{Entry}
 use Rattle.sync_theory.specs.Grid.{tail}
 use Rattle.sync_theory.specs.Reciprocals.{from_base, put_first, settle}
 use Rattle.sync_theory.proofs.World.{put_if, put_unless}
 use Rattle.sync_recip.specs.declared.kept.Kept.{Kept}
-use Rattle.sync_recip.specs.Lists.{entry_at, entry_of, kept_entry, pair_of, versions, IsRising}
+use Rattle.sync_recip.specs.Lists.{entry_at, kept_entry, pair_of, versions, IsRising}
 use Rattle.sync_recip.specs.declared.carried.Crossed.{Crossed}
-use Rattle.sync_recip.specs.declared.carried.Became.{Became}
-use Rattle.sync_recip.specs.Carrying.{became_of, with_crossed, crossed_entries, AllWithin}
+use Rattle.sync_recip.specs.Carrying.{crossed_entries}
 
 -- ---- what rises
 first_least : (v : ℕ) (ks : List Kept) (i : ℕ) (d : Kept) → All (λ w. v < w) (versions ks) → i < length ks → v < (get_or ks i d).version
@@ -149,33 +144,7 @@ all_from_base P b (q ∷ qs) a =
       | false ↦ All-cons P q.1 (from_base b qs) (All-head (λ q. P q.1) q qs a) rest
     ]
 
--- ---- one entry in place of another
-abbrev put_entry : Kept → Entry → Kept
-put_entry k x = record { version = k.version; item = x }
-
-pub entries_set : (ks : List Kept) (n : ℕ) (d : Kept) (b : Became) (x : Entry) → n < length ks → entry_of x ≡ became_of b (kept_entry (get_or ks n d)) → map kept_entry (set ks n (put_entry (get_or ks n d) x)) ≡ with_crossed n b (map kept_entry ks)
-entries_set [] n d b x h e = absurd (omega arith)
-entries_set (k ∷ ks) zero d b x h e = ap (λ l. l ∷ map kept_entry ks) e
-entries_set (k ∷ ks) (suc n) d b x h e = ap (λ l. kept_entry k ∷ l) (entries_set ks n d b x (omega arith) e)
-
-pub versions_set : (ks : List Kept) (n : ℕ) (d : Kept) (x : Entry) → n < length ks → versions (set ks n (put_entry (get_or ks n d) x)) ≡ versions ks
-versions_set [] n d x h = absurd (omega arith)
-versions_set (k ∷ ks) zero d x h = refl
-versions_set (k ∷ ks) (suc n) d x h = ap (λ l. k.version ∷ l) (versions_set ks n d x (omega arith))
-
 -- ---- a list that is settled
 module _ (b : ℕ) (ks : List Kept) (n : ℕ) (below : All (λ k. k.version < b) (take n ks)) (above : All (λ k. b ≤ k.version) (drop n ks)) where
-  pub within_rest : (cs : List Crossed) → AllWithin (length (from_base b (map pair_of ks))) cs → AllWithin (length (drop n ks)) cs
-  within_rest cs h = subst (λ m. AllWithin m cs) (ap length (from_base_is b ks n below above) ∙ length-map (drop n ks) kept_entry) h
-
   pub settled : (ns : List Kept) (cs : List Crossed) → versions ns ≡ versions (drop n ks) → map kept_entry ns ≡ crossed_entries cs (map kept_entry (drop n ks)) → map pair_of (take n ks ++ ns) ≡ settle b (map pair_of ks) (crossed_entries cs (from_base b (map pair_of ks)))
   settled ns cs e f = sym (settle_is b ks n ns below above e) ∙ ap (settle b (map pair_of ks)) (f ∙ ap (crossed_entries cs) (sym (from_base_is b ks n below above)))
-
--- the items of a vector of which the end was rewritten
-pub items_after : {Z : Type 0} (v : Vec Kept Z) (ks part : List Kept) (n : ℕ) → ks ≡ v.items → n ≤ length ks → length part ≡ length ks - n → (with_items v (put_mid n (length ks - n) ks part)).items ≡ take n ks ++ part
-items_after v ks part n e h g =
-    let rest = drop_of_length-le (drop n ks) (let l : length (drop n ks) ≤ length ks - n = omega (arith, length-drop n ks) in l) in
-    let whole = ap (λ l. take n ks ++ (part ++ l)) rest ∙ ap (λ l. take n ks ++ l) (append-nil part) in
-    let count = ap length whole ∙ length-append (take n ks) part in
-    let size = ap length e in
-    with_items_is v (put_mid n (length ks - n) ks part) (omega (arith, count, length-take-le n ks h, g, size, v.ok.0)) ∙ whole
