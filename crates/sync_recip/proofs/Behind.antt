@@ -1,5 +1,6 @@
 -- Entries from a place on, where places are counted from there, or from the first.
-use Rattle.std.proofs.Common.{◌≡◌, ℕ, zero, suc, ◌+◌, ◌≤◌, List, [], ◌∷◌, Some, refl, sym, ap, ◌∙◌, subst, length, drop, arith}
+use Rattle.std.proofs.Common.{◌≡◌, ℕ, zero, suc, ◌+◌, ◌≤◌, List, [], ◌∷◌, Some, refl, sym, ap, ◌∙◌, subst, length, drop, map, arith}
+use Rattle.std.proofs.lemmas.List.{drop-drop, length-drop, length-map}
 use Rattle.sync_data.specs.declared.instr.Instr.{Instr}
 use Rattle.sync_theory.specs.Changesets.{Changeset}
 use Rattle.sync_recip.specs.declared.across.Across.{Across}
@@ -7,15 +8,11 @@ use Rattle.sync_recip.specs.declared.carried.Became.{Became}
 use Rattle.sync_recip.specs.declared.carried.Crossed.TheVariants.{Stretch}
 use Rattle.sync_recip.specs.Acrossing.{put_across}
 use Rattle.sync_recip.specs.Carrying.{with_crossed, FitsOne, LeftAt}
-use Rattle.sync_recip.specs.Lists.{lists_in}
+use Rattle.sync_recip.specs.declared.kept.Kept.{Kept}
+use Rattle.sync_recip.specs.Lists.{kept_entry, lists_in}
 use Rattle.sync_recip.specs.Passing.{passed, CanPass}
 use Rattle.sync_recip.specs.Stretches.{from_place}
-
-pub drop_twice : {A : Type 0} (i k : ℕ) (xs : List A) → drop k (drop i xs) ≡ drop (i + k) xs
-drop_twice zero k xs = let m : 0 + k ≡ k = omega arith in ap (λ j. drop j xs) (sym m)
-drop_twice (suc i) zero [] = refl
-drop_twice (suc i) (suc k) [] = refl
-drop_twice (suc i) k (y ∷ xs) = let m : suc i + k ≡ suc (i + k) = omega arith in drop_twice i k xs ∙ ap (λ j. drop j (y ∷ xs)) (sym m)
+use Rattle.sync_recip.proofs.Indexed.{left_inside}
 
 pub from_further : {A : Type 0} (i k : ℕ) (f : List A → List A) (xs : List A) → from_place (i + k) f xs ≡ from_place i (from_place k f) xs
 from_further zero k f xs = let m : 0 + k ≡ k = omega arith in ap (λ j. from_place j f xs) m
@@ -45,9 +42,24 @@ pub can_further : (i : ℕ) (a : Across) (es : List (Changeset Instr)) → i ≤
 can_further i a es l h =
     let size = long i es l in
     let within = h.0 in
-    (omega (arith, size, within), subst (CanPass a.stamp a.count (Some a.action)) (drop_twice i a.start es) h.1)
+    (omega (arith, size, within), subst (CanPass a.stamp a.count (Some a.action)) (drop-drop a.start i es) h.1)
   where
     long : {A : Type 0} (i : ℕ) (xs : List A) → i ≤ length xs → i + length (drop i xs) ≡ length xs
     long zero xs m = omega arith
     long (suc i) [] m = absurd (omega (arith, m))
     long (suc i) (x ∷ xs) m = let r = long i xs (omega (arith, m)) in omega (arith, r)
+
+-- ---- the place of one, counted from the first
+pub one_within : (i n : ℕ) (b : Became) (ks : List Kept) → i ≤ length ks → LeftAt n b (lists_in (drop i (map kept_entry ks))) → i + n ≤ length ks
+one_within i n b ks l h =
+    let there = left_inside (drop i (map kept_entry ks)) n b h in
+    let rest = length-drop i (map kept_entry ks) in
+    let size = length-map ks kept_entry in
+    omega (arith, there, rest, size, l)
+
+pub stretch_within : (i : ℕ) (a : Across) (ks : List Kept) → i ≤ length ks → FitsOne (Stretch a) (drop i (map kept_entry ks)) → i + a.start ≤ length ks
+stretch_within i a ks l h =
+    let there = h.0 in
+    let rest = length-drop i (map kept_entry ks) in
+    let size = length-map ks kept_entry in
+    omega (arith, there, rest, size, l)

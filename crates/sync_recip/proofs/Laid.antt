@@ -19,6 +19,11 @@ from_same zero f g us h = h
 from_same (suc i) f g [] h = refl
 from_same (suc i) f g (u ∷ us) h = ap (λ l. u ∷ l) (from_same i f g us h)
 
+pub from_id : {A : Type 0} (i : ℕ) (f : List A → List A) (us : List A) → ((vs : List A) → f vs ≡ vs) → from_place i f us ≡ us
+from_id zero f us h = h us
+from_id (suc i) f [] h = refl
+from_id (suc i) f (u ∷ us) h = ap (λ l. u ∷ l) (from_id i f us h)
+
 pub drop_from : {A : Type 0} (i : ℕ) (f : List A → List A) (us : List A) → i ≤ length us → drop i (from_place i f us) ≡ f (drop i us)
 drop_from zero f us l = refl
 drop_from (suc i) f [] l = absurd (omega (arith, l))

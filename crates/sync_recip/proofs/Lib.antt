@@ -10,5 +10,8 @@ pub mod Behind
 pub mod Covered
 pub mod Carries
 pub mod Entries
+pub mod Indexed
 pub mod Turns
+pub mod Walk
 pub mod Versions
+pub mod Based

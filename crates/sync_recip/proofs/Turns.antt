@@ -1,6 +1,6 @@
 -- A change on its way over the entries of a list of kept ones.
 use Rattle.std.proofs.Common.{◌≡◌, ◌≢◌, ◌≤◌, ℕ, zero, suc, ◌+◌, ◌-◌, ◌<◌, Bool, List, [], ◌∷◌, ◌++◌, Option, None, Some, IfSome, Result, Ok, refl, length, map, take, drop, get_or, sym, ap, ◌∙◌, subst, All, append-nil, length-drop, add-one, arith}
-use Rattle.std.proofs.lemmas.List.{drop_more, drop_all, take_all, drop-map, take-append-drop, length-map, get_or-drop}
+use Rattle.std.proofs.lemmas.List.{drop-drop, take-append-drop}
 use Rattle.std.proofs.lemmas.List.Elements.{All-head, All-tail}
 use Rattle.sync_data.specs.declared.instr.Instr.{Instr}
 use Rattle.sync_data.specs.Payload.{Changes}
@@ -37,7 +37,7 @@ other_at own (l ∷ ks) zero k h e a = λ is. All-head (λ e. e.origin ≢ own) 
 other_at own (l ∷ ks) (suc n) k h e a = other_at own ks n k (omega arith) e (All-tail (λ e. e.origin ≢ own) (kept_entry l) (map kept_entry ks) a)
 
 -- ---- a change on its way over the entries
-element : (ks : List Kept) (n : ℕ) → n < length ks → (k : Kept) × (k ≡ get_or ks n k)
+pub element : (ks : List Kept) (n : ℕ) → n < length ks → (k : Kept) × (k ≡ get_or ks n k)
 element [] n l = absurd (omega (arith, l))
 element (k ∷ ks) zero l = (k, refl)
 element (k ∷ ks) (suc n) l = element ks n (omega (arith, l))
@@ -134,13 +134,13 @@ module _ (t : Touched) (x : Indexed) (codes : List ℕ) (own : ℕ) (es : List (
     pub walk_across : (ds : List Crossed) → ds ≡ cs ++ Stretch a ∷ [] → Covers t (changes_left left now).instrs → Walked t x codes own es c (n + a.count) ds (changes_left left now)
     walk_across ds is covers =
         let split : drop n es ≡ take a.count (drop n es) ++ drop a.count (drop n es) = sym (take-append-drop a.count (drop n es)) in
-        let further : drop a.count (drop n es) ≡ drop (n + a.count) es = drop_drop n a.count es in
+        let further : drop a.count (drop n es) ≡ drop (n + a.count) es = drop-drop a.count n es in
         record {
           so_far = λ number.
               w.so_far number ∙ ap (λ l. carry_after (take n whole) (carry (cross_sets meet) (made_by own number now) l)) split
               ∙ carry_several (cross_sets meet) (take n whole) (made_by own number now) (take a.count (drop n es)) (drop a.count (drop n es)) (made_by own number (changes_left left now)) (passed a.stamp a.count (Some a.action) (take a.count (drop n es))) (crosses number)
               ∙ (λ i. carry_after (sym (first_ones ds is) i) (carry (cross_sets meet) (made_by own number (changes_left left now)) (further i)));
-          behind = ap (drop (n + a.count)) (put_is ds is) ∙ drop_passed a.stamp a.action n a.count whole (omega (arith, size, fits)) ∙ sym (drop_drop n a.count whole) ∙ ap (drop a.count) w.behind ∙ further;
+          behind = ap (drop (n + a.count)) (put_is ds is) ∙ drop_passed a.stamp a.action n a.count whole (omega (arith, size, fits)) ∙ sym (drop-drop a.count n whole) ∙ ap (drop a.count) w.behind ∙ further;
           fits = subst (λ l. AllFit l es) (sym is) (fit_push cs (Stretch a) es w.fits (
             omega (arith, size, fits, start),
             subst (CanPass a.stamp a.count (Some a.action)) (ap (λ m. drop m es) start ∙ sym w.behind ∙ ap (λ m. drop m whole) (sym start)) can,
@@ -148,9 +148,3 @@ module _ (t : Touched) (x : Indexed) (codes : List ℕ) (own : ℕ) (es : List (
           indexed = covers;
           served = λ some. left_known codes left now.instrs (w.served some);
         }
-      where
-        drop_drop : {A : Type 0} (i k : ℕ) (xs : List A) → drop k (drop i xs) ≡ drop (i + k) xs
-        drop_drop zero k xs = let m : 0 + k ≡ k = omega arith in ap (λ j. drop j xs) (sym m)
-        drop_drop (suc i) zero [] = refl
-        drop_drop (suc i) (suc k) [] = refl
-        drop_drop (suc i) k (y ∷ xs) = let m : suc i + k ≡ suc (i + k) = omega arith in drop_drop i k xs ∙ ap (λ j. drop j (y ∷ xs)) (sym m)

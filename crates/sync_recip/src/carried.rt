@@ -1,4 +1,4 @@
-ghost use Rattle.std.specs.Prelude.{◌≡◌, ◌≤◌, ◌<◌, ◌+◌, ◌^◌, drop, length, map};
+ghost use Rattle.std.specs.Prelude.{◌≡◌, ◌≤◌, drop, length, map};
 ghost use Rattle.sync_rivals.specs.Lists.{Lists};
 ghost use Rattle.sync_recip.specs.Acrossing.{put_across};
 ghost use Rattle.sync_recip.specs.Lists.{versions, kept_entry, lists_in};
@@ -87,22 +87,17 @@ fn put_one(rivals: &mut RivalIndex, items: &mut Items, first: usize, crossed: Cr
     ensures listed { Lists rivals.new (lists_in (map kept_entry items.new)) }
 {
     match crossed {
-        Crossed::One { place, became } => match became {
-            Became::Moved(action) => shift_one(rivals, items, first + place, action),
-            Became::Changed(entry) => change_one(rivals, items, first + place, entry),
-        },
-        Crossed::Stretch(across) => cross(rivals, items, behind(first, across)),
-    }
-}
-
-/// The same, where places are counted from further back.
-fn behind(first: usize, across: Across) -> Across
-    requires { first + across.start < 2 ^ 64 }
-    ensures { result ≡ record across { start = first + across.start } }
-{
-    Across {
-        start: first + across.start,
-        ..across
+        Crossed::One { place, became } => {
+            let place = items.place_behind(first, place);
+            match became {
+                Became::Moved(action) => shift_one(rivals, items, place, action),
+                Became::Changed(entry) => change_one(rivals, items, place, entry),
+            }
+        }
+        Crossed::Stretch(across) => {
+            let start = items.place_behind(first, across.start);
+            cross(rivals, items, Across { start, ..across });
+        }
     }
 }
 

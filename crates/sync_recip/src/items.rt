@@ -1,4 +1,4 @@
-ghost use Rattle.std.specs.Prelude.{◌≡◌, ◌<◌, ◌≤◌, ◌++◌, ◌∷◌, [], List, Bool, ℕ, Ok, IsTrue, IfOk, IfSome, OnOk, OnErr, All, drop, length, map, take};
+ghost use Rattle.std.specs.Prelude.{◌≡◌, ◌<◌, ◌≤◌, ◌+◌, ◌++◌, ◌∷◌, [], List, Bool, ℕ, Ok, IsTrue, IfOk, IfSome, OnOk, OnErr, All, drop, length, map, take};
 ghost use Rattle.sync_data.specs.declared.instr.Instr.{Instr};
 ghost use Rattle.sync_theory.specs.Lists.{cross as crossed};
 ghost use Rattle.sync_law.specs.Instrs.{meet};
@@ -69,6 +69,14 @@ impl Items {
         self.kept.len()
     }
 
+    /// The place of an entry whose place is counted from another one on.
+    pub(crate) fn place_behind(&self, first: usize, place: usize) -> usize
+        requires { first + place ≤ length self.now }
+        ensures { result ≡ first + place }
+    {
+        first + place
+    }
+
     pub(crate) fn push(&mut self, kept: Kept) -> Result<(), NoMemory>
         ensures ok { OnOk result (self.new ≡ self.old ++ kept ∷ []) }
         ensures unchanged { OnErr result (self.new ≡ self.old) }
@@ -129,11 +137,11 @@ impl Items {
         requires { place < length self.now }
         ensures { IsTrue result → (k : KeptOne) → IsAt place self.now k → changes.now ≡ k.item.changes }
     {
-        if told_at(&self.stretch, place).is_some() {
-            return false;
-        }
         let one = &self.kept[place];
-        one.item.is(changes)
+        match told_at(&self.stretch, place) {
+            Some(_) => false,
+            None => one.item.is(changes),
+        }
     }
 
     /// An entry that is equal to the one at a place, for one to hold alone.

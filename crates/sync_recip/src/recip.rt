@@ -84,7 +84,10 @@ impl Recip {
         ensures { IfOk result (λ found. option_map entry_of found ≡ entry_at version self.now) }
     {
         let place = self.items.count_below(version);
-        if place >= self.items.len() || self.items.version(place) != version {
+        if place >= self.items.len() {
+            return Ok(None);
+        }
+        if self.items.version(place) != version {
             return Ok(None);
         }
         match self.items.copy_of(place) {
