@@ -119,7 +119,7 @@ module _ (t : Touched) (x : Indexed) (codes : List ℕ) (own : ℕ) (es : List (
   -- ---- over a stretch
   module _ (a : Across) (left : Option ListAction) (start : a.start ≡ n) (fits : n + a.count ≤ length es) (can : CanCross a es)
       (crosses : (number : ℕ) → carry (cross_sets meet) (made_by own number now) (take a.count (drop n es)) ≡ Ok (made_by own number (changes_left left now), passed a.stamp a.count (Some a.action) (take a.count (drop n es)))) where
-    whole : List (Changeset Instr)
+    abbrev whole : List (Changeset Instr)
     whole = crossed_entries cs es
 
     size : length whole ≡ length es

@@ -69,12 +69,12 @@ impl Items {
         self.kept.len()
     }
 
-    /// The place of an entry whose place is counted from another one on.
+    /// The place of an entry whose place is counted from another one on, and no further than the end.
     pub(crate) fn place_behind(&self, first: usize, place: usize) -> usize
         requires { first + place ≤ length self.now }
         ensures { result ≡ first + place }
     {
-        first + place
+        first.saturating_add(place).min(self.kept.len())
     }
 
     pub(crate) fn push(&mut self, kept: Kept) -> Result<(), NoMemory>

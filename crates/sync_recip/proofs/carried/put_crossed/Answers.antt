@@ -1,13 +1,18 @@
-use Rattle.std.proofs.Common.{◌≡◌, ◌≤◌, ◌∷◌, [], List, drop, length, map, reverse, sym, ◌∙◌, ap, subst, arith}
+use Rattle.std.proofs.Common.{◌≡◌, ℕ, ◌≤◌, ◌∷◌, [], List, refl, drop, length, map, reverse, sym, ◌∙◌, ap, subst, arith}
 use Rattle.std.proofs.lemmas.List.{length-map, reverse-append}
 use Rattle.sync_data.specs.declared.instr.Instr.{Instr}
 use Rattle.sync_theory.specs.Changesets.{Changeset}
+use Rattle.sync_recip.specs.declared.carried.Crossed.{Crossed}
 use Rattle.sync_recip.specs.Lists.{kept_entry}
 use Rattle.sync_recip.specs.Carrying.{AllFit, crossed_entries, put_crossed}
 use Rattle.sync_recip.specs.Stretches.{from_place}
 use Rattle.sync_recip.proofs.Laid.{drop_from, from_id, from_twice}
 use Rattle.sync_recip.proofs.Versions.{same_length}
 use Rattle.sync_recip.proofs.carried.put_crossed.Goals as goal
+
+none_left : (cs : List Crossed) (i : ℕ) (es : List (Changeset Instr)) → length cs ≡ 0 → from_place i (crossed_entries (reverse cs)) es ≡ es
+none_left [] i es h = from_id i (crossed_entries []) es (λ l. refl)
+none_left (c ∷ cs) i es h = absurd (omega (arith, h))
 
 pub put_one-requires-clause-within : goal.put_one-requires-clause-within
 put_one-requires-clause-within c =
@@ -44,4 +49,7 @@ loop-one-preserved c =
     }
 
 pub returns-clause-entries : goal.returns-clause-entries
-returns-clause-entries c = ?
+returns-clause-entries c =
+    let empty = c.in_default.ensures.cases.0 in
+    let ok = c.loop-one.rest.ok.0 in
+    sym (none_left c.loop-one.rest.items c.args.first (map kept_entry c.loop-one.items) (omega (arith, empty, ok))) ∙ c.loop-one.invariant.entries

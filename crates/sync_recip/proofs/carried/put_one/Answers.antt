@@ -1,4 +1,5 @@
-use Rattle.std.proofs.Common.{◌≡◌, List, drop, length, map, sym, ap, subst, ◌∙◌}
+use Rattle.std.proofs.Common.{◌≡◌, List, drop, length, map, sym, ap, subst, ◌∙◌, arith}
+use Rattle.std.proofs.lemmas.List.{length-map}
 use Rattle.sync_data.specs.declared.instr.Instr.{Instr}
 use Rattle.sync_theory.specs.Changesets.{Changeset}
 use Rattle.sync_recip.specs.declared.across.Across.{Across}
@@ -62,7 +63,19 @@ place_behind-start-requires c =
     stretch_within c.args.first c.in-Stretch.across ks c.requires.within fits
 
 pub cross-requires-clause-fits : goal.cross-requires-clause-fits
-cross-requires-clause-fits c = ?
+cross-requires-clause-fits c =
+    let es : List (Changeset Instr) = map kept_entry c.args.items.now in
+    let a = c.in-Stretch.across in
+    let size = length-map c.args.items.now kept_entry in
+    let within = c.requires.within in
+    let fits = subst (λ (x : Crossed). FitsOne x (drop c.args.first es)) c.in-Stretch.is c.requires.fits in
+    subst (λ n. FitsOne (Stretch (record a { start = n })) es) (sym c.place_behind-start.ensures) (can_further c.args.first a es (omega (arith, within, size)) fits)
 
 pub returns-in-Stretch-clause-entries : goal.returns-in-Stretch-clause-entries
-returns-in-Stretch-clause-entries c = ?
+returns-in-Stretch-clause-entries c =
+    let es : List (Changeset Instr) = map kept_entry c.args.items.now in
+    let a = c.in-Stretch.across in
+    c.cross.ensures.entries
+    ∙ ap (λ n. put_across (record a { start = n }) es) c.place_behind-start.ensures
+    ∙ across_further c.args.first a es
+    ∙ ap (λ (x : Crossed). from_place c.args.first (put_crossed x) es) (sym c.in-Stretch.is)

@@ -73,6 +73,13 @@ stays_apart-requires c =
     let same = ap length (c.moves.ensures.same ∙ c.loop-from.invariant.same) in
     omega (arith, c.if-next-end.false, c.len-end.ensures, same)
 
+pub shift_to-requires : goal.shift_to-requires
+shift_to-requires c =
+    let all = c.args.items.now in
+    let within : c.next-next.result < length all = omega (arith, c.if-next-end.false, c.len-end.ensures) in
+    let k = element all c.next-next.result within in
+    (c.in-Some-moves.ensures.moves k.0 (subst (λ l. IsAt c.next-next.result l k.0) (sym c.loop-from.invariant.same) k.1)).left
+
 pub loop-from-preserved-in-Some-moves : goal.loop-from-preserved-in-Some-moves
 loop-from-preserved-in-Some-moves c =
     let all = c.args.items.now in

@@ -3,8 +3,8 @@ use Rattle.sync_recip.specs.Stretches.{shown_by}
 use Rattle.sync_recip.proofs.Shown.{length_shown}
 use Rattle.sync_recip.proofs.items.Items.place_behind.Goals as goal
 
-pub overflow_add-result : goal.overflow_add-result
-overflow_add-result c =
+pub returns : goal.returns
+returns c =
     let us = c.self.inside.kept.items in
     let o = c.self.inside.stretch in
     let view : shown_by o us ≡ c.args.self.now = c.self.view_is in
@@ -12,4 +12,4 @@ overflow_add-result c =
     let now = ap length view in
     let ok = c.self.inside.kept.ok.0 in
     let there = c.requires in
-    omega (arith, there, size, now, ok)
+    omega (arith, there, size, now, ok, c.len.ensures, c.len.type_inv)
