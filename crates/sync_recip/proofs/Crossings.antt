@@ -86,7 +86,7 @@ pub versions_laid : (i : ℕ) (a : LaneOf) (us : List Kept) → versions (laid i
 versions_laid i a us = sym (versions_bare (laid i a us)) ∙ ap versions (laid_bare i a us) ∙ versions_bare us
 
 -- ---- a change crosses it
-first_holds : (cell : Option CellPath) (i : ℕ) (ss : List (Option Op)) (us : List Kept) (r : Kept) → 0 < length ss → AllHold cell ss (drop i us) → r ≡ get_or us i r → first_cell (instrs_in r) ≡ cell
+pub first_holds : (cell : Option CellPath) (i : ℕ) (ss : List (Option Op)) (us : List Kept) (r : Kept) → 0 < length ss → AllHold cell ss (drop i us) → r ≡ get_or us i r → first_cell (instrs_in r) ≡ cell
 first_holds cell i [] us r m h e = absurd (omega (arith, m))
 first_holds cell zero (s ∷ ss) [] r m h e = absurd h
 first_holds cell zero (s ∷ ss) (u ∷ us) r m h e = ap (λ (w : Kept). first_cell (instrs_in w)) e ∙ h.0.cell_is

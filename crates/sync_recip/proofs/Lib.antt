@@ -5,6 +5,7 @@ pub mod Each
 pub mod Lanes
 pub mod Crossings
 pub mod Shown
+pub mod Making
 pub mod Puts
 pub mod Behind
 pub mod Covered

@@ -4,9 +4,10 @@ use Rattle.sync_data.specs.declared.instr.Instr.{Instr}
 use Rattle.sync_data.specs.declared.entry.Entry.{Entry}
 use Rattle.sync_data.specs.declared.entry.Stamp.{Stamp}
 use Rattle.sync_base.specs.Effects.{CellPath}
-use Rattle.sync_transform.specs.Moves.{kind_in, first_cell}
+use Rattle.sync_transform.specs.Places.{Within}
+use Rattle.sync_transform.specs.Moves.{action_in, kind_in, first_cell}
 use Rattle.list_lane.specs.Lanes.{LaneOf, length_after, length_before, slot_at}
-use Rattle.list_lane.specs.Told.{told}
+use Rattle.list_lane.specs.Told.{action, told}
 use Rattle.list_lane.specs.declared.op.Op.{Op}
 use Rattle.sync_recip.specs.declared.kept.Kept.{Kept}
 use Rattle.sync_recip.specs.declared.stretch.Stretch.{Stretch}
@@ -82,3 +83,10 @@ IsToldAt n (Some s) o = IsSlotAt n s o
 -- an entry stands at a place
 abbrev pub IsAt : ℕ → List Kept → Kept → Type 0
 IsAt n ks k = k ≡ slice_index_or ks n k
+
+-- what an entry is in a lane, where it is one list instruction that acts on a list of that length
+pub record IsOpOn (n : ℕ) (e : Entry) (b : Op) : Type 0 where
+  pub acts : action_in e.changes.instrs ≡ Some (action b.does b.place n)
+  pub kind : kind_in e.changes.instrs ≡ Some b.does
+  pub stamp : b.stamp ≡ record { ms = e.changes.ms; ident = e.origin }
+  pub within : Within b.does b.place n

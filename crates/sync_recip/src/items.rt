@@ -15,7 +15,8 @@ use super::carried::Became;
 use super::carry::keep;
 use super::kept::{Kept, count_below};
 use super::stretch::{
-    Stretch, cross_each, cross_lane, left_by, takes, told_at, write_around, write_before, write_whole,
+    Stretch, cross_each, cross_lane, extend_last, first_stretch, left_by, takes, told_at, write_around,
+    write_before, write_whole,
 };
 use std::alloc::Global;
 use std::marker::Model;
@@ -81,7 +82,13 @@ impl Items {
         ensures ok { OnOk result (self.new ≡ self.old ++ kept ∷ []) }
         ensures unchanged { OnErr result (self.new ≡ self.old) }
     {
-        keep(&mut self.kept, kept)
+        match keep(&mut self.kept, kept) {
+            Ok(()) => {
+                extend_last(self.kept.as_slice(), &mut self.stretch);
+                Ok(())
+            }
+            Err(NoMemory) => Err(NoMemory),
+        }
     }
 
     /// How many have a version below the base.
@@ -243,6 +250,15 @@ impl Items {
         ensures { self.new ≡ self.old }
     {
         write_before(&mut self.kept, &mut self.stretch, place);
+    }
+
+    /// The first so many entries in a row from a place on that a lane can tell get one. Where memory runs out they get a shorter
+    /// one, or none.
+    pub(crate) fn join(&mut self, from: usize, least: usize)
+        ensures { self.new ≡ self.old }
+    {
+        write_whole(&mut self.kept, &mut self.stretch);
+        self.stretch = first_stretch(self.alloc, self.kept.as_slice(), from, least);
     }
 
     /// The entry at a place became another.

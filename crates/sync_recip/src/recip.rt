@@ -31,6 +31,7 @@ pub struct Recip {
     alloc: Global,
     rivals: RivalIndex,
     items: Items,
+    crossed: usize,
 }
 
 impl Model for Recip {
@@ -56,6 +57,7 @@ impl Recip {
             alloc,
             rivals: RivalIndex::new(alloc),
             items: Items::new(alloc),
+            crossed: 0,
         }
     }
 
@@ -181,6 +183,7 @@ impl Recip {
         let count = crossed.len();
         self.put_all(base, crossed);
         self.list_more(count);
+        self.join_more(base, count);
         changes
     }
 
@@ -209,5 +212,19 @@ impl Recip {
             }
             self.rivals.list(self.items.listed(place));
         }
+    }
+
+    /// Joins entries from a base on to a stretch, once as many have crossed as there are, so that joining takes about as long as
+    /// crossing. A short list isn't joined.
+    fn join_more(&mut self, base: u32, crossed: usize)
+        ensures { self.new ≡ self.old }
+    {
+        self.crossed = self.crossed.saturating_add(crossed);
+        let first = self.items.count_below(base);
+        if self.crossed < LOOKS || self.crossed < self.items.len() - first {
+            return;
+        }
+        self.crossed = 0;
+        self.items.join(first, LOOKS);
     }
 }

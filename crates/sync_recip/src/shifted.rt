@@ -13,12 +13,12 @@ ghost use Rattle.list_lane.specs.Told.{told};
 ghost use Rattle.sync_recip.specs.Lists.{entry_of};
 ghost use Rattle.sync_recip.specs.Carrying.{became_of, moved_entry, Suits};
 ghost use Rattle.sync_recip.specs.Passing.{change_later, own_left, other_left, Meets};
-ghost use Rattle.sync_recip.specs.Stretches.{holding};
+ghost use Rattle.sync_recip.specs.Stretches.{holding, IsOpOn};
 
 use super::actions::action_left;
 use super::carried::Became;
 use super::shared::SharedEntry;
-use list_lane::{Op, action_of};
+use list_lane::{Op, action_of, op_of, prior_of};
 use std::alloc::Global;
 use std::marker::Model;
 use sync_base::{Changeset, Entry, Ident, Instr, NoMemory, Stamp};
@@ -107,6 +107,27 @@ impl ShiftedEntry {
             return false;
         }
         same_first_cell(changes, &self.shared.entry().changes)
+    }
+
+    /// Whether it and another are known to be of one cell.
+    pub(crate) fn is_in_cell_with(&self, other: &ShiftedEntry) -> bool
+        ensures { IsTrue result → first_cell self.now.changes.instrs ≡ first_cell other.now.changes.instrs }
+    {
+        if other.fell {
+            return false;
+        }
+        self.is_in_cell_of(&other.shared.entry().changes)
+    }
+
+    /// What it is in a lane, where it is one list instruction that acts on a list of that length.
+    pub(crate) fn op_on(&self, length: u32) -> Option<Op>
+        ensures { IfSome result (IsOpOn length self.now) }
+    {
+        let action = self.action()?;
+        if prior_of(action) != length {
+            return None;
+        }
+        Some(op_of(action, self.stamp()))
     }
 
     /// Its changes.

@@ -11,7 +11,9 @@ ghost use Rattle.sync_recip.specs.Stretches.{laid, shown_by, Stands, Outside, Is
 
 use super::across::Across;
 use super::kept::Kept;
+use std::alloc::Global;
 use list_lane::{Lane, Op, action_of, op_of, prior_of};
+use sync_base::NoMemory;
 use sync_transform::ListAction;
 
 /// Entries next to each other, each of one list instruction of one cell, or of none any more: the place of the first, and what
@@ -65,6 +67,95 @@ pub(crate) fn cross_lane(stretch: &mut Stretch, across: &Across)
     ensures within { Within (kind_of across.now.action) (place_in across.now.action) (prior_in across.now.action) }
 {
     stretch.lane.cross(op_of(across.action, across.stamp), false);
+}
+
+/// The entry behind a stretch joins it, where it is one list instruction of that cell, and acts on the list behind the lane.
+/// Whether it did. It doesn't where memory runs out.
+fn extend(kept: &[Kept], stretch: &mut Stretch) -> bool
+    requires { Stands kept.now stretch.old }
+    ensures shown { laid stretch.new.start stretch.new.lane kept.now ≡ laid stretch.old.start stretch.old.lane kept.now }
+    ensures stands { Stands kept.now stretch.new }
+    ensures start { stretch.new.start ≡ stretch.old.start }
+{
+    let (start, count) = (stretch.start, stretch.lane.len());
+    let end = start + count;
+    if end >= kept.len() {
+        return false;
+    }
+    let first = &kept[start];
+    let next = &kept[end];
+    if !first.item.is_in_cell_with(&next.item) {
+        return false;
+    }
+    let Some(op) = next.item.op_on(stretch.lane.last()) else {
+        return false;
+    };
+    if !has_room(stretch.lane.first(), count) {
+        return false;
+    }
+    match stretch.lane.push(op) {
+        Ok(()) => true,
+        Err(NoMemory) => false,
+    }
+}
+
+/// The last entry joins the stretch, where that ends before it.
+pub(crate) fn extend_last(kept: &[Kept], stretch: &mut Option<Stretch>)
+    requires { IfSome stretch.old (Stands kept.now) }
+    ensures shown { shown_by stretch.new kept.now ≡ shown_by stretch.old kept.now }
+    ensures stands { IfSome stretch.new (Stands kept.now) }
+{
+    if let Some(stretch) = stretch {
+        if kept.len() - stretch.start - stretch.lane.len() == 1 {
+            extend(kept, stretch);
+        }
+    }
+}
+
+/// The longest stretch from a place on.
+fn stretch_from(alloc: Global, kept: &[Kept], start: usize) -> Stretch
+    requires { start < length kept.now }
+    ensures shown { laid result.start result.lane kept.now ≡ kept.now }
+    ensures stands { Stands kept.now result }
+    ensures start { result.start ≡ start }
+{
+    let one = &kept[start];
+    let first = match one.item.action() {
+        Some(action) => prior_of(action).min(u32::MAX - 1),
+        None => 0,
+    };
+    let mut stretch = Stretch {
+        start,
+        lane: Lane::new(alloc, first),
+    };
+    for _ in start..kept.len() {
+        if !extend(kept, &mut stretch) {
+            break;
+        }
+    }
+    stretch
+}
+
+/// The first stretch from a place on that has so many entries.
+pub(crate) fn first_stretch(
+    alloc: Global,
+    kept: &[Kept],
+    from: usize,
+    least: usize,
+) -> Option<Stretch>
+    ensures shown { shown_by result kept.now ≡ kept.now }
+    ensures stands { IfSome result (Stands kept.now) }
+{
+    let mut start = from;
+    while start < kept.len() {
+        let stretch = stretch_from(alloc, kept, start);
+        let count = stretch.lane.len();
+        if count >= least {
+            return Some(stretch);
+        }
+        start += count.max(1);
+    }
+    None
 }
 
 /// The first of a stretch is written as it stands, and the stretch begins behind it. It takes no memory.
