@@ -1,18 +1,31 @@
 -- A stretch grows by the entry behind it.
 use Rattle.std.proofs.Common.{◌≡◌, ℕ, zero, suc, ◌+◌, ◌<◌, ◌≤◌, List, [], ◌∷◌, ◌++◌, Option, Some, None, refl, sym, ap, ◌∙◌, subst, length, drop, get_or, length-drop, arith}
 use Rattle.std.proofs.lemmas.List.{get_or-drop, length-append}
+use Rattle.sync_data.specs.declared.entry.Entry.{Entry}
+use Rattle.sync_data.specs.declared.entry.Stamp.{Stamp}
 use Rattle.sync_data.specs.declared.instr.Instr.{Instr}
 use Rattle.sync_base.specs.Effects.{CellPath}
-use Rattle.sync_transform.specs.Moves.{first_cell}
+use Rattle.sync_transform.specs.Places.{Within}
+use Rattle.sync_transform.specs.Moves.{action_in, first_cell, kind_of}
+use Rattle.sync_transform.specs.declared.moves.ListAction.{ListAction}
 use Rattle.list_lane.specs.Lanes.{length_after, length_at_end}
-use Rattle.list_lane.specs.Told.{action}
+use Rattle.list_lane.specs.Told.{action, place_in, prior_in}
 use Rattle.list_lane.specs.declared.op.Op.{Op}
 use Rattle.sync_recip.specs.declared.kept.Kept.{Kept}
 use Rattle.sync_recip.specs.declared.stretch.Stretch.{Stretch}
 use Rattle.sync_recip.specs.Stretches.{instrs_in, with_instrs, told_kept, overlaid, laid, Holds, AllHold, Stands, IsOpOn}
-use Rattle.sync_recip.proofs.Acting.{told_itself}
+use Rattle.sync_recip.proofs.Acting.{action_parts, kind_known, told_itself}
 use Rattle.sync_recip.proofs.Crossings.{first_holds}
 use Rattle.sync_recip.proofs.Laid.{from_same, laid_none}
+
+pub op_is : (n : ℕ) (e : Entry) (a : ListAction) (b : Op) (s : Stamp) → action_in e.changes.instrs ≡ Some a → b ≡ record { does = kind_of a; place = place_in a; stamp = s }
+    → Within b.does b.place (prior_in a) → prior_in a ≡ n → s ≡ record { ms = e.changes.ms; ident = e.origin } → IsOpOn n e b
+op_is n e a b s acts is within size stamp = record {
+  acts = acts ∙ ap Some (sym (action_parts a) ∙ (λ i. action (sym is i).does (sym is i).place (size i)));
+  kind = kind_known e.changes.instrs a acts ∙ ap (λ (x : Op). Some x.does) (sym is);
+  stamp = ap (λ (x : Op). x.stamp) is ∙ stamp;
+  within = subst (Within b.does b.place) size within;
+}
 
 op_tells : (n : ℕ) (k : Kept) (b : Op) → IsOpOn n k.item b → told_kept n (Some b) k ≡ k
 op_tells n k b h = ap (λ (is : List Instr). with_instrs is k) (told_itself (instrs_in k) (action b.does b.place n) h.acts)

@@ -11,6 +11,7 @@ ghost use Rattle.sync_recip.specs.Stretches.{laid, shown_by, Stands, Outside, Is
 
 use super::across::Across;
 use super::kept::Kept;
+use super::shifted::ShiftedEntry;
 use std::alloc::Global;
 use list_lane::{Lane, Op, action_of, op_of, prior_of};
 use sync_base::NoMemory;
@@ -112,6 +113,16 @@ pub(crate) fn extend_last(kept: &[Kept], stretch: &mut Option<Stretch>)
     }
 }
 
+/// The length of the list on which an entry acts, where it is one list instruction.
+fn length_before(item: &ShiftedEntry) -> u32
+    ensures { result < top }
+{
+    match item.action() {
+        Some(action) => prior_of(action).min(u32::MAX - 1),
+        None => 0,
+    }
+}
+
 /// The longest stretch from a place on.
 fn stretch_from(alloc: Global, kept: &[Kept], start: usize) -> Stretch
     requires { start < length kept.now }
@@ -120,14 +131,8 @@ fn stretch_from(alloc: Global, kept: &[Kept], start: usize) -> Stretch
     ensures start { result.start ≡ start }
 {
     let one = &kept[start];
-    let first = match one.item.action() {
-        Some(action) => prior_of(action).min(u32::MAX - 1),
-        None => 0,
-    };
-    let mut stretch = Stretch {
-        start,
-        lane: Lane::new(alloc, first),
-    };
+    let lane = Lane::new(alloc, length_before(&one.item));
+    let mut stretch = Stretch { start, lane };
     for _ in start..kept.len() {
         if !extend(kept, &mut stretch) {
             break;
