@@ -1,4 +1,4 @@
-use Rattle.std.proofs.Common.{◌≡◌, ◌+◌, ◌<◌, ◌∙◌, length, refl, sym, ap, subst, arith}
+use Rattle.std.proofs.Common.{◌≡◌, ◌+◌, ◌<◌, ◌∙◌, get_or, length, refl, sym, ap, subst, arith}
 use Rattle.list_lane.specs.Lanes.{LaneOf}
 use Rattle.sync_transform.specs.Places.{Within}
 use Rattle.sync_recip.specs.Stretches.{laid, Stands, IsOpOn}
@@ -14,8 +14,8 @@ returns-in-Ok-clause-shown c =
     let s = c.args.stretch.now in
     let u = c.index-kept-end.result in
     let op = subst (λ n. IsOpOn n u.item c.in-Some.op) c.last.ensures c.in-Some.ensures in
-    let there : s.start + length s.lane.slots < length us = omega (arith, c.if-end-kept.false, c.len.ensures) in
-    let here = subst (λ n. u ≡ get_or us (s.start + n) u) c.len.ensures c.index-kept-end.is in
+    let there : s.start + length s.lane.slots < length us = omega (arith, c.if-end-kept.false, c.len-count.ensures) in
+    let here = subst (λ n. u ≡ get_or us (s.start + n) u) c.len-count.ensures c.index-kept-end.is in
     ap (λ (x : LaneOf). laid s.start x us) c.in-Ok.ensures.ok ∙ grown_shown us s c.requires u c.in-Some.op there here op
 
 pub returns-in-Ok-clause-stands : goal.returns-in-Ok-clause-stands
@@ -24,7 +24,7 @@ returns-in-Ok-clause-stands c =
     let s = c.args.stretch.now in
     let u = c.index-kept-end.result in
     let op = subst (λ n. IsOpOn n u.item c.in-Some.op) c.last.ensures c.in-Some.ensures in
-    let there : s.start + length s.lane.slots < length us = omega (arith, c.if-end-kept.false, c.len.ensures) in
-    let here = subst (λ n. u ≡ get_or us (s.start + n) u) c.len.ensures c.index-kept-end.is in
+    let there : s.start + length s.lane.slots < length us = omega (arith, c.if-end-kept.false, c.len-count.ensures) in
+    let here = subst (λ n. u ≡ get_or us (s.start + n) u) c.len-count.ensures c.index-kept-end.is in
     subst (λ (x : LaneOf). Stands us (record s { lane = x })) (sym c.in-Ok.ensures.ok)
         (grown_stands us s c.requires u c.in-Some.op there here op c.index-kept-start.result c.index-kept-start.is (c.if-not-is_in_cell_with.ensures refl))

@@ -7,3 +7,12 @@ pub extend_last-requires : goal.extend_last-requires
 extend_last-requires c =
     subst (λ l. IfSome c.self.inside.stretch (Stands l)) (sym c.as_slice.ensures.value)
     (stands_push c.self.inside.stretch c.self.inside.kept.items c.keep.new.list.items c.args.kept c.in-Ok.ensures.ok c.self.invariant)
+
+pub returns-in-Ok-clause-ok : goal.returns-in-Ok-clause-ok
+returns-in-Ok-clause-ok c =
+    let us = c.self.inside.kept.items in
+    let o = c.self.inside.stretch in
+    let view : shown_by o us ≡ c.args.self.now = c.self.view_is in
+    subst (λ l. shown_by c.extend_last.new.stretch l ≡ shown_by o l) c.as_slice.ensures.value c.extend_last.ensures.shown
+    ∙ shown_push o us c.keep.new.list.items c.args.kept c.in-Ok.ensures.ok c.self.invariant
+    ∙ ap (λ l. l ++ c.args.kept ∷ []) view
