@@ -10,18 +10,18 @@ use sync_recip::Recip;
 
 /// The runs and the nanoseconds of carrying an insertion at the start of a list over so many insertions at its end.
 pub(crate) fn measured_list(rt: &HostRuntime, count: u32) -> Result<(u64, u128), Failure> {
-    let kept = entries(rt.alloc(), count, true)?;
-    timed(rt, &kept, of_one(rt.alloc(), insertion_at_start(0)?, 9)?)
+    let mut kept = entries(rt.alloc(), count, true)?;
+    timed(rt, &mut kept, of_one(rt.alloc(), insertion_at_start(0)?, 9)?)
 }
 
 /// The runs and the nanoseconds of carrying a change about the object with that key over so many entries about the object 1.
 pub(crate) fn measured(rt: &HostRuntime, count: u32, key: u32) -> Result<(u64, u128), Failure> {
-    let kept = entries(rt.alloc(), count, false)?;
-    timed(rt, &kept, addition(rt.alloc(), key, 9)?)
+    let mut kept = entries(rt.alloc(), count, false)?;
+    timed(rt, &mut kept, addition(rt.alloc(), key, 9)?)
 }
 
-fn timed(rt: &HostRuntime, kept: &Recip, changes: Changeset) -> Result<(u64, u128), Failure>
-    requires { All (λ pair. pair.1.origin ≢ 1) kept.now }
+fn timed(rt: &HostRuntime, kept: &mut Recip, changes: Changeset) -> Result<(u64, u128), Failure>
+    requires { All (λ pair. pair.1.origin ≢ 1) kept.old }
 {
     let mut runs = 1u64;
     for _ in 0..40 {
@@ -38,8 +38,9 @@ fn timed(rt: &HostRuntime, kept: &Recip, changes: Changeset) -> Result<(u64, u12
     Err(Failure::System)
 }
 
-fn carry(alloc: Global, kept: &Recip, changes: Changeset) -> Result<(), Failure>
-    requires { All (λ pair. pair.1.origin ≢ 1) kept.now }
+fn carry(alloc: Global, kept: &mut Recip, changes: Changeset) -> Result<(), Failure>
+    requires { All (λ pair. pair.1.origin ≢ 1) kept.old }
+    ensures { kept.new ≡ kept.old }
 {
     match kept.carry(alloc, 1, 0, changes) {
         Ok(carried) if carried.changes().instrs().len() == 1 => Ok(()),

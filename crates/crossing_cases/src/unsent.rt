@@ -102,20 +102,12 @@ impl Client {
     /// Whether both lists are one.
     fn stands(&self) -> bool {
         for (place, changes) in self.plain.iter().enumerate() {
-            match self.list.get(place) {
-                Some(unsent) if holds(unsent, changes) => {}
+            match self.list.current(place) {
+                Some(Ok(current)) if current == *changes => {}
                 _ => return false,
             }
         }
         self.list.len() == self.plain.len()
-    }
-}
-
-/// Whether the changeset, as it was rebased since, is this one.
-fn holds(unsent: &Unsent, changes: &Changeset) -> bool {
-    match unsent.current() {
-        Ok(current) => current == *changes,
-        Err(_) => false,
     }
 }
 

@@ -37,7 +37,7 @@ fn unsent(alloc: Global) -> Option<PendingList> {
 
 /// Whether nothing is left of the changeset at a place.
 fn is_gone(list: &PendingList, place: usize) -> Option<bool> {
-    Some(list.get(place)?.current().ok()?.instrs().is_empty())
+    Some(list.current(place)?.ok()?.instrs().is_empty())
 }
 
 /// The place of the last changeset of which nothing is left.

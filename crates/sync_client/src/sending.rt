@@ -15,7 +15,7 @@ use sync_codec::encode;
 use sync_data::{Blob, Id, Ident, NoMemory};
 use sync_disk::Disk;
 use sync_messages::{Ask, AskTables, Change, Message, Upload};
-use sync_rebase::{PendingList, Unsent};
+use sync_rebase::{Original, PendingList};
 use sync_store::Store;
 use sync_subset::Subset;
 
@@ -200,7 +200,7 @@ fn changes_of(alloc: Global, unsent: &PendingList, after: u32) -> Result<Vec<Cha
         if changes.len() == MOST_CHANGES {
             return Ok(changes);
         }
-        let Ok(body) = encode(alloc, item.original()) else {
+        let Ok(body) = encode(alloc, item.changes()) else {
             return Err(NoMemory);
         };
         let size = body.len();
@@ -214,12 +214,12 @@ fn changes_of(alloc: Global, unsent: &PendingList, after: u32) -> Result<Vec<Cha
     Ok(changes)
 }
 
-fn change_of(alloc: Global, item: &Unsent, body: &[u8]) -> Result<Change, NoMemory>
+fn change_of(alloc: Global, item: &Original, body: &[u8]) -> Result<Change, NoMemory>
     requires { length body.now ≤ most_bytes }
-    ensures { IfOk result (λ change. change_seen change ≡ record { number = item.now.original.number; base = item.now.original.base; ms = item.now.original.ms; body = body.now }) }
+    ensures { IfOk result (λ change. change_seen change ≡ record { number = item.now.number; base = item.now.base; ms = item.now.ms; body = body.now }) }
 {
     let body = Blob::new(alloc, body)?;
-    Ok(Change::new(item.number(), item.base(), item.original().ms(), body))
+    Ok(Change::new(item.number(), item.base(), item.changes().ms(), body))
 }
 
 fn push<T: Drop>(items: &mut Vec<T>, item: T) -> Result<(), NoMemory>

@@ -1,6 +1,6 @@
 -- One unsent changeset of a list gets other instructions.
 use Rattle.std.specs.Prelude.{OnOk, OnErr}
-use Rattle.std.proofs.lemmas.List.{map-append}
+use Rattle.std.proofs.lemmas.List.{map-append, length-map}
 use Rattle.std.specs.List.{AllByRecursion}
 use Rattle.std.proofs.Common.{◌≡◌, true, Option, Some, None, Result, Ok, Err, ℕ, zero, suc, ◌<◌, List, [], ◌∷◌, ◌++◌, refl, sym, ap, ◌∙◌, length, take, drop, set, get_or, map, subst, arith}
 use Rattle.sync_data.specs.declared.instr.Instr.{Instr}
@@ -13,9 +13,12 @@ use Rattle.sync_transform.specs.Moves.{shown}
 use Rattle.sync_transform.specs.declared.moves.ListAction.{ListAction}
 use Rattle.sync_transform.proofs.Stands.{same_elsewhere}
 use Rattle.sync_model.specs.Clients.{Original, Unsent, changeset_of, carried_to, number_at}
+use Rattle.sync_data.specs.declared.entry.Stamp.{Stamp}
 use Rattle.sync_rebase.specs.declared.carried.Crossed.{Crossed}
+use Rattle.sync_rebase.specs.declared.carried.Crossed.TheVariants.{One, Stretch}
+use Rattle.sync_rebase.specs.Stretches.{from_place}
 use Rattle.sync_rebase.specs.declared.carried.Became.{Became}
-use Rattle.sync_rebase.specs.Settling.{left_of, put_current, put_became, settled, Suits, FitsAt, Fits, currents}
+use Rattle.sync_rebase.specs.Settling.{left_of, put_current, put_became, put_crossed, passed, settled, Suits, FitsAt, FitsCrossed, Fits, currents}
 
 -- those of whom they are stay
 abbrev pub originals : {I : Type 0} → List (Unsent I) → List (Original I)
@@ -105,18 +108,36 @@ fits_stays [] i b u h e = absurd h
 fits_stays (v ∷ us) zero b u h e = subst (λ (w : Unsent Instr). StaysListed v.current (left_of b w.current)) (sym e) h.1
 fits_stays (v ∷ us) (suc i) b u h e = fits_stays us i b u h e
 
--- ---- several
-pub settled_push : (cs : List Crossed) (c : Crossed) (us : List (Unsent Instr)) → settled (cs ++ c ∷ []) us ≡ put_became c.place c.became (settled cs us)
-settled_push [] c us = refl
-settled_push (d ∷ cs) c us = settled_push cs c (put_became d.place d.became us)
+originals_passed : (own : ℕ) (s : Stamp) (k : ℕ) (b : Option ListAction) (us : List (Unsent Instr)) → originals (passed own s k b us) ≡ originals us
+originals_passed own s k None us = refl
+originals_passed own s zero (Some b) us = refl
+originals_passed own s (suc k) (Some b) [] = refl
+originals_passed own s (suc k) (Some b) (u ∷ us) = ap (λ l. u.original ∷ l) (originals_passed own s k _ us)
 
-pub fits_push : (cs : List Crossed) (c : Crossed) (us : List (Unsent Instr)) → Fits cs us → FitsAt c.place c.became (settled cs us) → Fits (cs ++ c ∷ []) us
+originals_from : (i : ℕ) (f : List (Unsent Instr) → List (Unsent Instr)) (us : List (Unsent Instr)) → ((vs : List (Unsent Instr)) → originals (f vs) ≡ originals vs) → originals (from_place i f us) ≡ originals us
+originals_from zero f us h = h us
+originals_from (suc i) f [] h = refl
+originals_from (suc i) f (u ∷ us) h = ap (λ l. u.original ∷ l) (originals_from i f us h)
+
+originals_crossed : (c : Crossed) (us : List (Unsent Instr)) → originals (put_crossed c us) ≡ originals us
+originals_crossed (One i b) us = originals_became us i b
+originals_crossed (Stretch a) us = originals_from a.start (passed a.own a.stamp a.count (Some a.action)) us (originals_passed a.own a.stamp a.count (Some a.action))
+
+-- ---- several
+pub settled_push : (cs : List Crossed) (c : Crossed) (us : List (Unsent Instr)) → settled (cs ++ c ∷ []) us ≡ put_crossed c (settled cs us)
+settled_push [] c us = refl
+settled_push (d ∷ cs) c us = settled_push cs c (put_crossed d us)
+
+pub fits_push : (cs : List Crossed) (c : Crossed) (us : List (Unsent Instr)) → Fits cs us → FitsCrossed c (settled cs us) → Fits (cs ++ c ∷ []) us
 fits_push [] c us f h = (h, tt)
-fits_push (d ∷ cs) c us f h = (f.0, fits_push cs c (put_became d.place d.became us) f.1 h)
+fits_push (d ∷ cs) c us f h = (f.0, fits_push cs c (put_crossed d us) f.1 h)
 
 pub originals_settled : (cs : List Crossed) (us : List (Unsent Instr)) → originals (settled cs us) ≡ originals us
 originals_settled [] us = refl
-originals_settled (c ∷ cs) us = originals_settled cs (put_became c.place c.became us) ∙ originals_became us c.place c.became
+originals_settled (c ∷ cs) us = originals_settled cs (put_crossed c us) ∙ originals_crossed c us
+
+pub length_settled : (cs : List Crossed) (us : List (Unsent Instr)) → length (settled cs us) ≡ length us
+length_settled cs us = sym (length-map (settled cs us) (λ (u : Unsent Instr). u.original)) ∙ ap length (originals_settled cs us) ∙ length-map us (λ (u : Unsent Instr). u.original)
 
 -- an element
 pub element : (us : List (Unsent Instr)) (i : ℕ) → i < length us → (u : Unsent Instr) × (u ≡ get_or us i u)

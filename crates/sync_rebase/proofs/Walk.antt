@@ -19,6 +19,7 @@ use Rattle.sync_transform.specs.Sets.{made_by}
 use Rattle.sync_transform.specs.Moves.{kind_in, kind_of, moved_first}
 use Rattle.sync_transform.specs.declared.moves.ListAction.{ListAction}
 use Rattle.sync_rebase.specs.declared.carried.Crossed.{Crossed}
+use Rattle.sync_rebase.specs.declared.carried.Crossed.TheVariants.{One, Stretch}
 use Rattle.sync_rebase.specs.declared.carried.Became.{Became}
 use Rattle.sync_rebase.specs.declared.carried.Became.TheVariants.{Moved, Changed}
 use Rattle.sync_rebase.specs.declared.refusal.RebaseRefusal.{RebaseRefusal}
@@ -26,9 +27,9 @@ use Rattle.sync_rebase.specs.declared.refusal.RebaseRefusal.TheVariants.{Mismatc
 use Rattle.sync_rebase.specs.Settling.{left_of, put_current, settled, Suits, Fits, currents}
 use Rattle.sync_rebase.specs.Taking.{Crosses, Refuses}
 use Rattle.sync_rebase.specs.Passing.{StopsAt}
-use Rattle.sync_rebase.proofs.Places.{element, take_put, drop_put, put_same, became_is, fits_there, number_there, carried_same, settled_push, fits_push, originals_settled}
+use Rattle.sync_rebase.proofs.Places.{element, take_put, drop_put, put_same, became_is, fits_there, number_there, carried_same, settled_push, fits_push, originals_settled, length_settled}
 
-abbrev in_grid : ℕ → List (Unsent Instr) → List (Changeset Instr)
+abbrev pub in_grid : ℕ → List (Unsent Instr) → List (Changeset Instr)
 in_grid own us = map (changeset_of own) us
 
 -- these changesets crossed the entry before a place
@@ -39,7 +40,7 @@ pub record Walked (t : Touched) (x : Indexed) (codes : List ℕ) (own : ℕ) (us
   pub indexed : Covers t now.instrs
   pub served : Serves x codes now.instrs
 
-nothing_before : {X E : Type 0} (r : Result (List X × X) (ℕ × E)) → r ≡ rebase_after [] 0 r
+pub nothing_before : {X E : Type 0} (r : Result (List X × X) (ℕ × E)) → r ≡ rebase_after [] 0 r
 nothing_before (Ok q) = refl
 nothing_before (Err f) = ap (λ n. Err (n, f.1)) (sym (zero-add f.0))
 
@@ -109,29 +110,29 @@ module _ (t : Touched) (x : Indexed) (codes : List ℕ) (own : ℕ) (us : List (
 
   -- it becomes this, and the entry goes on
   walk_becomes : (b : Became) (next : Changes) → Suits b u → cross_sets meet (changeset_of own u) (made_by e.origin e.number now) ≡ Ok (changeset_of own (record u { current = left_of b u.current }), made_by e.origin e.number next) → Covers t next.instrs
-      → Walked t x codes own us e (i + 1) (crossed ++ record { place = i; became = b } ∷ []) next
+      → Walked t x codes own us e (i + 1) (crossed ++ One i b ∷ []) next
   walk_becomes b next suits m covers =
       let is = left_of b u.current in
       let later = is_later (changeset_of own u) (made_by e.origin e.number now) in
       let lists = lists_of (changeset_of own u) (made_by e.origin e.number now) (cross (λ a b. meet a b later) u.current now.instrs) (changeset_of own (record u { current = is }), made_by e.origin e.number next) m in
       let left : StaysListed u.current is = λ s n. listed_left s n later u.current now.instrs is next.instrs lists in
-      let list : settled (crossed ++ record { place = i; became = b } ∷ []) us ≡ put_current i is (settled crossed us) = settled_push crossed (record { place = i; became = b }) us ∙ became_is (settled crossed us) i b u _ there in
+      let list : settled (crossed ++ One i b ∷ []) us ≡ put_current i is (settled crossed us) = settled_push crossed (One i b) us ∙ became_is (settled crossed us) i b u _ there in
       record {
         so_far = turn is next m ∙ ap (λ l. rebase_after (in_grid own (take (i + 1) l)) (i + 1) (rebase (cross_sets meet) (in_grid own (drop (i + 1) us)) (made_by e.origin e.number next))) (sym list);
         rest = ap (drop (i + 1)) list ∙ after is;
-        fits = fits_push crossed (record { place = i; became = b }) us w.fits (fits_there (settled crossed us) i b u _ there suits left);
+        fits = fits_push crossed (One i b) us w.fits (fits_there (settled crossed us) i b u _ there suits left);
         indexed = covers;
         served = λ some. known_right codes later u.current now.instrs is next.instrs lists (w.served some);
       }
 
   -- its one list instruction does the same elsewhere
   pub walk_moves : (a : ListAction) (next : Changes) → kind_in u.current ≡ Some (kind_of a) → cross_sets meet (changeset_of own u) (made_by e.origin e.number now) ≡ Ok (changeset_of own (record u { current = moved_first a u.current }), made_by e.origin e.number next) → Covers t next.instrs
-      → Walked t x codes own us e (i + 1) (crossed ++ record { place = i; became = Moved a } ∷ []) next
+      → Walked t x codes own us e (i + 1) (crossed ++ One i (Moved a) ∷ []) next
   walk_moves a next kind m covers = walk_becomes (Moved a) next kind m covers
 
   -- or it is another changeset
   pub walk_crosses : (c next : Changes) → cross_sets meet (changeset_of own u) (made_by e.origin e.number now) ≡ Ok (made_by own u.original.number c, made_by e.origin e.number next) → Covers t next.instrs
-      → Walked t x codes own us e (i + 1) (crossed ++ record { place = i; became = Changed c } ∷ []) next
+      → Walked t x codes own us e (i + 1) (crossed ++ One i (Changed c) ∷ []) next
   walk_crosses c next m covers =
       let time : c.ms ≡ u.original.ms = keeps_time (changeset_of own u) (made_by e.origin e.number now) _ _ (cross (λ a b. meet a b (is_later (changeset_of own u) (made_by e.origin e.number now))) u.current now.instrs) m in
       let named : made_by own u.original.number c ≡ changeset_of own (record u { current = c.instrs }) = λ j. record { origin = own; number = u.original.number; ms = time j; instrs = c.instrs } in
@@ -174,7 +175,7 @@ walk_on t x codes own us e crossed now i k l m pass w =
 -- ---- at the end
 pub walk_ends : (t : Touched) (x : Indexed) (codes : List ℕ) (own : ℕ) (us : List (Unsent Instr)) (e : Entry) (i : ℕ) (crossed : List Crossed) (now : Changes) → Walked t x codes own us e i crossed now → length us ≤ i → Crosses own us e (settled crossed us) now
 walk_ends t x codes own us e i crossed now w end =
-    let same : length (settled crossed us) ≡ length us = sym (length-map (settled crossed us) (λ (u : Unsent Instr). u.original)) ∙ ap length (originals_settled crossed us) ∙ length-map us (λ (u : Unsent Instr). u.original) in
+    let same = length_settled crossed us in
     let whole : take i (settled crossed us) ≡ settled crossed us = take_all i (settled crossed us) (omega arith) in
     record {
       rebased = w.so_far

@@ -1,41 +1,47 @@
-ghost use Rattle.std.specs.Prelude.{◌≡◌, ◌≢◌, ◌++◌, ◌∷◌, [], ℕ, Ok, Err, IfOk, IfErr, OnOk};
+ghost use Rattle.std.specs.Prelude.{◌≡◌, ◌≢◌, ◌<◌, ◌++◌, ◌∷◌, [], ℕ, Some, Ok, Err, IfOk, IfErr, IfSome, OnOk, length};
 ghost use Rattle.sync_theory.specs.Changesets.{cross_sets};
 ghost use Rattle.sync_law.specs.Instrs.{meet};
 ghost use Rattle.sync_index.specs.Touched.{Covers};
+ghost use Rattle.sync_data.specs.declared.instr.Instr.{Instr};
+ghost use Rattle.sync_model.specs.Clients as clients;
 ghost use Rattle.sync_model.specs.Clients.{changeset_of};
 ghost use Rattle.sync_transform.specs.Sets.{made_by};
+ghost use Rattle.sync_transform.specs.Moves.{kind_in, kind_of};
 ghost use Rattle.sync_rivals.specs.Lists.{Lists, Serves};
 ghost use Rattle.sync_rebase.specs.Settling.{settled, Fits, currents};
 ghost use Rattle.sync_rebase.specs.Taking.{Crosses, Refuses};
 ghost use Rattle.sync_rebase.specs.Passing.{StopsAt};
+ghost use Rattle.sync_rebase.specs.Stretches.{IsAt};
+ghost use Rattle.sync_rebase.specs.Acrossing.{changes_left};
 
 use super::carried::{Became, Carried, Crossed};
+use super::items::{Items, Passing};
 use super::refusal::RebaseRefusal;
-use super::unsent::Unsent;
+use super::unsent::nothing;
 use std::alloc::Global;
-use std::collections::VecDeque;
 use sync_data::{Changeset, Entry, Ident};
 use sync_index::Index;
 use sync_rivals::{Pace, RivalIndex};
-use sync_transform::{Shifted, cross_sets_indexed};
+use sync_transform::{ListAction, Shifted, cross_sets_indexed};
 
 /// Carries an entry of another client over the unsent changesets, from the first on. Those alone that are listed under a
 /// place of its rivals are visited; the others stay. Where there are none no index is made. Of two list instructions that
 /// only shift each other the places alone are kept, so that neither changeset is copied.
 pub(crate) fn carry_over(
     alloc: Global,
-    items: &VecDeque<Unsent>,
+    items: &mut Items,
     rivals: &RivalIndex,
     own: Ident,
     entry: &Entry,
 ) -> Result<Carried, RebaseRefusal>
     requires differ { own ≢ entry.now.origin }
-    requires listed { Lists rivals.now (currents items.now.items) }
-    ensures crosses { IfOk result (λ carried. Crosses own items.now.items entry.now (settled carried.crossed items.now.items) carried.changes) }
-    ensures fits { IfOk result (λ carried. Fits carried.crossed items.now.items) }
-    ensures refused { IfErr result (Refuses own items.now.items entry.now) }
+    requires listed { Lists rivals.now (currents items.old) }
+    ensures same { items.new ≡ items.old }
+    ensures crosses { IfOk result (λ carried. Crosses own items.old entry.now (settled carried.crossed items.old) carried.changes) }
+    ensures fits { IfOk result (λ carried. Fits carried.crossed items.old) }
+    ensures refused { IfErr result (Refuses own items.old entry.now) }
 {
-    if items.is_empty() {
+    if items.len() == 0 {
         let changes = copy_of(&entry.changes)?;
         return Ok(Carried::new(changes, Vec::new(alloc)));
     }
@@ -47,7 +53,7 @@ pub(crate) fn carry_over(
 /// The same by an index of the entry and the codes of its rivals, which are those of the entry as carried, too.
 fn walk(
     alloc: Global,
-    items: &VecDeque<Unsent>,
+    items: &mut Items,
     rivals: &RivalIndex,
     own: Ident,
     entry: &Entry,
@@ -55,12 +61,13 @@ fn walk(
     codes: &[u64],
 ) -> Result<Carried, RebaseRefusal>
     requires differ { own ≢ entry.now.origin }
-    requires listed { Lists rivals.now (currents items.now.items) }
+    requires listed { Lists rivals.now (currents items.old) }
     requires indexed { Covers index.now entry.now.changes.instrs }
     requires served { Serves rivals.now codes.now entry.now.changes.instrs }
-    ensures crosses { IfOk result (λ carried. Crosses own items.now.items entry.now (settled carried.crossed items.now.items) carried.changes) }
-    ensures fits { IfOk result (λ carried. Fits carried.crossed items.now.items) }
-    ensures refused { IfErr result (Refuses own items.now.items entry.now) }
+    ensures same { items.new ≡ items.old }
+    ensures crosses { IfOk result (λ carried. Crosses own items.old entry.now (settled carried.crossed items.old) carried.changes) }
+    ensures fits { IfOk result (λ carried. Fits carried.crossed items.old) }
+    ensures refused { IfErr result (Refuses own items.old entry.now) }
 {
     let copy = copy_of(&entry.changes)?;
     let mut changes = Shifted::new(copy);
@@ -73,27 +80,48 @@ fn walk(
         if place >= end {
             return Ok(Carried::new(changes.into_changes(), crossed));
         }
+        if let Some(passing) = items.across(from, place, own, &changes, entry.origin) {
+            let Passing { across, left } = passing;
+            changes = passed_on(alloc, changes, left);
+            from = across.start + across.count;
+            push(&mut crossed, Crossed::Stretch(across))?;
+            continue;
+        }
         from = place + 1;
-        let unsent = &items[place];
-        if let Some(moves) = unsent.moves(own, &changes, entry.origin) {
+        if let Some(moves) = items.moves(place, own, &changes, entry.origin, index) {
             changes.shift_to(moves.right);
             let became = Became::Moved(moves.left);
-            push(&mut crossed, Crossed { place, became })?;
+            push(&mut crossed, Crossed::One { place, became })?;
             continue;
         }
-        if unsent.stays_apart(index) {
+        if items.stays_apart(place, index) {
             continue;
         }
-        match pass(unsent, own, changes.into_changes(), entry.origin, index) {
+        match pass(items, place, own, changes.into_changes(), entry.origin, index) {
             Err(refusal) => return Err(refusal),
             Ok((current, carried)) => {
                 changes = Shifted::new(carried);
                 let became = Became::Changed(current);
-                push(&mut crossed, Crossed { place, became })?;
+                push(&mut crossed, Crossed::One { place, became })?;
             }
         }
     }
     Ok(Carried::new(changes.into_changes(), crossed))
+}
+
+/// The changes with what is left of their one list instruction.
+fn passed_on(alloc: Global, changes: Shifted, left: Option<ListAction>) -> Shifted
+    requires { IfSome left (λ a. kind_in changes.instrs ≡ Some (kind_of a)) }
+    ensures { result ≡ changes_left left changes }
+{
+    let mut changes = changes;
+    match left {
+        Some(action) => {
+            changes.shift_to(action);
+            changes
+        }
+        None => Shifted::new(nothing(alloc, changes.ms())),
+    }
 }
 
 fn codes_of(alloc: Global, rivals: &RivalIndex, entry: &Entry) -> Result<Vec<u64>, RebaseRefusal>
@@ -106,27 +134,29 @@ fn codes_of(alloc: Global, rivals: &RivalIndex, entry: &Entry) -> Result<Vec<u64
     }
 }
 
-/// An unsent changeset crosses a changeset of another client: both as crossed.
+/// The unsent changeset at a place crosses a changeset of another client: both as crossed.
 fn pass(
-    unsent: &Unsent,
+    items: &Items,
+    place: usize,
     own: Ident,
     changes: Changeset,
     origin: Ident,
     index: &Index,
 ) -> Result<(Changeset, Changeset), RebaseRefusal>
+    requires within { place < length items.now }
     requires differ { own ≢ origin }
     requires indexed { Covers index.now changes.instrs }
-    ensures ok { IfOk result (λ p. (n : ℕ) → cross_sets meet (changeset_of own unsent.now) (made_by origin n changes) ≡ Ok (made_by own unsent.now.original.number p.0, made_by origin n p.1)) }
+    ensures ok { IfOk result (λ p. (u : clients.Unsent Instr) → IsAt place items.now u → (n : ℕ) → cross_sets meet (changeset_of own u) (made_by origin n changes) ≡ Ok (made_by own u.original.number p.0, made_by origin n p.1)) }
     ensures indexed { IfOk result (λ p. Covers index.now p.1.instrs) }
-    ensures stuck { IfErr result (StopsAt own unsent.now origin changes) }
+    ensures stuck { IfErr result (λ refusal. (u : clients.Unsent Instr) → IsAt place items.now u → StopsAt own u origin changes refusal) }
 {
-    let Ok(current) = unsent.current() else {
+    let Ok(current) = items.current(place) else {
         return Err(RebaseRefusal::NoMemory);
     };
     match cross_sets_indexed(current, own, changes, origin, index) {
         Ok(crossed) => Ok(crossed),
         Err(stop) => Err(RebaseRefusal::Mismatch {
-            number: unsent.number(),
+            number: items.number(place),
             kind: stop.kind,
         }),
     }

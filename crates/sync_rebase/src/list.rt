@@ -1,14 +1,18 @@
-ghost use Rattle.std.specs.Prelude.{◌≡◌, ◌≢◌, ◌<◌, ◌↔◌, ◌++◌, ◌∷◌, [], IsTrue, IsSome, IfOk, IfErr, IfSome, OnOk, OnErr, length, slice_index_or};
+ghost use Rattle.std.specs.Prelude.{◌≡◌, ◌≢◌, ◌<◌, ◌↔◌, ◌++◌, ◌∷◌, [], IsTrue, IsSome, IfOk, IfErr, IfSome, OnOk, OnErr, Some, drop, length};
+ghost use Rattle.sync_data.specs.declared.instr.Instr.{Instr};
+ghost use Rattle.sync_model.specs.Clients as clients;
 ghost use Rattle.sync_theory.specs.Grid.{tail};
 ghost use Rattle.sync_rebase.specs.Taking.{Crosses, IsHead, Refuses};
-ghost use Rattle.sync_rebase.specs.Settling.{settled, Fits, FitsAt, put_became, currents};
+ghost use Rattle.sync_rebase.specs.Settling.{settled, CanPass, Fits, FitsAt, FitsCrossed, put_across, put_became, put_crossed};
+ghost use Rattle.sync_rebase.specs.Stretches.{IsAt};
 
-use super::carried::{Became, Carried, Crossed};
+use super::carried::{Across, Became, Carried, Crossed};
 use super::carry::carry_over;
+use super::items::Items;
+use super::original::Original;
 use super::refusal::RebaseRefusal;
 use super::unsent::Unsent;
 use std::alloc::Global;
-use std::collections::VecDeque;
 use std::marker::Model;
 use sync_data::{Changeset, Entry, Ident, NoMemory};
 use sync_rivals::RivalIndex;
@@ -22,7 +26,7 @@ const LOOKS: usize = 64;
 pub struct PendingList {
     alloc: Global,
     index: RivalIndex,
-    items: VecDeque<Unsent>,
+    items: Items,
 }
 
 impl Model for PendingList {
@@ -32,12 +36,12 @@ impl Model for PendingList {
 
     ghost Value = { List (clients.Unsent Instr) };
 
-    ghost view = { λ a. a.items.items };
+    ghost view = { λ a. a.items };
 
     ghost use Rattle.sync_rivals.specs.Lists.{Lists};
     ghost use Rattle.sync_rebase.specs.Settling.{currents};
 
-    ghost invariant = { λ a. Lists a.index (currents a.items.items) };
+    ghost invariant = { λ a. Lists a.index (currents a.items) };
 }
 
 impl PendingList {
@@ -48,7 +52,7 @@ impl PendingList {
         PendingList {
             alloc,
             index: RivalIndex::new(alloc),
-            items: VecDeque::new(alloc),
+            items: Items::new(alloc),
         }
     }
 
@@ -57,7 +61,7 @@ impl PendingList {
         ensures ok { OnOk result (self.new ≡ self.old ++ unsent ∷ []) }
         ensures unchanged { OnErr result (self.new ≡ self.old) }
     {
-        push_back(&mut self.items, unsent)
+        self.items.push(unsent)
     }
 
     /// The number of changesets.
@@ -71,22 +75,34 @@ impl PendingList {
     pub fn is_empty(&self) -> bool
         ensures { IsTrue result ↔ (self.now ≡ []) }
     {
-        self.items.is_empty()
+        self.items.len() == 0
     }
 
-    /// The changeset at a place, counted from the oldest, or None past the end.
-    pub fn get(&self, place: usize) -> Option<&Unsent>
+    /// The changeset at a place as it was made, counted from the oldest, or None past the end.
+    pub fn get(&self, place: usize) -> Option<&Original>
         ensures there { IsSome result ↔ (place < length self.now) }
-        ensures value { IfSome result (λ unsent. unsent.now ≡ slice_index_or self.now place unsent.now) }
+        ensures value { IfSome result (λ o. (u : clients.Unsent Instr) → IsAt place self.now u → o.now ≡ u.original) }
     {
-        self.items.get(place)
+        self.items.original(place)
+    }
+
+    /// A copy of the changeset at a place as it was rebased since, or None past the end.
+    pub fn current(&self, place: usize) -> Option<Result<Changeset, NoMemory>>
+        ensures there { IsSome result ↔ (place < length self.now) }
+        ensures value { IfSome result (λ r. IfOk r (λ c. (u : clients.Unsent Instr) → IsAt place self.now u → c ≡ record { ms = u.original.ms; instrs = u.current })) }
+    {
+        if place < self.items.len() {
+            Some(self.items.current(place))
+        } else {
+            None
+        }
     }
 
     /// An equal list.
     pub fn copy(&self, alloc: Global) -> Result<PendingList, NoMemory>
         ensures { IfOk result (λ copy. copy ≡ self.now) }
     {
-        match copy_of(alloc, &self.items) {
+        match self.items.copy(alloc) {
             Ok(items) => Ok(PendingList {
                 alloc,
                 index: RivalIndex::new(alloc),
@@ -101,20 +117,18 @@ impl PendingList {
         ensures same { self.new ≡ self.old }
         ensures told { IsTrue result ↔ IsHead entry.now self.old }
     {
-        if self.items.is_empty() {
-            return false;
-        }
-        let head = &mut self.items[0];
-        head.is_of(self.alloc, entry)
+        self.items.is_head(entry)
     }
 
     /// Takes the oldest changeset out, where there is one. It takes no memory.
     pub fn drop_head(&mut self)
         ensures { self.new ≡ tail self.old }
     {
-        if let Some(head) = self.items.pop_front() {
-            self.index.drop_first(head.listed());
+        if self.items.len() == 0 {
+            return;
         }
+        self.index.drop_first(self.items.listed(0));
+        self.items.drop_first();
     }
 
     /// The changesets stand as they crossed an entry that was carried over them, and the entry is answered as carried. Where
@@ -134,13 +148,14 @@ impl PendingList {
     /// An entry of another client as carried over the changesets, from the oldest on, each of them the left side with the
     /// ident `own`; and the changesets that it may touch, as they crossed it. Err(Mismatch) where one can't cross it, with
     /// the first such one's number. The list stays as it is; `settle` puts those that crossed in their places.
-    pub fn carry(&self, alloc: Global, own: Ident, entry: &Entry) -> Result<Carried, RebaseRefusal>
+    pub fn carry(&mut self, alloc: Global, own: Ident, entry: &Entry) -> Result<Carried, RebaseRefusal>
         requires { own ≢ entry.now.origin }
-        ensures crosses { IfOk result (λ carried. Crosses own self.now entry.now (settled carried.crossed self.now) carried.changes) }
-        ensures fits { IfOk result (λ carried. Fits carried.crossed self.now) }
-        ensures refused { IfErr result (Refuses own self.now entry.now) }
+        ensures same { self.new ≡ self.old }
+        ensures crosses { IfOk result (λ carried. Crosses own self.old entry.now (settled carried.crossed self.old) carried.changes) }
+        ensures fits { IfOk result (λ carried. Fits carried.crossed self.old) }
+        ensures refused { IfErr result (Refuses own self.old entry.now) }
     {
-        carry_over(alloc, &self.items, &self.index, own, entry)
+        carry_over(alloc, &mut self.items, &self.index, own, entry)
     }
 
     /// Lists some of the changesets that aren't: as many as crossed, and one in LOOKS of those that were looked at, so that
@@ -158,7 +173,7 @@ impl PendingList {
             if place >= count {
                 return;
             }
-            self.index.list(self.items[place].listed());
+            self.index.list(self.items.listed(place));
         }
     }
 
@@ -175,13 +190,15 @@ impl PendingList {
     }
 
     fn put_at(&mut self, crossed: Crossed)
-        requires { FitsAt crossed.place crossed.became self.old }
-        ensures { self.new ≡ put_became crossed.place crossed.became self.old }
+        requires { FitsCrossed crossed self.old }
+        ensures { self.new ≡ put_crossed crossed self.old }
     {
-        let Crossed { place, became } = crossed;
-        match became {
-            Became::Moved(action) => self.shift_at(place, action),
-            Became::Changed(current) => self.change_at(place, current),
+        match crossed {
+            Crossed::One { place, became } => match became {
+                Became::Moved(action) => self.shift_at(place, action),
+                Became::Changed(current) => self.change_at(place, current),
+            },
+            Crossed::Stretch(across) => self.cross(across),
         }
     }
 
@@ -190,41 +207,23 @@ impl PendingList {
         requires { FitsAt place (Became.Moved action) self.old }
         ensures { self.new ≡ put_became place (Became.Moved action) self.old }
     {
-        let unsent = &mut self.items[place];
-        unsent.shift_to(action);
+        self.items.put(place, Became::Moved(action));
     }
 
     fn change_at(&mut self, place: usize, current: Changeset)
         requires { FitsAt place (Became.Changed current) self.old }
         ensures { self.new ≡ put_became place (Became.Changed current) self.old }
     {
-        let before = self.items[place].listed();
+        let before = self.items.listed(place);
         self.index.change(place, before, current.instrs());
-        let unsent = &mut self.items[place];
-        unsent.rebase(current);
+        self.items.put(place, Became::Changed(current));
     }
-}
 
-fn push_back<T: Drop>(items: &mut VecDeque<T>, item: T) -> Result<(), NoMemory>
-    ensures ok { OnOk result (items.new.items ≡ items.old.items ++ item ∷ []) }
-    ensures unchanged { OnErr result (items.new.items ≡ items.old.items) }
-{
-    match items.push_back(item) {
-        Ok(()) => Ok(()),
-        Err(_) => Err(NoMemory),
+    /// Those of a stretch meet an action of another. Their homes stay, and so does the index.
+    fn cross(&mut self, across: Across)
+        requires { CanPass across.own across.stamp across.count (Some across.action) (drop across.start self.old) }
+        ensures { self.new ≡ put_across across self.old }
+    {
+        self.items.cross(across);
     }
-}
-
-fn copy_of(alloc: Global, items: &VecDeque<Unsent>) -> Result<VecDeque<Unsent>, NoMemory>
-    ensures { IfOk result (λ copy. copy.items ≡ items.now.items) }
-{
-    let mut copy = VecDeque::new(alloc);
-    for place in 0..items.len() {
-        let unsent = &items[place];
-        match unsent.copy() {
-            Ok(unsent) => push_back(&mut copy, unsent)?,
-            Err(refusal) => return Err(refusal),
-        }
-    }
-    Ok(copy)
 }

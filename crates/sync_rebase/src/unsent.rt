@@ -1,45 +1,50 @@
-ghost use Rattle.std.specs.Prelude.{◌≡◌, ◌≤◌, ◌↔◌, ℕ, Bool, List, Some, Ok, IfOk, IfSome, IsTrue};
-ghost use Rattle.sync_data.specs.Payload.{IsSmall};
+ghost use Rattle.std.specs.Prelude.{◌≡◌, ◌≤◌, ◌↔◌, ℕ, Bool, List, [], Some, Ok, not, IfOk, IfSome, IsTrue};
 ghost use Rattle.sync_data.specs.declared.instr.Instr.{Instr};
 ghost use Rattle.sync_theory.specs.Lists.{cross as crossed};
-ghost use Rattle.sync_theory.specs.Changesets.{cross_sets};
+ghost use Rattle.sync_theory.specs.Changesets.{cross_sets, later_stamp};
 ghost use Rattle.sync_law.specs.Instrs.{meet};
 ghost use Rattle.sync_index.specs.Touched.{Covers};
 ghost use Rattle.sync_model.specs.Clients.{as_made, changeset_of};
 ghost use Rattle.sync_rivals.specs.Lists.{StaysListed};
 ghost use Rattle.sync_transform.specs.Sets.{made_by};
-ghost use Rattle.sync_transform.specs.Moves.{kind_in, kind_of, moved_changes, moved_first};
+ghost use Rattle.sync_transform.specs.Moves.{action_in, kind_in, kind_of, moved_changes, moved_first, IsShown};
+ghost use Rattle.sync_transform.specs.declared.moves.ListAction.{ListAction as Action};
+ghost use Rattle.list_lane.specs.Lanes.{Fits};
+ghost use Rattle.list_lane.specs.Told.{told};
+ghost use Rattle.sync_rebase.specs.Stretches.{told_unsent};
+ghost use Rattle.sync_rebase.specs.Settling.{instrs_left, left_of, own_left, other_left, Meets, Suits};
 ghost use Rattle.sync_rebase.specs.Taking.{IsEntryOf};
 
+use super::actions::action_left;
+use super::carried::Became;
+use list_lane::{Op, action_of};
+use super::original::Original;
 use std::alloc::Global;
 use std::marker::Model;
 use sync_data::{Changeset, Entry, Ident, Instr, NoMemory, Stamp};
 use sync_index::{Index, shared_spot};
-use sync_transform::{ListAction, Moves, Shifted, both_move, is_later, same_first_cell};
+use sync_transform::{ListAction, Moves, Shifted, both_move, is_later, same_first_cell, stays_apart};
 
-/// A changeset that the server hasn't acknowledged: its number, at least 1, among the client's, the version of the history on which
-/// it was made, and its instructions as they were made and as they were rebased since.
+/// A changeset that the server hasn't acknowledged, as it was made and as it was rebased since.
 #[derive(Drop)]
 pub struct Unsent {
-    number: u32,
-    base: u32,
+    original: Original,
     spot: Option<u8>,
-    original: Changeset,
     current: Shifted,
 }
 
 impl Model for Unsent {
-    ghost use Rattle.std.specs.Prelude.{◌≡◌, ◌≤◌};
+    ghost use Rattle.std.specs.Prelude.{◌≡◌};
     ghost use Rattle.sync_data.specs.declared.instr.Instr.{Instr};
     ghost use Rattle.sync_model.specs.Clients as clients;
 
     ghost Value = { clients.Unsent Instr };
 
-    ghost view = { λ a. record { original = record { base = a.base; number = a.number; ms = a.original.ms; instrs = a.original.instrs }; current = a.current.instrs } };
+    ghost view = { λ a. record { original = a.original; current = a.current.instrs } };
 
     ghost use Rattle.sync_index.specs.Spots.{LieAt};
 
-    ghost invariant = { λ a. (1 ≤ a.number) × (a.current.ms ≡ a.original.ms) × LieAt a.spot a.current.instrs };
+    ghost invariant = { λ a. (a.current.ms ≡ a.original.ms) × LieAt a.spot a.current.instrs };
 }
 
 impl Unsent {
@@ -50,10 +55,8 @@ impl Unsent {
         ensures { result ≡ record { original = record { base = base; number = number; ms = original.ms; instrs = original.instrs }; current = current.instrs } }
     {
         Unsent {
-            number,
-            base,
+            original: Original::new(number, base, original),
             spot: shared_spot(current.instrs()),
-            original,
             current: Shifted::new(current),
         }
     }
@@ -69,36 +72,57 @@ impl Unsent {
         }
     }
 
-    /// Its number among the client's changesets, at least 1.
-    pub fn number(&self) -> u32
-        ensures value { result ≡ self.now.original.number }
-        ensures numbered { 1 ≤ result }
-    {
-        self.number
-    }
-
-    /// The version of the history on which it was made.
-    pub fn base(&self) -> u32
-        ensures { result ≡ self.now.original.base }
-    {
-        self.base
-    }
-
     /// The changeset as it was made.
-    pub fn original(&self) -> &Changeset
-        ensures changes { result.now ≡ record { ms = self.now.original.ms; instrs = self.now.original.instrs } }
-        ensures small { IsSmall self.now.original.instrs }
+    pub(crate) fn original(&self) -> &Original
+        ensures { result.now ≡ self.now.original }
     {
-        let original = &self.original;
-        let _ = original.instrs();
-        original
+        &self.original
     }
 
     /// A copy of the changeset as it was rebased since.
-    pub fn current(&self) -> Result<Changeset, NoMemory>
+    pub(crate) fn current(&self) -> Result<Changeset, NoMemory>
         ensures { IfOk result (λ changes. changes ≡ record { ms = self.now.original.ms; instrs = self.now.current }) }
     {
         self.current.copy()
+    }
+
+    /// A copy of the changeset with its one list instruction as a slot of a lane tells it, which acts on a list of that length.
+    pub(crate) fn current_told(
+        &self,
+        alloc: Global,
+        slot: Option<Op>,
+        length: u32,
+    ) -> Result<Changeset, NoMemory>
+        requires fits { Fits length slot }
+        requires kind { IfSome slot (λ a. kind_in self.now.current ≡ Some a.does) }
+        ensures { IfOk result (λ changes. changes ≡ record { ms = self.now.original.ms; instrs = told length slot self.now.current }) }
+    {
+        match slot {
+            Some(op) => self.current_at(action_of(op, length)),
+            None => Ok(nothing(alloc, self.current.ms())),
+        }
+    }
+
+    fn current_at(&self, action: ListAction) -> Result<Changeset, NoMemory>
+        requires { kind_in self.now.current ≡ Some (kind_of action) }
+        ensures { IfOk result (λ changes. changes ≡ record { ms = self.now.original.ms; instrs = moved_first action self.now.current }) }
+    {
+        match self.current.copy() {
+            Ok(copy) => {
+                let mut copy = Shifted::new(copy);
+                copy.shift_to(action);
+                Ok(copy.into_changes())
+            }
+            Err(refusal) => Err(refusal),
+        }
+    }
+
+    /// The changeset but for where its one list instruction stands.
+    #[inline(always)]
+    pub(crate) fn written(&self) -> &Changeset
+        ensures { IsShown result.now.instrs self.now.current }
+    {
+        self.current.written()
     }
 
     /// Its instructions as an index lists them, which asks nothing of where one of a list stands.
@@ -132,30 +156,39 @@ impl Unsent {
         both_move(action, other, left_later)
     }
 
-    /// Whether an index tells that it meets nothing of what that is of.
+    /// Whether an index tells that it meets nothing of what that is of, also where its one list instruction does the same
+    /// elsewhere.
     #[inline(always)]
     pub(crate) fn stays_apart(&self, index: &Index) -> bool
-        ensures { IsTrue result → (others : List Instr) → Covers index.now others → (later : Bool) → crossed (λ a b. meet a b later) self.now.current others ≡ Ok (self.now.current, others) }
+        ensures own { IsTrue result → (others : List Instr) → Covers index.now others → (later : Bool) → crossed (λ a b. meet a b later) self.now.current others ≡ Ok (self.now.current, others) }
+        ensures told { IsTrue result → (action : Action) → kind_in self.now.current ≡ Some (kind_of action) → (others : List Instr) → Covers index.now others → (later : Bool) → crossed (λ a b. meet a b later) (moved_first action self.now.current) others ≡ Ok (moved_first action self.now.current, others) }
     {
-        self.current.stays_apart(self.spot, index)
+        stays_apart(self.spot, self.current.written(), index)
     }
 
     /// An equal one.
     pub fn copy(&self) -> Result<Unsent, NoMemory>
         ensures { IfOk result (λ copy. copy ≡ self.now) }
     {
-        let original = match self.original.copy() {
-            Ok(original) => original,
-            Err(refusal) => return Err(refusal),
-        };
         match self.current.copy() {
-            Ok(current) => Ok(Unsent {
-                number: self.number,
-                base: self.base,
-                spot: self.spot,
-                original,
-                current: Shifted::new(current),
-            }),
+            Ok(current) => self.copy_as(current),
+            Err(refusal) => Err(refusal),
+        }
+    }
+
+    /// One that was made as it was, and was rebased to this since.
+    pub(crate) fn copy_as(&self, current: Changeset) -> Result<Unsent, NoMemory>
+        requires { current.ms ≡ self.now.original.ms }
+        ensures { IfOk result (λ copy. copy ≡ record self.now { current = current.instrs }) }
+    {
+        let original = &self.original;
+        match original.changes().copy() {
+            Ok(changes) => Ok(Unsent::new(
+                original.number(),
+                original.base(),
+                changes,
+                current,
+            )),
             Err(refusal) => Err(refusal),
         }
     }
@@ -165,7 +198,7 @@ impl Unsent {
         ensures same { self.new ≡ self.old }
         ensures told { IsTrue result ↔ IsEntryOf entry.now self.old }
     {
-        self.number == entry.number && self.current.is(alloc, &entry.changes)
+        self.original.number() == entry.number && self.current.is(alloc, &entry.changes)
     }
 
     /// It stands as rebased once more.
@@ -177,6 +210,26 @@ impl Unsent {
         self.current = Shifted::new(current);
     }
 
+    /// It became another.
+    pub(crate) fn stand_as(&mut self, became: Became)
+        requires { Suits became self.old }
+        ensures { self.new ≡ record self.old { current = left_of became self.old.current } }
+    {
+        match became {
+            Became::Moved(action) => self.shift_to(action),
+            Became::Changed(current) => self.rebase(current),
+        }
+    }
+
+    /// Nothing of it is left. It takes no memory.
+    fn fall(&mut self, alloc: Global)
+        ensures { self.new ≡ record self.old { current = [] } }
+    {
+        let nothing = nothing(alloc, self.current.ms());
+        self.spot = shared_spot(nothing.instrs());
+        self.current = Shifted::new(nothing);
+    }
+
     /// Its one list instruction does the same elsewhere. It takes no memory.
     #[inline(always)]
     pub(crate) fn shift_to(&mut self, action: ListAction)
@@ -185,4 +238,64 @@ impl Unsent {
     {
         self.current.shift_to(action);
     }
+
+    /// Its one list instruction does so now, or is none any more.
+    fn stand(&mut self, alloc: Global, left: Option<ListAction>)
+        requires { IfSome left (λ a. kind_in self.old.current ≡ Some (kind_of a)) }
+        ensures { self.new ≡ record self.old { current = instrs_left left self.old.current } }
+    {
+        match left {
+            Some(action) => self.shift_to(action),
+            None => self.fall(alloc),
+        }
+    }
+
+    /// Its one list instruction stands as a slot of a lane tells it, which acts on a list of that length. It takes no memory.
+    pub(crate) fn tell(&mut self, alloc: Global, slot: Option<Op>, length: u32)
+        requires fits { Fits length slot }
+        requires kind { IfSome slot (λ a. kind_in self.old.current ≡ Some a.does) }
+        ensures { self.new ≡ told_unsent length slot self.old }
+    {
+        match slot {
+            Some(op) => self.shift_to(action_of(op, length)),
+            None => self.fall(alloc),
+        }
+    }
+
+    /// Its one list instruction, if it has one, meets an action of another in that list: what is left of that. It takes no memory.
+    pub(crate) fn meet(
+        &mut self,
+        alloc: Global,
+        own: Ident,
+        action: &ListAction,
+        stamp: Stamp,
+    ) -> Option<ListAction>
+        requires { Meets self.old action.now }
+        ensures own { self.new ≡ record self.old { current = own_left (later_stamp self.old.original.ms own stamp.ms stamp.ident) (action_in self.old.current) action.now self.old.current } }
+        ensures other { result ≡ other_left (not (later_stamp self.old.original.ms own stamp.ms stamp.ident)) (action_in self.old.current) action.now }
+    {
+        let Some(mine) = self.current.action() else {
+            return Some(*action);
+        };
+        let later = is_later(
+            Stamp {
+                ms: self.current.ms(),
+                ident: own,
+            },
+            stamp,
+        );
+        let (stays, left) = (
+            action_left(later, &mine, action),
+            action_left(!later, action, &mine),
+        );
+        self.stand(alloc, stays);
+        left
+    }
+}
+
+/// No instruction, at that time. It takes no memory.
+pub(crate) fn nothing(alloc: Global, ms: u64) -> Changeset
+    ensures { result ≡ record { ms = ms; instrs = [] } }
+{
+    Changeset::checked(ms, Vec::new(alloc)).unwrap()
 }

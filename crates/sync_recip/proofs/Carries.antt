@@ -25,3 +25,32 @@ module _ {X E : Type 0} (meet : Meet X E) where
 
   pub carry_end : (cs : List X) (x : X) → carry_after cs (carry meet x []) ≡ Ok (x, cs)
   carry_end cs x = ap (λ l. Ok (x, l)) (append-nil cs)
+
+  -- several entries further
+  abbrev joined : Result (X × List X) E → (X → Result (X × List X) E) → Result (X × List X) E
+  joined (Ok r) go = carry_after r.1 (go r.0)
+  joined (Err m) go = Err m
+
+  put_after : (f : X) (l : List X) (r : Result (X × List X) E) → carry_put f (carry_after l r) ≡ carry_after (f ∷ l) r
+  put_after f l (Ok r) = refl
+  put_after f l (Err m) = refl
+
+  put_joined : (f : X) (r : Result (X × List X) E) (go : X → Result (X × List X) E) → carry_put f (joined r go) ≡ joined (carry_put f r) go
+  put_joined f (Ok r) go = put_after f r.1 (go r.0)
+  put_joined f (Err m) go = refl
+
+  one_more : (r : Result (X × X) E) (part rest : List X) → ((y : X) → carry meet y (part ++ rest) ≡ joined (carry meet y part) (λ z. carry meet z rest))
+      → carry_one r (λ y. carry meet y (part ++ rest)) ≡ joined (carry_one r (λ y. carry meet y part)) (λ z. carry meet z rest)
+  one_more (Ok p) part rest ih = ap (carry_put p.1) (ih p.0) ∙ put_joined p.1 (carry meet p.0 part) (λ z. carry meet z rest)
+  one_more (Err m) part rest ih = refl
+
+  carry_append : (part rest : List X) (x : X) → carry meet x (part ++ rest) ≡ joined (carry meet x part) (λ y. carry meet y rest)
+  carry_append [] rest x = carry_none (carry meet x rest)
+  carry_append (e ∷ part) rest x = one_more (meet x e) part rest (carry_append part rest)
+
+  after_twice : (cs fs : List X) (r : Result (X × List X) E) → carry_after cs (carry_after fs r) ≡ carry_after (cs ++ fs) r
+  after_twice cs fs (Ok r) = ap (λ l. Ok (r.0, l)) (sym (append_assoc cs fs r.1))
+  after_twice cs fs (Err m) = refl
+
+  pub carry_several : (cs : List X) (x : X) (part rest : List X) (y : X) (fs : List X) → carry meet x part ≡ Ok (y, fs) → carry_after cs (carry meet x (part ++ rest)) ≡ carry_after (cs ++ fs) (carry meet y rest)
+  carry_several cs x part rest y fs is = ap (carry_after cs) (carry_append part rest x ∙ ap (λ r. joined r (λ z. carry meet z rest)) is) ∙ after_twice cs fs (carry meet y rest)

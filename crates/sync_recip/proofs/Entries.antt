@@ -1,160 +1,114 @@
 -- Entries of which some changed as a change crossed them.
-use Rattle.std.proofs.Common.{◌≡◌, ℕ, zero, suc, true, ◌+◌, ◌<◌, ◌≤◌, List, [], ◌∷◌, ◌++◌, Option, Some, None, Result, Ok, Err, OnOk, OnErr, map, length, get_or, drop, refl, sym, ap, ◌∙◌, subst, append-nil, arith}
-use Rattle.std.specs.List.{AllByRecursion}
-use Rattle.sync_data.specs.declared.entry.Entry.{Entry}
+use Rattle.std.proofs.Common.{◌≡◌, not, ℕ, zero, suc, ◌+◌, ◌<◌, ◌≤◌, List, [], ◌∷◌, ◌++◌, Option, Some, None, refl, sym, ap, ◌∙◌, subst, length, take, drop, append-nil, arith}
 use Rattle.sync_data.specs.declared.instr.Instr.{Instr}
-use Rattle.sync_base.specs.Effects.{effect_of}
+use Rattle.sync_data.specs.declared.entry.Stamp.{Stamp}
 use Rattle.sync_theory.specs.Changesets.{Changeset}
-use Rattle.sync_rivals.specs.Homes.{listed}
-use Rattle.sync_rivals.specs.Strangers.{place_of}
-use Rattle.sync_rivals.specs.Marks.{Marks, is_at}
-use Rattle.sync_rivals.specs.Lists.{AreListed, Indexed, Lists, StaysAt, StaysListed, put_list}
-use Rattle.sync_rivals.proofs.Listed.{pushed}
-use Rattle.sync_transform.specs.Moves.{shown, moved}
+use Rattle.sync_rivals.specs.Lists.{StaysListed}
+use Rattle.sync_transform.specs.Moves.{action_in}
 use Rattle.sync_transform.specs.declared.moves.ListAction.{ListAction}
-use Rattle.sync_transform.proofs.Stands.{same_elsewhere}
-use Rattle.sync_recip.specs.declared.kept.Kept.{Kept}
 use Rattle.sync_recip.specs.declared.carried.Crossed.{Crossed}
+use Rattle.sync_recip.specs.declared.carried.Crossed.TheVariants.{One, Stretch}
 use Rattle.sync_recip.specs.declared.carried.Became.{Became}
 use Rattle.sync_recip.specs.declared.carried.Became.TheVariants.{Moved, Changed}
-use Rattle.sync_recip.specs.Lists.{kept_entry, lists_in}
-use Rattle.sync_recip.specs.Carrying.{became_of, crossed_entry, with_crossed, crossed_entries, left_of, put_left, Suits, SuitsIf, LeftAt, AllWithin, AllLeft, noted}
+use Rattle.sync_recip.specs.Lists.{lists_in}
+use Rattle.sync_recip.specs.Passing.{change_later, own_left, other_left, passed}
+use Rattle.sync_recip.specs.Stretches.{from_place}
+use Rattle.sync_recip.specs.Acrossing.{put_across}
+use Rattle.sync_recip.specs.Carrying.{became_of, crossed_entry, with_crossed, put_crossed, crossed_entries, left_of, Suits, LeftAt, FitsOne, AllFit, noted}
 
+-- ---- how many there are
 length_with : (n : ℕ) (b : Became) (es : List (Changeset Instr)) → length (with_crossed n b es) ≡ length es
 length_with n b [] = refl
 length_with zero b (e ∷ es) = refl
 length_with (suc n) b (e ∷ es) = ap suc (length_with n b es)
 
+length_passed : (s : Stamp) (k : ℕ) (b : Option ListAction) (es : List (Changeset Instr)) → length (passed s k b es) ≡ length es
+length_passed s k None es = refl
+length_passed s zero (Some b) es = refl
+length_passed s (suc k) (Some b) [] = refl
+length_passed s (suc k) (Some b) (e ∷ es) = ap suc (length_passed s k (other_left (change_later s e) (action_in e.instrs) b) es)
+
+length_from : {A : Type 0} (i : ℕ) (f : List A → List A) (xs : List A) → ((ys : List A) → length (f ys) ≡ length ys) → length (from_place i f xs) ≡ length xs
+length_from zero f xs h = h xs
+length_from (suc i) f [] h = refl
+length_from (suc i) f (x ∷ xs) h = ap suc (length_from i f xs h)
+
+length_put : (c : Crossed) (es : List (Changeset Instr)) → length (put_crossed c es) ≡ length es
+length_put (One n b) es = length_with n b es
+length_put (Stretch a) es = length_from a.start (passed a.stamp a.count (Some a.action)) es (length_passed a.stamp a.count (Some a.action))
+
 pub length_crossed : (cs : List Crossed) (es : List (Changeset Instr)) → length (crossed_entries cs es) ≡ length es
 length_crossed [] es = refl
-length_crossed (c ∷ cs) es = length_crossed cs (with_crossed c.place c.became es) ∙ length_with c.place c.became es
+length_crossed (c ∷ cs) es = length_crossed cs (put_crossed c es) ∙ length_put c es
 
--- ---- lists that are joined
-with_front : (n : ℕ) (b : Became) (es fs : List (Changeset Instr)) → n < length es → with_crossed n b (es ++ fs) ≡ with_crossed n b es ++ fs
-with_front n b [] fs h = absurd (omega arith)
-with_front zero b (e ∷ es) fs h = refl
-with_front (suc n) b (e ∷ es) fs h = ap (λ l. e ∷ l) (with_front n b es fs (omega arith))
+-- ---- one more that changed
+pub crossed_push : (cs : List Crossed) (c : Crossed) (es : List (Changeset Instr)) → crossed_entries (cs ++ c ∷ []) es ≡ put_crossed c (crossed_entries cs es)
+crossed_push [] c es = refl
+crossed_push (d ∷ cs) c es = crossed_push cs c (put_crossed d es)
 
-with_last : (n : ℕ) (b : Became) (es : List (Changeset Instr)) (e : Changeset Instr) → length es ≡ n → with_crossed n b (es ++ e ∷ []) ≡ es ++ became_of b e ∷ []
-with_last zero b [] e h = refl
-with_last (suc n) b [] e h = absurd (omega arith)
-with_last zero b (f ∷ es) e h = absurd (omega arith)
-with_last (suc n) b (f ∷ es) e h = ap (λ l. f ∷ l) (with_last n b es e (omega arith))
+pub fit_push : (cs : List Crossed) (c : Crossed) (es : List (Changeset Instr)) → AllFit cs es → FitsOne c (crossed_entries cs es) → AllFit (cs ++ c ∷ []) es
+fit_push [] c es f h = (h, tt)
+fit_push (d ∷ cs) c es f h = (f.0, fit_push cs c (put_crossed d es) f.1 h)
 
-crossed_front : (cs : List Crossed) (es fs : List (Changeset Instr)) → AllWithin (length es) cs → crossed_entries cs (es ++ fs) ≡ crossed_entries cs es ++ fs
-crossed_front [] es fs h = refl
-crossed_front (c ∷ cs) es fs h =
-    ap (crossed_entries cs) (with_front c.place c.became es fs h.0)
-    ∙ crossed_front cs (with_crossed c.place c.became es) fs (subst (λ n. AllWithin n cs) (sym (length_with c.place c.became es)) h.1)
+-- ---- at a place
+pub take_with : (es : List (Changeset Instr)) (n : ℕ) (b : Became) (e : Changeset Instr) (rest : List (Changeset Instr)) → drop n es ≡ e ∷ rest → take (suc n) (with_crossed n b es) ≡ take n es ++ became_of b e ∷ []
+take_with [] zero b e rest h = cc
+take_with [] (suc n) b e rest h = cc
+take_with (d ∷ es) zero b e rest h = let g : d ≡ e = cc in ap (λ (x : Changeset Instr). became_of b x ∷ []) g
+take_with (d ∷ es) (suc n) b e rest h = ap (λ l. d ∷ l) (take_with es n b e rest h)
 
-crossed_last : (cs : List Crossed) (c : Crossed) (es : List (Changeset Instr)) → crossed_entries (cs ++ c ∷ []) es ≡ with_crossed c.place c.became (crossed_entries cs es)
-crossed_last [] c es = refl
-crossed_last (d ∷ cs) c es = crossed_last cs c (with_crossed d.place d.became es)
+pub drop_with : (es : List (Changeset Instr)) (n : ℕ) (b : Became) → drop (suc n) (with_crossed n b es) ≡ drop (suc n) es
+drop_with [] n b = refl
+drop_with (d ∷ es) zero b = refl
+drop_with (d ∷ es) (suc n) b = drop_with es n b
 
--- ---- one entry more
-pub noted_entries : (cs : List Crossed) (o : Option Became) (n : ℕ) (es : List (Changeset Instr)) (e : Changeset Instr) → length es ≡ n → AllWithin n cs
-    → crossed_entries (cs ++ noted n o) (es ++ e ∷ []) ≡ crossed_entries cs es ++ crossed_entry o e ∷ []
-noted_entries cs None n es e h g = ap (λ l. crossed_entries l (es ++ e ∷ [])) (append-nil cs) ∙ crossed_front cs es (e ∷ []) (subst (λ k. AllWithin k cs) (sym h) g)
-noted_entries cs (Some b) n es e h g =
-    crossed_last cs (record { place = n; became = b }) (es ++ e ∷ []) ∙ ap (with_crossed n b) (crossed_front cs es (e ∷ []) (subst (λ k. AllWithin k cs) (sym h) g))
-    ∙ with_last n b (crossed_entries cs es) e (length_crossed cs es ∙ h)
+pub take_next : {A : Type 0} (xs : List A) (n : ℕ) (x : A) (rest : List A) → drop n xs ≡ x ∷ rest → take (suc n) xs ≡ take n xs ++ x ∷ []
+take_next [] zero x rest h = cc
+take_next [] (suc n) x rest h = cc
+take_next (y ∷ xs) zero x rest h = let g : y ≡ x = cc in ap (λ z. z ∷ []) g
+take_next (y ∷ xs) (suc n) x rest h = ap (λ l. y ∷ l) (take_next xs n x rest h)
 
-pub within_up : (cs : List Crossed) (n m : ℕ) → n ≤ m → AllWithin n cs → AllWithin m cs
-within_up [] n m l h = tt
-within_up (c ∷ cs) n m l h = (let g = h.0 in omega (arith, g, l), within_up cs n m l h.1)
+pub drop_next : {A : Type 0} (xs : List A) (n : ℕ) (x : A) (rest : List A) → drop n xs ≡ x ∷ rest → drop (suc n) xs ≡ rest
+drop_next [] zero x rest h = cc
+drop_next [] (suc n) x rest h = cc
+drop_next (y ∷ xs) zero x rest h = cc
+drop_next (y ∷ xs) (suc n) x rest h = drop_next xs n x rest h
 
-pub within_more : (cs : List Crossed) (o : Option Became) (n : ℕ) → AllWithin n cs → AllWithin (n + 1) (cs ++ noted n o)
-within_more [] None n h = tt
-within_more [] (Some b) n h = (omega arith, tt)
-within_more (c ∷ cs) o n h = (let g = h.0 in omega arith, within_more cs o n h.1)
+-- ---- a stretch
+passed_take : (s : Stamp) (k : ℕ) (b : Option ListAction) (es : List (Changeset Instr)) → take k (passed s k b es) ≡ passed s k b (take k es)
+passed_take s k None es = refl
+passed_take s zero (Some b) es = refl
+passed_take s (suc k) (Some b) [] = refl
+passed_take s (suc k) (Some b) (e ∷ es) =
+    ap (λ l. record e { instrs = own_left (not (change_later s e)) (action_in e.instrs) b e.instrs } ∷ l) (passed_take s k (other_left (change_later s e) (action_in e.instrs) b) es)
 
--- ---- their instructions
+passed_drop : (s : Stamp) (k : ℕ) (b : Option ListAction) (es : List (Changeset Instr)) → drop k (passed s k b es) ≡ drop k es
+passed_drop s k None es = refl
+passed_drop s zero (Some b) es = refl
+passed_drop s (suc k) (Some b) [] = refl
+passed_drop s (suc k) (Some b) (e ∷ es) = passed_drop s k (other_left (change_later s e) (action_in e.instrs) b) es
+
+pub take_passed : (s : Stamp) (b : ListAction) (n k : ℕ) (es : List (Changeset Instr)) → n ≤ length es → take (n + k) (from_place n (passed s k (Some b)) es) ≡ take n es ++ passed s k (Some b) (take k (drop n es))
+take_passed s b zero k es h = let m : 0 + k ≡ k = omega arith in ap (λ j. take j (passed s k (Some b) es)) m ∙ passed_take s k (Some b) es
+take_passed s b (suc n) k [] h = absurd (omega (arith, h))
+take_passed s b (suc n) k (e ∷ es) h =
+    let m : suc n + k ≡ suc (n + k) = omega arith in
+    ap (λ j. take j (e ∷ from_place n (passed s k (Some b)) es)) m ∙ ap (λ l. e ∷ l) (take_passed s b n k es (omega (arith, h)))
+
+pub drop_passed : (s : Stamp) (b : ListAction) (n k : ℕ) (es : List (Changeset Instr)) → n ≤ length es → drop (n + k) (from_place n (passed s k (Some b)) es) ≡ drop (n + k) es
+drop_passed s b zero k es h = let m : 0 + k ≡ k = omega arith in ap (λ j. drop j (passed s k (Some b) es)) m ∙ passed_drop s k (Some b) es ∙ ap (λ j. drop j es) (sym m)
+drop_passed s b (suc n) k [] h = absurd (omega (arith, h))
+drop_passed s b (suc n) k (e ∷ es) h =
+    let m : suc n + k ≡ suc (n + k) = omega arith in
+    ap (λ j. drop j (e ∷ from_place n (passed s k (Some b)) es)) m ∙ drop_passed s b n k es (omega (arith, h)) ∙ ap (λ j. drop j (e ∷ es)) (sym m)
+
+-- ---- what is left of one
 pub left_is : (b : Became) (e : Changeset Instr) → (became_of b e).instrs ≡ left_of b e.instrs
 left_is (Moved a) e = refl
 left_is (Changed x) e = refl
-
-pub lists_with : (n : ℕ) (b : Became) (es : List (Changeset Instr)) → lists_in (with_crossed n b es) ≡ put_left n b (lists_in es)
-lists_with n b [] = refl
-lists_with zero b (e ∷ es) = ap (λ l. l ∷ lists_in es) (left_is b e)
-lists_with (suc n) b (e ∷ es) = ap (λ l. e.instrs ∷ l) (lists_with n b es)
-
-left_beside : (i n : ℕ) (c b : Became) (ls : List (List Instr)) → i < n → LeftAt n b ls → LeftAt n b (put_left i c ls)
-left_beside i n c b [] g h = h
-left_beside zero zero c b (l ∷ ls) g h = absurd (omega (arith, g))
-left_beside zero (suc n) c b (l ∷ ls) g h = h
-left_beside (suc i) zero c b (l ∷ ls) g h = absurd (omega (arith, g))
-left_beside (suc i) (suc n) c b (l ∷ ls) g h = left_beside i n c b ls (omega (arith, g)) h
-
-abbrev pub LeftIf : ℕ → Option Became → List (List Instr) → Type 0
-LeftIf n None ls = Unit {0}
-LeftIf n (Some b) ls = LeftAt n b ls
-
-beside_if : (i n : ℕ) (c : Became) (o : Option Became) (ls : List (List Instr)) → i < n → LeftIf n o ls → LeftIf n o (put_left i c ls)
-beside_if i n c None ls g h = tt
-beside_if i n c (Some b) ls g h = left_beside i n c b ls g h
-
-pub left_more : (cs : List Crossed) (o : Option Became) (n : ℕ) (ls : List (List Instr)) → AllWithin n cs → AllLeft cs ls → LeftIf n o ls → AllLeft (cs ++ noted n o) ls
-left_more [] None n ls w h g = tt
-left_more [] (Some b) n ls w h g = (g, tt)
-left_more (c ∷ cs) o n ls w h g = (h.0, left_more cs o n (put_left c.place c.became ls) w.1 h.1 (beside_if c.place n c.became o ls w.0 g))
 
 pub left_there : (es : List (Changeset Instr)) (n : ℕ) (b : Became) (e : Changeset Instr) (rest : List (Changeset Instr)) → drop n es ≡ e ∷ rest → Suits b e.instrs → StaysListed e.instrs (left_of b e.instrs) → LeftAt n b (lists_in es)
 left_there [] zero b e rest h s l = cc
 left_there [] (suc n) b e rest h s l = cc
 left_there (f ∷ es) zero b e rest h s l = let g : f ≡ e = cc in subst (λ (x : Changeset Instr). Suits b x.instrs × StaysListed x.instrs (left_of b x.instrs)) (sym g) (s, l)
 left_there (f ∷ es) (suc n) b e rest h s l = left_there es n b e rest h s l
-
-pub left_here : (ks : List Kept) (n : ℕ) (b : Became) (d : Kept) → LeftAt n b (lists_in (map kept_entry ks)) → Suits b (kept_entry (get_or ks n d)).instrs
-left_here [] n b d h = absurd h
-left_here (k ∷ ks) zero b d h = h.0
-left_here (k ∷ ks) (suc n) b d h = left_here ks n b d h
-
--- where an instruction of a list stands isn't asked
-pub shown_listed : (o : Option ListAction) (is : List Instr) → StaysListed is (shown o is)
-shown_listed None is = λ s n h. h
-shown_listed (Some a) [] = λ s n h. h
-shown_listed (Some a) (i ∷ is) = λ s n h. (
-  subst (λ q. AllByRecursion (λ p. is_at s n p ≡ true) (listed q)) (sym (same_elsewhere place_of (λ c v s t. refl) (λ c s t. refl) (λ c v s t. refl) a i)) h.0,
-  h.1,
-)
-
--- ---- behind other lists
-pub put_changed : (n : ℕ) (x : Entry) (ls : List (List Instr)) → put_left n (Changed x) ls ≡ put_list n x.changes.instrs ls
-put_changed n x [] = refl
-put_changed zero x (l ∷ ls) = refl
-put_changed (suc n) x (l ∷ ls) = ap (λ m. l ∷ m) (put_changed n x ls)
-
-pub stays_changed : (n : ℕ) (x : Entry) (ls : List (List Instr)) → LeftAt n (Changed x) ls → StaysAt n x.changes.instrs ls
-stays_changed n x [] h = absurd h
-stays_changed zero x (l ∷ ls) h = h.1
-stays_changed (suc n) x (l ∷ ls) h = stays_changed n x ls h
-
-left_listed : (s : Marks) (m k : ℕ) (ls : List (List Instr)) (n : ℕ) (b : Became) → LeftAt n b ls → AreListed s m k ls → AreListed s m k (put_left n b ls)
-left_listed s m zero ls n b l h = tt
-left_listed s m (suc k) [] n b l h = h
-left_listed s m (suc k) (x ∷ ls) zero b l h = (l.1 s m h.0, h.1)
-left_listed s m (suc k) (x ∷ ls) (suc n) b l h = (h.0, left_listed s (suc m) k ls n b l h.1)
-
-pub behind_listed : (s : Marks) (m k : ℕ) (front ls : List (List Instr)) (n : ℕ) (b : Became) → LeftAt n b ls → AreListed s m k (front ++ ls) → AreListed s m k (front ++ put_left n b ls)
-behind_listed s m zero front ls n b l h = tt
-behind_listed s m (suc k) [] ls n b l h = left_listed s m (suc k) ls n b l h
-behind_listed s m (suc k) (f ∷ front) ls n b l h = (h.0, behind_listed s (suc m) k front ls n b l h.1)
-
-pub put_behind : (front ls : List (List Instr)) (m i : ℕ) (is : List Instr) → m ≡ length front + i → put_list m is (front ++ ls) ≡ front ++ put_list i is ls
-put_behind [] ls m i is e = let same : m ≡ i = omega (arith, e) in ap (λ n. put_list n is ls) same
-put_behind (f ∷ front) ls zero i is e = absurd (omega (arith, e))
-put_behind (f ∷ front) ls (suc m) i is e = ap (λ l. f ∷ l) (put_behind front ls m i is (omega (arith, e)))
-
-pub stays_behind : (front ls : List (List Instr)) (m i : ℕ) (is : List Instr) → m ≡ length front + i → StaysAt i is ls → StaysAt m is (front ++ ls)
-stays_behind [] ls m i is e h = let same : m ≡ i = omega (arith, e) in subst (λ n. StaysAt n is ls) (sym same) h
-stays_behind (f ∷ front) ls zero i is e h = absurd (omega (arith, e))
-stays_behind (f ∷ front) ls (suc m) i is e h = stays_behind front ls m i is (omega (arith, e)) h
-
-pub lists_joined : (ks js : List Kept) → lists_in (map kept_entry (ks ++ js)) ≡ lists_in (map kept_entry ks) ++ lists_in (map kept_entry js)
-lists_joined [] js = refl
-lists_joined (k ∷ ks) js = ap (λ l. (kept_entry k).instrs ∷ l) (lists_joined ks js)
-
-pub listed_pushed : {A E : Type 0} (r : Result A E) (x : Indexed) (ks ns : List Kept) (k : Kept) → OnOk r (ns ≡ ks ++ k ∷ []) → OnErr r (ns ≡ ks) → Lists x (lists_in (map kept_entry ks)) → Lists x (lists_in (map kept_entry ns))
-listed_pushed (Ok a) x ks ns k f g h =
-    subst (λ l. Lists x (lists_in (map kept_entry l))) (sym f) (subst (Lists x) (sym (lists_joined ks (k ∷ []))) (pushed x.marks x.first x.listed (lists_in (map kept_entry ks)) (kept_entry k).instrs h))
-listed_pushed (Err a) x ks ns k f g h = subst (λ l. Lists x (lists_in (map kept_entry l))) (sym g) h

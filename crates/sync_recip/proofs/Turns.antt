@@ -1,6 +1,6 @@
--- One entry of a list of kept ones, as a change is carried over it.
-use Rattle.std.proofs.Common.{◌≡◌, ◌≢◌, ◌≤◌, ℕ, zero, suc, ◌+◌, ◌-◌, ◌<◌, Bool, List, [], ◌∷◌, ◌++◌, Option, None, Some, Result, Ok, refl, length, map, take, drop, get_or, sym, ap, ◌∙◌, subst, All, append-nil, length-drop, arith}
-use Rattle.std.proofs.lemmas.List.{drop_more, drop_all, take_all, drop-map, take-map, map_more, length-map, length-take-le, get_or-drop}
+-- A change on its way over the entries of a list of kept ones.
+use Rattle.std.proofs.Common.{◌≡◌, ◌≢◌, ◌≤◌, ℕ, zero, suc, ◌+◌, ◌-◌, ◌<◌, Bool, List, [], ◌∷◌, ◌++◌, Option, None, Some, IfSome, Result, Ok, refl, length, map, take, drop, get_or, sym, ap, ◌∙◌, subst, All, append-nil, length-drop, add-one, arith}
+use Rattle.std.proofs.lemmas.List.{drop-drop, take-append-drop}
 use Rattle.std.proofs.lemmas.List.Elements.{All-head, All-tail}
 use Rattle.sync_data.specs.declared.instr.Instr.{Instr}
 use Rattle.sync_data.specs.Payload.{Changes}
@@ -12,57 +12,32 @@ use Rattle.sync_law.specs.Instrs.{meet}
 use Rattle.sync_index.specs.Touched.{Touched, Covers}
 use Rattle.sync_rivals.specs.Lists.{Indexed, Serves, Pass, StandsAt, StaysListed}
 use Rattle.sync_rivals.specs.Lemmas.Skips.{lists_of, known_left, listed_right}
+use Rattle.sync_transform.specs.Moves.{kind_in, kind_of}
 use Rattle.sync_transform.specs.Sets.{made_by}
+use Rattle.sync_transform.specs.declared.moves.ListAction.{ListAction}
+use Rattle.sync_recip.specs.declared.across.Across.{Across}
 use Rattle.sync_recip.specs.declared.kept.Kept.{Kept}
 use Rattle.sync_recip.specs.declared.carried.Crossed.{Crossed}
+use Rattle.sync_recip.specs.declared.carried.Crossed.TheVariants.{One, Stretch}
 use Rattle.sync_recip.specs.declared.refusal.RecipRefusal.{RecipRefusal}
 use Rattle.sync_recip.specs.declared.refusal.RecipRefusal.TheVariants as refusals
 use Rattle.sync_recip.specs.Lists.{entry_of, kept_entry, lists_in}
+use Rattle.sync_recip.specs.Passing.{passed, CanPass}
+use Rattle.sync_recip.specs.Acrossing.{changes_left, put_across, CanCross}
 use Rattle.sync_recip.specs.declared.carried.Became.{Became}
-use Rattle.sync_recip.specs.Carrying.{became_of, crossed_entry, crossed_entries, AllWithin, AllLeft, SuitsIf, noted, IsStuckBy}
-use Rattle.sync_recip.proofs.Carries.{carry_after, carry_none, carry_step, carry_stop, carry_end}
+use Rattle.sync_recip.specs.Carrying.{became_of, crossed_entry, crossed_entries, put_crossed, with_crossed, AllFit, FitsOne, SuitsIf, noted, IsStuckBy}
+use Rattle.sync_recip.proofs.Acting.{left_known}
+use Rattle.sync_recip.proofs.Carries.{carry_after, carry_none, carry_step, carry_several, carry_stop, carry_end}
 use Rattle.sync_recip.proofs.Covered.{left_covered}
-use Rattle.sync_recip.proofs.Entries.{noted_entries, within_more, within_up, left_more, left_there, left_is, LeftIf}
+use Rattle.sync_recip.proofs.Entries.{length_crossed, crossed_push, fit_push, take_with, drop_with, take_next, drop_next, take_passed, drop_passed, left_there, left_is}
 
 pub other_at : (own : ℕ) (ks : List Kept) (n : ℕ) (k : Kept) → n < length ks → k ≡ get_or ks n k → All (λ e. e.origin ≢ own) (map kept_entry ks) → k.item.origin ≢ own
 other_at own [] n k h e a = absurd (omega arith)
 other_at own (l ∷ ks) zero k h e a = λ is. All-head (λ e. e.origin ≢ own) (kept_entry l) (map kept_entry ks) a (sym (ap (λ (q : Kept). q.item.origin) e) ∙ is)
 other_at own (l ∷ ks) (suc n) k h e a = other_at own ks n k (omega arith) e (All-tail (λ e. e.origin ≢ own) (kept_entry l) (map kept_entry ks) a)
 
-module _ (ks : List Kept) (n : ℕ) (k : Kept) (within : n < length ks) (here : k ≡ get_or ks n k) where
-  opened : drop n (map kept_entry ks) ≡ kept_entry k ∷ drop (n + 1) (map kept_entry ks)
-  opened =
-      drop-map kept_entry n ks ∙ ap (map kept_entry) (drop_more ks n k within) ∙ ap (λ q. kept_entry q ∷ map kept_entry (drop (n + 1) ks)) (sym here)
-      ∙ ap (λ l. kept_entry k ∷ l) (sym (drop-map kept_entry (n + 1) ks))
-
-  closed : take (n + 1) (map kept_entry ks) ≡ take n (map kept_entry ks) ++ kept_entry k ∷ []
-  closed =
-      take-map kept_entry (n + 1) ks ∙ map_more kept_entry ks n k within ∙ ap (λ q. map kept_entry (take n ks) ++ kept_entry q ∷ []) (sym here)
-      ∙ ap (λ l. l ++ kept_entry k ∷ []) (sym (take-map kept_entry n ks))
-
-  count : length (take n (map kept_entry ks)) ≡ n
-  count = length-take-le n (map kept_entry ks) (omega (arith, length-map ks kept_entry))
-
-  module _ (whole : Result (Changeset Instr × List (Changeset Instr)) (ℕ × ℕ × Mismatch)) (cs : List Crossed) (x : Changeset Instr)
-      (so_far : whole ≡ carry_after (crossed_entries cs (take n (map kept_entry ks))) (carry (cross_sets meet) x (drop n (map kept_entry ks)))) where
-    pub turn : (ds : List Crossed) (o : Option Became) (y : Changeset Instr) → AllWithin n cs → ds ≡ cs ++ noted n o → cross_sets meet x (kept_entry k) ≡ Ok (y, crossed_entry o (kept_entry k))
-        → whole ≡ carry_after (crossed_entries ds (take (n + 1) (map kept_entry ks))) (carry (cross_sets meet) y (drop (n + 1) (map kept_entry ks)))
-    turn ds o y inside is m =
-        so_far ∙ ap (λ l. carry_after (crossed_entries cs (take n (map kept_entry ks))) (carry (cross_sets meet) x l)) opened
-        ∙ carry_step (cross_sets meet) (crossed_entries cs (take n (map kept_entry ks))) x (kept_entry k) (drop (n + 1) (map kept_entry ks)) y (crossed_entry o (kept_entry k)) m
-        ∙ ap (λ l. carry_after l (carry (cross_sets meet) y (drop (n + 1) (map kept_entry ks))))
-        (sym (noted_entries cs o n (take n (map kept_entry ks)) (kept_entry k) count inside) ∙ (λ i. crossed_entries (sym is i) (sym closed i)))
-
-    pub stuck : (e : RecipRefusal) → IsStuckBy e (cross_sets meet x (kept_entry k)) → IsStuckBy e whole
-    stuck refusals.NoMemory h = tt
-    stuck (refusals.Mismatch place kind) h = record {
-      right = h.right;
-      is = so_far ∙ ap (λ l. carry_after (crossed_entries cs (take n (map kept_entry ks))) (carry (cross_sets meet) x l)) opened
-          ∙ carry_stop (cross_sets meet) (crossed_entries cs (take n (map kept_entry ks))) x (kept_entry k) (drop (n + 1) (map kept_entry ks)) (place, h.right, kind) h.is;
-    }
-
 -- ---- a change on its way over the entries
-element : (ks : List Kept) (n : ℕ) → n < length ks → (k : Kept) × (k ≡ get_or ks n k)
+pub element : (ks : List Kept) (n : ℕ) → n < length ks → (k : Kept) × (k ≡ get_or ks n k)
 element [] n l = absurd (omega (arith, l))
 element (k ∷ ks) zero l = (k, refl)
 element (k ∷ ks) (suc n) l = element ks n (omega (arith, l))
@@ -72,84 +47,104 @@ stands_kept [] n k l e = absurd (omega (arith, l))
 stands_kept (j ∷ ks) zero k l e = ap (λ (q : Kept). (kept_entry q).instrs) (sym e)
 stands_kept (j ∷ ks) (suc n) k l e = stands_kept ks n k (omega (arith, l)) e
 
-pub record Walked (t : Touched) (x : Indexed) (codes : List ℕ) (own : ℕ) (ks : List Kept) (c : Changes) (n : ℕ) (cs : List Crossed) (now : Changes) : Type 0 where
-  pub so_far : (number : ℕ) → carry (cross_sets meet) (made_by own number c) (map kept_entry ks) ≡ carry_after (crossed_entries cs (take n (map kept_entry ks))) (carry (cross_sets meet) (made_by own number now) (drop n (map kept_entry ks)))
-  pub within : AllWithin n cs
-  pub left : AllLeft cs (lists_in (map kept_entry ks))
+-- the entries before the place as they became, those from it on as they were
+pub record Walked (t : Touched) (x : Indexed) (codes : List ℕ) (own : ℕ) (es : List (Changeset Instr)) (c : Changes) (n : ℕ) (cs : List Crossed) (now : Changes) : Type 0 where
+  pub so_far : (number : ℕ) → carry (cross_sets meet) (made_by own number c) es ≡ carry_after (take n (crossed_entries cs es)) (carry (cross_sets meet) (made_by own number now) (drop n es))
+  pub behind : drop n (crossed_entries cs es) ≡ drop n es
+  pub fits : AllFit cs es
   pub indexed : Covers t now.instrs
   pub served : Serves x codes now.instrs
 
-pub walk_start : (t : Touched) (x : Indexed) (codes : List ℕ) (own : ℕ) (ks : List Kept) (c : Changes) → Covers t c.instrs → Serves x codes c.instrs → Walked t x codes own ks c 0 [] c
-walk_start t x codes own ks c covers serves =
+pub walk_start : (t : Touched) (x : Indexed) (codes : List ℕ) (own : ℕ) (es : List (Changeset Instr)) (c : Changes) → Covers t c.instrs → Serves x codes c.instrs → Walked t x codes own es c 0 [] c
+walk_start t x codes own es c covers serves =
     record {
-      so_far = λ number. carry_none (cross_sets meet) (carry (cross_sets meet) (made_by own number c) (map kept_entry ks));
-      within = tt;
-      left = tt;
+      so_far = λ number. carry_none (cross_sets meet) (carry (cross_sets meet) (made_by own number c) es);
+      behind = refl;
+      fits = tt;
       indexed = covers;
       served = serves;
     }
 
-module _ (t : Touched) (x : Indexed) (codes : List ℕ) (own : ℕ) (ks : List Kept) (c : Changes) (n : ℕ) (cs : List Crossed) (now : Changes) (w : Walked t x codes own ks c n cs now) (k : Kept) (inside : n < length ks) (here : k ≡ get_or ks n k) where
-  crosses : (next : Changes) (e : Changeset Instr) → cross_sets meet (made_by own 0 now) (kept_entry k) ≡ Ok (made_by own 0 next, e) → cross (λ a b. meet a b (is_later (made_by own 0 now) (kept_entry k))) now.instrs (kept_entry k).instrs ≡ Ok (next.instrs, e.instrs)
-  crosses next e m = lists_of (made_by own 0 now) (kept_entry k) (cross (λ a b. meet a b (is_later (made_by own 0 now) (kept_entry k))) now.instrs (kept_entry k).instrs) (made_by own 0 next, e) m
+module _ (t : Touched) (x : Indexed) (codes : List ℕ) (own : ℕ) (es : List (Changeset Instr)) (c : Changes) (n : ℕ) (cs : List Crossed) (now : Changes) (w : Walked t x codes own es c n cs now) where
+  -- ---- one entry further
+  module _ (e : Changeset Instr) (rest : List (Changeset Instr)) (here : drop n es ≡ e ∷ rest) where
+    there : drop n (crossed_entries cs es) ≡ e ∷ rest
+    there = w.behind ∙ here
 
-  left_at : (o : Option Became) (next : Changes) → SuitsIf o (kept_entry k).instrs → cross_sets meet (made_by own 0 now) (kept_entry k) ≡ Ok (made_by own 0 next, crossed_entry o (kept_entry k)) → LeftIf n o (lists_in (map kept_entry ks))
-  left_at None next s m = tt
-  left_at (Some b) next s m =
-      let later = is_later (made_by own 0 now) (kept_entry k) in
-      let stays : StaysListed (kept_entry k).instrs (became_of b (kept_entry k)).instrs = λ s j. listed_right s j later now.instrs (kept_entry k).instrs next.instrs (became_of b (kept_entry k)).instrs (crosses next (became_of b (kept_entry k)) m) in
-      left_there (map kept_entry ks) n b (kept_entry k) (drop (n + 1) (map kept_entry ks)) (opened ks n k inside here) s (subst (StaysListed (kept_entry k).instrs) (left_is b (kept_entry k)) stays)
+    became : (ds : List Crossed) (o : Option Became) → ds ≡ cs ++ noted n o → take (suc n) (crossed_entries ds es) ≡ take n (crossed_entries cs es) ++ crossed_entry o e ∷ []
+    became ds None is = ap (λ l. take (suc n) (crossed_entries l es)) (is ∙ append-nil cs) ∙ take_next (crossed_entries cs es) n e rest there
+    became ds (Some b) is = ap (λ l. take (suc n) (crossed_entries l es)) is ∙ ap (take (suc n)) (crossed_push cs (One n b) es) ∙ take_with (crossed_entries cs es) n b e rest there
 
-  pub walk_over : (ds : List Crossed) (o : Option Became) (next : Changes) → ds ≡ cs ++ noted n o → SuitsIf o (kept_entry k).instrs → ((number : ℕ) → cross_sets meet (made_by own number now) (kept_entry k) ≡ Ok (made_by own number next, crossed_entry o (kept_entry k))) → Walked t x codes own ks c (n + 1) ds next
-  walk_over ds o next is suits m =
-      record {
-        so_far = λ number. turn ks n k inside here (carry (cross_sets meet) (made_by own number c) (map kept_entry ks)) cs (made_by own number now) (w.so_far number) ds o (made_by own number next) w.within is (m number);
-        within = subst (AllWithin (n + 1)) (sym is) (within_more cs o n w.within);
-        left = subst (λ l. AllLeft l (lists_in (map kept_entry ks))) (sym is) (left_more cs o n (lists_in (map kept_entry ks)) w.within w.left (left_at o next suits (m 0)));
-        indexed = left_covered t (made_by own 0 now) (kept_entry k) (made_by own 0 next) (crossed_entry o (kept_entry k)) (m 0) w.indexed;
-        served = λ some. known_left codes (is_later (made_by own 0 now) (kept_entry k)) now.instrs (kept_entry k).instrs next.instrs (crossed_entry o (kept_entry k)).instrs (crosses next (crossed_entry o (kept_entry k)) (m 0)) (w.served some);
-      }
+    after : (ds : List Crossed) (o : Option Became) → ds ≡ cs ++ noted n o → drop (suc n) (crossed_entries ds es) ≡ drop (suc n) es
+    after ds None is = ap (λ l. drop (suc n) (crossed_entries l es)) (is ∙ append-nil cs) ∙ drop_next (crossed_entries cs es) n e rest there ∙ sym (drop_next es n e rest here)
+    after ds (Some b) is =
+        ap (λ l. drop (suc n) (crossed_entries l es)) is ∙ ap (drop (suc n)) (crossed_push cs (One n b) es) ∙ drop_with (crossed_entries cs es) n b
+        ∙ drop_next (crossed_entries cs es) n e rest there ∙ sym (drop_next es n e rest here)
 
-  pub walk_past : ((later : Bool) → cross (λ a b. meet a b later) now.instrs (kept_entry k).instrs ≡ Ok (now.instrs, (kept_entry k).instrs)) → Walked t x codes own ks c (n + 1) cs now
-  walk_past apart = walk_over cs None now (sym (append-nil cs)) tt (λ number. ap (with_lists (made_by own number now) (kept_entry k)) (apart (is_later (made_by own number now) (kept_entry k))))
+    lists_crossed : (next : Changes) (f : Changeset Instr) → cross_sets meet (made_by own 0 now) e ≡ Ok (made_by own 0 next, f) → cross (λ a b. meet a b (is_later (made_by own 0 now) e)) now.instrs e.instrs ≡ Ok (next.instrs, f.instrs)
+    lists_crossed next f m = lists_of (made_by own 0 now) e (cross (λ a b. meet a b (is_later (made_by own 0 now) e)) now.instrs e.instrs) (made_by own 0 next, f) m
 
-  pub walk_stops : (number : ℕ) (e : RecipRefusal) → IsStuckBy e (cross_sets meet (made_by own number now) (kept_entry k)) → IsStuckBy e (carry (cross_sets meet) (made_by own number c) (map kept_entry ks))
-  walk_stops number e h = stuck ks n k inside here (carry (cross_sets meet) (made_by own number c) (map kept_entry ks)) cs (made_by own number now) (w.so_far number) e h
+    fitted : (ds : List Crossed) (o : Option Became) (next : Changes) → ds ≡ cs ++ noted n o → SuitsIf o e.instrs → cross_sets meet (made_by own 0 now) e ≡ Ok (made_by own 0 next, crossed_entry o e) → AllFit ds es
+    fitted ds None next is s m = subst (λ l. AllFit l es) (sym (is ∙ append-nil cs)) w.fits
+    fitted ds (Some b) next is s m =
+        let later = is_later (made_by own 0 now) e in
+        let stays : StaysListed e.instrs (became_of b e).instrs = λ q j. listed_right q j later now.instrs e.instrs next.instrs (became_of b e).instrs (lists_crossed next (became_of b e) m) in
+        subst (λ l. AllFit l es) (sym is) (fit_push cs (One n b) es w.fits (left_there (crossed_entries cs es) n b e rest there s (subst (StaysListed e.instrs) (left_is b e) stays)))
 
--- the entries from a place of all on: over several that stay
-module _ (t : Touched) (x : Indexed) (codes : List ℕ) (own : ℕ) (ks : List Kept) (first : ℕ) (c : Changes) (cs : List Crossed) (now : Changes) where
-  pub here_from : (from : ℕ) (k : Kept) → first ≤ from → k ≡ get_or ks from k → k ≡ get_or (drop first ks) (from - first) k
-  here_from from k l e =
-      let same : from ≡ first + (from - first) = omega (arith, l) in
-      e ∙ ap (λ n. get_or ks n k) same ∙ sym (get_or-drop first ks (from - first) k)
+    pub walk_over : (ds : List Crossed) (o : Option Became) (next : Changes) → ds ≡ cs ++ noted n o → SuitsIf o e.instrs → ((number : ℕ) → cross_sets meet (made_by own number now) e ≡ Ok (made_by own number next, crossed_entry o e))
+        → Walked t x codes own es c (suc n) ds next
+    walk_over ds o next is suits m =
+        record {
+          so_far = λ number.
+              w.so_far number ∙ ap (λ l. carry_after (take n (crossed_entries cs es)) (carry (cross_sets meet) (made_by own number now) l)) here
+              ∙ carry_step (cross_sets meet) (take n (crossed_entries cs es)) (made_by own number now) e rest (made_by own number next) (crossed_entry o e) (m number)
+              ∙ (λ i. carry_after (sym (became ds o is) i) (carry (cross_sets meet) (made_by own number next) (sym (drop_next es n e rest here) i)));
+          behind = after ds o is;
+          fits = fitted ds o next is suits (m 0);
+          indexed = left_covered t (made_by own 0 now) e (made_by own 0 next) (crossed_entry o e) (m 0) w.indexed;
+          served = λ some. known_left codes (is_later (made_by own 0 now) e) now.instrs e.instrs next.instrs (crossed_entry o e).instrs (lists_crossed next (crossed_entry o e) (m 0)) (w.served some);
+        }
 
-  pub inside_from : (from : ℕ) → first ≤ from → from < length ks → (from - first) < length (drop first ks)
-  inside_from from l b = let size = length-drop first ks in omega (arith, l, b, size)
+    pub walk_past : ((later : Bool) → cross (λ a b. meet a b later) now.instrs e.instrs ≡ Ok (now.instrs, e.instrs)) → Walked t x codes own es c (suc n) cs now
+    walk_past apart = walk_over cs None now (sym (append-nil cs)) tt (λ number. ap (with_lists (made_by own number now) e) (apart (is_later (made_by own number now) e)))
 
-  walk_skips : (d from : ℕ) → first ≤ from → from + d ≤ length ks → Pass from (from + d) (lists_in (map kept_entry ks)) now.instrs → Walked t x codes own (drop first ks) c (from - first) cs now → Walked t x codes own (drop first ks) c ((from + d) - first) cs now
-  walk_skips zero from l b pass w = let same : from - first ≡ (from + 0) - first = omega arith in subst (λ n. Walked t x codes own (drop first ks) c n cs now) same w
-  walk_skips (suc d) from l b pass w =
-      let within : from < length ks = omega (arith, b) in
-      let k = element ks from within in
-      let one = walk_past t x codes own (drop first ks) c (from - first) cs now w k.0 (inside_from from l within) (here_from from k.0 l k.1)
-      (λ later. (pass from (kept_entry k.0).instrs (omega arith) (omega arith) (stands_kept ks from k.0 within k.1) later).1) in
-      let next : (from - first) + 1 ≡ (from + 1) - first = omega (arith, l) in
-      let same : ((from + 1) + d) - first ≡ (from + suc d) - first = omega arith in
-      subst (λ n. Walked t x codes own (drop first ks) c n cs now) same
-      (walk_skips d (from + 1) (omega (arith, l)) (omega (arith, b)) (λ place others a e. pass place others (omega (arith, a)) (omega (arith, e))) (subst (λ n. Walked t x codes own (drop first ks) c n cs now) next one))
+    pub walk_stops : (number : ℕ) (r : RecipRefusal) → IsStuckBy r (cross_sets meet (made_by own number now) e) → IsStuckBy r (carry (cross_sets meet) (made_by own number c) es)
+    walk_stops number refusals.NoMemory h = tt
+    walk_stops number (refusals.Mismatch place kind) h = record {
+      right = h.right;
+      is = w.so_far number ∙ ap (λ l. carry_after (take n (crossed_entries cs es)) (carry (cross_sets meet) (made_by own number now) l)) here
+          ∙ carry_stop (cross_sets meet) (take n (crossed_entries cs es)) (made_by own number now) e rest (place, h.right, kind) h.is;
+    }
 
-  pub walk_on : (from to : ℕ) → first ≤ from → from ≤ to → to ≤ length ks → Pass from to (lists_in (map kept_entry ks)) now.instrs → Walked t x codes own (drop first ks) c (from - first) cs now → Walked t x codes own (drop first ks) c (to - first) cs now
-  walk_on from to l m b pass w =
-      let same : from + (to - from) ≡ to = omega (arith, m) in
-      subst (λ n. Walked t x codes own (drop first ks) c (n - first) cs now) same (walk_skips (to - from) from l (omega (arith, m, b)) (λ place others a e. pass place others a (omega (arith, e, m))) w)
+  -- ---- over a stretch
+  module _ (a : Across) (left : Option ListAction) (start : a.start ≡ n) (fits : n + a.count ≤ length es) (can : CanCross a es)
+      (crosses : (number : ℕ) → carry (cross_sets meet) (made_by own number now) (take a.count (drop n es)) ≡ Ok (made_by own number (changes_left left now), passed a.stamp a.count (Some a.action) (take a.count (drop n es)))) where
+    abbrev whole : List (Changeset Instr)
+    whole = crossed_entries cs es
 
-  pub walk_ends : (to number : ℕ) → length ks ≤ to → Walked t x codes own (drop first ks) c (to - first) cs now
-      → carry (cross_sets meet) (made_by own number c) (map kept_entry (drop first ks)) ≡ Ok (made_by own number now, crossed_entries cs (map kept_entry (drop first ks)))
-  walk_ends to number b w =
-      let es = map kept_entry (drop first ks) in
-      let size : length es ≤ to - first = omega (arith, length-map (drop first ks) kept_entry, length-drop first ks, b) in
-      w.so_far number ∙ ap (λ l. carry_after (crossed_entries cs (take (to - first) es)) (carry (cross_sets meet) (made_by own number now) l)) (drop_all (to - first) es size)
-      ∙ carry_end (cross_sets meet) (crossed_entries cs (take (to - first) es)) (made_by own number now) ∙ ap (λ l. Ok (made_by own number now, crossed_entries cs l)) (take_all (to - first) es size)
+    size : length whole ≡ length es
+    size = length_crossed cs es
 
-  pub fits_ends : (to : ℕ) → to ≤ length ks → Walked t x codes own (drop first ks) c (to - first) cs now → AllWithin (length (map kept_entry (drop first ks))) cs × AllLeft cs (lists_in (map kept_entry (drop first ks)))
-  fits_ends to b w = (within_up cs (to - first) (length (map kept_entry (drop first ks))) (omega (arith, length-map (drop first ks) kept_entry, length-drop first ks, b)) w.within, w.left)
+    put_is : (ds : List Crossed) → ds ≡ cs ++ Stretch a ∷ [] → crossed_entries ds es ≡ put_across (record a { start = n }) whole
+    put_is ds is = ap (λ l. crossed_entries l es) is ∙ crossed_push cs (Stretch a) es ∙ ap (λ m. put_across (record a { start = m }) whole) start
+
+    first_ones : (ds : List Crossed) → ds ≡ cs ++ Stretch a ∷ [] → take (n + a.count) (crossed_entries ds es) ≡ take n whole ++ passed a.stamp a.count (Some a.action) (take a.count (drop n es))
+    first_ones ds is = ap (take (n + a.count)) (put_is ds is) ∙ take_passed a.stamp a.action n a.count whole (omega (arith, size, fits)) ∙ ap (λ l. take n whole ++ passed a.stamp a.count (Some a.action) (take a.count l)) w.behind
+
+    pub walk_across : (ds : List Crossed) → ds ≡ cs ++ Stretch a ∷ [] → Covers t (changes_left left now).instrs → Walked t x codes own es c (n + a.count) ds (changes_left left now)
+    walk_across ds is covers =
+        let split : drop n es ≡ take a.count (drop n es) ++ drop a.count (drop n es) = sym (take-append-drop a.count (drop n es)) in
+        let further : drop a.count (drop n es) ≡ drop (n + a.count) es = drop-drop a.count n es in
+        record {
+          so_far = λ number.
+              w.so_far number ∙ ap (λ l. carry_after (take n whole) (carry (cross_sets meet) (made_by own number now) l)) split
+              ∙ carry_several (cross_sets meet) (take n whole) (made_by own number now) (take a.count (drop n es)) (drop a.count (drop n es)) (made_by own number (changes_left left now)) (passed a.stamp a.count (Some a.action) (take a.count (drop n es))) (crosses number)
+              ∙ (λ i. carry_after (sym (first_ones ds is) i) (carry (cross_sets meet) (made_by own number (changes_left left now)) (further i)));
+          behind = ap (drop (n + a.count)) (put_is ds is) ∙ drop_passed a.stamp a.action n a.count whole (omega (arith, size, fits)) ∙ sym (drop-drop a.count n whole) ∙ ap (drop a.count) w.behind ∙ further;
+          fits = subst (λ l. AllFit l es) (sym is) (fit_push cs (Stretch a) es w.fits (
+            omega (arith, size, fits, start),
+            subst (CanPass a.stamp a.count (Some a.action)) (ap (λ m. drop m es) start ∙ sym w.behind ∙ ap (λ m. drop m whole) (sym start)) can,
+          ));
+          indexed = covers;
+          served = λ some. left_known codes left now.instrs (w.served some);
+        }

@@ -4,20 +4,19 @@ use Rattle.std.specs.List.Sorted.{IsNonDecreasingBy}
 use Rattle.std.specs.Prelude.{◌==◌}
 use Rattle.std.proofs.lemmas.Bool.{lt-ltb, le-ltb, eq-eqb}
 use Rattle.std.proofs.lemmas.Bool.Decides.{nat_tests}
-use Rattle.std.proofs.lemmas.List.{drop_all, drop_more, map-append, take-append-drop, length-map, length-take-le, with_items_is}
-use Rattle.std.proofs.Math.ListN.{drop_of_length-le}
-use Rattle.std.specs.Vec.{with_items}
-use borrow.Rule.Slice.PartMut.{put_mid}
+use Rattle.std.proofs.lemmas.List.{drop-map, drop_all, drop_more, length-map, map-append, take-append-drop, take-map}
 use Rattle.std.proofs.lemmas.List.Elements.{All-nil, All-cons, All-head, All-tail, All-push}
-use Rattle.sync_data.specs.declared.entry.Entry.{Entry}
+use Rattle.sync_data.specs.declared.instr.Instr.{Instr}
+use Rattle.sync_theory.specs.Changesets.{Changeset}
 use Rattle.sync_theory.specs.Grid.{tail}
 use Rattle.sync_theory.specs.Reciprocals.{from_base, put_first, settle}
 use Rattle.sync_theory.proofs.World.{put_if, put_unless}
 use Rattle.sync_recip.specs.declared.kept.Kept.{Kept}
-use Rattle.sync_recip.specs.Lists.{entry_at, entry_of, kept_entry, pair_of, versions, IsRising}
+use Rattle.sync_recip.specs.Lists.{entry_at, kept_entry, pair_of, versions, IsRising}
 use Rattle.sync_recip.specs.declared.carried.Crossed.{Crossed}
-use Rattle.sync_recip.specs.declared.carried.Became.{Became}
-use Rattle.sync_recip.specs.Carrying.{became_of, with_crossed, crossed_entries, AllWithin}
+use Rattle.sync_recip.specs.Carrying.{crossed_entries}
+use Rattle.sync_recip.specs.Stretches.{from_place}
+use Rattle.sync_recip.proofs.Laid.{drop_from, take_from}
 
 -- ---- what rises
 first_least : (v : ℕ) (ks : List Kept) (i : ℕ) (d : Kept) → All (λ w. v < w) (versions ks) → i < length ks → v < (get_or ks i d).version
@@ -47,6 +46,9 @@ rising_push ks k r a = subst IsRising (sym (map-append (λ k. k.version) ks (k �
 pub rising_pushed : {E : Type 0} (r : Result (Unit {0}) E) (ks ns : List Kept) (k : Kept) → OnOk r (ns ≡ ks ++ k ∷ []) → OnErr r (ns ≡ ks) → IsRising (versions ks) → All (λ p. p.0 < k.version) (map pair_of ks) → IsRising (versions ns)
 rising_pushed (Ok u) ks ns k f g r a = subst (λ l. IsRising (versions l)) (sym f) (rising_push ks k r a)
 rising_pushed (Err m) ks ns k f g r a = subst (λ l. IsRising (versions l)) (sym g) r
+
+pub same_length : (ks js : List Kept) → versions ks ≡ versions js → length ks ≡ length js
+same_length ks js e = sym (length-map ks (λ k. k.version)) ∙ ap length e ∙ length-map js (λ k. k.version)
 
 -- ---- those from a base on
 pub from_base_is : (b : ℕ) (ks : List Kept) (n : ℕ) → All (λ k. k.version < b) (take n ks) → All (λ k. b ≤ k.version) (drop n ks) → from_base b (map pair_of ks) ≡ map kept_entry (drop n ks)
@@ -80,10 +82,6 @@ settle_is b (k ∷ ks) (suc n) ns f g e =
     put_if (nat_lt k.version b) (pair_of k ∷ settle b (map pair_of ks) (map kept_entry ns)) (put_first (pair_of k) (map kept_entry ns) ∷ settle b (map pair_of ks) (tail (map kept_entry ns)))
     (lt-ltb k.version b (All-head (λ k. k.version < b) k (take n ks) f))
     ∙ ap (λ l. pair_of k ∷ l) (settle_is b ks n ns (All-tail (λ k. k.version < b) k (take n ks) f) g e)
-
-pub versions_same : (ks : List Kept) (n : ℕ) (ns : List Kept) → versions ns ≡ versions (drop n ks) → versions (take n ks ++ ns) ≡ versions ks
-versions_same ks n ns e =
-    map-append (λ k. k.version) (take n ks) ns ∙ ap (λ l. versions (take n ks) ++ l) e ∙ sym (map-append (λ k. k.version) (take n ks) (drop n ks)) ∙ ap versions (take-append-drop n ks)
 
 -- ---- the entry of a version
 not_below : (m n : ℕ) → m < n → (m == n) ≡ false
@@ -149,33 +147,38 @@ all_from_base P b (q ∷ qs) a =
       | false ↦ All-cons P q.1 (from_base b qs) (All-head (λ q. P q.1) q qs a) rest
     ]
 
--- ---- one entry in place of another
-abbrev put_entry : Kept → Entry → Kept
-put_entry k x = record { version = k.version; item = x }
-
-pub entries_set : (ks : List Kept) (n : ℕ) (d : Kept) (b : Became) (x : Entry) → n < length ks → entry_of x ≡ became_of b (kept_entry (get_or ks n d)) → map kept_entry (set ks n (put_entry (get_or ks n d) x)) ≡ with_crossed n b (map kept_entry ks)
-entries_set [] n d b x h e = absurd (omega arith)
-entries_set (k ∷ ks) zero d b x h e = ap (λ l. l ∷ map kept_entry ks) e
-entries_set (k ∷ ks) (suc n) d b x h e = ap (λ l. kept_entry k ∷ l) (entries_set ks n d b x (omega arith) e)
-
-pub versions_set : (ks : List Kept) (n : ℕ) (d : Kept) (x : Entry) → n < length ks → versions (set ks n (put_entry (get_or ks n d) x)) ≡ versions ks
-versions_set [] n d x h = absurd (omega arith)
-versions_set (k ∷ ks) zero d x h = refl
-versions_set (k ∷ ks) (suc n) d x h = ap (λ l. k.version ∷ l) (versions_set ks n d x (omega arith))
-
 -- ---- a list that is settled
+same_pairs : (ks js : List Kept) → versions ks ≡ versions js → map kept_entry ks ≡ map kept_entry js → map pair_of ks ≡ map pair_of js
+same_pairs [] [] e f = refl
+same_pairs [] (j ∷ js) e f = cc
+same_pairs (k ∷ ks) [] e f = cc
+same_pairs (k ∷ ks) (j ∷ js) e f =
+    let version : k.version ≡ j.version = cc in
+    let entry : kept_entry k ≡ kept_entry j = cc in
+    let further : versions ks ≡ versions js = cc in
+    let entries : map kept_entry ks ≡ map kept_entry js = cc in
+    λ i. (version i, entry i) ∷ same_pairs ks js further entries i
+
+front_same : {B : Type 0} (g : Kept → B) (n : ℕ) (ks ns : List Kept) → take n (map g ns) ≡ take n (map g ks) → map g (take n ks ++ drop n ns) ≡ map g ns
+front_same g n ks ns h =
+    map-append g (take n ks) (drop n ns)
+    ∙ (λ i. (sym (take-map g n ks) ∙ sym h) i ++ sym (drop-map g n ns) i)
+    ∙ take-append-drop n (map g ns)
+
 module _ (b : ℕ) (ks : List Kept) (n : ℕ) (below : All (λ k. k.version < b) (take n ks)) (above : All (λ k. b ≤ k.version) (drop n ks)) where
-  pub within_rest : (cs : List Crossed) → AllWithin (length (from_base b (map pair_of ks))) cs → AllWithin (length (drop n ks)) cs
-  within_rest cs h = subst (λ m. AllWithin m cs) (ap length (from_base_is b ks n below above) ∙ length-map (drop n ks) kept_entry) h
+  behind_settled : (ns : List Kept) (cs : List Crossed) → versions ns ≡ versions (drop n ks) → map kept_entry ns ≡ crossed_entries cs (map kept_entry (drop n ks))
+      → map pair_of (take n ks ++ ns) ≡ settle b (map pair_of ks) (crossed_entries cs (from_base b (map pair_of ks)))
+  behind_settled ns cs e f = sym (settle_is b ks n ns below above e) ∙ ap (settle b (map pair_of ks)) (f ∙ ap (crossed_entries cs) (sym (from_base_is b ks n below above)))
 
-  pub settled : (ns : List Kept) (cs : List Crossed) → versions ns ≡ versions (drop n ks) → map kept_entry ns ≡ crossed_entries cs (map kept_entry (drop n ks)) → map pair_of (take n ks ++ ns) ≡ settle b (map pair_of ks) (crossed_entries cs (from_base b (map pair_of ks)))
-  settled ns cs e f = sym (settle_is b ks n ns below above e) ∙ ap (settle b (map pair_of ks)) (f ∙ ap (crossed_entries cs) (sym (from_base_is b ks n below above)))
-
--- the items of a vector of which the end was rewritten
-pub items_after : {Z : Type 0} (v : Vec Kept Z) (ks part : List Kept) (n : ℕ) → ks ≡ v.items → n ≤ length ks → length part ≡ length ks - n → (with_items v (put_mid n (length ks - n) ks part)).items ≡ take n ks ++ part
-items_after v ks part n e h g =
-    let rest = drop_of_length-le (drop n ks) (let l : length (drop n ks) ≤ length ks - n = omega (arith, length-drop n ks) in l) in
-    let whole = ap (λ l. take n ks ++ (part ++ l)) rest ∙ ap (λ l. take n ks ++ l) (append-nil part) in
-    let count = ap length whole ∙ length-append (take n ks) part in
-    let size = ap length e in
-    with_items_is v (put_mid n (length ks - n) ks part) (omega (arith, count, length-take-le n ks h, g, size, v.ok.0)) ∙ whole
+  pub settled : (ns : List Kept) (cs : List Crossed) → n ≤ length ks → versions ns ≡ versions ks → map kept_entry ns ≡ from_place n (crossed_entries cs) (map kept_entry ks)
+      → map pair_of ns ≡ settle b (map pair_of ks) (crossed_entries cs (from_base b (map pair_of ks)))
+  settled ns cs l e f =
+      let es : List (Changeset Instr) = map kept_entry ks in
+      let count = length-map ks kept_entry in
+      let within : n ≤ length es = omega (arith, l, count) in
+      same_pairs ns (take n ks ++ drop n ns)
+          (sym (front_same (λ k. k.version) n ks ns (ap (take n) e)))
+          (sym (front_same kept_entry n ks ns (ap (take n) f ∙ take_from n (crossed_entries cs) es)))
+      ∙ behind_settled (drop n ns) cs
+          (sym (drop-map (λ k. k.version) n ns) ∙ ap (drop n) e ∙ drop-map (λ k. k.version) n ks)
+          (sym (drop-map kept_entry n ns) ∙ ap (drop n) f ∙ drop_from n (crossed_entries cs) es within ∙ ap (crossed_entries cs) (drop-map kept_entry n ks))

@@ -1,17 +1,19 @@
 -- A change that was carried over entries, and these as it crossed them.
-use Rattle.std.specs.Prelude.{◌≡◌, ℕ, zero, suc, ◌<◌, List, [], ◌∷◌, ◌++◌, Option, None, Some, Result, Err, length}
+use Rattle.std.specs.Prelude.{◌≡◌, ℕ, zero, suc, ◌≤◌, ◌+◌, List, [], ◌∷◌, Option, None, Some, Result, Err, length}
 use Rattle.sync_data.specs.Payload.{Changes}
 use Rattle.sync_data.specs.declared.instr.Instr.{Instr}
 use Rattle.sync_base.specs.declared.answers.Mismatch.{Mismatch}
 use Rattle.sync_theory.specs.Changesets.{Changeset}
 use Rattle.sync_theory.specs.Reciprocals.{from_base}
-use Rattle.sync_rivals.specs.Lists.{Indexed, Lists, StaysListed}
+use Rattle.sync_rivals.specs.Lists.{StaysListed}
 use Rattle.sync_transform.specs.Moves.{kind_in, kind_of, moved_first}
 use Rattle.sync_transform.specs.declared.moves.ListAction.{ListAction}
 use Rattle.sync_recip.specs.Lists.{entry_of, lists_in}
 use Rattle.sync_recip.specs.declared.carried.Became.{Became}
 use Rattle.sync_recip.specs.declared.carried.Became.TheVariants.{Moved, Changed}
 use Rattle.sync_recip.specs.declared.carried.Crossed.{Crossed}
+use Rattle.sync_recip.specs.declared.carried.Crossed.TheVariants.{One, Stretch}
+use Rattle.sync_recip.specs.Acrossing.{put_across, CanCross}
 use Rattle.sync_recip.specs.declared.refusal.RecipRefusal.{RecipRefusal}
 use Rattle.sync_recip.specs.declared.refusal.RecipRefusal.TheVariants as refusals
 
@@ -43,15 +45,14 @@ with_crossed place b [] = []
 with_crossed zero b (e ∷ es) = became_of b e ∷ es
 with_crossed (suc place) b (e ∷ es) = e ∷ with_crossed place b es
 
+abbrev pub put_crossed : Crossed → List (Changeset Instr) → List (Changeset Instr)
+put_crossed (One place b) es = with_crossed place b es
+put_crossed (Stretch a) es = put_across a es
+
 -- entries of which those that changed are what became of them
 abbrev pub crossed_entries : List Crossed → List (Changeset Instr) → List (Changeset Instr)
 crossed_entries [] es = es
-crossed_entries (c ∷ cs) es = crossed_entries cs (with_crossed c.place c.became es)
-
--- each of them has a place below this
-abbrev pub AllWithin : ℕ → List Crossed → Type 0
-AllWithin n [] = Unit {0}
-AllWithin n (c ∷ cs) = (c.place < n) × AllWithin n cs
+crossed_entries (c ∷ cs) es = crossed_entries cs (put_crossed c es)
 
 -- ---- their instructions
 
@@ -69,35 +70,31 @@ abbrev pub SuitsIf : Option Became → List Instr → Type 0
 SuitsIf None is = Unit {0}
 SuitsIf (Some b) is = Suits b is
 
-abbrev pub put_left : ℕ → Became → List (List Instr) → List (List Instr)
-put_left n b [] = []
-put_left zero b (l ∷ lists) = left_of b l ∷ lists
-put_left (suc n) b (l ∷ lists) = l ∷ put_left n b lists
-
 -- what became of those at a place is left of them
 abbrev pub LeftAt : ℕ → Became → List (List Instr) → Type 0
 LeftAt n b [] = ⊥
 LeftAt zero b (l ∷ lists) = Suits b l × StaysListed l (left_of b l)
 LeftAt (suc n) b (l ∷ lists) = LeftAt n b lists
 
-abbrev pub AllLeft : List Crossed → List (List Instr) → Type 0
-AllLeft [] lists = Unit {0}
-AllLeft (c ∷ cs) lists = LeftAt c.place c.became lists × AllLeft cs (put_left c.place c.became lists)
+-- there are such entries, and this is left of them
+abbrev pub FitsOne : Crossed → List (Changeset Instr) → Type 0
+FitsOne (One place b) es = LeftAt place b (lists_in es)
+FitsOne (Stretch a) es = (a.start + a.count ≤ length es) × CanCross a es
+
+abbrev pub AllFit : List Crossed → List (Changeset Instr) → Type 0
+AllFit [] es = Unit {0}
+AllFit (c ∷ cs) es = FitsOne c es × AllFit cs (put_crossed c es)
 
 -- what is noted of an entry at a place: nothing where it stays
 abbrev pub noted : ℕ → Option Became → List Crossed
 noted place None = []
-noted place (Some b) = record { place = place; became = b } ∷ []
-
--- an index of lists that end with the instructions of these entries is one of those that end with these
-abbrev pub Follows : ℕ → Indexed → List (Changeset Instr) → Indexed → List (Changeset Instr) → Type 0
-Follows first x es y fs = (front : List (List Instr)) → length front ≡ first → Lists x (front ++ lists_in es) → Lists y (front ++ lists_in fs)
+noted place (Some b) = One place b ∷ []
 
 -- ---- of a list
 
 -- a carried change is one of a list: each entry that changed is an entry of the list, and is left of it
 abbrev pub Fits : Carrying → List (ℕ × Changeset Instr) → Type 0
-Fits c list = AllWithin (length (from_base c.base list)) c.crossed × AllLeft c.crossed (lists_in (from_base c.base list))
+Fits c list = AllFit c.crossed (from_base c.base list)
 
 -- the list's entries from the base on, as the change crossed them
 abbrev pub entries_of : Carrying → List (ℕ × Changeset Instr) → List (Changeset Instr)

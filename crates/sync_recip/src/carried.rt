@@ -1,10 +1,13 @@
-ghost use Rattle.std.specs.Prelude.{◌≡◌, ◌<◌, ◌+◌, ◌^◌, length, map};
+ghost use Rattle.std.specs.Prelude.{◌≡◌, ◌≤◌, drop, length, map};
+ghost use Rattle.sync_rivals.specs.Lists.{Lists};
+ghost use Rattle.sync_recip.specs.Acrossing.{put_across};
 ghost use Rattle.sync_recip.specs.Lists.{versions, kept_entry, lists_in};
-ghost use Rattle.sync_recip.specs.Carrying.{AllLeft, AllWithin, Follows, LeftAt, crossed_entries, with_crossed};
+ghost use Rattle.sync_recip.specs.Carrying.{AllFit, FitsOne, LeftAt, crossed_entries, put_crossed, with_crossed};
+ghost use Rattle.sync_recip.specs.Stretches.{from_place};
 
-use super::kept::Kept;
+use super::across::Across;
+use super::items::Items;
 use super::shared::SharedEntry;
-use super::shifted::ShiftedEntry;
 use std::marker::Model;
 use sync_base::Changeset;
 use sync_rivals::RivalIndex;
@@ -19,11 +22,12 @@ pub(crate) enum Became {
     Changed(SharedEntry),
 }
 
-/// An entry that changed as a change crossed it: its place among the entries from the base on, and what became of it.
+/// What changed as a change crossed it: an entry, with its place among those from the base on, and what became of it; or a
+/// stretch of them.
 #[derive(Drop)]
-pub(crate) struct Crossed {
-    pub(crate) place: usize,
-    pub(crate) became: Became,
+pub(crate) enum Crossed {
+    One { place: usize, became: Became },
+    Stretch(Across),
 }
 
 /// A change as carried over the entries of a reciprocal list from a base on, and the entries that changed as it crossed
@@ -52,70 +56,82 @@ impl Carried {
     }
 }
 
-/// Puts the entries that changed in place of what they were, from the first on. The index follows, in which they stand from
-/// the place `first` on.
+/// Puts the entries that changed in place of what they were, from the first on, where their places are counted from the place
+/// `first` on. The index follows.
 pub(crate) fn put_crossed(
     rivals: &mut RivalIndex,
-    kept: &mut [Kept],
+    items: &mut Items,
     first: usize,
     crossed: Vec<Crossed>,
 )
-    requires within { AllWithin (length kept.old) crossed.items }
-    requires left { AllLeft crossed.items (lists_in (map kept_entry kept.old)) }
-    requires small { first + length kept.old < 2 ^ 64 }
-    ensures versions { versions kept.new ≡ versions kept.old }
-    ensures entries { map kept_entry kept.new ≡ crossed_entries crossed.items (map kept_entry kept.old) }
-    ensures listed { Follows first rivals.old (map kept_entry kept.old) rivals.new (map kept_entry kept.new) }
+    requires within { first ≤ length items.old }
+    requires fits { AllFit crossed.items (drop first (map kept_entry items.old)) }
+    requires listed { Lists rivals.old (lists_in (map kept_entry items.old)) }
+    ensures versions { versions items.new ≡ versions items.old }
+    ensures entries { map kept_entry items.new ≡ from_place first (crossed_entries crossed.items) (map kept_entry items.old) }
+    ensures listed { Lists rivals.new (lists_in (map kept_entry items.new)) }
 {
     let mut rest = crossed;
     rest.reverse();
     while let Some(one) = rest.pop() {
-        put_one(rivals, kept, first, one);
+        put_one(rivals, items, first, one);
     }
 }
 
-fn put_one(rivals: &mut RivalIndex, kept: &mut [Kept], first: usize, crossed: Crossed)
-    requires within { crossed.place < length kept.old }
-    requires left { LeftAt crossed.place crossed.became (lists_in (map kept_entry kept.old)) }
-    requires small { first + length kept.old < 2 ^ 64 }
-    ensures versions { versions kept.new ≡ versions kept.old }
-    ensures entries { map kept_entry kept.new ≡ with_crossed crossed.place crossed.became (map kept_entry kept.old) }
-    ensures listed { Follows first rivals.old (map kept_entry kept.old) rivals.new (map kept_entry kept.new) }
+fn put_one(rivals: &mut RivalIndex, items: &mut Items, first: usize, crossed: Crossed)
+    requires within { first ≤ length items.old }
+    requires fits { FitsOne crossed (drop first (map kept_entry items.old)) }
+    requires listed { Lists rivals.old (lists_in (map kept_entry items.old)) }
+    ensures versions { versions items.new ≡ versions items.old }
+    ensures entries { map kept_entry items.new ≡ from_place first (put_crossed crossed) (map kept_entry items.old) }
+    ensures listed { Lists rivals.new (lists_in (map kept_entry items.new)) }
 {
-    let Crossed { place, became } = crossed;
-    match became {
-        Became::Moved(action) => shift_one(kept, place, action),
-        Became::Changed(entry) => change_one(rivals, kept, first, place, entry),
+    match crossed {
+        Crossed::One { place, became } => {
+            let place = items.place_behind(first, place);
+            match became {
+                Became::Moved(action) => shift_one(rivals, items, place, action),
+                Became::Changed(entry) => change_one(rivals, items, place, entry),
+            }
+        }
+        Crossed::Stretch(across) => {
+            let start = items.place_behind(first, across.start);
+            cross(rivals, items, Across { start, ..across });
+        }
     }
 }
 
 /// The index asks nothing of where an instruction of a list stands, so it stays.
-fn shift_one(kept: &mut [Kept], place: usize, action: ListAction)
-    requires within { place < length kept.old }
-    requires left { LeftAt place (Became.Moved action) (lists_in (map kept_entry kept.old)) }
-    ensures versions { versions kept.new ≡ versions kept.old }
-    ensures entries { map kept_entry kept.new ≡ with_crossed place (Became.Moved action) (map kept_entry kept.old) }
+fn shift_one(rivals: &RivalIndex, items: &mut Items, place: usize, action: ListAction)
+    requires left { LeftAt place (Became.Moved action) (lists_in (map kept_entry items.old)) }
+    requires listed { Lists rivals.now (lists_in (map kept_entry items.old)) }
+    ensures versions { versions items.new ≡ versions items.old }
+    ensures entries { map kept_entry items.new ≡ with_crossed place (Became.Moved action) (map kept_entry items.old) }
+    ensures listed { Lists rivals.now (lists_in (map kept_entry items.new)) }
 {
-    let item = &mut kept[place].item;
-    item.shift_to(action);
+    items.put(place, Became::Moved(action));
 }
 
-fn change_one(
-    rivals: &mut RivalIndex,
-    kept: &mut [Kept],
-    first: usize,
-    place: usize,
-    entry: SharedEntry,
-)
-    requires within { place < length kept.old }
-    requires left { LeftAt place (Became.Changed entry) (lists_in (map kept_entry kept.old)) }
-    requires small { first + length kept.old < 2 ^ 64 }
-    ensures versions { versions kept.new ≡ versions kept.old }
-    ensures entries { map kept_entry kept.new ≡ with_crossed place (Became.Changed entry) (map kept_entry kept.old) }
-    ensures listed { Follows first rivals.old (map kept_entry kept.old) rivals.new (map kept_entry kept.new) }
+fn change_one(rivals: &mut RivalIndex, items: &mut Items, place: usize, entry: SharedEntry)
+    requires left { LeftAt place (Became.Changed entry) (lists_in (map kept_entry items.old)) }
+    requires listed { Lists rivals.old (lists_in (map kept_entry items.old)) }
+    ensures versions { versions items.new ≡ versions items.old }
+    ensures entries { map kept_entry items.new ≡ with_crossed place (Became.Changed entry) (map kept_entry items.old) }
+    ensures listed { Lists rivals.new (lists_in (map kept_entry items.new)) }
 {
-    let before = kept[place].item.instrs();
+    let before = items.listed(place);
     let after = entry.entry().changes.instrs();
-    rivals.change(first + place, before, after);
-    kept[place].item = ShiftedEntry::new(entry);
+    rivals.change(place, before, after);
+    items.put(place, Became::Changed(entry));
+}
+
+/// Those of a stretch meet an action. The index asks nothing of where they stand, so it stays.
+fn cross(rivals: &RivalIndex, items: &mut Items, across: Across)
+    requires fits { FitsOne (Crossed.Stretch across) (map kept_entry items.old) }
+    requires listed { Lists rivals.now (lists_in (map kept_entry items.old)) }
+    ensures versions { versions items.new ≡ versions items.old }
+    ensures entries { map kept_entry items.new ≡ put_across across (map kept_entry items.old) }
+    ensures listed { Lists rivals.now (lists_in (map kept_entry items.new)) }
+{
+    items.cross(across);
 }

@@ -1,51 +1,57 @@
-ghost use Rattle.std.specs.Prelude.{◌≡◌, ◌≢◌, ◌≤◌, ◌++◌, ◌∷◌, [], ℕ, Ok, OnErr, IfOk, IfErr, OnOk, length, map, drop, All};
+ghost use Rattle.std.specs.Prelude.{◌≡◌, ◌≢◌, ◌≤◌, ◌<◌, ◌+◌, ◌-◌, ◌++◌, ◌∷◌, [], ℕ, Ok, Some, OnErr, IfOk, IfErr, IfSome, OnOk, length, map, drop, All};
 ghost use Rattle.sync_theory.specs.Changesets.{cross_sets as crossed_sets};
 ghost use Rattle.sync_theory.specs.Grid.{carry};
 ghost use Rattle.sync_law.specs.Instrs.{meet};
 ghost use Rattle.sync_index.specs.Touched.{Covers};
 ghost use Rattle.sync_rivals.specs.Lists.{Lists, Serves};
+ghost use Rattle.sync_transform.specs.Moves.{kind_in, kind_of};
 ghost use Rattle.sync_transform.specs.Sets.{made_by};
+ghost use Rattle.sync_recip.specs.Acrossing.{changes_left};
 ghost use Rattle.sync_recip.specs.Lists.{entry_of, kept_entry, lists_in};
-ghost use Rattle.sync_recip.specs.Carrying.{AllLeft, AllWithin, SuitsIf, crossed_entry, crossed_entries, noted, IsStuckBy};
+ghost use Rattle.sync_recip.specs.Carrying.{AllFit, SuitsIf, crossed_entry, crossed_entries, noted, IsStuckBy};
+ghost use Rattle.sync_recip.specs.Stretches.{IsAt};
+ghost use Rattle.sync_recip.specs.declared.kept.Kept.{Kept as KeptOne};
 
+use super::across::Across;
 use super::carried::{Became, Carried, Crossed};
-use super::kept::Kept;
+use super::items::{Items, Passing};
 use super::refusal::RecipRefusal;
 use super::shared::SharedEntry;
-use super::shifted::ShiftedEntry;
+use super::shifted::nothing;
 use std::alloc::Global;
 use sync_base::{Changeset, Entry, Ident, NoMemory};
 use sync_index::Index;
 use sync_rivals::{Pace, RivalIndex};
-use sync_transform::{Shifted, cross_sets};
+use sync_transform::{ListAction, Shifted, cross_sets};
 
 /// A change of a client is carried over the entries of others from the place `first` on. By an index of the change and the
 /// codes of its rivals, what it can't meet is passed over.
 pub(crate) fn carry_over(
     alloc: Global,
+    items: &mut Items,
     rivals: &RivalIndex,
     index: &Index,
     codes: &[u64],
-    kept: &[Kept],
     first: usize,
     own: Ident,
     base: u32,
     changes: Changeset,
 ) -> Result<Carried, RecipRefusal>
-    requires others { All (λ e. e.origin ≢ own) (map kept_entry (drop first kept.now)) }
-    requires within { first ≤ length kept.now }
-    requires listed { Lists rivals.now (lists_in (map kept_entry kept.now)) }
+    requires others { All (λ e. e.origin ≢ own) (map kept_entry (drop first items.old)) }
+    requires within { first ≤ length items.old }
+    requires listed { Lists rivals.now (lists_in (map kept_entry items.old)) }
     requires served { Serves rivals.now codes.now changes.instrs }
     requires indexed { Covers index.now changes.instrs }
-    ensures ok { IfOk result (λ c. (number : ℕ) → carry (crossed_sets meet) (made_by own number changes) (map kept_entry (drop first kept.now)) ≡ Ok (made_by own number c.changes, crossed_entries c.crossed (map kept_entry (drop first kept.now)))) }
+    ensures same { items.new ≡ items.old }
+    ensures ok { IfOk result (λ c. (number : ℕ) → carry (crossed_sets meet) (made_by own number changes) (map kept_entry (drop first items.old)) ≡ Ok (made_by own number c.changes, crossed_entries c.crossed (map kept_entry (drop first items.old)))) }
     ensures base { IfOk result (λ c. c.base ≡ base) }
-    ensures fits { IfOk result (λ c. AllWithin (length (map kept_entry (drop first kept.now))) c.crossed × AllLeft c.crossed (lists_in (map kept_entry (drop first kept.now)))) }
-    ensures stuck { IfErr result (λ e. (number : ℕ) → IsStuckBy e (carry (crossed_sets meet) (made_by own number changes) (map kept_entry (drop first kept.now)))) }
+    ensures fits { IfOk result (λ c. AllFit c.crossed (map kept_entry (drop first items.old))) }
+    ensures stuck { IfErr result (λ e. (number : ℕ) → IsStuckBy e (carry (crossed_sets meet) (made_by own number changes) (map kept_entry (drop first items.old)))) }
 {
     let mut left = Shifted::new(changes);
     let mut crossed = Vec::new(alloc);
     let mut pace = Pace::new();
-    let end = kept.len();
+    let end = items.len();
     let mut from = first;
     while from < end {
         let next = rivals.next(&mut pace, codes, left.is_empty(), from, end);
@@ -56,19 +62,27 @@ pub(crate) fn carry_over(
                 crossed,
             });
         }
+        if let Some(passing) = items.across(from, next, own, &left) {
+            let Passing { across, left: rest } = passing;
+            left = passed_on(alloc, left, rest);
+            from = across.start + across.count;
+            let Ok(()) = keep(&mut crossed, Crossed::Stretch(counted_from(first, across))) else {
+                return Err(RecipRefusal::NoMemory);
+            };
+            continue;
+        }
         from = next + 1;
-        let one = &kept[next];
-        if let Some(moves) = one.item.moves(&left, own) {
+        if let Some(moves) = items.moves(next, &left, own, index) {
             left.shift_to(moves.left);
             let Ok(()) = note(&mut crossed, next - first, Some(Became::Moved(moves.right))) else {
                 return Err(RecipRefusal::NoMemory);
             };
             continue;
         }
-        if one.item.stays_apart(index) {
+        if items.stays_apart(next, index) {
             continue;
         }
-        match cross_one(alloc, left.into_changes(), own, &one.item) {
+        match cross_one(alloc, left.into_changes(), own, items, next) {
             Err(refusal) => return Err(refusal),
             Ok((rest, became)) => {
                 left = Shifted::new(rest);
@@ -85,48 +99,78 @@ pub(crate) fn carry_over(
     })
 }
 
-/// What is left of a change as it crosses an entry of another, and what became of the entry where it changed.
+/// The same stretch, where places are counted from there on.
+fn counted_from(first: usize, across: Across) -> Across
+    requires { first ≤ across.start }
+    ensures { result ≡ record across { start = across.start - first } }
+{
+    Across {
+        start: across.start - first,
+        ..across
+    }
+}
+
+/// The changes with what is left of their one list instruction.
+fn passed_on(alloc: Global, changes: Shifted, left: Option<ListAction>) -> Shifted
+    requires { IfSome left (λ a. kind_in changes.instrs ≡ Some (kind_of a)) }
+    ensures { result ≡ changes_left left changes }
+{
+    let mut changes = changes;
+    match left {
+        Some(action) => {
+            changes.shift_to(action);
+            changes
+        }
+        None => Shifted::new(nothing(alloc, changes.ms())),
+    }
+}
+
+/// What is left of a change as it crosses the entry of another at a place, and what became of the entry where it changed.
 fn cross_one(
     alloc: Global,
     changes: Changeset,
     own: Ident,
-    item: &ShiftedEntry,
+    items: &Items,
+    place: usize,
 ) -> Result<(Changeset, Option<Became>), RecipRefusal>
-    requires { item.now.origin ≢ own }
-    ensures ok { IfOk result (λ p. (number : ℕ) → crossed_sets meet (made_by own number changes) (entry_of item.now) ≡ Ok (made_by own number p.0, crossed_entry p.1 (entry_of item.now))) }
-    ensures suits { IfOk result (λ p. SuitsIf p.1 item.now.changes.instrs) }
-    ensures stuck { IfErr result (λ e. (number : ℕ) → IsStuckBy e (crossed_sets meet (made_by own number changes) (entry_of item.now))) }
+    requires within { place < length items.now }
+    requires other { (k : KeptOne) → IsAt place items.now k → k.item.origin ≢ own }
+    ensures ok { IfOk result (λ p. (k : KeptOne) → IsAt place items.now k → (number : ℕ) → crossed_sets meet (made_by own number changes) (kept_entry k) ≡ Ok (made_by own number p.0, crossed_entry p.1 (kept_entry k))) }
+    ensures suits { IfOk result (λ p. (k : KeptOne) → IsAt place items.now k → SuitsIf p.1 k.item.changes.instrs) }
+    ensures stuck { IfErr result (λ e. (k : KeptOne) → IsAt place items.now k → (number : ℕ) → IsStuckBy e (crossed_sets meet (made_by own number changes) (kept_entry k))) }
 {
-    let Ok(right) = item.changes() else {
+    let Ok(right) = items.changes(place) else {
         return Err(RecipRefusal::NoMemory);
     };
-    match cross_sets(changes, own, right, item.origin()) {
+    match cross_sets(changes, own, right, items.origin(place)) {
         Err(stop) => Err(RecipRefusal::Mismatch {
             place: stop.left_place,
             kind: stop.kind,
         }),
-        Ok((left, right)) => match changed(alloc, item, right) {
+        Ok((left, right)) => match changed(alloc, items, place, right) {
             Ok(became) => Ok((left, became)),
             Err(NoMemory) => Err(RecipRefusal::NoMemory),
         },
     }
 }
 
-/// The entry with the changes that it became; none where they are seen to be the ones that it has.
+/// The entry at a place with the changes that it became; none where they are seen to be the ones that it has.
 fn changed(
     alloc: Global,
-    item: &ShiftedEntry,
+    items: &Items,
+    place: usize,
     changes: Changeset,
 ) -> Result<Option<Became>, NoMemory>
-    ensures is { IfOk result (λ became. crossed_entry became (entry_of item.now) ≡ made_by item.now.origin item.now.number changes) }
-    ensures suits { IfOk result (λ became. SuitsIf became item.now.changes.instrs) }
+    requires { place < length items.now }
+    ensures is { IfOk result (λ became. (k : KeptOne) → IsAt place items.now k → crossed_entry became (kept_entry k) ≡ made_by k.item.origin k.item.number changes) }
+    ensures suits { IfOk result (λ became. (k : KeptOne) → IsAt place items.now k → SuitsIf became k.item.changes.instrs) }
 {
-    if item.is(&changes) {
+    if items.is(place, &changes) {
         return Ok(None);
     }
     let changed = Entry {
-        origin: item.origin(),
-        number: item.number(),
+        origin: items.origin(place),
+        number: items.number(place),
         changes,
     };
     match SharedEntry::new(alloc, changed) {
@@ -141,7 +185,7 @@ fn note(crossed: &mut Vec<Crossed>, place: usize, became: Option<Became>) -> Res
 {
     match became {
         None => Ok(()),
-        Some(became) => keep(crossed, Crossed { place, became }),
+        Some(became) => keep(crossed, Crossed::One { place, became }),
     }
 }
 

@@ -1,6 +1,5 @@
-ghost use Rattle.std.specs.Prelude.{◌≡◌, ◌≤◌, ◌<◌, length, take, drop, map, All};
-ghost use Rattle.sync_theory.specs.Reciprocals.{from_base};
-ghost use Rattle.sync_recip.specs.Lists.{versions, pair_of, kept_entry, IsRising};
+ghost use Rattle.std.specs.Prelude.{◌≤◌, ◌<◌, length, take, drop, All};
+ghost use Rattle.sync_recip.specs.Lists.{versions, IsRising};
 
 use super::shifted::ShiftedEntry;
 
@@ -19,13 +18,4 @@ pub(crate) fn count_below(kept: &[Kept], base: u32) -> usize
     ensures above { All (λ k. base ≤ k.version) (drop result kept.now) }
 {
     kept.partition_point(|kept| kept.version < base)
-}
-
-/// The place from which on they have the base or a later version.
-pub(crate) fn first_from(kept: &[Kept], base: u32) -> usize
-    requires { IsRising (versions kept.now) }
-    ensures bound { result ≤ length kept.now }
-    ensures rest { map kept_entry (drop result kept.now) ≡ from_base base (map pair_of kept.now) }
-{
-    count_below(kept, base)
 }

@@ -6,12 +6,13 @@ ghost use Rattle.sync_theory.specs.Reciprocals.{from_base, settle};
 ghost use Rattle.sync_data.specs.declared.instr.Instr.{Instr};
 ghost use Rattle.sync_law.specs.Instrs.{meet};
 ghost use Rattle.sync_transform.specs.Sets.{made_by};
-ghost use Rattle.sync_recip.specs.Lists.{entry_at, entry_of, lists_in};
-ghost use Rattle.sync_recip.specs.Carrying.{AllLeft, AllWithin, crossed_entries, Fits, entries_of, IsStuckBy};
+ghost use Rattle.sync_recip.specs.Lists.{entry_at, entry_of};
+ghost use Rattle.sync_recip.specs.Carrying.{AllFit, crossed_entries, Fits, entries_of, IsStuckBy};
 
 use super::carried::{Carried, Crossed, put_crossed};
-use super::carry::{carry_over, keep};
-use super::kept::{Kept, count_below, first_from};
+use super::carry::carry_over;
+use super::items::Items;
+use super::kept::Kept;
 use super::refusal::RecipRefusal;
 use super::shared::SharedEntry;
 use super::shifted::ShiftedEntry;
@@ -29,7 +30,8 @@ const LOOKS: usize = 64;
 pub struct Recip {
     alloc: Global,
     rivals: RivalIndex,
-    kept: Vec<Kept>,
+    items: Items,
+    crossed: usize,
 }
 
 impl Model for Recip {
@@ -41,9 +43,9 @@ impl Model for Recip {
 
     ghost Value = { List (ℕ × Changeset Instr) };
 
-    ghost view = { λ a. map pair_of a.kept.items };
+    ghost view = { λ a. map pair_of a.items };
 
-    ghost invariant = { λ a. IsRising (versions a.kept.items) × Lists a.rivals (lists_in (map kept_entry a.kept.items)) };
+    ghost invariant = { λ a. IsRising (versions a.items) × Lists a.rivals (lists_in (map kept_entry a.items)) };
 }
 
 impl Recip {
@@ -54,7 +56,8 @@ impl Recip {
         Recip {
             alloc,
             rivals: RivalIndex::new(alloc),
-            kept: Vec::new(alloc),
+            items: Items::new(alloc),
+            crossed: 0,
         }
     }
 
@@ -62,16 +65,19 @@ impl Recip {
     pub fn len(&self) -> usize
         ensures { result ≡ length self.now }
     {
-        self.kept.len()
+        self.items.len()
     }
 
     /// A copy of the entry at a place, counted from 0, with its version; none at or past the end.
     pub fn get(&self, place: usize) -> Result<Option<(u32, Entry)>, NoMemory>
         ensures { IfOk result (λ found. option_map {U = ℕ × Changes Instr} (λ p. (p.0, entry_of p.1)) found ≡ slice_get self.now place) }
     {
-        match self.kept.as_slice().get(place) {
-            Some(kept) => Ok(Some((kept.version, kept.item.copy()?))),
-            None => Ok(None),
+        if place >= self.items.len() {
+            return Ok(None);
+        }
+        match self.items.copy_of(place) {
+            Ok(entry) => Ok(Some((self.items.version(place), entry))),
+            Err(NoMemory) => Err(NoMemory),
         }
     }
 
@@ -79,16 +85,14 @@ impl Recip {
     pub fn at(&self, version: u32) -> Result<Option<Entry>, NoMemory>
         ensures { IfOk result (λ found. option_map entry_of found ≡ entry_at version self.now) }
     {
-        let kept = self.kept.as_slice();
-        let place = count_below(kept, version);
-        if place >= kept.len() {
+        let place = self.items.count_below(version);
+        if place >= self.items.len() {
             return Ok(None);
         }
-        let found = &kept[place];
-        if found.version != version {
+        if self.items.version(place) != version {
             return Ok(None);
         }
-        match found.item.copy() {
+        match self.items.copy_of(place) {
             Ok(entry) => Ok(Some(entry)),
             Err(NoMemory) => Err(NoMemory),
         }
@@ -124,23 +128,24 @@ impl Recip {
         ensures unchanged { OnErr result (self.new ≡ self.old) }
     {
         let item = ShiftedEntry::new(item);
-        keep(&mut self.kept, Kept { version, item })
+        self.items.push(Kept { version, item })
     }
 
     /// A change that the client made at a base, as carried over the entries from the base on, and these as it crossed them.
     /// The list stays as it is.
     pub fn carry(
-        &self,
+        &mut self,
         alloc: Global,
         own: Ident,
         base: u32,
         changes: Changeset,
     ) -> Result<Carried, RecipRefusal>
-        requires { All (λ pair. pair.1.origin ≢ own) self.now }
-        ensures ok { IfOk result (λ c. (number : ℕ) → carry (cross_sets meet) (made_by own number changes) (from_base base self.now) ≡ Ok (made_by own number c.changes, entries_of c self.now)) }
+        requires { All (λ pair. pair.1.origin ≢ own) self.old }
+        ensures same { self.new ≡ self.old }
+        ensures ok { IfOk result (λ c. (number : ℕ) → carry (cross_sets meet) (made_by own number changes) (from_base base self.old) ≡ Ok (made_by own number c.changes, entries_of c self.old)) }
         ensures base { IfOk result (λ c. c.base ≡ base) }
-        ensures fits { IfOk result (λ c. Fits c self.now) }
-        ensures stuck { IfErr result (λ e. (number : ℕ) → IsStuckBy e (carry (cross_sets meet) (made_by own number changes) (from_base base self.now))) }
+        ensures fits { IfOk result (λ c. Fits c self.old) }
+        ensures stuck { IfErr result (λ e. (number : ℕ) → IsStuckBy e (carry (cross_sets meet) (made_by own number changes) (from_base base self.old))) }
     {
         let Ok(index) = Index::of(alloc, changes.instrs()) else {
             return Err(RecipRefusal::NoMemory);
@@ -148,14 +153,14 @@ impl Recip {
         let Ok(codes) = self.rivals.rivals_of(alloc, changes.instrs()) else {
             return Err(RecipRefusal::NoMemory);
         };
-        let kept = self.kept.as_slice();
-        let first = first_from(kept, base);
+        let first = self.items.count_below(base);
+        self.items.leave_before(first);
         carry_over(
             alloc,
+            &mut self.items,
             &self.rivals,
             &index,
             codes.as_slice(),
-            kept,
             first,
             own,
             base,
@@ -178,16 +183,16 @@ impl Recip {
         let count = crossed.len();
         self.put_all(base, crossed);
         self.list_more(count);
+        self.join_more(base, count);
         changes
     }
 
     fn put_all(&mut self, base: u32, crossed: Vec<Crossed>)
-        requires within { AllWithin (length (from_base base self.old)) crossed.items }
-        requires left { AllLeft crossed.items (lists_in (from_base base self.old)) }
+        requires { AllFit crossed.items (from_base base self.old) }
         ensures { self.new ≡ settle base self.old (crossed_entries crossed.items (from_base base self.old)) }
     {
-        let first = count_below(self.kept.as_slice(), base);
-        put_crossed(&mut self.rivals, &mut self.kept[first..], first, crossed);
+        let first = self.items.count_below(base);
+        put_crossed(&mut self.rivals, &mut self.items, first, crossed);
     }
 
     /// Lists some of the entries that aren't: as many as crossed, and one in LOOKS of those that were looked at, so that
@@ -195,7 +200,7 @@ impl Recip {
     fn list_more(&mut self, crossed: usize)
         ensures { self.new ≡ self.old }
     {
-        let count = self.kept.len();
+        let count = self.items.len();
         if count < LOOKS {
             return;
         }
@@ -205,7 +210,21 @@ impl Recip {
             if place >= count {
                 return;
             }
-            self.rivals.list(self.kept[place].item.instrs());
+            self.rivals.list(self.items.listed(place));
         }
+    }
+
+    /// Joins entries from a base on to a stretch, once as many have crossed as there are, so that joining takes about as long as
+    /// crossing. A short list isn't joined.
+    fn join_more(&mut self, base: u32, crossed: usize)
+        ensures { self.new ≡ self.old }
+    {
+        self.crossed = self.crossed.saturating_add(crossed);
+        let first = self.items.count_below(base);
+        if self.crossed < LOOKS || self.crossed < self.items.len() - first {
+            return;
+        }
+        self.crossed = 0;
+        self.items.join(first, LOOKS);
     }
 }

@@ -1,4 +1,4 @@
-ghost use Rattle.std.specs.Prelude.{◌≡◌, ℕ, Bool, List, Some, Ok, IfOk, IfSome, IsTrue};
+ghost use Rattle.std.specs.Prelude.{◌≡◌, ℕ, Bool, List, Some, None, Ok, not, [], IfOk, IfSome, IsTrue};
 ghost use Rattle.sync_data.specs.declared.instr.Instr.{Instr};
 ghost use Rattle.sync_theory.specs.Lists.{cross as crossed};
 ghost use Rattle.sync_theory.specs.Changesets.{cross_sets as crossed_sets};
@@ -6,11 +6,20 @@ ghost use Rattle.sync_law.specs.Instrs.{meet};
 ghost use Rattle.sync_index.specs.Touched.{Covers};
 ghost use Rattle.sync_rivals.specs.Lists.{StaysListed};
 ghost use Rattle.sync_transform.specs.Sets.{made_by};
-ghost use Rattle.sync_transform.specs.Moves.{action_in, kind_in, kind_of, moved_changes};
+ghost use Rattle.sync_transform.specs.Moves.{action_in as action_told, first_cell, kind_in, kind_of, moved_changes, moved_first};
+ghost use Rattle.sync_transform.specs.declared.moves.ListAction.{ListAction as Action};
+ghost use Rattle.list_lane.specs.Lanes.{Fits};
+ghost use Rattle.list_lane.specs.Told.{told};
 ghost use Rattle.sync_recip.specs.Lists.{entry_of};
-ghost use Rattle.sync_recip.specs.Carrying.{moved_entry};
+ghost use Rattle.sync_recip.specs.Carrying.{became_of, moved_entry, Suits};
+ghost use Rattle.sync_recip.specs.Passing.{change_later, own_left, other_left, Meets};
+ghost use Rattle.sync_recip.specs.Stretches.{holding, IsOpOn};
 
+use super::actions::{action_left, parts};
+use super::carried::Became;
 use super::shared::SharedEntry;
+use list_lane::{Op, action_of};
+use std::alloc::Global;
 use std::marker::Model;
 use sync_base::{Changeset, Entry, Ident, Instr, NoMemory, Stamp};
 use sync_index::Index;
@@ -18,23 +27,25 @@ use sync_transform::{
     ListAction, Moves, Shifted, action_in, both_move, is_later, same_first_cell, shown, stays_apart,
 };
 
-/// An entry as one client's changes crossed it. Where it is one list instruction that was only shifted, others hold it too,
-/// and what that instruction does now is kept beside it.
+/// An entry as one client's changes crossed it. Where it is one list instruction that was only shifted, or that fell, others
+/// hold it too, and what that instruction does now is kept beside it.
 #[derive(Drop)]
 pub(crate) struct ShiftedEntry {
     shared: SharedEntry,
     action: Option<ListAction>,
+    fell: bool,
 }
 
 impl Model for ShiftedEntry {
     ghost use Rattle.std.specs.Prelude.{◌≡◌};
     ghost use Rattle.std.specs.Option.{option_map};
     ghost use Rattle.sync_data.specs.declared.entry.Entry.{Entry};
-    ghost use Rattle.sync_transform.specs.Moves.{kind_in, kind_of, shown_changes};
+    ghost use Rattle.sync_transform.specs.Moves.{kind_in, kind_of};
+    ghost use Rattle.sync_recip.specs.Standing.{stood};
 
     ghost Value = { Entry };
 
-    ghost view = { λ a. record { origin = a.shared.origin; number = a.shared.number; changes = shown_changes a.action a.shared.changes } };
+    ghost view = { λ a. record { origin = a.shared.origin; number = a.shared.number; changes = stood a.fell a.action a.shared.changes } };
 
     ghost invariant = { λ a. kind_in a.shared.changes.instrs ≡ option_map kind_of a.action };
 }
@@ -45,7 +56,11 @@ impl ShiftedEntry {
         ensures { result ≡ shared }
     {
         let action = action_in(&shared.entry().changes);
-        ShiftedEntry { shared, action }
+        ShiftedEntry {
+            shared,
+            action,
+            fell: false,
+        }
     }
 
     pub(crate) fn origin(&self) -> Ident
@@ -60,23 +75,88 @@ impl ShiftedEntry {
         self.shared.entry().number
     }
 
+    fn ms(&self) -> u64
+        ensures { result ≡ self.now.changes.ms }
+    {
+        self.shared.entry().changes.ms()
+    }
+
+    fn stamp(&self) -> Stamp
+        ensures { result ≡ record { ms = self.now.changes.ms; ident = self.now.origin } }
+    {
+        Stamp {
+            ms: self.ms(),
+            ident: self.origin(),
+        }
+    }
+
+    /// What it does, where it is one list instruction.
+    #[inline(always)]
+    pub(crate) fn action(&self) -> Option<ListAction>
+        ensures { result ≡ action_told self.now.changes.instrs }
+    {
+        if self.fell { None } else { self.action }
+    }
+
+    /// Whether it is known to be of the cell of that changeset.
+    #[inline(always)]
+    pub(crate) fn is_in_cell_of(&self, changes: &Changeset) -> bool
+        ensures { IsTrue result → first_cell changes.now.instrs ≡ first_cell self.now.changes.instrs }
+    {
+        if self.fell {
+            return false;
+        }
+        same_first_cell(changes, &self.shared.entry().changes)
+    }
+
+    /// Whether it and another are known to be of one cell.
+    pub(crate) fn is_in_cell_with(&self, other: &ShiftedEntry) -> bool
+        ensures { IsTrue result → first_cell self.now.changes.instrs ≡ first_cell other.now.changes.instrs }
+    {
+        if other.fell {
+            return false;
+        }
+        self.is_in_cell_of(&other.shared.entry().changes)
+    }
+
+    /// What it is in a lane, where it is one list instruction that acts on a list of that length.
+    pub(crate) fn op_on(&self, length: u32) -> Option<Op>
+        ensures { IfSome result (IsOpOn length self.now) }
+    {
+        let action = self.action()?;
+        let (does, place, prior) = parts(&action);
+        if prior != length {
+            return None;
+        }
+        let stamp = self.stamp();
+        Some(Op { does, place, stamp })
+    }
+
     /// Its changes.
-    pub(crate) fn changes(&self) -> Result<Changeset, NoMemory>
+    pub(crate) fn changes(&self, alloc: Global) -> Result<Changeset, NoMemory>
         ensures { IfOk result (λ changes. changes ≡ self.now.changes) }
     {
+        if self.fell {
+            return Ok(nothing(alloc, self.ms()));
+        }
         shown(&self.shared.entry().changes, self.action)
     }
 
-    /// An equal entry, for one to hold alone.
-    pub(crate) fn copy(&self) -> Result<Entry, NoMemory>
-        ensures { IfOk result (λ copy. copy ≡ self.now) }
+    /// Its changes with its one list instruction as a slot of a lane tells it, which acts on a list of that length.
+    pub(crate) fn changes_told(
+        &self,
+        alloc: Global,
+        slot: Option<Op>,
+        length: u32,
+    ) -> Result<Changeset, NoMemory>
+        requires fits { Fits length slot }
+        requires kind { IfSome slot (λ a. kind_in self.now.changes.instrs ≡ Some a.does) }
+        ensures { IfOk result (λ changes. changes ≡ record { ms = self.now.changes.ms; instrs = told length slot self.now.changes.instrs }) }
     {
-        let changes = self.changes()?;
-        Ok(Entry {
-            origin: self.origin(),
-            number: self.number(),
-            changes,
-        })
+        match slot {
+            Some(op) => shown(&self.shared.entry().changes, Some(action_of(op, length))),
+            None => Ok(nothing(alloc, self.ms())),
+        }
     }
 
     /// Its instructions as an index lists them, which asks nothing of where one of a list stands.
@@ -90,6 +170,9 @@ impl ShiftedEntry {
     pub(crate) fn is(&self, changes: &Changeset) -> bool
         ensures { IsTrue result → changes.now ≡ self.now.changes }
     {
+        if self.fell {
+            return false;
+        }
         match self.action {
             Some(_) => false,
             None => *changes == self.shared.entry().changes,
@@ -103,9 +186,8 @@ impl ShiftedEntry {
         ensures left { IfSome result (λ m. kind_in left.now.instrs ≡ Some (kind_of m.left)) }
         ensures right { IfSome result (λ m. kind_in self.now.changes.instrs ≡ Some (kind_of m.right)) }
     {
-        let (action, other) = (left.action()?, self.action?);
-        let entry = self.shared.entry();
-        if !same_first_cell(left.written(), &entry.changes) {
+        let (action, other) = (left.action()?, self.action()?);
+        if !self.is_in_cell_of(left.written()) {
             return None;
         }
         let left_later = is_later(
@@ -113,19 +195,21 @@ impl ShiftedEntry {
                 ms: left.ms(),
                 ident: own,
             },
-            Stamp {
-                ms: entry.changes.ms(),
-                ident: entry.origin,
-            },
+            self.stamp(),
         );
         both_move(action, other, left_later)
     }
 
-    /// Whether an index tells that it meets nothing of what that is of.
+    /// Whether an index tells that it meets nothing of what that is of, also where its one list instruction does the same
+    /// elsewhere.
     #[inline(always)]
     pub(crate) fn stays_apart(&self, index: &Index) -> bool
-        ensures { IsTrue result → (others : List Instr) → Covers index.now others → (later : Bool) → crossed (λ a b. meet a b later) others self.now.changes.instrs ≡ Ok (others, self.now.changes.instrs) }
+        ensures own { IsTrue result → (others : List Instr) → Covers index.now others → (later : Bool) → crossed (λ a b. meet a b later) others self.now.changes.instrs ≡ Ok (others, self.now.changes.instrs) }
+        ensures told { IsTrue result → (action : Action) → kind_in self.now.changes.instrs ≡ Some (kind_of action) → (others : List Instr) → Covers index.now others → (later : Bool) → crossed (λ a b. meet a b later) others (moved_first action self.now.changes.instrs) ≡ Ok (others, moved_first action self.now.changes.instrs) }
     {
+        if self.fell {
+            return true;
+        }
         stays_apart(self.shared.spot(), &self.shared.entry().changes, index)
     }
 
@@ -137,4 +221,63 @@ impl ShiftedEntry {
     {
         self.action = Some(action);
     }
+
+    /// It became another.
+    pub(crate) fn stand_as(&mut self, became: Became)
+        requires { Suits became self.old.changes.instrs }
+        ensures { entry_of self.new ≡ became_of became (entry_of self.old) }
+    {
+        match became {
+            Became::Moved(action) => self.shift_to(action),
+            Became::Changed(entry) => *self = ShiftedEntry::new(entry),
+        }
+    }
+
+    /// Nothing of its one list instruction is left. It takes no memory.
+    fn fall(&mut self)
+        ensures { self.new ≡ holding [] self.old }
+    {
+        self.fell = true;
+    }
+
+    /// Its one list instruction stands as a slot of a lane tells it, which acts on a list of that length. It takes no memory.
+    pub(crate) fn tell(&mut self, slot: Option<Op>, length: u32)
+        requires fits { Fits length slot }
+        requires kind { IfSome slot (λ a. kind_in self.old.changes.instrs ≡ Some a.does) }
+        ensures { self.new ≡ holding (told length slot self.old.changes.instrs) self.old }
+    {
+        match slot {
+            Some(op) => self.shift_to(action_of(op, length)),
+            None => self.fall(),
+        }
+    }
+
+    /// Its one list instruction, if it has one, meets an action of a change in that list: what is left of that. It takes no
+    /// memory.
+    pub(crate) fn meet(&mut self, action: &ListAction, stamp: Stamp) -> Option<ListAction>
+        requires { Meets self.old.changes.instrs action.now }
+        ensures own { self.new ≡ holding (own_left (not (change_later stamp (entry_of self.old))) (action_told self.old.changes.instrs) action.now self.old.changes.instrs) self.old }
+        ensures other { result ≡ other_left (change_later stamp (entry_of self.old)) (action_told self.old.changes.instrs) action.now }
+    {
+        let Some(mine) = self.action() else {
+            return Some(*action);
+        };
+        let later = is_later(stamp, self.stamp());
+        let (stays, left) = (
+            action_left(!later, &mine, action),
+            action_left(later, action, &mine),
+        );
+        match stays {
+            Some(action) => self.shift_to(action),
+            None => self.fall(),
+        }
+        left
+    }
+}
+
+/// No instruction, at that time. It takes no memory.
+pub(crate) fn nothing(alloc: Global, ms: u64) -> Changeset
+    ensures { result ≡ record { ms = ms; instrs = [] } }
+{
+    Changeset::checked(ms, Vec::new(alloc)).unwrap()
 }

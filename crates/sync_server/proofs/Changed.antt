@@ -1,12 +1,13 @@
 -- One ident that changes among all.
-use Rattle.std.proofs.Common.{◌≡◌, ℕ, zero, suc, ◌+◌, ◌-◌, ◌<◌, ◌==◌, Bool, true, false, List, [], ◌∷◌, length, get_or, set, if◌then◌else◌, refl, sym, ap, ◌∙◌, arith, All, subst}
+use Rattle.std.proofs.Common.{◌≡◌, ◌≢◌, ℕ, zero, suc, ◌+◌, ◌-◌, ◌<◌, ◌==◌, Bool, true, false, List, [], ◌∷◌, length, get_or, set, if◌then◌else◌, refl, sym, ap, ◌∙◌, arith, All, subst}
 use Rattle.std.proofs.lemmas.Bool.{eq-eqb, ne_eqb}
+use Rattle.std.proofs.lemmas.List.{set-get_or}
 use Rattle.std.proofs.lemmas.List.Elements.{All-nil}
 use Rattle.sync_data.specs.declared.instr.Instr.{Instr}
 use Rattle.sync_model.specs.Parts.{Given, given_up, idents_retired, marked}
 use Rattle.sync_server.specs.History.{HistoryParts, IsHistory, IsReciprocal, AreGiven, len_of}
 use Rattle.sync_server.proofs.Idents.{IsAt}
-use Rattle.sync_server.proofs.Keeps.{given_at, settled_history}
+use Rattle.sync_server.proofs.Keeps.{all_to, given_at, settled_history}
 
 chosen : (b : Bool) (x y : Given Instr) → b ≡ true → (if b then x else y) ≡ x
 chosen true x y e = refl
@@ -41,12 +42,21 @@ module _ (c : ℕ) (gs : List (Given Instr)) (g : Given Instr) (at : IsAt c gs g
       let place = at.positive in
       ap (set gs (c - 1)) (e ∙ ap (given_up by) (at.here g)) ∙ is_set c (given_up by) (idents_retired c by) (λ k. refl) (λ k d ds. refl) (c - 1) 1 gs g (omega arith) at.within
 
+  pub same_is : (new : Given Instr) → new ≡ g → set gs (c - 1) new ≡ gs
+  same_is new e = ap (set gs (c - 1)) (e ∙ at.here g) ∙ set-get_or gs (c - 1) g
+
   -- what holds of the history stays
   module _ (h : HistoryParts) (same : h.idents ≡ gs) (was : IsHistory h) where
     at_place : All (IsReciprocal (len_of h) (1 + (c - 1))) g.reciprocal
     at_place =
         subst (λ (d : Given Instr). All (IsReciprocal (len_of h) (1 + (c - 1))) d.reciprocal) (sym (at.here g))
         (given_at (len_of h) 1 (c - 1) gs g at.within (subst (λ l. AreGiven (len_of h) 1 l) same was.idents))
+
+    pub other_there : All (λ pair. pair.1.origin ≢ c) g.reciprocal
+    other_there =
+        let place = at.positive in
+        let own : 1 + (c - 1) ≡ c = omega (arith, place) in
+        all_to (IsReciprocal (len_of h) (1 + (c - 1))) (λ pair. pair.1.origin ≢ c) g.reciprocal (λ q r is. r.entry.other (is ∙ sym own)) at_place
 
     pub marked_keeps : (n : ℕ) (new : Given Instr) → new ≡ record g { mark = n } → IsHistory (record h { idents = set gs (c - 1) new })
     marked_keeps n new e =

@@ -1,15 +1,17 @@
-ghost use Rattle.std.specs.Prelude.{◌≡◌, ◌≤◌, ◌<◌, suc, length, map, None, OnOk, OnErr, All};
+ghost use Rattle.std.specs.Prelude.{◌≡◌, ◌≢◌, ◌≤◌, ◌<◌, ℕ, suc, length, map, None, OnOk, OnErr, All};
 ghost use Rattle.sync_recip.specs.Lists.{entry_of};
 ghost use Rattle.sync_recip.specs.Carrying.{Fits, entries_of};
 ghost use Rattle.sync_model.specs.Parts.{settled, extended, given_up};
 ghost use Rattle.sync_model.specs.Servers.{place_of};
 ghost use Rattle.sync_server.specs.Integrating.{found};
+ghost use Rattle.sync_server.specs.Merging.{Carries};
 
 use crate::kinds::Counted;
+use crate::refusal::{ChangeRefusal, Refusal};
 use std::alloc::Global;
 use std::marker::Model;
 use sync_base::{Changeset, Id, Ident, NoMemory};
-use sync_recip::{Carried, Recip, SharedEntry};
+use sync_recip::{Carried, Recip, RecipRefusal, SharedEntry};
 
 /// What a server keeps of an ident: the client's uuid, how many of its changes are integrated, the base of the last
 /// one, for whom it was retired, the greatest settled number of its questions, and the entries of others as its changes
@@ -116,6 +118,27 @@ impl Given {
         ensures { result.now ≡ self.now.reciprocal }
     {
         &self.reciprocal
+    }
+
+    /// A change of the client's as carried over the entries of others from its base on. They stay as they are.
+    pub(crate) fn carry(
+        &mut self,
+        alloc: Global,
+        own: Ident,
+        base: u32,
+        changes: Changeset,
+    ) -> Result<Carried, ChangeRefusal>
+        requires { All (λ pair. pair.1.origin ≢ own) self.old.reciprocal }
+        ensures same { self.new ≡ self.old }
+        ensures carries { (number : ℕ) → Carries result own number changes base self.old.reciprocal }
+    {
+        match self.reciprocal.carry(alloc, own, base, changes) {
+            Ok(carried) => Ok(carried),
+            Err(RecipRefusal::Mismatch { place, kind }) => {
+                Err(ChangeRefusal::Refused(Refusal::Mismatch { place, kind }))
+            }
+            Err(RecipRefusal::NoMemory) => Err(ChangeRefusal::NoMemory),
+        }
     }
 
     /// Takes its next change as integrated, and hands it out as carried. It takes no memory.

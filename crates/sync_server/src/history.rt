@@ -8,14 +8,16 @@ ghost use Rattle.sync_model.specs.Parts.{Given as GivenParts, at_ident, idents_r
 ghost use Rattle.sync_data.specs.declared.instr.Instr.{Instr};
 ghost use Rattle.sync_server.specs.History.{no_history, kept_as, newly_given, with_entry, len_of, IsEntry, IsHistory, IsReciprocal};
 ghost use Rattle.sync_server.specs.Integrating.{found, IsNext};
+ghost use Rattle.sync_server.specs.Merging.{Carries};
 ghost use Rattle.sync_server.specs.Readers.{item_from};
 
 use crate::extending::{extend_others, with_versions};
 use crate::given::{Given, ident_in};
 use crate::lists::keep;
+use crate::refusal::ChangeRefusal;
 use std::alloc::Global;
 use std::marker::Model;
-use sync_base::{Entry, Id, Ident, NoMemory};
+use sync_base::{Changeset, Entry, Id, Ident, NoMemory};
 use sync_recip::{Carried, SharedEntry};
 
 /// The greatest length of a history, and the greatest ident.
@@ -218,6 +220,22 @@ impl History {
         }
         self.idents[place].retire(alloc, by);
         Ok(())
+    }
+
+    /// A change of an ident that is given, as carried over the entries of others from its base on. They stay as they are.
+    pub(crate) fn carry(
+        &mut self,
+        alloc: Global,
+        ident: Ident,
+        base: u32,
+        changes: Changeset,
+    ) -> Result<Carried, ChangeRefusal>
+        requires { (g : GivenParts Instr) × (at_ident ident self.old.idents ≡ Some g) }
+        ensures same { self.new ≡ self.old }
+        ensures carries { (g : GivenParts Instr) → at_ident ident self.old.idents ≡ Some g → (number : ℕ) → Carries result ident number changes base g.reciprocal }
+    {
+        let place = ident as usize - 1;
+        self.idents[place].carry(alloc, ident, base, changes)
     }
 
     /// Takes the next change of an ident as integrated.

@@ -6,11 +6,10 @@ ghost use Rattle.sync_server.specs.Merging.{IsFresh, Merges, Prepares, change_of
 
 use crate::history::History;
 use crate::merging::{ChangeHead, Prepared, admit, apply, read};
-use crate::refusal::{ChangeRefusal, Refusal};
+use crate::refusal::ChangeRefusal;
 use std::alloc::Global;
 use sync_base::{Ident, NoMemory};
 use sync_codec::any_needs_second;
-use sync_recip::RecipRefusal;
 use sync_store::Store;
 
 /// What a server keeps in memory: the history, the objects, and the state at the floor of the history.
@@ -36,18 +35,19 @@ impl Kept {
         })
     }
 
-    /// The next change of an ident, ready to act.
+    /// The next change of an ident, ready to act. What is kept stays as it is.
     fn prepare(
-        &self,
+        &mut self,
         alloc: Global,
         ident: Ident,
         head: ChangeHead,
         body: &[u8],
     ) -> Result<Prepared, ChangeRefusal>
-        requires fresh { IsFresh ident (change_of head body.now) self.now.history.idents }
+        requires fresh { IsFresh ident (change_of head body.now) self.old.history.idents }
         requires small { length body.now ≤ 67108864 }
+        ensures same { self.new ≡ self.old }
         ensures second { IfOk result (λ p. p.second ≡ is_newer the_profile (unspell body.now)) }
-        ensures prepared { (g : GivenParts Instr) → at_ident ident self.now.history.idents ≡ Some g → Prepares result (parts self.now) ident g (change_of head body.now) (merge_by the_profile (parts self.now) ident g (change_of head body.now)) }
+        ensures prepared { (g : GivenParts Instr) → at_ident ident self.old.history.idents ≡ Some g → Prepares result (parts self.old) ident g (change_of head body.now) (merge_by the_profile (parts self.old) ident g (change_of head body.now)) }
     {
         let Some(given) = self.history.at(ident) else {
             unreachable!()
@@ -61,12 +61,9 @@ impl Kept {
             Err(refusal) => return Err(refusal),
         };
         let second = any_needs_second(changes.instrs());
-        match given.reciprocal().carry(alloc, ident, head.base, changes) {
+        match self.history.carry(alloc, ident, head.base, changes) {
             Ok(carried) => Ok(Prepared { carried, second }),
-            Err(RecipRefusal::Mismatch { place, kind }) => {
-                Err(ChangeRefusal::Refused(Refusal::Mismatch { place, kind }))
-            }
-            Err(RecipRefusal::NoMemory) => Err(ChangeRefusal::NoMemory),
+            Err(refusal) => Err(refusal),
         }
     }
 

@@ -13,7 +13,7 @@ pub enum Does {
 /// Where the first of two concurrent instructions of a list stands after the other, or none where it is dropped. The flag is
 /// whether it is the later one.
 #[inline(always)]
-pub(crate) fn place_after(
+pub fn place_after(
     later: bool,
     does: Does,
     place: u32,
@@ -39,7 +39,7 @@ pub(crate) fn place_after(
 
 /// The length of a list after an instruction.
 #[inline(always)]
-pub(crate) fn length_after(does: Does, length: u32) -> u32
+pub fn length_after(does: Does, length: u32) -> u32
     requires { length < top }
     ensures { result ≡ longer does length }
 {

@@ -1,29 +1,26 @@
-use Rattle.std.proofs.Common.{◌≡◌, ◌+◌, ◌++◌, length, map, sym, ◌∙◌, ap, subst, arith}
+use Rattle.std.proofs.Common.{◌≡◌, ◌<◌, List, length, map, sym, ◌∙◌, ap, subst, arith}
+use Rattle.std.proofs.lemmas.List.{length-map}
 use Rattle.sync_data.specs.declared.entry.Entry.{Entry}
+use Rattle.sync_data.specs.declared.instr.Instr.{Instr}
+use Rattle.sync_theory.specs.Changesets.{Changeset}
 use Rattle.sync_rivals.specs.Lists.{Lists, StaysAt, put_list}
-use Rattle.sync_recip.specs.Lists.{entry_of, kept_entry, lists_in}
 use Rattle.sync_recip.specs.declared.carried.Became.TheVariants.{Changed}
-use Rattle.sync_recip.proofs.Versions.{entries_set, versions_set}
-use Rattle.sync_recip.proofs.Entries.{lists_with, put_behind, put_changed, stays_behind, stays_changed}
+use Rattle.sync_recip.specs.Lists.{kept_entry, lists_in}
+use Rattle.sync_recip.proofs.Indexed.{left_inside, lists_changed, stays_changed}
 use Rattle.sync_recip.proofs.carried.change_one.Goals as goal
 
-pub returns-clause-versions : goal.returns-clause-versions
-returns-clause-versions c = versions_set c.args.kept.now c.args.place c.index-kept-place-2.result c.new.result c.requires.within
-
-pub returns-clause-entries : goal.returns-clause-entries
-returns-clause-entries c = entries_set c.args.kept.now c.args.place c.index-kept-place-2.result (Changed c.args.entry) c.new.result c.requires.within (ap entry_of c.new.ensures)
+pub listed-before-requires : goal.listed-before-requires
+listed-before-requires c =
+    let there = left_inside (map kept_entry c.args.items.now) c.args.place (Changed c.args.entry) c.requires.left in
+    let size = length-map c.args.items.now kept_entry in
+    omega (arith, there, size)
 
 pub returns-clause-listed : goal.returns-clause-listed
-returns-clause-listed c = λ front size h.
-    let es = map kept_entry c.args.kept.now in
+returns-clause-listed c =
+    let es : List (Changeset Instr) = map kept_entry c.args.items.now in
     let place = c.args.place in
-    let is = c.args.entry.changes.instrs in
-    let at : c.args.first + place ≡ length front + place = omega (arith, size) in
     let after = c.instrs-after.ensures.listed ∙ ap (λ (e : Entry). e.changes.instrs) c.entry.ensures in
-    let left = stays_behind front (lists_in es) (c.args.first + place) place is at (stays_changed place c.args.entry (lists_in es) c.requires.left) in
-    let stays = subst (λ l. StaysAt (c.args.first + place) l (front ++ lists_in es)) (sym after) left in
-    let put = subst (λ l. Lists c.change.new.self (put_list (c.args.first + place) l (front ++ lists_in es))) after (c.change.ensures.kept (front ++ lists_in es) h stays) in
-    let entries = entries_set c.args.kept.now place c.index-kept-place-2.result (Changed c.args.entry) c.new.result c.requires.within (ap entry_of c.new.ensures) in
-    subst (Lists c.change.new.self)
-    (put_behind front (lists_in es) (c.args.first + place) place is at ∙ ap (λ l. front ++ l) (sym (put_changed place c.args.entry (lists_in es)) ∙ sym (lists_with place (Changed c.args.entry) es) ∙ ap lists_in (sym entries)))
-    put
+    let stays = stays_changed place c.args.entry es c.requires.left in
+    let listed = c.change.ensures.kept (lists_in es) c.requires.listed (subst (λ l. StaysAt place l (lists_in es)) (sym after) stays) in
+    subst (λ l. Lists c.change.new.self (lists_in l)) (sym c.put.ensures.entries)
+    (subst (Lists c.change.new.self) (sym (lists_changed place c.args.entry es)) (subst (λ l. Lists c.change.new.self (put_list place l (lists_in es))) after listed))

@@ -1,12 +1,14 @@
-use Rattle.std.proofs.Common.{◌≤◌, ◌-◌, length, drop}
-use Rattle.sync_recip.proofs.Turns.{Walked}
+use Rattle.std.proofs.Common.{◌≡◌, ◌≤◌, ◌-◌, length}
+use Rattle.sync_recip.proofs.Walk.{WalkedTo}
 use Rattle.sync_recip.proofs.carry.carry_over.Given as goal
 
 abbrev pub invariant-loop-from : goal.invariant-loop-from
 invariant-loop-from l = record {
-  walked : Walked l.index l.rivals l.codes l.own (drop l.first l.kept) l.fn.changes (l.from - l.first) l.crossed.items l.left;
-  order : (l.first ≤ l.from) × (l.from ≤ length l.kept);
+  walked : WalkedTo l.index l.rivals l.codes l.own l.fn.items l.first l.fn.changes l.from l.crossed.items l.left;
+  after : l.first ≤ l.from;
+  within : l.from ≤ length l.fn.items;
+  same : l.items ≡ l.fn.items;
 }
 
 abbrev pub decreases-loop-from : goal.decreases-loop-from
-decreases-loop-from l = length l.kept - l.from
+decreases-loop-from l = length l.fn.items - l.from

@@ -10,7 +10,7 @@ pub returns-clause-crosses : goal.returns-clause-crosses
 returns-clause-crosses c =
     let now = c.args.self.now in
     let current : c.self.inside.current.instrs ≡ now.current = ap (λ (u : Unsent Instr). u.current) c.self.view_is in
-    let ms = c.ms.ensures ∙ c.self.invariant.1 ∙ ap (λ (u : Unsent Instr). u.original.ms) c.self.view_is in
+    let ms = c.ms.ensures ∙ c.self.invariant.0 ∙ ap (λ (u : Unsent Instr). u.original.ms) c.self.view_is in
     let later = c.is_later-left_later.ensures ∙ (λ i. later_stamp (ms i) c.args.own (c.ms-2.ensures i) c.args.origin) in
     let does = ap action_in (sym current) ∙ sym c.in_ok-action.ensures in
     let cell = ap first_cell (sym current)

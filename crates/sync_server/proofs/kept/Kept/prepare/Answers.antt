@@ -22,11 +22,7 @@ use Rattle.sync_server.proofs.Steps.{ready, not_ready}
 use Rattle.sync_server.proofs.kept.Kept.prepare.Goals as goal
 
 pub carry-requires : goal.carry-requires
-carry-requires c =
-    let own = c.args.ident in
-    let Other : ℕ × Changeset Instr → Type 0 = λ pair. pair.1.origin ≢ own in
-    subst (All Other) (sym c.reciprocal.ensures)
-    (all_to (IsReciprocal (len_of c.args.self.now.history) own) Other c.in-Some.given.now.reciprocal (λ q r. r.entry.other) c.in-Some.ensures.others)
+carry-requires c = (c.requires.fresh.given, c.requires.fresh.is_given)
 
 pub returns-in-Ok-carry-clause-second : goal.returns-in-Ok-carry-clause-second
 returns-in-Ok-carry-clause-second c =
@@ -43,21 +39,16 @@ returns-in-Ok-carry-clause-prepared c = λ g is.
     let own : c.requires.fresh.given ≡ g = the_same (sym c.requires.fresh.is_given ∙ is) in
     let above = subst (λ (d : Given Instr). d.count < h.number) own c.requires.fresh.above in
     let numbers = subst (λ m. numbers_broken kept.len m found h.number h.base ≡ None) c.floor.ensures (subst (λ n. numbers_broken n c.floor.result found h.number h.base ≡ None) c.len.ensures (sym c.in-Ok.ensures)) in
-    let carries = carries_by_code c.args.ident h.number v h.base carried c.reciprocal.result.now found.reciprocal c.reciprocal.ensures (c.in-Ok-carry.ensures.ok h.number) c.in-Ok-carry.ensures.base c.in-Ok-carry.ensures.fits in
+    let carries = c.in-Ok-carry.ensures.carries found (sym c.in-Some.ensures.given) h.number in
     let second = c.any_needs_second-second.ensures ∙ any_needs c.instrs.result.now ∙ ap (needs the_profile) c.instrs.ensures.listed in
     ready kept c.args.ident found g h v same numbers c.in-Ok-read.ensures carried c.any_needs_second-second.result carries second (len_of c.args.self.now.history) c.in-Some.ensures.others above (omega (arith, c.len.ensures, c.len.type_inv))
 
-pub returns-in-Err-Mismatch-clause-prepared : goal.returns-in-Err-Mismatch-clause-prepared
-returns-in-Err-Mismatch-clause-prepared c = λ g is.
+pub returns-in-Err-carry-clause-prepared : goal.returns-in-Err-carry-clause-prepared
+returns-in-Err-carry-clause-prepared c = λ g is.
     let h = change_of c.args.head c.args.body.now in
     let kept = parts c.args.self.now in
     let found = c.in-Some.given.now in
-    let listed = c.reciprocal.result.now in
     let v = c.in-Ok-read.changes in
-    let place = c.in-Err-Mismatch.place in
-    let kind = c.in-Err-Mismatch.kind in
     let same : found ≡ g = the_same (c.in-Some.ensures.given ∙ is) in
     let numbers = subst (λ m. numbers_broken kept.len m found h.number h.base ≡ None) c.floor.ensures (subst (λ n. numbers_broken n c.floor.result found h.number h.base ≡ None) c.len.ensures (sym c.in-Ok.ensures)) in
-    let stuck = subst (λ e. IsStuckBy e (carry (cross_sets meet) (made_by c.args.ident h.number v) (from_base h.base listed))) c.in-Err-Mismatch.field-0-is (c.in-Err-Mismatch.ensures.stuck h.number) in
-    not_ready kept c.args.ident found g h v same numbers c.in-Ok-read.ensures (Refused (refusals.Mismatch place kind))
-    ((place, stuck.right, mismatch_code kind), stuck_by_code c.args.ident h.number v h.base place stuck.right kind listed found.reciprocal c.reciprocal.ensures stuck.is, refl)
+    not_ready kept c.args.ident found g h v same numbers c.in-Ok-read.ensures c.in-Err-carry.refusal (c.in-Err-carry.ensures.carries found (sym c.in-Some.ensures.given) h.number)

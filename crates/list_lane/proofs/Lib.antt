@@ -1,0 +1,10 @@
+pub mod Lengths
+pub mod Chain
+pub mod Meets
+pub mod Rooms
+pub mod Beside
+pub mod Bounded
+pub mod Turns
+pub mod Joins
+pub mod Further
+pub mod Apart

@@ -1,0 +1,272 @@
+ghost use Rattle.std.specs.Prelude.{◌≡◌, ◌≤◌, ◌<◌, ◌+◌, ◌∷◌, ◌++◌, [], Some, ◌↔◌, OnOk, OnErr, IsTrue, IsFalse, length};
+ghost use Rattle.sync_base.specs.Rules.{top};
+ghost use Rattle.list_lane.specs.Lanes.{crossed as crosses, first_slot, length_at_end, length_before as before, slot_at};
+ghost use Rattle.list_lane.specs.Ops.{lane_later as later};
+ghost use Rattle.list_lane.specs.Flat.{Placed};
+ghost use Rattle.list_lane.specs.Bursts.{lift_all, pushed_all, AllBefore, AllBehind};
+ghost use Rattle.sync_theory.specs.Grid.{tail};
+
+use super::bounds::{Bounds, bounds_of, no_bounds};
+use super::flat::{cross_slots, left_behind, length_in, lift_slots, lifted};
+use super::op::Op;
+use std::alloc::Global;
+use std::marker::Model;
+use sync_data::NoMemory;
+use sync_transform::Does;
+
+/// The most slots of a burst.
+const MOST: usize = 64;
+
+/// How far from them an instruction that follows may be.
+const NEAR: u64 = 8;
+
+/// Slots one after another, mostly of instructions near each other. An instruction that lies on one side of them all crosses
+/// them at once.
+#[derive(Drop)]
+pub(crate) struct Burst {
+    slots: Vec<Option<Op>>,
+    up: u32,
+    down: u32,
+    bounds: Bounds,
+}
+
+impl Model for Burst {
+    ghost use Rattle.std.specs.Prelude.{List, Option};
+    ghost use Rattle.list_lane.specs.declared.op.Op.{Op};
+
+    ghost Value = { List (Option Op) };
+
+    ghost use Rattle.list_lane.specs.Bursts.{lift_all, IsBurst};
+
+    ghost view = { λ a. lift_all a.up a.down a.slots.items };
+
+    ghost invariant = { λ a. IsBurst a.up a.down a.bounds a.slots.items };
+}
+
+impl Burst {
+    /// No slot. It takes no memory.
+    pub(crate) fn new(alloc: Global) -> Burst
+        ensures { result ≡ [] }
+    {
+        Burst {
+            slots: Vec::new(alloc),
+            up: 0,
+            down: 0,
+            bounds: no_bounds(),
+        }
+    }
+
+    /// How many slots there are.
+    pub(crate) fn len(&self) -> usize
+        ensures { result ≡ length self.now }
+    {
+        self.slots.len()
+    }
+
+    /// Whether an op that follows is near those that are here.
+    pub(crate) fn is_near(&self, op: Op) -> bool {
+        let place = op.place as u64 + self.down as u64;
+        let (low, high) = (self.bounds.low as u64 + self.up as u64, self.high());
+        self.slots.len() < MOST && place + NEAR >= low && place <= high.saturating_add(NEAR)
+    }
+
+    /// The first place behind them all, as they end.
+    fn high(&self) -> u64 {
+        let Bounds {
+            past,
+            inserted,
+            erased,
+            ..
+        } = self.bounds;
+        past.saturating_add(inserted)
+            .saturating_add(self.up as u64)
+            .saturating_sub(erased)
+    }
+
+    /// Appends a slot.
+    pub(crate) fn push(&mut self, slot: Option<Op>) -> Result<(), NoMemory>
+        requires placed { Placed self.old }
+        requires room { length self.old < top }
+        ensures ok { OnOk result (self.new ≡ self.old ++ slot ∷ []) }
+        ensures err { OnErr result (self.new ≡ self.old) }
+    {
+        settle(&mut self.slots, self.up, self.down);
+        (self.up, self.down) = (0, 0);
+        let pushed = push_slot(&mut self.slots, slot);
+        self.bounds = bounds_of(self.slots.as_slice());
+        pushed
+    }
+
+    /// Takes the first slot out.
+    pub(crate) fn pop_first(&mut self) -> Option<Op>
+        requires there { 0 < length self.old }
+        requires placed { Placed self.old }
+        requires room { length self.old ≤ top }
+        ensures rest { self.new ≡ tail self.old }
+        ensures slot { result ≡ first_slot self.old }
+    {
+        settle(&mut self.slots, self.up, self.down);
+        (self.up, self.down) = (0, 0);
+        let slot = self.slots.remove(0);
+        self.bounds = bounds_of(self.slots.as_slice());
+        slot
+    }
+
+    /// The slot at a place.
+    pub(crate) fn slot(&self, at: usize) -> Option<Op>
+        requires within { at < length self.now }
+        requires placed { Placed self.now }
+        ensures { result ≡ slot_at at self.now }
+    {
+        match self.slots[at] {
+            Some(op) => Some(lifted(op, self.up, self.down)),
+            None => None,
+        }
+    }
+
+    /// The length of a list behind the first of them, where it was `first` before them all.
+    pub(crate) fn length_before(&self, at: usize, first: u32) -> u32
+        requires within { at ≤ length self.now }
+        requires room { first + at < top }
+        ensures { result ≡ before at first self.now }
+    {
+        length_in(self.slots.as_slice(), at, first)
+    }
+
+    /// What is left of an instruction that crosses the slots in turn. They stand as crossed.
+    pub(crate) fn cross(&mut self, traveller: Op, lane_left: bool) -> Option<Op>
+        requires room { traveller.place + length self.old ≤ top }
+        requires placed { Placed self.old }
+        ensures slots { self.new ≡ (crosses (later lane_left) self.old (Some traveller)).slots }
+        ensures left { result ≡ (crosses (later lane_left) self.old (Some traveller)).left }
+    {
+        if self.is_before(traveller.place) {
+            return Some(self.beyond(traveller));
+        }
+        if !self.is_behind(traveller.place) {
+            return self.cross_each(traveller, lane_left);
+        }
+        if !self.shift(traveller.does) {
+            return self.cross_each(traveller, lane_left);
+        }
+        Some(traveller)
+    }
+
+    /// It meets each of them.
+    fn cross_each(&mut self, traveller: Op, lane_left: bool) -> Option<Op>
+        requires room { traveller.place + length self.old ≤ top }
+        requires placed { Placed self.old }
+        ensures slots { self.new ≡ (crosses (later lane_left) self.old (Some traveller)).slots }
+        ensures left { result ≡ (crosses (later lane_left) self.old (Some traveller)).left }
+    {
+        settle(&mut self.slots, self.up, self.down);
+        (self.up, self.down) = (0, 0);
+        let left = cross_vec(&mut self.slots, traveller, lane_left);
+        self.bounds = bounds_of(self.slots.as_slice());
+        left
+    }
+
+    /// The same, and they stay.
+    pub(crate) fn left(&self, traveller: Op, lane_left: bool) -> Option<Op>
+        requires room { traveller.place + length self.now ≤ top }
+        requires placed { Placed self.now }
+        ensures { result ≡ (crosses (later lane_left) self.now (Some traveller)).left }
+    {
+        if self.is_before(traveller.place) {
+            return Some(self.beyond(traveller));
+        }
+        if self.is_behind(traveller.place) {
+            return Some(traveller);
+        }
+        left_behind(
+            self.slots.as_slice(),
+            self.up,
+            self.down,
+            traveller,
+            lane_left,
+        )
+    }
+
+    /// Whether all are before an instruction at that place, as each that it crosses pushes it on.
+    #[inline(always)]
+    fn is_before(&self, place: u32) -> bool
+        ensures { IsTrue result → AllBefore place self.now }
+    {
+        match self.bounds.past.checked_add(self.up as u64) {
+            Some(past) => place as u64 + self.down as u64 >= past,
+            None => false,
+        }
+    }
+
+    /// Whether all are behind that place.
+    #[inline(always)]
+    fn is_behind(&self, place: u32) -> bool
+        ensures { IsTrue result → AllBehind place self.now }
+    {
+        place as u64 + (self.down as u64) < self.bounds.low as u64 + self.up as u64
+    }
+
+    /// An instruction that is behind them all, once it has crossed them.
+    #[inline(always)]
+    fn beyond(&self, traveller: Op) -> Op
+        requires before { AllBefore traveller.place self.now }
+        requires room { traveller.place + length self.now ≤ top }
+        ensures { result ≡ record traveller { place = length_at_end traveller.place self.now } }
+    {
+        let place = traveller.place as u64 + self.bounds.inserted - self.bounds.erased;
+        Op {
+            place: place as u32,
+            ..traveller
+        }
+    }
+
+    /// They are pushed by what is done before them all. False, and they stay, where that can't be kept beside them.
+    #[inline(always)]
+    fn shift(&mut self, does: Does) -> bool
+        ensures pushed { IsTrue result → self.new ≡ pushed_all does self.old }
+        ensures same { IsFalse result → self.new ≡ self.old }
+    {
+        match does {
+            Does::Inserts if self.up < u32::MAX => self.up += 1,
+            Does::Erases if self.down < u32::MAX && is_below(self.down, self.bounds.low, self.up) =>
+                { self.down += 1 }
+            Does::Updates => {}
+            _ => return false,
+        }
+        true
+    }
+}
+
+#[inline(always)]
+fn is_below(down: u32, low: u32, up: u32) -> bool
+    ensures { IsTrue result ↔ (down < low + up) }
+{
+    (down as u64) < low as u64 + up as u64
+}
+
+/// The slots as they were lifted.
+fn settle(slots: &mut Vec<Option<Op>>, up: u32, down: u32)
+    requires { Placed (lift_all up down slots.old.items) }
+    ensures { slots.new.items ≡ lift_all up down slots.old.items }
+{
+    lift_slots(slots.as_mut_slice(), up, down);
+}
+
+fn cross_vec(slots: &mut Vec<Option<Op>>, traveller: Op, lane_left: bool) -> Option<Op>
+    requires room { traveller.place + length slots.old.items ≤ top }
+    requires placed { Placed slots.old.items }
+    ensures slots { slots.new.items ≡ (crosses (later lane_left) slots.old.items (Some traveller)).slots }
+    ensures left { result ≡ (crosses (later lane_left) slots.old.items (Some traveller)).left }
+{
+    cross_slots(slots.as_mut_slice(), traveller, lane_left)
+}
+
+fn push_slot(slots: &mut Vec<Option<Op>>, slot: Option<Op>) -> Result<(), NoMemory>
+    ensures ok { OnOk result (slots.new.items ≡ slots.old.items ++ slot ∷ []) }
+    ensures err { OnErr result (slots.new.items ≡ slots.old.items) }
+{
+    match slots.push(slot) {
+        Ok(()) => Ok(()),
+        Err(_) => Err(NoMemory),
+    }
+}

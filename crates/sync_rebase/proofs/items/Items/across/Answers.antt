@@ -1,0 +1,32 @@
+use Rattle.std.proofs.Common.{◌≡◌, ◌≤◌, ◌<◌, ◌+◌, ◌∙◌, IfSome, refl, sym, ap, subst, arith}
+use Rattle.sync_transform.specs.Moves.{first_cell}
+use Rattle.sync_transform.proofs.Stands.{shown_cell}
+use Rattle.sync_rebase.specs.Acrossing.{CrossesStretch}
+use Rattle.sync_rebase.specs.Stretches.{laid, shown_by, Stands}
+use Rattle.sync_rebase.specs.declared.items.Passing.{Passing}
+use Rattle.sync_rebase.specs.declared.stretch.Stretch.{Stretch}
+use Rattle.std.specs.Prelude.{Option}
+use Rattle.sync_rebase.proofs.Crossings.{crosses_stretch}
+use Rattle.sync_rebase.proofs.items.Items.across.Goals as goal
+
+pub returns : goal.returns
+returns c =
+    let us = c.self.inside.items.items in
+    let s : Stretch = c.in-Some.stretch in
+    let p : Passing = record {
+      across = record { start = s.start; count = c.len.result; own = c.args.own; action = c.in_ok-action.action; stamp = record { ms = c.ms.result; ident = c.args.origin } };
+      left = c.left_by-left.result;
+    }
+    in
+    let st : Stands us s = subst (λ (x : Option Stretch). IfSome x (Stands us)) c.in-Some.is c.self.invariant in
+    let shown : laid s.start s.lane us ≡ c.args.self.now = ap (λ (x : Option Stretch). shown_by x us) (sym c.in-Some.is) ∙ c.self.view_is in
+    let reached : c.args.from ≤ s.start = omega (arith, c.if-from-across.false) in
+    let before : s.start ≤ c.args.place = omega (arith, c.if-place-across.false) in
+    let behind : c.args.place < s.start + c.len.result = omega (arith, c.if-place-across.false, c.if-place-across-2.false) in
+    let cells = sym (ap first_cell c.written.ensures.stands) ∙ shown_cell c.written.ensures.action c.written.result.now.instrs
+        ∙ c.if-not-same_first_cell.ensures refl
+        ∙ sym (shown_cell c.written-else-not-takes.ensures.action c.written-else-not-takes.result.now.instrs) ∙ ap first_cell c.written-else-not-takes.ensures.stands
+    in
+    subst (λ l. CrossesStretch c.args.from c.args.place c.args.own l c.args.origin c.args.changes.now p) shown
+        (crosses_stretch c.args.from c.args.place c.args.own c.args.origin us s c.args.changes.now p c.index.result.now st (c.if-not-takes.ensures.takes refl) c.left_by-left.ensures
+        reached before behind refl (λ i. record { ms = c.ms.ensures i; ident = c.args.origin }) (sym c.in_ok-action.ensures) c.index.ensures cells)

@@ -1,0 +1,28 @@
+use Rattle.std.proofs.Common.{◌≡◌, ◌<◌, ◌∙◌, length, sym, ap, subst, arith}
+use Rattle.sync_recip.specs.Stretches.{shown_by, IsAt}
+use Rattle.sync_recip.specs.declared.kept.Kept.{Kept}
+use Rattle.sync_recip.proofs.Shown.{length_shown, bare_at}
+use Rattle.sync_recip.proofs.items.Items.origin.Goals as goal
+
+pub index-one-requires : goal.index-one-requires
+index-one-requires c =
+    let us = c.self.inside.kept.items in
+    let o = c.self.inside.stretch in
+    let view : shown_by o us ≡ c.args.self.now = c.self.view_is in
+    let size = length_shown o us in
+    let now = ap length view in
+    let ok = c.self.inside.kept.ok.0 in
+    let there = c.requires in
+    omega (arith, there, size, now, ok)
+
+pub returns : goal.returns
+returns c = λ k at.
+    let us = c.self.inside.kept.items in
+    let o = c.self.inside.stretch in
+    let view : shown_by o us ≡ c.args.self.now = c.self.view_is in
+    let size = length_shown o us in
+    let now = ap length view in
+    let ok = c.self.inside.kept.ok.0 in
+    let requires = c.requires in
+    let within : c.args.place < length us = omega (arith, requires, size, now) in
+    c.origin.ensures ∙ sym (ap (λ (w : Kept). w.item.origin) (bare_at o us c.args.place k c.index-one.result.now within (subst (λ l. IsAt c.args.place l k) (sym view) at) c.index-one.ensures))

@@ -1,0 +1,10 @@
+use Rattle.std.proofs.Common.{◌≡◌}
+use Rattle.sync_recip.specs.Stretches.{laid, Stands}
+use Rattle.sync_recip.proofs.stretch.stretch_from.Given as goal
+
+abbrev pub invariant-loop : goal.invariant-loop
+invariant-loop l = record {
+  shown : laid l.stretch.start l.stretch.lane l.kept ≡ l.kept;
+  stands : Stands l.kept l.stretch;
+  start : l.stretch.start ≡ l.start;
+}
