@@ -1,5 +1,5 @@
 -- Unsent changesets as they are shown, where there is a stretch of them or none.
-use Rattle.std.specs.Prelude.{OnOk, OnErr, IfOk}
+use Rattle.std.specs.Prelude.{IfOk}
 use Rattle.std.proofs.Common.{◌≡◌, ◌⊎◌, inl, inr, ℕ, zero, suc, ◌+◌, ◌-◌, ◌<◌, ◌≤◌, List, [], ◌∷◌, ◌++◌, Option, Some, None, Result, Ok, Err, IfSome, refl, sym, ap, ◌∙◌, subst, length, drop, set, get_or, map, arith}
 use Rattle.std.proofs.lemmas.List.{get_or_default, get_or-drop, length-append, length-set}
 use Rattle.sync_data.specs.declared.instr.Instr.{Instr}
@@ -70,18 +70,16 @@ pushed_stands s us vs st =
       held = subst (AllHold (first_cell s.sample.instrs) s.own s.lane.slots) (sym (drop_push s.start us vs start)) (holds_push (first_cell s.sample.instrs) s.own s.lane.slots (drop s.start us) vs st.held);
     }
 
-pub stands_push : {A E : Type 0} (r : Result A E) (o : Option Stretch) (us vs : List (Unsent Instr)) (u : Unsent Instr) → OnOk r (vs ≡ us ++ u ∷ []) → OnErr r (vs ≡ us) → IfSome o (Stands us) → IfSome o (Stands vs)
-stands_push r None us vs u ok err h = tt
-stands_push (Ok a) (Some s) us vs u ok err h = subst (λ l. Stands l s) (sym ok) (pushed_stands s us (u ∷ []) h)
-stands_push (Err a) (Some s) us vs u ok err h = subst (λ l. Stands l s) (sym err) h
+pub stands_push : (o : Option Stretch) (us vs : List (Unsent Instr)) (u : Unsent Instr) → vs ≡ us ++ u ∷ [] → IfSome o (Stands us) → IfSome o (Stands vs)
+stands_push None us vs u is h = tt
+stands_push (Some s) us vs u is h = subst (λ l. Stands l s) (sym is) (pushed_stands s us (u ∷ []) h)
 
 pushed_shown : (o : Option Stretch) (us vs : List (Unsent Instr)) → IfSome o (Stands us) → shown_by o (us ++ vs) ≡ shown_by o us ++ vs
 pushed_shown None us vs h = refl
 pushed_shown (Some s) us vs h = let within = h.within in laid_push (first_cell s.sample.instrs) s.own s.start s.lane us vs (omega (arith, within)) h.held
 
-pub shown_push : {A E : Type 0} (r : Result A E) (o : Option Stretch) (us vs now : List (Unsent Instr)) (u : Unsent Instr) → OnOk r (vs ≡ us ++ u ∷ []) → IfSome o (Stands us) → shown_by o us ≡ now → OnOk r (shown_by o vs ≡ now ++ u ∷ [])
-shown_push (Ok a) o us vs now u ok h e = ap (shown_by o) ok ∙ pushed_shown o us (u ∷ []) h ∙ ap (λ l. l ++ u ∷ []) e
-shown_push (Err a) o us vs now u ok h e = tt
+pub shown_push : (o : Option Stretch) (us vs now : List (Unsent Instr)) (u : Unsent Instr) → vs ≡ us ++ u ∷ [] → IfSome o (Stands us) → shown_by o us ≡ now → shown_by o vs ≡ now ++ u ∷ []
+shown_push o us vs now u is h e = ap (shown_by o) is ∙ pushed_shown o us (u ∷ []) h ∙ ap (λ l. l ++ u ∷ []) e
 
 -- ---- as they were made
 shown_originals : (o : Option Stretch) (us : List (Unsent Instr)) → originals_of (shown_by o us) ≡ originals_of us
