@@ -15,9 +15,9 @@ ghost use Rattle.sync_rebase.specs.Stretches.{told_unsent, IsSlotOf};
 ghost use Rattle.sync_rebase.specs.Settling.{instrs_left, left_of, own_left, other_left, Meets, Suits};
 ghost use Rattle.sync_rebase.specs.Taking.{IsEntryOf};
 
-use super::actions::action_left;
+use super::actions::{action_left, parts};
 use super::carried::Became;
-use list_lane::{Op, action_of, op_of, prior_of};
+use list_lane::{Op, action_of};
 use super::original::Original;
 use std::alloc::Global;
 use std::marker::Model;
@@ -153,15 +153,25 @@ impl Unsent {
         if self.current.is_empty() {
             return Some(None);
         }
+        match self.op_in(cell, own, length) {
+            None => None,
+            slot => Some(slot),
+        }
+    }
+
+    fn op_in(&self, cell: &Changeset, own: Ident, length: u32) -> Option<Op>
+        ensures { IfSome result (λ op. IsSlotOf self.now (first_cell cell.now.instrs) own length (Some op)) }
+    {
         let action = self.current.action()?;
-        if prior_of(action) != length || !same_first_cell(cell, self.current.written()) {
+        let (does, place, prior) = parts(&action);
+        if prior != length || !same_first_cell(cell, self.current.written()) {
             return None;
         }
         let stamp = Stamp {
             ms: self.current.ms(),
             ident: own,
         };
-        Some(Some(op_of(action, stamp)))
+        Some(Op { does, place, stamp })
     }
 
     /// What it and a changeset of another do after they crossed, where each is one instruction of one list, and both stay.

@@ -1,2 +1,0 @@
-use Rattle.std.proofs.Common.{◌≡◌, ◌<◌, ◌+◌, length, arith}
-use Rattle.sync_rebase.proofs.stretch.next_slot.Goals as goal
