@@ -17,6 +17,8 @@ pub struct Drawn {
     wild: bool,
     /// Whether there are a hundred objects, of which each meets few changesets. Three of them have lists.
     wide: bool,
+    /// Whether nearly all changesets are one edit of one list each.
+    typed: bool,
 }
 
 impl Drawn {
@@ -25,13 +27,15 @@ impl Drawn {
             draws: Gen::new(seed),
             wild: false,
             wide: false,
+            typed: false,
         }
     }
 
-    /// New lists begin. In one of four crossings get stuck, and one of four is about many objects.
+    /// New lists begin. In one of four crossings get stuck, one of four is about many objects, and one of four about one list.
     pub fn begin(&mut self) {
         self.wild = self.below(4) == 0;
         self.wide = self.below(4) == 0;
+        self.typed = self.below(4) == 0;
     }
 
     /// A number below a bound.
@@ -61,8 +65,14 @@ impl Drawn {
     /// A changeset of at most three instructions that act on such lists, at one of eight times. The lists are those behind it then.
     pub fn changes(&mut self, alloc: Global, lengths: &mut Lengths) -> Option<Changeset> {
         let mut instrs = Vec::new(alloc);
-        for _ in 0..self.below(4) {
-            let instr = self.instr(alloc, lengths)?;
+        let types = self.typed && self.below(64) > 0;
+        let count = if types { 1 } else { self.below(4) };
+        for _ in 0..count {
+            let instr = if types {
+                self.list_edit(0, lengths.of(0))?
+            } else {
+                self.instr(alloc, lengths)?
+            };
             lengths.step(&instr);
             if !put(&mut instrs, instr) {
                 return None;

@@ -10,7 +10,7 @@ use Rattle.sync_codec.specs.Spelling.{spelling}
 use Rattle.sync_messages.specs.Parts.{ChangeParts, bytes_of_changes}
 use Rattle.sync_model.specs.Messages.{Change, Upload}
 use Rattle.sync_model.specs.Profile.{fitting}
-use Rattle.sync_model.specs.Clients.{Client as Model, ClientRecord, NotNamed, Unsent, answers, change_of, client_of, if_named, refuse, to_upload_from, unsent_above, upload, upload_from}
+use Rattle.sync_model.specs.Clients.{Client as Model, ClientRecord, NotNamed, Original, Unsent, answers, change_of, client_of, if_named, refuse, to_upload_from, unsent_above, upload, upload_from}
 use Rattle.sync_model.specs.Each.{Each, and_each}
 use Rattle.sync_model.specs.Limits.{IsUnsent}
 use Rattle.sync_model.proofs.Own.{if_true, if_false}
@@ -131,5 +131,5 @@ upload_all records r k =
     let c = client_of the_profile records in
     ap (λ us. if_named c (answers (Upload c.ident (uploaded us)))) (all_above c.cursor c.unsent (numbers_of records r k).unsent)
 
-pub change_is : (u : Item) (h : ChangeParts) (bytes : List ℕ) → change_seen h ≡ record { number = u.original.number; base = u.original.base; ms = u.original.ms; body = bytes } → bytes ≡ spelling u.original.instrs → change_seen h ≡ change_at u
-change_is u h bytes e f = e ∙ ap (λ bs. record { number = u.original.number; base = u.original.base; ms = u.original.ms; body = bs }) f
+pub change_is : (o : Original Instr) (u : Item) (h : ChangeParts) (bytes : List ℕ) → o ≡ u.original → change_seen h ≡ record { number = o.number; base = o.base; ms = o.ms; body = bytes } → bytes ≡ spelling u.original.instrs → change_seen h ≡ change_at u
+change_is o u h bytes made e f = e ∙ (λ i. record { number = (made i).number; base = (made i).base; ms = (made i).ms; body = f i })

@@ -1,5 +1,5 @@
 -- A stretch of unsent changesets, and an action that crosses its lane.
-use Rattle.std.proofs.Common.{◌≡◌, ℕ, zero, suc, ◌+◌, ◌<◌, ◌≤◌, Bool, true, List, [], ◌∷◌, Option, Some, None, Ok, IfSome, refl, sym, ap, ◌∙◌, subst, length, take, drop, get_or, map, arith}
+use Rattle.std.proofs.Common.{◌≡◌, ℕ, zero, suc, ◌+◌, ◌<◌, ◌≤◌, Bool, true, List, [], ◌∷◌, Option, Some, None, Ok, IfSome, refl, sym, ap, ◌∙◌, subst, length, take, drop, map, arith}
 use Rattle.sync_data.specs.declared.instr.CellName.{CellName}
 use Rattle.sync_data.specs.declared.instr.Instr.{Instr}
 use Rattle.sync_data.specs.declared.entry.Stamp.{Stamp}
@@ -31,7 +31,7 @@ use Rattle.sync_rebase.proofs.Laid.{from_twice, from_same, drop_from, length_lai
 
 -- ---- the lane still tells them
 moved_holds : (cell : Option CellPath) (own : ℕ) (a : Op) (x : Option ℕ) (u : Unsent Instr) → Holds cell own (Some a) u → Holds cell own (moved a x) u
-moved_holds cell own a None u h = record { cell_is = h.cell_is; stamp = tt; kind = tt }
+moved_holds cell own a None u h = record { cell_is = tt; stamp = tt; kind = tt }
 moved_holds cell own a (Some p) u h = record { cell_is = h.cell_is; stamp = h.stamp; kind = h.kind }
 
 holds_crossed : (cell : Option CellPath) (own : ℕ) (l : Stamp → Stamp → Bool) (ss : List (Option Op)) (b : Option Op) (us : List (Unsent Instr)) → AllHold cell own ss us → AllHold cell own (crossed l ss b).slots us
@@ -51,7 +51,7 @@ pub stands_crossed : (us : List (Unsent Instr)) (s : Stretch) (b : Op) → Stand
 stands_crossed us s b st =
     let size = length_crossed (lane_later true) s.lane.slots (Some b) in
     let within = st.within in
-    record { within = omega (arith, size, within); cell = st.cell; held = holds_crossed st.cell s.own (lane_later true) s.lane.slots (Some b) (drop s.start us) st.held }
+    record { within = omega (arith, size, within); held = holds_crossed (first_cell s.sample.instrs) s.own (lane_later true) s.lane.slots (Some b) (drop s.start us) st.held }
 
 -- ---- the lane as crossed shows what they become
 own_action : (s : Stretch) (a : Across) → TakesAcross s a → action (kind_of a.action) (place_in a.action) s.lane.first ≡ a.action
@@ -66,29 +66,22 @@ cross_shown us s a st t chains w =
     let within : Within (kind_of a.action) (place_in a.action) n = subst (Within (kind_of a.action) (place_in a.action)) (sym t.sizes) w in
     let after : LaneOf = lane_after (lane_later true) s.lane (op_across a) in
     from_same s.start (overlaid after.first after.slots) (λ l. passed a.own a.stamp a.count (Some a.action) (overlaid n ss l)) us
-        (lane_passes st.cell s.own ss a.count n (op_across a) part (sym t.count) st.held chains within ∙ (λ i. passed (t.own i) a.stamp a.count (Some (own_action s a t i)) (overlaid n ss part)))
+        (lane_passes (first_cell s.sample.instrs) s.own ss a.count n (op_across a) part (sym t.count) st.held chains within ∙ (λ i. passed (t.own i) a.stamp a.count (Some (own_action s a t i)) (overlaid n ss part)))
     ∙ sym (from_twice s.start (passed a.own a.stamp a.count (Some a.action)) (overlaid n ss) us)
     ∙ (λ i. from_place (t.start i) (passed a.own a.stamp a.count (Some a.action)) (laid s.start s.lane us))
 
 -- ---- an entry crosses it
-first_holds : (cell : Option CellPath) (own i : ℕ) (ss : List (Option Op)) (us : List (Unsent Instr)) (r : Unsent Instr) → 0 < length ss → AllHold cell own ss (drop i us) → r ≡ get_or us i r → first_cell r.current ≡ cell
-first_holds cell own i [] us r m h e = absurd (omega (arith, m))
-first_holds cell own zero (s ∷ ss) [] r m h e = absurd h
-first_holds cell own zero (s ∷ ss) (u ∷ us) r m h e = ap (λ (w : Unsent Instr). first_cell w.current) e ∙ h.0.cell_is
-first_holds cell own (suc i) (s ∷ ss) [] r m h e = absurd h
-first_holds cell own (suc i) (s ∷ ss) (u ∷ us) r m h e = first_holds cell own i (s ∷ ss) us r m h e
-
 left_kind : (left : Option ListAction) (a : ListAction) (is : List Instr) → action_in is ≡ Some a → IfSome left (λ b. kind_of b ≡ kind_of a) → IfSome left (λ b. kind_in is ≡ Some (kind_of b))
 left_kind None a is h k = tt
 left_kind (Some b) a is h k = kind_known is a h ∙ ap Some (sym k)
 
-pub crosses_stretch : (from place own origin : ℕ) (us : List (Unsent Instr)) (s : Stretch) (c : Changes) (p : Passing) (r : Unsent Instr)
+pub crosses_stretch : (from place own origin : ℕ) (us : List (Unsent Instr)) (s : Stretch) (c : Changes) (p : Passing)
     → Stands us s → TakesAcross s p.across → LeavesAction s p.across p.left
     → from ≤ p.across.start → p.across.start ≤ place → place < p.across.start + p.across.count
     → p.across.own ≡ own → p.across.stamp ≡ record { ms = c.ms; ident = origin } → action_in c.instrs ≡ Some p.across.action
-    → r ≡ get_or us s.start r → first_cell r.current ≡ first_cell c.instrs
+    → first_cell s.sample.instrs ≡ first_cell c.instrs
     → CrossesStretch from place own (laid s.start s.lane us) origin c p
-crosses_stretch from place own origin us s c p r st t leaves reached before behind own_is stamp_is acts here cells =
+crosses_stretch from place own origin us s c p st t leaves reached before behind own_is stamp_is acts cells =
     let a : Across = p.across in
     let k : ℕ = a.count in
     let n : ℕ = s.lane.first in
@@ -100,9 +93,8 @@ crosses_stretch from place own origin us s c p r st t leaves reached before behi
     let inside = st.within in
     let start = t.start in
     let room = t.room in
-    let more : 0 < length ss = omega (arith, before, behind, size) in
     let known = in_cell c.instrs a.action acts in
-    let cell : st.cell ≡ Some (path_of known.cell) = sym (first_holds st.cell s.own s.start ss us r more st.held here) ∙ cells ∙ known.first in
+    let cell : first_cell s.sample.instrs ≡ Some (path_of known.cell) = cells ∙ known.first in
     let held : AllHold (Some (path_of known.cell)) s.own ss part = subst (λ x. AllHold x s.own ss part) cell st.held in
     let same = own_action s a t in
     let shown : drop a.start V ≡ overlaid n ss part = ap (λ i. drop i V) (sym start) ∙ drop_from s.start (overlaid n ss) us (omega (arith, inside)) in

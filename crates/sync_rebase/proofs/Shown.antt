@@ -1,5 +1,5 @@
 -- Unsent changesets as they are shown, where there is a stretch of them or none.
-use Rattle.std.specs.Prelude.{OnOk, OnErr, IfOk}
+use Rattle.std.specs.Prelude.{IfOk}
 use Rattle.std.proofs.Common.{◌≡◌, ◌⊎◌, inl, inr, ℕ, zero, suc, ◌+◌, ◌-◌, ◌<◌, ◌≤◌, List, [], ◌∷◌, ◌++◌, Option, Some, None, Result, Ok, Err, IfSome, refl, sym, ap, ◌∙◌, subst, length, drop, set, get_or, map, arith}
 use Rattle.std.proofs.lemmas.List.{get_or_default, get_or-drop, length-append, length-set}
 use Rattle.sync_data.specs.declared.instr.Instr.{Instr}
@@ -12,7 +12,7 @@ use Rattle.sync_model.specs.Clients.{Original, Unsent, changeset_of}
 use Rattle.sync_rivals.specs.Lists.{StandsAt, StaysListed}
 use Rattle.sync_theory.specs.Changesets.{cross_sets}
 use Rattle.sync_law.specs.Instrs.{meet}
-use Rattle.sync_transform.specs.Moves.{kind_in, kind_of, moved_changes, moved_first}
+use Rattle.sync_transform.specs.Moves.{first_cell, kind_in, kind_of, moved_changes, moved_first}
 use Rattle.sync_transform.specs.Sets.{made_by}
 use Rattle.sync_transform.specs.declared.moves.Moves.{Moves}
 use Rattle.sync_rebase.specs.Acrossing.{BothMove}
@@ -57,7 +57,7 @@ stands_set None us k v h st = tt
 stands_set (Some s) us k v h st =
     let size = length-set us k v in
     let within = st.within in
-    record { within = omega (arith, size, within); cell = st.cell; held = held_set st.cell s us k v h st.held }
+    record { within = omega (arith, size, within); held = held_set (first_cell s.sample.instrs) s us k v h st.held }
 
 -- ---- one more at the end
 pushed_stands : (s : Stretch) (us vs : List (Unsent Instr)) → Stands us s → Stands (us ++ vs) s
@@ -67,30 +67,24 @@ pushed_stands s us vs st =
     let start : s.start ≤ length us = omega (arith, within) in
     record {
       within = omega (arith, within, size);
-      cell = st.cell;
-      held = subst (AllHold st.cell s.own s.lane.slots) (sym (drop_push s.start us vs start)) (holds_push st.cell s.own s.lane.slots (drop s.start us) vs st.held);
+      held = subst (AllHold (first_cell s.sample.instrs) s.own s.lane.slots) (sym (drop_push s.start us vs start)) (holds_push (first_cell s.sample.instrs) s.own s.lane.slots (drop s.start us) vs st.held);
     }
 
-pub stands_push : {A E : Type 0} (r : Result A E) (o : Option Stretch) (us vs : List (Unsent Instr)) (u : Unsent Instr) → OnOk r (vs ≡ us ++ u ∷ []) → OnErr r (vs ≡ us) → IfSome o (Stands us) → IfSome o (Stands vs)
-stands_push r None us vs u ok err h = tt
-stands_push (Ok a) (Some s) us vs u ok err h = subst (λ l. Stands l s) (sym ok) (pushed_stands s us (u ∷ []) h)
-stands_push (Err a) (Some s) us vs u ok err h = subst (λ l. Stands l s) (sym err) h
+pub stands_push : (o : Option Stretch) (us vs : List (Unsent Instr)) (u : Unsent Instr) → vs ≡ us ++ u ∷ [] → IfSome o (Stands us) → IfSome o (Stands vs)
+stands_push None us vs u is h = tt
+stands_push (Some s) us vs u is h = subst (λ l. Stands l s) (sym is) (pushed_stands s us (u ∷ []) h)
 
 pushed_shown : (o : Option Stretch) (us vs : List (Unsent Instr)) → IfSome o (Stands us) → shown_by o (us ++ vs) ≡ shown_by o us ++ vs
 pushed_shown None us vs h = refl
-pushed_shown (Some s) us vs h = let within = h.within in laid_push h.cell s.own s.start s.lane us vs (omega (arith, within)) h.held
+pushed_shown (Some s) us vs h = let within = h.within in laid_push (first_cell s.sample.instrs) s.own s.start s.lane us vs (omega (arith, within)) h.held
 
-pub shown_push : {A E : Type 0} (r : Result A E) (o : Option Stretch) (us vs now : List (Unsent Instr)) (u : Unsent Instr) → OnOk r (vs ≡ us ++ u ∷ []) → IfSome o (Stands us) → shown_by o us ≡ now → OnOk r (shown_by o vs ≡ now ++ u ∷ [])
-shown_push (Ok a) o us vs now u ok h e = ap (shown_by o) ok ∙ pushed_shown o us (u ∷ []) h ∙ ap (λ l. l ++ u ∷ []) e
-shown_push (Err a) o us vs now u ok h e = tt
+pub shown_push : (o : Option Stretch) (us vs now : List (Unsent Instr)) (u : Unsent Instr) → vs ≡ us ++ u ∷ [] → IfSome o (Stands us) → shown_by o us ≡ now → shown_by o vs ≡ now ++ u ∷ []
+shown_push o us vs now u is h e = ap (shown_by o) is ∙ pushed_shown o us (u ∷ []) h ∙ ap (λ l. l ++ u ∷ []) e
 
 -- ---- as they were made
 shown_originals : (o : Option Stretch) (us : List (Unsent Instr)) → originals_of (shown_by o us) ≡ originals_of us
 shown_originals None us = refl
 shown_originals (Some s) us = laid_originals s.start s.lane us
-
-
-
 
 map_get : {A B : Type 0} (f : A → B) (xs : List A) (i : ℕ) (d : A) → get_or (map f xs) i (f d) ≡ f (get_or xs i d)
 map_get f [] i d = refl
@@ -120,7 +114,7 @@ pub told_kind : (o : Option Stretch) (us : List (Unsent Instr)) (k : ℕ) (r : U
 told_kind None us k r p t st e = let bad : ◌≡◌ {A = Option (Option Op × ℕ)} (Some p) None = t in cc
 told_kind (Some s) us k r p t st e =
     let here : r ≡ get_or (drop s.start us) t.0 r = e ∙ ap (λ n. get_or us n r) t.1 ∙ sym (get_or-drop s.start us t.0 r) in
-    subst (λ x. IfSome x (λ a. kind_in r.current ≡ Some a.does)) (sym t.3) (holds_at st.cell s.own s.lane.slots (drop s.start us) t.0 r st.held t.2 here).kind
+    subst (λ x. IfSome x (λ a. kind_in r.current ≡ Some a.does)) (sym t.3) (holds_at (first_cell s.sample.instrs) s.own s.lane.slots (drop s.start us) t.0 r st.held t.2 here).kind
 
 pub told_out : (o : Option Stretch) (k : ℕ) → IsToldAt k o None → IfSome o (Outside k)
 told_out None k t = tt
@@ -149,7 +143,7 @@ module _ (P : List Instr → Type 0) (cell : Option CellPath) (own : ℕ) (u r :
 pub shown_case : (P : List Instr → Type 0) (o : Option Stretch) (us : List (Unsent Instr)) (k : ℕ) (u r : Unsent Instr) → IfSome o (Stands us) → k < length us → u ≡ get_or (shown_by o us) k u → r ≡ get_or us k r
     → P [] → P r.current → ((a : ListAction) → kind_in r.current ≡ Some (kind_of a) → P (moved_first a r.current)) → P u.current
 shown_case P None us k u r st l at e none same elsewhere = subst (λ (w : Unsent Instr). P w.current) (sym (at ∙ get_or_default us k u r l ∙ sym e)) same
-shown_case P (Some s) us k u r st l at e none same elsewhere = laid_case P st.cell s.own u r none same elsewhere s.start s.lane.first s.lane.slots k us st.held l at e
+shown_case P (Some s) us k u r st l at e none same elsewhere = laid_case P (first_cell s.sample.instrs) s.own u r none same elsewhere s.start s.lane.first s.lane.slots k us st.held l at e
 
 -- ---- the index
 stands_listed : (us : List (Unsent Instr)) (k : ℕ) (l : List Instr) (r : Unsent Instr) → StandsAt k l (currents us) → r ≡ get_or us k r → StaysListed r.current l
@@ -198,15 +192,15 @@ stands_same o us r v h e st = subst (λ l. IfSome o (Stands l)) (sym (set_same u
 
 -- ---- without the first
 stands_back : (s t : Stretch) (us : List (Unsent Instr)) → 0 < s.start → t ≡ record s { start = s.start - 1 } → Stands us s → Stands (tail us) t
-stands_back s t us l e st = subst (Stands (tail us)) (sym e) (back s.start s.own s.lane us l st)
+stands_back s t us l e st = subst (Stands (tail us)) (sym e) (back s.start s.own s.sample s.lane us l st)
   where
-    back : (i own : ℕ) (a : LaneOf) (us : List (Unsent Instr)) → 0 < i → Stands us (record { start = i; own = own; lane = a }) → Stands (tail us) (record { start = i - 1; own = own; lane = a })
-    back zero own a us l st = absurd (omega (arith, l))
-    back (suc i) own a [] l st = let w = st.within in absurd (omega (arith, w))
-    back (suc i) own a (u ∷ us) l st =
+    back : (i own : ℕ) (c : Changes) (a : LaneOf) (us : List (Unsent Instr)) → 0 < i → Stands us (record { start = i; own = own; sample = c; lane = a }) → Stands (tail us) (record { start = i - 1; own = own; sample = c; lane = a })
+    back zero own c a us l st = absurd (omega (arith, l))
+    back (suc i) own c a [] l st = let w = st.within in absurd (omega (arith, w))
+    back (suc i) own c a (u ∷ us) l st =
         let n : suc i - 1 ≡ i = omega arith in
         let w = st.within in
-        rw n (record { within = omega (arith, w); cell = st.cell; held = st.held })
+        rw n (record { within = omega (arith, w); held = st.held })
 
 shown_back : (s t : Stretch) (us : List (Unsent Instr)) → 0 < s.start → t ≡ record s { start = s.start - 1 } → laid t.start t.lane (tail us) ≡ tail (laid s.start s.lane us)
 shown_back s t us l e = ap (λ (x : Stretch). laid x.start x.lane (tail us)) e ∙ back s.start s.lane us l

@@ -1,11 +1,12 @@
 -- A stretch of unsent changesets, whose one list instruction each stands as a lane tells it.
-use Rattle.std.specs.Prelude.{◌≡◌, ◌<◌, ◌≤◌, ◌+◌, ◌-◌, ◌⊎◌, ℕ, zero, suc, List, [], ◌∷◌, Option, None, Some, IfSome, drop, length, slice_index_or}
+use Rattle.std.specs.Prelude.{◌≡◌, ◌<◌, ◌≤◌, ◌+◌, ◌-◌, ◌⊎◌, ℕ, zero, suc, List, [], ◌∷◌, ◌++◌, Option, None, Some, IfSome, drop, length, slice_index_or}
 use Rattle.sync_data.specs.declared.instr.Instr.{Instr}
 use Rattle.sync_data.specs.declared.entry.Stamp.{Stamp}
 use Rattle.sync_base.specs.Effects.{CellPath}
+use Rattle.sync_base.specs.Rules.{top}
 use Rattle.sync_model.specs.Clients.{Unsent}
 use Rattle.sync_transform.specs.Moves.{kind_in, first_cell}
-use Rattle.list_lane.specs.Lanes.{LaneOf, length_after, length_before, slot_at}
+use Rattle.list_lane.specs.Lanes.{LaneOf, length_after, length_at_end, length_before, slot_at, Fits}
 use Rattle.list_lane.specs.Told.{told}
 use Rattle.list_lane.specs.declared.op.Op.{Op}
 use Rattle.sync_rebase.specs.declared.stretch.Stretch.{Stretch}
@@ -40,7 +41,7 @@ stamp_by own u = record { ms = u.original.ms; ident = own }
 
 -- an instruction as it was written, of a client with that ident, is of this cell, and does what the slot tells at whatever place
 pub record Holds (cell : Option CellPath) (own : ℕ) (s : Option Op) (u : Unsent Instr) : Type 0 where
-  pub cell_is : first_cell u.current ≡ cell
+  pub cell_is : IfSome s (λ a. first_cell u.current ≡ cell)
   pub stamp : IfSome s (λ a. a.stamp ≡ stamp_by own u)
   pub kind : IfSome s (λ a. kind_in u.current ≡ Some a.does)
 
@@ -52,8 +53,7 @@ AllHold cell own (s ∷ ss) (u ∷ us) = Holds cell own s u × AllHold cell own 
 
 pub record Stands (us : List (Unsent Instr)) (s : Stretch) : Type 0 where
   pub within : s.start + length s.lane.slots ≤ length us
-  pub cell : Option CellPath
-  pub held : AllHold cell s.own s.lane.slots (drop s.start us)
+  pub held : AllHold (first_cell s.sample.instrs) s.own s.lane.slots (drop s.start us)
 
 -- a place lies outside of it
 abbrev pub Outside : ℕ → Stretch → Type 0
@@ -76,3 +76,22 @@ StepsBack (Some s) o = o ≡ Some (record s { start = s.start - 1 })
 -- an unsent changeset stands at a place
 abbrev pub IsAt : ℕ → List (Unsent Instr) → Unsent Instr → Type 0
 IsAt n us u = u ≡ slice_index_or us n u
+
+-- ---- how a stretch grows
+-- a changeset of a client is so in a lane of that cell, where it acts on a list of that length
+pub record IsSlotOf (u : Unsent Instr) (cell : Option CellPath) (own n : ℕ) (s : Option Op) : Type 0 where
+  pub told : told_unsent n s u ≡ u
+  pub holds : Holds cell own s u
+  pub fits : Fits n s
+
+-- a lane with one slot more
+abbrev pub lane_with : Option Op → LaneOf → LaneOf
+lane_with s a = record { first = a.first; slots = a.slots ++ s ∷ [] }
+
+-- the changeset behind a stretch can follow on in its lane
+pub record Follows (us : List (Unsent Instr)) (s : Stretch) (slot : Option Op) : Type 0 where
+  pub next : Unsent Instr
+  pub at : IsAt (s.start + length s.lane.slots) us next
+  pub within : s.start + length s.lane.slots < length us
+  pub is_slot : IsSlotOf next (first_cell s.sample.instrs) s.own (length_at_end s.lane.first s.lane.slots) slot
+  pub room : s.lane.first + length s.lane.slots + 1 < top

@@ -9,7 +9,8 @@ use list_lane::{Op, action_of};
 use sync_data::Stamp;
 use sync_transform::{Does, ListAction, length_after, place_after};
 
-fn parts(action: &ListAction) -> (Does, u32, u32)
+/// What an action does, where, and how long its list is.
+pub(crate) fn parts(action: &ListAction) -> (Does, u32, u32)
     ensures does { result.0 ≡ kind_of action.now }
     ensures place { result.1 ≡ place_in action.now }
     ensures prior { result.2 ≡ prior_in action.now }

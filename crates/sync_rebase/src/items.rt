@@ -14,8 +14,8 @@ ghost use Rattle.sync_rebase.specs.Taking.{IsHead};
 use super::carried::{Across, Became};
 use super::original::Original;
 use super::stretch::{
-    Stretch, cross_each, cross_lane, left_by, step_back, takes, told_at, write_around, write_head,
-    write_whole,
+    Stretch, cross_each, cross_lane, extend_last, first_stretch, left_by, lies_in, step_back, takes, told_at,
+    write_around, write_head, write_whole,
 };
 use super::unsent::Unsent;
 use std::alloc::Global;
@@ -76,7 +76,9 @@ impl Items {
         ensures ok { OnOk result (self.new ≡ self.old ++ unsent ∷ []) }
         ensures unchanged { OnErr result (self.new ≡ self.old) }
     {
-        push_back(&mut self.items, unsent)
+        push_back(&mut self.items, unsent)?;
+        extend_last(&self.items, &mut self.stretch);
+        Ok(())
     }
 
     /// The changeset at a place as it was made.
@@ -145,7 +147,7 @@ impl Items {
         ensures same { self.new ≡ self.old }
         ensures moves { (u : clients.Unsent Instr) → IsAt place self.old u → IfSome result (BothMove own u origin changes.now) }
     {
-        if told_at(&self.stretch, place).is_some() && self.items[place].stays_apart(index) {
+        if lies_in(&self.stretch, place) && self.items[place].stays_apart(index) {
             return None;
         }
         write_around(self.alloc, &mut self.items, &mut self.stretch, place);
@@ -182,7 +184,7 @@ impl Items {
         if from > across.start || place < across.start || place - across.start >= across.count {
             return None;
         }
-        if !takes(stretch, &across) || !same_first_cell(self.items[across.start].written(), changes.written()) {
+        if !takes(stretch, &across) || !same_first_cell(&stretch.sample, changes.written()) {
             return None;
         }
         let left = left_by(stretch, &across);
@@ -234,6 +236,16 @@ impl Items {
         write_head(self.alloc, &mut self.items, &mut self.stretch);
         drop_front(&mut self.items);
         step_back(&mut self.stretch);
+    }
+
+    /// The first so many changesets in a row of one list instruction each, of one cell, that follow on get a lane, unless there is
+    /// one. Where memory runs out they get a shorter one, or none.
+    pub(crate) fn join(&mut self, own: Ident, least: usize)
+        ensures { self.new ≡ self.old }
+    {
+        if self.stretch.is_none() {
+            self.stretch = first_stretch(self.alloc, &self.items, own, least);
+        }
     }
 
     /// An equal list.

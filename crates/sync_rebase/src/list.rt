@@ -27,6 +27,7 @@ pub struct PendingList {
     alloc: Global,
     index: RivalIndex,
     items: Items,
+    crossed: usize,
 }
 
 impl Model for PendingList {
@@ -53,6 +54,7 @@ impl PendingList {
             alloc,
             index: RivalIndex::new(alloc),
             items: Items::new(alloc),
+            crossed: 0,
         }
     }
 
@@ -107,6 +109,7 @@ impl PendingList {
                 alloc,
                 index: RivalIndex::new(alloc),
                 items,
+                crossed: 0,
             }),
             Err(refusal) => Err(refusal),
         }
@@ -142,6 +145,7 @@ impl PendingList {
         let count = crossed.len();
         self.put_all(crossed);
         self.list_more(count);
+        self.crossed = self.crossed.saturating_add(count);
         changes
     }
 
@@ -155,6 +159,10 @@ impl PendingList {
         ensures fits { IfOk result (λ carried. Fits carried.crossed self.old) }
         ensures refused { IfErr result (Refuses own self.old entry.now) }
     {
+        if self.crossed >= LOOKS && self.crossed >= self.items.len() {
+            self.crossed = 0;
+            self.items.join(own, LOOKS);
+        }
         carry_over(alloc, &mut self.items, &self.index, own, entry)
     }
 

@@ -1,10 +1,10 @@
-ghost use Rattle.std.specs.Prelude.{◌≡◌, ◌<◌, ◌+◌, None, Some, IfSome, IsTrue, true, drop, length};
+ghost use Rattle.std.specs.Prelude.{◌≡◌, ◌<◌, ◌+◌, None, Some, IfSome, IsTrue, IsFalse, OnOk, OnErr, true, drop, length};
 ghost use Rattle.sync_base.specs.Rules.{top};
-ghost use Rattle.sync_rebase.specs.Stretches.{laid, shown_by, Stands, Outside, IsSlotAt, IsToldAt, StepsBack};
+ghost use Rattle.sync_rebase.specs.Stretches.{laid, shown_by, lane_with, Follows, Stands, Outside, IsSlotAt, IsToldAt, StepsBack};
 ghost use Rattle.sync_rebase.specs.Settling.{CanPass, put_across};
 ghost use Rattle.sync_rebase.specs.Acrossing.{op_across, LeavesAction, TakesAcross};
 ghost use Rattle.list_lane.specs.Ops.{lane_later};
-ghost use Rattle.list_lane.specs.Lanes.{lane_after, Chains, Fits};
+ghost use Rattle.list_lane.specs.Lanes.{lane_after, length_at_end, Chains, Fits};
 ghost use Rattle.list_lane.specs.Told.{place_in, prior_in};
 ghost use Rattle.sync_transform.specs.Moves.{kind_of};
 ghost use Rattle.sync_transform.specs.Places.{Within};
@@ -14,15 +14,16 @@ use list_lane::{Lane, Op, action_of, op_of, prior_of};
 use super::unsent::Unsent;
 use std::alloc::Global;
 use std::collections::VecDeque;
-use sync_data::Ident;
+use sync_data::{Changeset, Ident, NoMemory};
 use sync_transform::ListAction;
 
 /// Unsent changesets next to each other, each of one list instruction of one cell, or of none any more: the place of the
-/// first, the ident of the client, and what the instructions do now, as a lane.
+/// first, the ident of the client, a changeset of that cell, and what the instructions do now, as a lane.
 #[derive(Drop)]
 pub(crate) struct Stretch {
     pub(crate) start: usize,
     pub(crate) own: Ident,
+    pub(crate) sample: Changeset,
     pub(crate) lane: Lane,
 }
 
@@ -47,6 +48,18 @@ fn slot_at(stretch: &Stretch, place: usize) -> Option<(Option<Op>, u32)>
     }
     let at = place - stretch.start;
     Some((stretch.lane.slot(at), stretch.lane.length_before(at)))
+}
+
+/// Whether a place lies in the stretch.
+pub(crate) fn lies_in(stretch: &Option<Stretch>, place: usize) -> bool
+    ensures { IsFalse result → IfSome stretch.now (Outside place) }
+{
+    match stretch {
+        Some(stretch) => {
+            place >= stretch.start && place - stretch.start < stretch.lane.len()
+        }
+        None => false,
+    }
 }
 
 /// What is left of an action that crosses the lane of a stretch, which stays as it is.
@@ -79,6 +92,111 @@ pub(crate) fn step_back(stretch: &mut Option<Stretch>)
     if let Some(stretch) = stretch {
         stretch.start -= 1;
     }
+}
+
+/// What the changeset behind a stretch is in its lane, where it can follow on in that.
+fn next_slot(items: &VecDeque<Unsent>, stretch: &Stretch) -> Option<Option<Op>>
+    requires { Stands items.now.items stretch.now }
+    ensures { IfSome result (Follows items.now.items stretch.now) }
+{
+    let count = stretch.lane.len();
+    let place = stretch.start + count;
+    if place >= items.len() || !has_room(stretch.lane.first(), count) {
+        return None;
+    }
+    items[place].slot_in(&stretch.sample, stretch.own, stretch.lane.last())
+}
+
+fn push_slot(lane: &mut Lane, slot: Option<Op>) -> Result<(), NoMemory>
+    requires fits { Fits (length_at_end lane.old.first lane.old.slots) slot }
+    requires room { lane.old.first + length lane.old.slots + 1 < top }
+    ensures ok { OnOk result (lane.new ≡ lane_with slot lane.old) }
+    ensures unchanged { OnErr result (lane.new ≡ lane.old) }
+{
+    match slot {
+        Some(op) => lane.push(op),
+        None => lane.push_empty(),
+    }
+}
+
+/// The changeset behind a stretch joins it, where it can follow on in its lane. Whether it does.
+fn extend(items: &VecDeque<Unsent>, stretch: &mut Stretch) -> bool
+    requires { Stands items.now.items stretch.old }
+    ensures shown { laid stretch.new.start stretch.new.lane items.now.items ≡ laid stretch.old.start stretch.old.lane items.now.items }
+    ensures stands { Stands items.now.items stretch.new }
+    ensures start { stretch.new.start ≡ stretch.old.start }
+    ensures more { IsTrue result → length stretch.new.lane.slots ≡ length stretch.old.lane.slots + 1 }
+{
+    match next_slot(items, stretch) {
+        Some(slot) => push_slot(&mut stretch.lane, slot).is_ok(),
+        None => false,
+    }
+}
+
+/// The last changeset joins the stretch, where that ends before it.
+pub(crate) fn extend_last(items: &VecDeque<Unsent>, stretch: &mut Option<Stretch>)
+    requires { IfSome stretch.old (Stands items.now.items) }
+    ensures shown { shown_by stretch.new items.now.items ≡ shown_by stretch.old items.now.items }
+    ensures stands { IfSome stretch.new (Stands items.now.items) }
+{
+    if let Some(stretch) = stretch {
+        if stretch.start + stretch.lane.len() + 1 == items.len() {
+            extend(items, stretch);
+        }
+    }
+}
+
+/// The longest stretch of a client's changesets that begins with the one at a place, or a shorter one where memory runs out; none
+/// where that one isn't one list instruction.
+fn stretch_from(
+    alloc: Global,
+    items: &VecDeque<Unsent>,
+    own: Ident,
+    start: usize,
+) -> Option<Stretch>
+    requires { start < length items.now.items }
+    ensures shown { IfSome result (λ s. laid s.start s.lane items.now.items ≡ items.now.items) }
+    ensures stands { IfSome result (Stands items.now.items) }
+{
+    let first = prior_of(items[start].action()?);
+    if first == u32::MAX {
+        return None;
+    }
+    let Ok(sample) = items[start].current() else {
+        return None;
+    };
+    let mut stretch = Stretch {
+        start,
+        own,
+        sample,
+        lane: Lane::new(alloc, first),
+    };
+    while extend(items, &mut stretch) {}
+    Some(stretch)
+}
+
+/// The first stretch of a client's changesets that has so many.
+pub(crate) fn first_stretch(
+    alloc: Global,
+    items: &VecDeque<Unsent>,
+    own: Ident,
+    least: usize,
+) -> Option<Stretch>
+    ensures shown { shown_by result items.now.items ≡ items.now.items }
+    ensures stands { IfSome result (Stands items.now.items) }
+{
+    let mut start = 0;
+    while start < items.len() {
+        let mut count = 1;
+        if let Some(stretch) = stretch_from(alloc, items, own, start) {
+            count = stretch.lane.len().max(1);
+            if count >= least {
+                return Some(stretch);
+            }
+        }
+        start = start.saturating_add(count);
+    }
+    None
 }
 
 /// The first of a stretch is written as it stands, and the stretch begins behind it. It takes no memory.
@@ -120,7 +238,7 @@ pub(crate) fn write_around(
     ensures stands { IfSome stretch.new (Stands items.new.items) }
     ensures outside { IfSome stretch.new (Outside place) }
 {
-    if told_at(stretch, place).is_some() {
+    if lies_in(stretch, place) {
         write_whole(alloc, items, stretch);
     }
 }

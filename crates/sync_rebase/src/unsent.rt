@@ -7,15 +7,15 @@ ghost use Rattle.sync_index.specs.Touched.{Covers};
 ghost use Rattle.sync_model.specs.Clients.{as_made, changeset_of};
 ghost use Rattle.sync_rivals.specs.Lists.{StaysListed};
 ghost use Rattle.sync_transform.specs.Sets.{made_by};
-ghost use Rattle.sync_transform.specs.Moves.{action_in, kind_in, kind_of, moved_changes, moved_first, IsShown};
+ghost use Rattle.sync_transform.specs.Moves.{action_in, first_cell, kind_in, kind_of, moved_changes, moved_first, IsShown};
 ghost use Rattle.sync_transform.specs.declared.moves.ListAction.{ListAction as Action};
 ghost use Rattle.list_lane.specs.Lanes.{Fits};
 ghost use Rattle.list_lane.specs.Told.{told};
-ghost use Rattle.sync_rebase.specs.Stretches.{told_unsent};
+ghost use Rattle.sync_rebase.specs.Stretches.{told_unsent, IsSlotOf};
 ghost use Rattle.sync_rebase.specs.Settling.{instrs_left, left_of, own_left, other_left, Meets, Suits};
 ghost use Rattle.sync_rebase.specs.Taking.{IsEntryOf};
 
-use super::actions::action_left;
+use super::actions::{action_left, parts};
 use super::carried::Became;
 use list_lane::{Op, action_of};
 use super::original::Original;
@@ -130,6 +130,48 @@ impl Unsent {
         ensures { StaysListed result.now self.now.current }
     {
         self.current.written().instrs()
+    }
+
+    /// What it does, where it is one list instruction.
+    #[inline(always)]
+    pub(crate) fn action(&self) -> Option<ListAction>
+        ensures { result ≡ action_in self.now.current }
+    {
+        self.current.action()
+    }
+
+    /// What it is in the lane of a client with that ident, where it is one list instruction of the cell of a changeset, and acts on
+    /// a list of that length, or where nothing of it is left.
+    pub(crate) fn slot_in(
+        &self,
+        cell: &Changeset,
+        own: Ident,
+        length: u32,
+    ) -> Option<Option<Op>>
+        ensures { IfSome result (IsSlotOf self.now (first_cell cell.now.instrs) own length) }
+    {
+        if self.current.is_empty() {
+            return Some(None);
+        }
+        match self.op_in(cell, own, length) {
+            None => None,
+            slot => Some(slot),
+        }
+    }
+
+    fn op_in(&self, cell: &Changeset, own: Ident, length: u32) -> Option<Op>
+        ensures { IfSome result (λ op. IsSlotOf self.now (first_cell cell.now.instrs) own length (Some op)) }
+    {
+        let action = self.current.action()?;
+        let (does, place, prior) = parts(&action);
+        if prior != length || !same_first_cell(cell, self.current.written()) {
+            return None;
+        }
+        let stamp = Stamp {
+            ms: self.current.ms(),
+            ident: own,
+        };
+        Some(Op { does, place, stamp })
     }
 
     /// What it and a changeset of another do after they crossed, where each is one instruction of one list, and both stay.

@@ -68,6 +68,13 @@ pass-requires-clause-within c =
     let same = ap length (c.moves.ensures.same ∙ c.loop-from.invariant.same) in
     omega (arith, c.if-place-end.false, c.len-end.ensures, same)
 
+pub shift_to-requires : goal.shift_to-requires
+shift_to-requires c =
+    let all = c.args.items.now in
+    let within : c.next-place.result < length all = omega (arith, c.if-place-end.false, c.len-end.ensures) in
+    let u = element all c.next-place.result within in
+    (c.in-Some-moves.ensures.moves u.0 (subst (λ l. IsAt c.next-place.result l u.0) (sym c.loop-from.invariant.same) u.1)).right
+
 pub loop-from-preserved-in-Some-moves : goal.loop-from-preserved-in-Some-moves
 loop-from-preserved-in-Some-moves c =
     let all = c.args.items.now in

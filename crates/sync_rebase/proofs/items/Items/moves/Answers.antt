@@ -4,6 +4,17 @@ use Rattle.sync_rebase.proofs.Shown.{length_shown, at_plain, both_moves}
 use Rattle.sync_rebase.specs.Acrossing.{BothMove}
 use Rattle.sync_rebase.proofs.items.Items.moves.Goals as goal
 
+pub index-requires : goal.index-requires
+index-requires c =
+    let us = c.self.inside.items.items in
+    let o = c.self.inside.stretch in
+    let view : shown_by o us ≡ c.args.self.now = c.self.view_is in
+    let size = length_shown o us in
+    let now = ap length view in
+    let ok = c.self.inside.items.ok.0 in
+    let there = c.requires in
+    omega (arith, there, size, now, ok)
+
 pub index-unsent-requires : goal.index-unsent-requires
 index-unsent-requires c =
     let us = c.self.inside.items.items in

@@ -1,0 +1,10 @@
+use Rattle.sync_rebase.proofs.Making.{new_shown, new_stands}
+use Rattle.sync_rebase.proofs.stretch.stretch_from.Goals as goal
+
+pub loop-init : goal.loop-init
+loop-init c =
+    let us = c.args.items.now.items in
+    record {
+      shown = new_shown us c.args.start c.prior_of-first.result c.new.result c.new.ensures;
+      stands = new_stands us (record { start = c.args.start; own = c.args.own; sample = c.in-Ok.sample; lane = c.new.result }) c.prior_of-first.result c.new.ensures c.requires;
+    }
