@@ -8,6 +8,8 @@ use Rattle.sync_theory.specs.Grid.{carry}
 use Rattle.sync_theory.specs.Reciprocals.{from_base}
 use Rattle.sync_transform.specs.Sets.{made_by}
 use Rattle.sync_recip.specs.Carrying.{Carrying, Fits, entries_of}
+use Rattle.sync_recip.specs.declared.refusal.RecipRefusal.{RecipRefusal}
+use Rattle.sync_recip.specs.declared.refusal.RecipRefusal.TheVariants as uncarried
 use Rattle.sync_model.specs.Messages.{Change}
 use Rattle.sync_model.specs.Profile.{Stuck, apply_all, cross_changesets, needs}
 use Rattle.sync_model.specs.Servers.{ServerRecord, ServerRefusal, NumberGap, BaseBack, AheadOfHistory, HistoryFull, BadBytes, Mismatch, Break, IdentRetired, Trimmed, Entry, Form, is_retired}
@@ -16,6 +18,7 @@ use Rattle.sync_exchange.specs.Profile.{fits_changeset, the_profile, unspell}
 use Rattle.sync_server.specs.History.{IsOther}
 use Rattle.sync_server.specs.Refusals.{refusal_seen}
 use Rattle.sync_server.specs.declared.refusal.Refusal.{Refusal}
+use Rattle.sync_server.specs.declared.refusal.Refusal.TheVariants as refusals
 use Rattle.sync_server.specs.declared.refusal.ChangeRefusal.{ChangeRefusal}
 use Rattle.sync_server.specs.declared.refusal.ChangeRefusal.TheVariants.{Refused, NoMemory}
 use Rattle.sync_server.specs.declared.merging.ChangeHead.{ChangeHead}
@@ -60,6 +63,12 @@ abbrev pub Carries : Result Carrying ChangeRefusal → ℕ → ℕ → Changes �
 Carries (Ok c) own number v base list = (crossing own number v base list ≡ Ok (made_by own number c.changes, entries_of c list)) × (c.base ≡ base) × Fits c list
 Carries (Err (Refused why)) own number v base list = (m : Stuck) × (crossing own number v base list ≡ Err m) × (refusal_seen why ≡ Mismatch m.0 m.2)
 Carries (Err NoMemory) own number v base list = Unit {0}
+
+-- a change that isn't carried is refused
+abbrev pub carried_as : Result Carrying RecipRefusal → Result Carrying ChangeRefusal
+carried_as (Ok c) = Ok c
+carried_as (Err (uncarried.Mismatch place kind)) = Err (Refused (refusals.Mismatch place kind))
+carried_as (Err uncarried.NoMemory) = Err NoMemory
 
 -- the state after the change, or the first break; then nothing changes
 abbrev pub AppliesBy : Result (Unit {0}) ChangeRefusal → List Instr → State → State → Type 0

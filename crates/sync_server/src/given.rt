@@ -4,7 +4,7 @@ ghost use Rattle.sync_recip.specs.Carrying.{Fits, entries_of};
 ghost use Rattle.sync_model.specs.Parts.{settled, extended, given_up};
 ghost use Rattle.sync_model.specs.Servers.{place_of};
 ghost use Rattle.sync_server.specs.Integrating.{found};
-ghost use Rattle.sync_server.specs.Merging.{Carries};
+ghost use Rattle.sync_server.specs.Merging.{carried_as, Carries};
 
 use crate::kinds::Counted;
 use crate::refusal::{ChangeRefusal, Refusal};
@@ -132,13 +132,7 @@ impl Given {
         ensures same { self.new ≡ self.old }
         ensures carries { (number : ℕ) → Carries result own number changes base self.old.reciprocal }
     {
-        match self.reciprocal.carry(alloc, own, base, changes) {
-            Ok(carried) => Ok(carried),
-            Err(RecipRefusal::Mismatch { place, kind }) => {
-                Err(ChangeRefusal::Refused(Refusal::Mismatch { place, kind }))
-            }
-            Err(RecipRefusal::NoMemory) => Err(ChangeRefusal::NoMemory),
-        }
+        answer_of(self.reciprocal.carry(alloc, own, base, changes))
     }
 
     /// Takes its next change as integrated, and hands it out as carried. It takes no memory.
@@ -179,6 +173,18 @@ impl Given {
             return Ok(());
         }
         self.reciprocal.push_shared(version, entry)
+    }
+}
+
+fn answer_of(carried: Result<Carried, RecipRefusal>) -> Result<Carried, ChangeRefusal>
+    ensures { result ≡ carried_as carried }
+{
+    match carried {
+        Ok(carried) => Ok(carried),
+        Err(RecipRefusal::Mismatch { place, kind }) => {
+            Err(ChangeRefusal::Refused(Refusal::Mismatch { place, kind }))
+        }
+        Err(RecipRefusal::NoMemory) => Err(ChangeRefusal::NoMemory),
     }
 }
 
