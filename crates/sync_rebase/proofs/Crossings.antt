@@ -1,11 +1,9 @@
 -- A stretch of unsent changesets, and an action that crosses its lane.
-use Rattle.std.proofs.Common.{◌≡◌, ℕ, zero, suc, ◌+◌, ◌<◌, ◌≤◌, Bool, true, List, [], ◌∷◌, Option, Some, None, Ok, IfSome, refl, sym, ap, ◌∙◌, subst, length, take, drop, map, arith}
-use Rattle.sync_data.specs.declared.instr.CellName.{CellName}
+use Rattle.std.proofs.Common.{◌≡◌, ℕ, suc, ◌+◌, ◌<◌, ◌≤◌, Bool, true, List, [], ◌∷◌, Option, Some, None, Ok, IfSome, refl, sym, ap, ◌∙◌, subst, length, take, drop, map, arith}
 use Rattle.sync_data.specs.declared.instr.Instr.{Instr}
 use Rattle.sync_data.specs.declared.entry.Stamp.{Stamp}
 use Rattle.sync_data.specs.Payload.{Changes}
 use Rattle.sync_base.specs.Effects.{CellPath, path_of}
-use Rattle.sync_base.specs.Rules.{top}
 use Rattle.sync_theory.specs.Changesets.{cross_sets}
 use Rattle.sync_theory.specs.Grid.{rebase}
 use Rattle.sync_law.specs.Instrs.{meet}
@@ -18,7 +16,7 @@ use Rattle.list_lane.specs.Ops.{lane_later, moved}
 use Rattle.list_lane.specs.Lanes.{LaneOf, crossed, lane_after, length_at_end, Chains}
 use Rattle.list_lane.specs.Told.{action, place_in, prior_in, IsTold}
 use Rattle.list_lane.specs.Laws.{CrossesLeft}
-use Rattle.sync_rebase.specs.Acrossing.{op_across, left_action, changes_left, LeavesAction, TakesAcross, CrossesStretch}
+use Rattle.sync_rebase.specs.Acrossing.{op_across, LeavesAction, TakesAcross, CrossesStretch}
 use Rattle.sync_rebase.specs.Settling.{instrs_left, passed, put_across, CanPass}
 use Rattle.sync_rebase.specs.Stretches.{from_place, overlaid, laid, Holds, AllHold, Stands}
 use Rattle.sync_rebase.specs.declared.carried.Across.{Across}
@@ -66,7 +64,7 @@ cross_shown us s a st t chains w =
     let within : Within (kind_of a.action) (place_in a.action) n = subst (Within (kind_of a.action) (place_in a.action)) (sym t.sizes) w in
     let after : LaneOf = lane_after (lane_later true) s.lane (op_across a) in
     from_same s.start (overlaid after.first after.slots) (λ l. passed a.own a.stamp a.count (Some a.action) (overlaid n ss l)) us
-        (lane_passes (first_cell s.sample.instrs) s.own ss a.count n (op_across a) part (sym t.count) st.held chains within ∙ (λ i. passed (t.own i) a.stamp a.count (Some (own_action s a t i)) (overlaid n ss part)))
+    (lane_passes (first_cell s.sample.instrs) s.own ss a.count n (op_across a) part (sym t.count) st.held chains within ∙ (λ i. passed (t.own i) a.stamp a.count (Some (own_action s a t i)) (overlaid n ss part)))
     ∙ sym (from_twice s.start (passed a.own a.stamp a.count (Some a.action)) (overlaid n ss) us)
     ∙ (λ i. from_place (t.start i) (passed a.own a.stamp a.count (Some a.action)) (laid s.start s.lane us))
 

@@ -1,5 +1,5 @@
 -- An index of unsent changesets is one of what is left of them.
-use Rattle.std.proofs.Common.{◌≡◌, ℕ, zero, suc, ◌<◌, Bool, not, List, [], ◌∷◌, Option, Some, None, refl, sym, length, arith}
+use Rattle.std.proofs.Common.{◌≡◌, ℕ, zero, suc, ◌<◌, Bool, not, List, [], ◌∷◌, Option, Some, None, refl, length, arith}
 use Rattle.sync_data.specs.declared.instr.Instr.{Instr}
 use Rattle.sync_data.specs.declared.entry.Stamp.{Stamp}
 use Rattle.sync_theory.specs.Changesets.{later_stamp}
@@ -9,7 +9,7 @@ use Rattle.sync_rivals.specs.Lists.{Indexed, AreListed, Lists, StaysListed}
 use Rattle.sync_rivals.specs.Marks.{Marks}
 use Rattle.sync_transform.specs.Moves.{action_in}
 use Rattle.sync_transform.specs.declared.moves.ListAction.{ListAction}
-use Rattle.sync_rebase.specs.Settling.{currents, instrs_left, own_left, other_left, passed, put_across}
+use Rattle.sync_rebase.specs.Settling.{currents, own_left, other_left, passed, put_across}
 use Rattle.sync_rebase.specs.Stretches.{from_place}
 use Rattle.sync_rebase.specs.declared.carried.Across.{Across}
 use Rattle.sync_rebase.proofs.Acting.{left_listed}

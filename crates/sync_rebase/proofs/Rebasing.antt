@@ -1,5 +1,5 @@
 -- An entry crosses a stretch of the unsent changesets at once.
-use Rattle.std.proofs.Common.{◌≡◌, ◌≤◌, ◌<◌, ℕ, zero, suc, ◌+◌, List, [], ◌∷◌, ◌++◌, Option, Some, None, Result, Ok, Err, refl, sym, ap, ◌∙◌, subst, length, take, drop, map, zero-add, append-nil, append_assoc, arith}
+use Rattle.std.proofs.Common.{◌≡◌, ◌≤◌, ℕ, zero, suc, ◌+◌, List, [], ◌∷◌, ◌++◌, Option, Some, None, Result, Ok, Err, refl, sym, ap, ◌∙◌, subst, length, take, drop, append_assoc, arith}
 use Rattle.std.proofs.lemmas.List.{length-append, length-map, length-take-le, length-drop, map-append, take-append-drop, take_at, drop_at, drop-drop}
 use Rattle.sync_data.specs.declared.instr.Instr.{Instr}
 use Rattle.sync_data.specs.declared.entry.Entry.{Entry}
@@ -7,12 +7,11 @@ use Rattle.sync_data.specs.declared.entry.Stamp.{Stamp}
 use Rattle.sync_data.specs.Payload.{Changes}
 use Rattle.sync_theory.specs.Grid.{Meet, rebase, rebase_one, rebase_put}
 use Rattle.sync_theory.specs.Loops.{rebase_after}
-use Rattle.sync_theory.specs.Changesets.{Changeset, cross_sets}
+use Rattle.sync_theory.specs.Changesets.{cross_sets}
 use Rattle.sync_law.specs.Instrs.{meet}
 use Rattle.sync_index.specs.Touched.{Touched, Covers}
 use Rattle.sync_rivals.specs.Lists.{Indexed, Pass}
 use Rattle.sync_model.specs.Clients.{Unsent, changeset_of}
-use Rattle.sync_transform.specs.Moves.{moved_first}
 use Rattle.sync_transform.specs.Sets.{made_by}
 use Rattle.sync_transform.specs.declared.moves.ListAction.{ListAction}
 use Rattle.sync_transform.proofs.Stands.{shown_covered}
@@ -91,16 +90,16 @@ walk_across t x codes own us e crossed now from place p pass m w =
     let became : List (Unsent Instr) = passed a.own a.stamp k (Some a.action) part in
     let size = length_settled crossed us in
     let list : settled (crossed ++ Stretch a ∷ []) us ≡ (take i s ++ became) ++ rest =
-        settled_push crossed (Stretch a) us
-        ∙ split_from i (passed a.own a.stamp k (Some a.action)) s (omega (arith, size, within))
-        ∙ ap (λ l. take i s ++ passed a.own a.stamp k (Some a.action) l) there.rest
-        ∙ ap (λ l. take i s ++ l) (passed_split a.own a.stamp k (Some a.action) (drop i us))
-        ∙ sym (append_assoc (take i s) became rest)
+    settled_push crossed (Stretch a) us
+    ∙ split_from i (passed a.own a.stamp k (Some a.action)) s (omega (arith, size, within))
+    ∙ ap (λ l. take i s ++ passed a.own a.stamp k (Some a.action) l) there.rest
+    ∙ ap (λ l. take i s ++ l) (passed_split a.own a.stamp k (Some a.action) (drop i us))
+    ∙ sym (append_assoc (take i s) became rest)
     in
     let dropped = length-drop i us in
     let long : length part ≡ k = length-take-le k (drop i us) (omega (arith, dropped, within)) in
     let front : length (take i s ++ became) ≡ i + k =
-        length-append (take i s) became ∙ (λ j. length-take-le i s (omega (arith, size, within)) j + (length_passed a.own a.stamp k (Some a.action) part ∙ long) j)
+    length-append (take i s) became ∙ (λ j. length-take-le i s (omega (arith, size, within)) j + (length_passed a.own a.stamp k (Some a.action) part ∙ long) j)
     in
     let behind : drop (i + k) us ≡ rest = sym (drop-drop k i us) in
     record {

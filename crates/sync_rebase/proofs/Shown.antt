@@ -1,14 +1,13 @@
 -- Unsent changesets as they are shown, where there is a stretch of them or none.
 use Rattle.std.specs.Prelude.{IfOk}
-use Rattle.std.proofs.Common.{◌≡◌, ◌⊎◌, inl, inr, ℕ, zero, suc, ◌+◌, ◌-◌, ◌<◌, ◌≤◌, List, [], ◌∷◌, ◌++◌, Option, Some, None, Result, Ok, Err, IfSome, refl, sym, ap, ◌∙◌, subst, length, drop, set, get_or, map, arith}
+use Rattle.std.proofs.Common.{◌≡◌, inl, inr, ℕ, zero, suc, ◌-◌, ◌<◌, ◌≤◌, List, [], ◌∷◌, ◌++◌, Option, Some, None, Result, Ok, Err, IfSome, refl, sym, ap, ◌∙◌, subst, length, drop, set, get_or, map, arith}
 use Rattle.std.proofs.lemmas.List.{get_or_default, get_or-drop, length-append, length-set}
 use Rattle.sync_data.specs.declared.instr.Instr.{Instr}
-use Rattle.sync_data.specs.declared.entry.Stamp.{Stamp}
 use Rattle.sync_data.specs.declared.entry.Entry.{Entry}
 use Rattle.sync_data.specs.Payload.{Changes}
 use Rattle.sync_base.specs.Effects.{CellPath}
 use Rattle.sync_theory.specs.Grid.{tail}
-use Rattle.sync_model.specs.Clients.{Original, Unsent, changeset_of}
+use Rattle.sync_model.specs.Clients.{Unsent, changeset_of}
 use Rattle.sync_rivals.specs.Lists.{StandsAt, StaysListed}
 use Rattle.sync_theory.specs.Changesets.{cross_sets}
 use Rattle.sync_law.specs.Instrs.{meet}
@@ -20,12 +19,12 @@ use Rattle.sync_transform.specs.declared.moves.ListAction.{ListAction}
 use Rattle.list_lane.specs.Lanes.{LaneOf, length_after, slot_at}
 use Rattle.list_lane.specs.Told.{action, told}
 use Rattle.sync_rebase.specs.Settling.{currents}
-use Rattle.sync_rebase.specs.Stretches.{told_unsent, overlaid, laid, shown_by, Holds, AllHold, Stands, Outside, IsSlotAt, IsToldAt, IsAt, StepsBack}
+use Rattle.sync_rebase.specs.Stretches.{told_unsent, overlaid, laid, shown_by, Holds, AllHold, Stands, Outside, IsToldAt, StepsBack}
 use Rattle.sync_rebase.specs.Taking.{IsEntryOf, IsHead}
 use Rattle.list_lane.specs.declared.op.Op.{Op}
 use Rattle.sync_rebase.specs.declared.stretch.Stretch.{Stretch}
 use Rattle.sync_rebase.proofs.Acting.{kind_action, told_listed}
-use Rattle.sync_rebase.proofs.Laid.{originals_of, laid_originals, length_laid, get_before, get_behind, get_at, set_before, set_behind, holds_before, holds_behind, holds_push, holds_within, laid_push, drop_push}
+use Rattle.sync_rebase.proofs.Laid.{originals_of, laid_originals, length_laid, get_before, get_behind, get_at, set_before, set_behind, holds_before, holds_behind, holds_push, laid_push, drop_push}
 
 pub length_shown : (o : Option Stretch) (us : List (Unsent Instr)) → length (shown_by o us) ≡ length us
 length_shown None us = refl

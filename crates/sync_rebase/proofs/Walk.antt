@@ -1,6 +1,6 @@
 -- An entry walks along the unsent changesets: what was settled so far, and what the rest gives, is what all gives.
 use Rattle.std.proofs.Common.{◌≡◌, ◌≢◌, ◌≤◌, ◌<◌, ℕ, zero, suc, ◌+◌, ◌-◌, Bool, List, [], ◌∷◌, ◌++◌, Some, Result, Ok, Err, refl, sym, ap, ◌∙◌, length, take, drop, get_or, map, subst, add-one, zero-add, append-nil, arith}
-use Rattle.std.proofs.lemmas.List.{length-map, drop_more, drop_all, take_all, map_push}
+use Rattle.std.proofs.lemmas.List.{drop_more, drop_all, take_all, map_push}
 use Rattle.sync_data.specs.declared.instr.Instr.{Instr}
 use Rattle.sync_data.specs.declared.entry.Entry.{Entry}
 use Rattle.sync_data.specs.Payload.{Changes}
@@ -19,7 +19,7 @@ use Rattle.sync_transform.specs.Sets.{made_by}
 use Rattle.sync_transform.specs.Moves.{kind_in, kind_of, moved_first}
 use Rattle.sync_transform.specs.declared.moves.ListAction.{ListAction}
 use Rattle.sync_rebase.specs.declared.carried.Crossed.{Crossed}
-use Rattle.sync_rebase.specs.declared.carried.Crossed.TheVariants.{One, Stretch}
+use Rattle.sync_rebase.specs.declared.carried.Crossed.TheVariants.{One}
 use Rattle.sync_rebase.specs.declared.carried.Became.{Became}
 use Rattle.sync_rebase.specs.declared.carried.Became.TheVariants.{Moved, Changed}
 use Rattle.sync_rebase.specs.declared.refusal.RebaseRefusal.{RebaseRefusal}

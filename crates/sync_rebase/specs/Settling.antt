@@ -1,5 +1,5 @@
 -- What an entry becomes over a list of unsent changesets, and the list after it.
-use Rattle.std.specs.Prelude.{◌≡◌, ◌≤◌, ◌<◌, ◌+◌, ℕ, zero, suc, Bool, not, List, [], ◌∷◌, Option, Some, None, IfSome, map, length, drop}
+use Rattle.std.specs.Prelude.{◌≡◌, ◌<◌, ℕ, zero, suc, Bool, not, List, [], ◌∷◌, Option, Some, None, IfSome, map, drop}
 use Rattle.sync_data.specs.declared.instr.Instr.{Instr}
 use Rattle.sync_data.specs.declared.entry.Stamp.{Stamp}
 use Rattle.sync_data.specs.Payload.{Changes}

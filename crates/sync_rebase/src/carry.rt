@@ -97,7 +97,14 @@ fn walk(
         if items.stays_apart(place, index) {
             continue;
         }
-        match pass(items, place, own, changes.into_changes(), entry.origin, index) {
+        match pass(
+            items,
+            place,
+            own,
+            changes.into_changes(),
+            entry.origin,
+            index,
+        ) {
             Err(refusal) => return Err(refusal),
             Ok((current, carried)) => {
                 changes = Shifted::new(carried);

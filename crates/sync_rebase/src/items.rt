@@ -14,8 +14,8 @@ ghost use Rattle.sync_rebase.specs.Taking.{IsHead};
 use super::carried::{Across, Became};
 use super::original::Original;
 use super::stretch::{
-    Stretch, cross_each, cross_lane, extend_last, first_stretch, left_by, lies_in, step_back, takes, told_at,
-    write_around, write_head, write_whole,
+    Stretch, cross_each, cross_lane, extend_last, first_stretch, left_by, lies_in, step_back,
+    takes, told_at, write_around, write_head, write_whole,
 };
 use super::unsent::Unsent;
 use std::alloc::Global;

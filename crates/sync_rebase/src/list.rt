@@ -152,7 +152,12 @@ impl PendingList {
     /// An entry of another client as carried over the changesets, from the oldest on, each of them the left side with the
     /// ident `own`; and the changesets that it may touch, as they crossed it. Err(Mismatch) where one can't cross it, with
     /// the first such one's number. The list stays as it is; `settle` puts those that crossed in their places.
-    pub fn carry(&mut self, alloc: Global, own: Ident, entry: &Entry) -> Result<Carried, RebaseRefusal>
+    pub fn carry(
+        &mut self,
+        alloc: Global,
+        own: Ident,
+        entry: &Entry,
+    ) -> Result<Carried, RebaseRefusal>
         requires { own ≢ entry.now.origin }
         ensures same { self.new ≡ self.old }
         ensures crosses { IfOk result (λ carried. Crosses own self.old entry.now (settled carried.crossed self.old) carried.changes) }

@@ -10,8 +10,8 @@ ghost use Rattle.sync_transform.specs.Moves.{kind_of};
 ghost use Rattle.sync_transform.specs.Places.{Within};
 
 use super::carried::Across;
-use list_lane::{Lane, Op, action_of, op_of, prior_of};
 use super::unsent::Unsent;
+use list_lane::{Lane, Op, action_of, op_of, prior_of};
 use std::alloc::Global;
 use std::collections::VecDeque;
 use sync_data::{Changeset, Ident, NoMemory};
@@ -55,9 +55,7 @@ pub(crate) fn lies_in(stretch: &Option<Stretch>, place: usize) -> bool
     ensures { IsFalse result → IfSome stretch.now (Outside place) }
 {
     match stretch {
-        Some(stretch) => {
-            place >= stretch.start && place - stretch.start < stretch.lane.len()
-        }
+        Some(stretch) => { place >= stretch.start && place - stretch.start < stretch.lane.len() }
         None => false,
     }
 }
@@ -259,11 +257,7 @@ pub(crate) fn write_whole(
 }
 
 /// Where the stretch begins with the first of all, that one is written, and the stretch begins behind it.
-pub(crate) fn write_head(
-    alloc: Global,
-    items: &mut VecDeque<Unsent>,
-    stretch: &mut Option<Stretch>,
-)
+pub(crate) fn write_head(alloc: Global, items: &mut VecDeque<Unsent>, stretch: &mut Option<Stretch>)
     requires { IfSome stretch.old (Stands items.old.items) }
     ensures shown { shown_by stretch.new items.new.items ≡ shown_by stretch.old items.old.items }
     ensures stands { IfSome stretch.new (Stands items.new.items) }

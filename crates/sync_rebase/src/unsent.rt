@@ -17,13 +17,15 @@ ghost use Rattle.sync_rebase.specs.Taking.{IsEntryOf};
 
 use super::actions::{action_left, parts};
 use super::carried::Became;
-use list_lane::{Op, action_of};
 use super::original::Original;
+use list_lane::{Op, action_of};
 use std::alloc::Global;
 use std::marker::Model;
 use sync_data::{Changeset, Entry, Ident, Instr, NoMemory, Stamp};
 use sync_index::{Index, shared_spot};
-use sync_transform::{ListAction, Moves, Shifted, both_move, is_later, same_first_cell, stays_apart};
+use sync_transform::{
+    ListAction, Moves, Shifted, both_move, is_later, same_first_cell, stays_apart,
+};
 
 /// A changeset that the server hasn't acknowledged, as it was made and as it was rebased since.
 #[derive(Drop)]
@@ -142,12 +144,7 @@ impl Unsent {
 
     /// What it is in the lane of a client with that ident, where it is one list instruction of the cell of a changeset, and acts on
     /// a list of that length, or where nothing of it is left.
-    pub(crate) fn slot_in(
-        &self,
-        cell: &Changeset,
-        own: Ident,
-        length: u32,
-    ) -> Option<Option<Op>>
+    pub(crate) fn slot_in(&self, cell: &Changeset, own: Ident, length: u32) -> Option<Option<Op>>
         ensures { IfSome result (IsSlotOf self.now (first_cell cell.now.instrs) own length) }
     {
         if self.current.is_empty() {
@@ -225,12 +222,7 @@ impl Unsent {
     {
         let original = &self.original;
         match original.changes().copy() {
-            Ok(changes) => Ok(Unsent::new(
-                original.number(),
-                original.base(),
-                changes,
-                current,
-            )),
+            Ok(changes) => Ok(Unsent::new(original.number(), original.base(), changes, current)),
             Err(refusal) => Err(refusal),
         }
     }

@@ -45,7 +45,7 @@ loop-from-preserved-in-Some c =
     let pass = c.next-place.ensures.pass c.loop-from.changes.instrs (currents all) c.loop-from.invariant.walked.served c.is_empty.ensures.0 c.requires.listed in
     let passing = c.in-Some.passing in
     let crosses : CrossesStretch c.loop-from.from c.next-place.result c.args.own all c.args.entry.now.origin c.loop-from.changes passing =
-        subst (λ l. CrossesStretch c.loop-from.from c.next-place.result c.args.own l c.args.entry.now.origin c.loop-from.changes passing) c.loop-from.invariant.same c.in-Some.ensures
+    subst (λ l. CrossesStretch c.loop-from.from c.next-place.result c.args.own l c.args.entry.now.origin c.loop-from.changes passing) c.loop-from.invariant.same c.in-Some.ensures
     in
     let W : List Crossed → Changes → Type 0 = Walked c.args.index.now c.args.rivals.now c.args.codes.now c.args.own c.args.items.now c.args.entry.now (passing.across.start + passing.across.count) in
     record {

@@ -25,5 +25,5 @@ returns c =
     let behind : c.args.place < s.start + c.len.result = omega (arith, c.if-place-across.false, c.if-place-across-2.false) in
     let cells = c.if-not-same_first_cell.ensures refl ∙ sym (shown_cell c.written.ensures.action c.written.result.now.instrs) ∙ ap first_cell c.written.ensures.stands in
     subst (λ l. CrossesStretch c.args.from c.args.place c.args.own l c.args.origin c.args.changes.now p) shown
-        (crosses_stretch c.args.from c.args.place c.args.own c.args.origin us s c.args.changes.now p st (c.if-not-takes.ensures.takes refl) c.left_by-left.ensures
-        reached before behind refl (λ i. record { ms = c.ms.ensures i; ident = c.args.origin }) (sym c.in_ok-action.ensures) cells)
+    (crosses_stretch c.args.from c.args.place c.args.own c.args.origin us s c.args.changes.now p st (c.if-not-takes.ensures.takes refl) c.left_by-left.ensures
+    reached before behind refl (λ i. record { ms = c.ms.ensures i; ident = c.args.origin }) (sym c.in_ok-action.ensures) cells)

@@ -1,4 +1,4 @@
-use Rattle.std.proofs.Common.{◌≡◌, ◌<◌, ◌≤◌, ◌∙◌, ◌++◌, ◌∷◌, [], length, take, sym, ap, subst, arith}
+use Rattle.std.proofs.Common.{◌≡◌, ◌<◌, ◌≤◌, ◌∙◌, ◌++◌, ◌∷◌, [], length, sym, ap, subst, arith}
 use Rattle.sync_rebase.specs.Stretches.{shown_by, IsAt}
 use Rattle.sync_rebase.proofs.Shown.{length_shown, original_at}
 use Rattle.std.proofs.lemmas.List.{take_all, take_more}

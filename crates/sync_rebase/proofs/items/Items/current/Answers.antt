@@ -31,8 +31,8 @@ returns-in-Some c =
     let there : c.args.place < length us = omega (arith, requires, size, now) in
     let r = c.index-unsent.result.now in
     ok_map c.current_told.result
-        (λ x is u at. is ∙ sym (ap changes_of (told_shown o us c.args.place u r (c.in-Some.slot, c.in-Some.length) c.in-Some.ensures.told there (subst (λ l. IsAt c.args.place l u) (sym view) at) c.index-unsent.ensures)))
-        c.current_told.ensures
+    (λ x is u at. is ∙ sym (ap changes_of (told_shown o us c.args.place u r (c.in-Some.slot, c.in-Some.length) c.in-Some.ensures.told there (subst (λ l. IsAt c.args.place l u) (sym view) at) c.index-unsent.ensures)))
+    c.current_told.ensures
 
 pub returns-in-None : goal.returns-in-None
 returns-in-None c =
@@ -46,5 +46,5 @@ returns-in-None c =
     let there : c.args.place < length us = omega (arith, requires, size, now) in
     let r = c.index-unsent.result.now in
     ok_map c.current.result
-        (λ x is u at. is ∙ sym (ap changes_of (at_plain o us c.args.place u r (told_out o c.args.place c.in-None.ensures.told) there (subst (λ l. IsAt c.args.place l u) (sym view) at) c.index-unsent.ensures)))
-        c.current.ensures
+    (λ x is u at. is ∙ sym (ap changes_of (at_plain o us c.args.place u r (told_out o c.args.place c.in-None.ensures.told) there (subst (λ l. IsAt c.args.place l u) (sym view) at) c.index-unsent.ensures)))
+    c.current.ensures

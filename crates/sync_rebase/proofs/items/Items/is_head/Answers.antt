@@ -1,4 +1,4 @@
-use Rattle.std.proofs.Common.{◌≡◌, ◌<◌, ◌∙◌, true, false, length, sym, ap, subst, arith}
+use Rattle.std.proofs.Common.{◌≡◌, ◌<◌, ◌∙◌, true, false, length, ap, subst, arith}
 use Rattle.sync_rebase.specs.Stretches.{shown_by, IsAt}
 use Rattle.sync_rebase.proofs.Shown.{length_shown, plain_at, behind_out, head_told, no_head}
 use Rattle.sync_rebase.proofs.items.Items.is_head.Goals as goal

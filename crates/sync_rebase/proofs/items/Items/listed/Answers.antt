@@ -1,4 +1,4 @@
-use Rattle.std.proofs.Common.{◌≡◌, ◌<◌, length, sym, ap, subst, arith}
+use Rattle.std.proofs.Common.{◌≡◌, length, sym, ap, subst, arith}
 use Rattle.sync_rebase.specs.Stretches.{shown_by}
 use Rattle.sync_rebase.proofs.Shown.{length_shown, shown_listed}
 use Rattle.sync_rivals.specs.Lists.{StandsAt}

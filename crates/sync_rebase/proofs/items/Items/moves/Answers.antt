@@ -45,4 +45,4 @@ returns-clause-moves c = λ u at.
     let there : c.args.place < length vs = omega (arith, within, long, then) in
     let same = at_plain p vs c.args.place u r c.write_around.ensures.outside there (subst (λ l. IsAt c.args.place l u) (sym became) at) c.index-unsent.ensures in
     subst (λ w. IfSome c.moves.result (BothMove c.args.own w c.args.origin c.args.changes.now)) (sym same)
-        (both_moves c.args.own c.args.origin r c.args.changes.now c.moves.result c.moves.ensures.crosses c.moves.ensures.left c.moves.ensures.right)
+    (both_moves c.args.own c.args.origin r c.args.changes.now c.moves.result c.moves.ensures.crosses c.moves.ensures.left c.moves.ensures.right)

@@ -1,4 +1,4 @@
-use Rattle.std.proofs.Common.{◌≡◌, ◌<◌, ◌∙◌, length, set, sym, ap, subst, arith}
+use Rattle.std.proofs.Common.{◌≡◌, ◌∙◌, length, set, ap, subst, arith}
 use Rattle.sync_rebase.specs.Stretches.{shown_by, IsAt}
 use Rattle.sync_rebase.proofs.Shown.{length_shown, plain_at, shown_set, stands_set}
 use Rattle.sync_rebase.proofs.Places.{fits_within, fits_suits, set_is_became}

@@ -1,4 +1,4 @@
-use Rattle.std.proofs.Common.{◌≡◌, ◌<◌, List, [], Ok, refl, length, sym, ap, subst, arith}
+use Rattle.std.proofs.Common.{◌≡◌, ◌<◌, List, Ok, refl, length, sym, ap, subst, arith}
 use Rattle.sync_rebase.specs.Stretches.{shown_by, IsAt}
 use Rattle.sync_rebase.proofs.Shown.{length_shown, shown_case}
 use Rattle.sync_data.specs.declared.instr.Instr.{Instr}
@@ -28,4 +28,4 @@ returns c = λ told u at others there later.
     let requires = c.requires in
     let within : c.args.place < length us = omega (arith, requires, size, now) in
     shown_case (λ (x : List Instr). cross (λ a b. meet a b later) x others ≡ Ok (x, others)) o us c.args.place u c.index-unsent.result.now c.self.invariant within (subst (λ l. IsAt c.args.place l u) (sym view) at) c.index-unsent.ensures
-        refl (c.stays_apart.ensures.own told others there later) (λ a kind. c.stays_apart.ensures.told told a kind others there later)
+    refl (c.stays_apart.ensures.own told others there later) (λ a kind. c.stays_apart.ensures.told told a kind others there later)

@@ -1,4 +1,4 @@
-use Rattle.std.proofs.Common.{sym, subst, arith}
+use Rattle.std.proofs.Common.{sym, subst}
 use Rattle.sync_rivals.specs.Lists.{Lists, StaysAt, put_list}
 use Rattle.sync_rebase.specs.declared.carried.Became.TheVariants.{Changed}
 use Rattle.sync_rebase.specs.Settling.{FitsAt, currents}

@@ -1,8 +1,7 @@
-use Rattle.std.proofs.Common.{◌≡◌, ◌<◌, length, sym, ap, subst, ◌∙◌, arith}
-use Rattle.sync_theory.specs.Grid.{tail}
+use Rattle.std.proofs.Common.{◌<◌, length, sym, subst, arith}
 use Rattle.sync_rivals.specs.Lists.{Lists}
 use Rattle.sync_rebase.specs.Settling.{currents}
-use Rattle.sync_rebase.proofs.Indexed.{tail_lists, none_tail}
+use Rattle.sync_rebase.proofs.Indexed.{tail_lists}
 use Rattle.sync_rebase.proofs.list.PendingList.drop_head.Goals as goal
 
 pub invariant_of-self : goal.invariant_of-self
