@@ -1,12 +1,10 @@
 -- A stretch of entries, and an action that crosses its lane.
 use Rattle.std.proofs.Common.{◌≡◌, ℕ, zero, suc, ◌+◌, ◌<◌, ◌≤◌, Bool, false, List, [], ◌∷◌, Option, Some, None, Ok, IfSome, refl, sym, ap, ◌∙◌, subst, length, take, drop, get_or, map, arith}
 use Rattle.std.proofs.lemmas.List.{drop-map}
-use Rattle.sync_data.specs.declared.instr.CellName.{CellName}
 use Rattle.sync_data.specs.declared.instr.Instr.{Instr}
 use Rattle.sync_data.specs.declared.entry.Stamp.{Stamp}
 use Rattle.sync_data.specs.Payload.{Changes}
 use Rattle.sync_base.specs.Effects.{CellPath, path_of}
-use Rattle.sync_base.specs.Rules.{top}
 use Rattle.sync_theory.specs.Changesets.{cross_sets}
 use Rattle.sync_theory.specs.Grid.{carry}
 use Rattle.sync_law.specs.Instrs.{meet}
@@ -21,7 +19,7 @@ use Rattle.list_lane.specs.Ops.{lane_later, moved}
 use Rattle.list_lane.specs.Lanes.{LaneOf, crossed, lane_after, length_at_end, Chains}
 use Rattle.list_lane.specs.Told.{action, place_in, prior_in, IsTold}
 use Rattle.list_lane.specs.Laws.{CrossesRight}
-use Rattle.sync_recip.specs.Acrossing.{op_across, put_across, left_action, changes_left, LeavesAction, TakesAcross, CrossesStretch}
+use Rattle.sync_recip.specs.Acrossing.{op_across, put_across, LeavesAction, TakesAcross, CrossesStretch}
 use Rattle.sync_recip.specs.Passing.{instrs_left, passed, CanPass}
 use Rattle.sync_recip.specs.Stretches.{from_place, instrs_in, overlaid, laid, Holds, AllHold, Stands}
 use Rattle.sync_recip.specs.declared.across.Across.{Across}
@@ -75,7 +73,7 @@ cross_shown us s a st t chains w =
     let within : Within (kind_of a.action) (place_in a.action) n = subst (Within (kind_of a.action) (place_in a.action)) (sym t.sizes) w in
     let after : LaneOf = lane_after (lane_later false) s.lane (op_across a) in
     laid_crossed s.start (overlaid after.first after.slots) (overlaid n ss) (passed a.stamp a.count (Some a.action)) us
-        (lane_passes st.cell ss a.count n (op_across a) part (sym t.count) st.held chains within ∙ (λ i. passed a.stamp a.count (Some (own_action s a t i)) (map kept_entry (overlaid n ss part))))
+    (lane_passes st.cell ss a.count n (op_across a) part (sym t.count) st.held chains within ∙ (λ i. passed a.stamp a.count (Some (own_action s a t i)) (map kept_entry (overlaid n ss part))))
     ∙ (λ i. from_place (t.start i) (passed a.stamp a.count (Some a.action)) (map kept_entry (laid s.start s.lane us)))
 
 versions_bare : (us : List Kept) → versions (bare_of us) ≡ versions us
@@ -121,7 +119,7 @@ crosses_stretch from place own us s c p r st t leaves reached before behind stam
     let held : AllHold (Some (path_of known.cell)) ss part = subst (λ x. AllHold x ss part) cell st.held in
     let same = own_action s a t in
     let shown : drop a.start (map kept_entry V) ≡ map kept_entry (overlaid n ss part) =
-        drop-map kept_entry a.start V ∙ ap (λ i. map kept_entry (drop i V)) (sym start) ∙ ap (map kept_entry) (drop_from s.start (overlaid n ss) us (omega (arith, inside)))
+    drop-map kept_entry a.start V ∙ ap (λ i. map kept_entry (drop i V)) (sym start) ∙ ap (map kept_entry) (drop_from s.start (overlaid n ss) us (omega (arith, inside)))
     in
     record {
       reached = reached;

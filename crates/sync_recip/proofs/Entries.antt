@@ -1,5 +1,5 @@
 -- Entries of which some changed as a change crossed them.
-use Rattle.std.proofs.Common.{◌≡◌, not, ℕ, zero, suc, ◌+◌, ◌<◌, ◌≤◌, List, [], ◌∷◌, ◌++◌, Option, Some, None, refl, sym, ap, ◌∙◌, subst, length, take, drop, append-nil, arith}
+use Rattle.std.proofs.Common.{◌≡◌, not, ℕ, zero, suc, ◌+◌, ◌≤◌, List, [], ◌∷◌, ◌++◌, Option, Some, None, refl, sym, ap, ◌∙◌, subst, length, take, drop, arith}
 use Rattle.sync_data.specs.declared.instr.Instr.{Instr}
 use Rattle.sync_data.specs.declared.entry.Stamp.{Stamp}
 use Rattle.sync_theory.specs.Changesets.{Changeset}
@@ -13,8 +13,7 @@ use Rattle.sync_recip.specs.declared.carried.Became.TheVariants.{Moved, Changed}
 use Rattle.sync_recip.specs.Lists.{lists_in}
 use Rattle.sync_recip.specs.Passing.{change_later, own_left, other_left, passed}
 use Rattle.sync_recip.specs.Stretches.{from_place}
-use Rattle.sync_recip.specs.Acrossing.{put_across}
-use Rattle.sync_recip.specs.Carrying.{became_of, crossed_entry, with_crossed, put_crossed, crossed_entries, left_of, Suits, LeftAt, FitsOne, AllFit, noted}
+use Rattle.sync_recip.specs.Carrying.{became_of, with_crossed, put_crossed, crossed_entries, left_of, Suits, LeftAt, FitsOne, AllFit}
 
 -- ---- how many there are
 length_with : (n : ℕ) (b : Became) (es : List (Changeset Instr)) → length (with_crossed n b es) ≡ length es

@@ -1,7 +1,6 @@
 -- What a lane shows of entries, place by place.
-use Rattle.std.proofs.Common.{◌≡◌, ℕ, zero, suc, ◌+◌, ◌<◌, ◌≤◌, List, [], ◌∷◌, ◌++◌, Option, Some, None, IfSome, refl, sym, ap, ◌∙◌, subst, length, take, drop, set, get_or, map, zero-add, arith}
-use Rattle.std.proofs.lemmas.List.{drop-set-lt, drop-set-add}
-use Rattle.sync_data.specs.declared.instr.Instr.{Instr}
+use Rattle.std.proofs.Common.{◌≡◌, ℕ, zero, suc, ◌+◌, ◌<◌, ◌≤◌, List, [], ◌∷◌, ◌++◌, Option, refl, sym, ap, ◌∙◌, subst, length, take, drop, set, get_or, map, zero-add, arith}
+use Rattle.std.proofs.lemmas.List.{drop-set-lt}
 use Rattle.sync_base.specs.Effects.{CellPath}
 use Rattle.sync_recip.specs.declared.kept.Kept.{Kept}
 use Rattle.list_lane.specs.Lanes.{LaneOf, first_slot, length_after, length_before, slot_at, without_first}

@@ -4,7 +4,6 @@ use Rattle.std.proofs.lemmas.List.{take-append-drop, take-map}
 use Rattle.sync_data.specs.declared.instr.CellName.{CellName}
 use Rattle.sync_data.specs.declared.instr.Instr.{Instr}
 use Rattle.sync_data.specs.declared.entry.Stamp.{Stamp}
-use Rattle.sync_data.specs.Payload.{Changes}
 use Rattle.sync_base.specs.Effects.{CellPath, path_of}
 use Rattle.sync_base.specs.Rules.{top}
 use Rattle.sync_theory.specs.Changesets.{Changeset, cross_sets, later_stamp}
@@ -15,7 +14,6 @@ use Rattle.sync_recip.specs.Lists.{kept_entry}
 use Rattle.list_lane.proofs.Chain.{not_not}
 use Rattle.sync_transform.specs.Places.{longer, Within, place_after}
 use Rattle.sync_transform.specs.Moves.{action_in, kind_in, moved_first}
-use Rattle.sync_transform.specs.Sets.{made_by}
 use Rattle.sync_transform.specs.declared.places.Does.{Does}
 use Rattle.sync_transform.specs.declared.places.Does.TheVariants.{Inserts, Erases, Updates}
 use Rattle.sync_transform.specs.declared.moves.ListAction.{ListAction}
@@ -26,9 +24,9 @@ use Rattle.list_lane.specs.Told.{action, prior_in, told, told_set, told_sets, Is
 use Rattle.list_lane.specs.Laws.{CrossesRight}
 use Rattle.sync_recip.specs.Acrossing.{left_action}
 use Rattle.sync_recip.specs.Stretches.{instrs_in, told_kept, overlaid, Holds, AllHold}
-use Rattle.sync_recip.specs.Passing.{action_there, change_later, own_left, other_left, instrs_left, passed, Meets, CanPass}
+use Rattle.sync_recip.specs.Passing.{action_there, change_later, own_left, other_left, instrs_left, passed, CanPass}
 use Rattle.list_lane.specs.declared.op.Op.{Op}
-use Rattle.sync_recip.proofs.Acting.{kind_action, prior_action, after_is, told_action, told_over, one_of}
+use Rattle.sync_recip.proofs.Acting.{prior_action, after_is, told_action, told_over, one_of}
 use Rattle.list_lane.proofs.Lengths.{Lengths, lengths}
 
 crossed_none : (l : Stamp → Stamp → Bool) (ss : List (Option Op)) → (crossed l ss None).slots ≡ ss
@@ -76,8 +74,8 @@ lane_passes cell (Some a ∷ ss) (suc k) n b (u ∷ us) c h ch w =
     let acts = told_action (instrs_in u) a.does a.place n h.0.kind in
     let rest : List (Changeset Instr) = map kept_entry (overlaid (longer a.does n) ss us) in
     after_one k n a b ss u us h.0.kind (place_after la a.does a.place b.does b.place) (place_after (not la) b.does b.place a.does a.place)
-        (lengths la a.does b.does a.place b.place n ch.0 w) (within_after (not la) b.does a.does b.place a.place n w ch.0)
-        (λ q v. lane_passes cell ss k (longer a.does n) (record b { place = q }) us (omega (arith, c)) h.1 ch.1 v)
+    (lengths la a.does b.does a.place b.place n ch.0 w) (within_after (not la) b.does a.does b.place a.place n w ch.0)
+    (λ q v. lane_passes cell ss k (longer a.does n) (record b { place = q }) us (omega (arith, c)) h.1 ch.1 v)
     ∙ (λ i. with_set u (instrs_left (sym (after_is la a.does b.does a.place b.place n) i) (was_told n a u)) ∷ passed b.stamp k (sym (after_is (not la) b.does a.does b.place a.place n) i) rest)
     ∙ (λ i. with_set u (own_left (flag i) (sym acts i) (action b.does b.place n) (was_told n a u)) ∷ passed b.stamp k (other_left (turned i) (sym acts i) (action b.does b.place n)) rest)
 
@@ -108,8 +106,7 @@ lane_can_pass cell (Some a ∷ ss) (suc k) n b (u ∷ us) c h ch w r =
     let acts = told_action (instrs_in u) a.does a.place n h.0.kind in
     let m = prior_action b.does b.place n in
     let more = longer_le a.does n in
-    let rest : List (Changeset Instr) = map kept_entry (overlaid (longer a.does n) ss us) in
-    (
+    let rest : List (Changeset Instr) = map kept_entry (overlaid (longer a.does n) ss us) in (
       record {
         room = subst (λ p. p < top) (sym m) (omega (arith, r));
         sizes = subst (λ o. IfSome o (λ x. prior_in x ≡ prior_in (action b.does b.place n))) (sym acts) (prior_action a.does a.place n ∙ sym m);

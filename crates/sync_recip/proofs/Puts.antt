@@ -1,10 +1,8 @@
 -- One entry of a list of kept ones becomes another.
 use Rattle.std.proofs.Common.{◌≡◌, ℕ, zero, suc, ◌<◌, List, [], ◌∷◌, refl, sym, ap, ◌∙◌, subst, length, set, get_or, map, arith}
-use Rattle.sync_data.specs.declared.instr.Instr.{Instr}
-use Rattle.sync_theory.specs.Changesets.{Changeset}
 use Rattle.sync_recip.specs.declared.carried.Became.{Became}
 use Rattle.sync_recip.specs.declared.kept.Kept.{Kept}
-use Rattle.sync_recip.specs.Lists.{kept_entry, lists_in, versions}
+use Rattle.sync_recip.specs.Lists.{kept_entry, lists_in}
 use Rattle.sync_recip.specs.Carrying.{became_of, with_crossed, LeftAt, Suits}
 use Rattle.sync_recip.specs.Stretches.{instrs_in}
 

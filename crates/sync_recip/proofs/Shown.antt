@@ -1,16 +1,13 @@
 -- Entries as they are shown, where there is a stretch of them or none.
 use Rattle.std.specs.Prelude.{IfOk, All, take}
-use Rattle.std.proofs.Common.{◌≡◌, ◌⊎◌, inl, inr, ℕ, zero, suc, ◌+◌, ◌-◌, ◌<◌, ◌≤◌, List, [], ◌∷◌, ◌++◌, Option, Some, None, Result, Ok, Err, IfSome, refl, sym, ap, ◌∙◌, subst, length, drop, set, get_or, map, arith}
+use Rattle.std.proofs.Common.{◌≡◌, inl, inr, ℕ, zero, suc, ◌<◌, ◌≤◌, List, [], ◌∷◌, ◌++◌, Option, Some, None, Result, Ok, Err, IfSome, refl, sym, ap, ◌∙◌, subst, length, drop, set, get_or, map, arith}
 use Rattle.std.proofs.lemmas.List.{get_or_default, get_or-drop, length-append, length-set, take-map, drop-map}
 use Rattle.std.proofs.lemmas.List.Elements.{All-nil, All-cons, All-head, All-tail}
 use Rattle.sync_data.specs.declared.instr.Instr.{Instr}
-use Rattle.sync_data.specs.declared.entry.Stamp.{Stamp}
-use Rattle.sync_data.specs.declared.entry.Entry.{Entry}
 use Rattle.sync_data.specs.Payload.{Changes}
 use Rattle.sync_base.specs.Effects.{CellPath}
-use Rattle.sync_theory.specs.Grid.{tail}
 use Rattle.sync_recip.specs.declared.kept.Kept.{Kept}
-use Rattle.sync_recip.specs.Lists.{kept_entry, lists_in, versions, IsRising}
+use Rattle.sync_recip.specs.Lists.{kept_entry, lists_in, versions}
 use Rattle.sync_rivals.specs.Lists.{StandsAt, StaysListed}
 use Rattle.sync_theory.specs.Changesets.{cross_sets}
 use Rattle.sync_law.specs.Instrs.{meet}
@@ -19,15 +16,15 @@ use Rattle.sync_transform.specs.Sets.{made_by}
 use Rattle.sync_transform.specs.declared.moves.Moves.{Moves}
 use Rattle.sync_recip.specs.Acrossing.{BothMove}
 use Rattle.sync_transform.specs.declared.moves.ListAction.{ListAction}
-use Rattle.list_lane.specs.Lanes.{LaneOf, length_after, slot_at}
+use Rattle.list_lane.specs.Lanes.{length_after, slot_at}
 use Rattle.list_lane.specs.Told.{action, told}
-use Rattle.sync_recip.specs.Stretches.{instrs_in, told_kept, overlaid, laid, shown_by, Holds, AllHold, Stands, Outside, IsSlotAt, IsToldAt, IsAt}
+use Rattle.sync_recip.specs.Stretches.{instrs_in, told_kept, overlaid, laid, shown_by, Holds, AllHold, Stands, Outside, IsToldAt}
 use Rattle.list_lane.specs.declared.op.Op.{Op}
 use Rattle.sync_recip.specs.declared.stretch.Stretch.{Stretch}
 use Rattle.sync_recip.specs.Carrying.{moved_entry}
 use Rattle.sync_recip.proofs.Crossings.{versions_laid}
 use Rattle.sync_recip.proofs.Acting.{kind_action, told_listed}
-use Rattle.sync_recip.proofs.Laid.{bare, bare_of, laid_bare, length_laid, get_before, get_behind, get_at, set_before, set_behind, holds_before, holds_behind, holds_push, holds_within, laid_push, drop_push}
+use Rattle.sync_recip.proofs.Laid.{bare, bare_of, laid_bare, length_laid, get_before, get_behind, get_at, set_before, set_behind, holds_before, holds_behind, holds_push, laid_push, drop_push}
 
 abbrev pub currents : List Kept → List (List Instr)
 currents us = lists_in (map kept_entry us)

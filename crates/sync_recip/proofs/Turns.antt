@@ -1,18 +1,16 @@
 -- A change on its way over the entries of a list of kept ones.
-use Rattle.std.proofs.Common.{◌≡◌, ◌≢◌, ◌≤◌, ℕ, zero, suc, ◌+◌, ◌-◌, ◌<◌, Bool, List, [], ◌∷◌, ◌++◌, Option, None, Some, IfSome, Result, Ok, refl, length, map, take, drop, get_or, sym, ap, ◌∙◌, subst, All, append-nil, length-drop, add-one, arith}
+use Rattle.std.proofs.Common.{◌≡◌, ◌≢◌, ◌≤◌, ℕ, zero, suc, ◌+◌, ◌<◌, Bool, List, [], ◌∷◌, ◌++◌, Option, None, Some, Ok, refl, length, map, take, drop, get_or, sym, ap, ◌∙◌, subst, All, append-nil, arith}
 use Rattle.std.proofs.lemmas.List.{drop-drop, take-append-drop}
 use Rattle.std.proofs.lemmas.List.Elements.{All-head, All-tail}
 use Rattle.sync_data.specs.declared.instr.Instr.{Instr}
 use Rattle.sync_data.specs.Payload.{Changes}
-use Rattle.sync_base.specs.declared.answers.Mismatch.{Mismatch}
 use Rattle.sync_theory.specs.Lists.{cross}
 use Rattle.sync_theory.specs.Changesets.{Changeset, cross_sets, with_lists, is_later}
 use Rattle.sync_theory.specs.Grid.{carry}
 use Rattle.sync_law.specs.Instrs.{meet}
 use Rattle.sync_index.specs.Touched.{Touched, Covers}
-use Rattle.sync_rivals.specs.Lists.{Indexed, Serves, Pass, StandsAt, StaysListed}
+use Rattle.sync_rivals.specs.Lists.{Indexed, Serves, StandsAt, StaysListed}
 use Rattle.sync_rivals.specs.Lemmas.Skips.{lists_of, known_left, listed_right}
-use Rattle.sync_transform.specs.Moves.{kind_in, kind_of}
 use Rattle.sync_transform.specs.Sets.{made_by}
 use Rattle.sync_transform.specs.declared.moves.ListAction.{ListAction}
 use Rattle.sync_recip.specs.declared.across.Across.{Across}
@@ -21,13 +19,13 @@ use Rattle.sync_recip.specs.declared.carried.Crossed.{Crossed}
 use Rattle.sync_recip.specs.declared.carried.Crossed.TheVariants.{One, Stretch}
 use Rattle.sync_recip.specs.declared.refusal.RecipRefusal.{RecipRefusal}
 use Rattle.sync_recip.specs.declared.refusal.RecipRefusal.TheVariants as refusals
-use Rattle.sync_recip.specs.Lists.{entry_of, kept_entry, lists_in}
+use Rattle.sync_recip.specs.Lists.{kept_entry, lists_in}
 use Rattle.sync_recip.specs.Passing.{passed, CanPass}
 use Rattle.sync_recip.specs.Acrossing.{changes_left, put_across, CanCross}
 use Rattle.sync_recip.specs.declared.carried.Became.{Became}
-use Rattle.sync_recip.specs.Carrying.{became_of, crossed_entry, crossed_entries, put_crossed, with_crossed, AllFit, FitsOne, SuitsIf, noted, IsStuckBy}
+use Rattle.sync_recip.specs.Carrying.{became_of, crossed_entry, crossed_entries, AllFit, SuitsIf, noted, IsStuckBy}
 use Rattle.sync_recip.proofs.Acting.{left_known}
-use Rattle.sync_recip.proofs.Carries.{carry_after, carry_none, carry_step, carry_several, carry_stop, carry_end}
+use Rattle.sync_recip.proofs.Carries.{carry_after, carry_none, carry_step, carry_several, carry_stop}
 use Rattle.sync_recip.proofs.Covered.{left_covered}
 use Rattle.sync_recip.proofs.Entries.{length_crossed, crossed_push, fit_push, take_with, drop_with, take_next, drop_next, take_passed, drop_passed, left_there, left_is}
 

@@ -1,5 +1,5 @@
 -- Kept entries by their versions: those before a base and those from it on.
-use Rattle.std.proofs.Common.{◌≡◌, ◌≢◌, cond, ◌+◌, None, Some, ℕ, zero, suc, ◌<◌, ◌≤◌, true, false, List, [], ◌∷◌, ◌++◌, length, map, take, drop, get_or, set, refl, sym, ap, ◌∙◌, subst, if◌then◌else◌, nat_lt, All, Result, Ok, Err, OnOk, OnErr, ◌-◌, Vec, append-nil, length-append, length-drop, arith}
+use Rattle.std.proofs.Common.{◌≡◌, ◌≢◌, cond, ◌+◌, None, Some, ℕ, zero, suc, ◌<◌, ◌≤◌, true, false, List, [], ◌∷◌, ◌++◌, length, map, take, drop, get_or, refl, sym, ap, ◌∙◌, subst, if◌then◌else◌, nat_lt, All, Result, Ok, Err, OnOk, OnErr, arith}
 use Rattle.std.specs.List.Sorted.{IsNonDecreasingBy}
 use Rattle.std.specs.Prelude.{◌==◌}
 use Rattle.std.proofs.lemmas.Bool.{lt-ltb, le-ltb, eq-eqb}
@@ -177,8 +177,8 @@ module _ (b : ℕ) (ks : List Kept) (n : ℕ) (below : All (λ k. k.version < b)
       let count = length-map ks kept_entry in
       let within : n ≤ length es = omega (arith, l, count) in
       same_pairs ns (take n ks ++ drop n ns)
-          (sym (front_same (λ k. k.version) n ks ns (ap (take n) e)))
-          (sym (front_same kept_entry n ks ns (ap (take n) f ∙ take_from n (crossed_entries cs) es)))
+      (sym (front_same (λ k. k.version) n ks ns (ap (take n) e)))
+      (sym (front_same kept_entry n ks ns (ap (take n) f ∙ take_from n (crossed_entries cs) es)))
       ∙ behind_settled (drop n ns) cs
-          (sym (drop-map (λ k. k.version) n ns) ∙ ap (drop n) e ∙ drop-map (λ k. k.version) n ks)
-          (sym (drop-map kept_entry n ns) ∙ ap (drop n) f ∙ drop_from n (crossed_entries cs) es within ∙ ap (crossed_entries cs) (drop-map kept_entry n ks))
+      (sym (drop-map (λ k. k.version) n ns) ∙ ap (drop n) e ∙ drop-map (λ k. k.version) n ks)
+      (sym (drop-map kept_entry n ns) ∙ ap (drop n) f ∙ drop_from n (crossed_entries cs) es within ∙ ap (crossed_entries cs) (drop-map kept_entry n ks))

@@ -14,7 +14,6 @@ use Rattle.sync_transform.specs.Sets.{made_by}
 use Rattle.sync_transform.specs.declared.moves.ListAction.{ListAction}
 use Rattle.sync_transform.specs.declared.moves.Moves.{Moves}
 use Rattle.sync_transform.proofs.Stands.{shown_covered}
-use Rattle.sync_recip.specs.declared.across.Across.{Across}
 use Rattle.sync_recip.specs.declared.carried.Became.{Became}
 use Rattle.sync_recip.specs.declared.carried.Became.TheVariants.{Moved}
 use Rattle.sync_recip.specs.declared.carried.Crossed.{Crossed}
@@ -117,9 +116,9 @@ module _ (t : Touched) (x : Indexed) (codes : List ℕ) (own : ℕ) (ks : List K
       let same : (start - first) + count ≡ (start + count) - first = omega (arith, l, reached) in
       subst (λ n. Walked t x codes own es c n ds (changes_left p.left now)) same
       (walk_across t x codes own es c (start - first) cs now there (record p.across { start = start - first }) p.left refl (omega (arith, size, long, within, l, reached))
-        (subst (CanPass p.across.stamp count (Some p.across.action)) rest m.fits)
-        (λ number. subst (λ q. carry (cross_sets meet) (made_by own number now) (take count q) ≡ Ok (made_by own number (changes_left p.left now), passed p.across.stamp count (Some p.across.action) (take count q))) rest (m.crosses number))
-        ds is (left_covered t p.left now.instrs there.indexed))
+      (subst (CanPass p.across.stamp count (Some p.across.action)) rest m.fits)
+      (λ number. subst (λ q. carry (cross_sets meet) (made_by own number now) (take count q) ≡ Ok (made_by own number (changes_left p.left now), passed p.across.stamp count (Some p.across.action) (take count q))) rest (m.crosses number))
+      ds is (left_covered t p.left now.instrs there.indexed))
 
   -- ---- at the end
   pub goes_through : (to number : ℕ) → length ks ≤ to → WalkedTo t x codes own ks first c to cs now

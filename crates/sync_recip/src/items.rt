@@ -15,8 +15,8 @@ use super::carried::Became;
 use super::carry::keep;
 use super::kept::{Kept, count_below};
 use super::stretch::{
-    Stretch, cross_each, cross_lane, extend_last, first_stretch, left_by, takes, told_at, write_around,
-    write_before, write_whole,
+    Stretch, cross_each, cross_lane, extend_last, first_stretch, left_by, takes, told_at,
+    write_around, write_before, write_whole,
 };
 use std::alloc::Global;
 use std::marker::Model;

@@ -12,8 +12,8 @@ ghost use Rattle.sync_recip.specs.Stretches.{laid, shown_by, Stands, Outside, Is
 use super::across::Across;
 use super::kept::Kept;
 use super::shifted::ShiftedEntry;
-use std::alloc::Global;
 use list_lane::{Lane, Op, action_of, op_of, prior_of};
+use std::alloc::Global;
 use sync_base::NoMemory;
 use sync_transform::ListAction;
 
@@ -67,7 +67,9 @@ pub(crate) fn cross_lane(stretch: &mut Stretch, across: &Across)
     ensures crossed { stretch.new ≡ record stretch.old { lane = lane_after (lane_later false) stretch.old.lane (op_across across.now) } }
     ensures within { Within (kind_of across.now.action) (place_in across.now.action) (prior_in across.now.action) }
 {
-    stretch.lane.cross(op_of(across.action, across.stamp), false);
+    stretch
+        .lane
+        .cross(op_of(across.action, across.stamp), false);
 }
 
 /// The entry behind a stretch joins it, where it is one list instruction of that cell, and acts on the list behind the lane.

@@ -1,12 +1,11 @@
-use Rattle.std.proofs.Common.{◌≡◌, List, drop, length, map, sym, ap, subst, ◌∙◌, arith}
+use Rattle.std.proofs.Common.{List, drop, map, sym, ap, subst, ◌∙◌, arith}
 use Rattle.std.proofs.lemmas.List.{length-map}
 use Rattle.sync_data.specs.declared.instr.Instr.{Instr}
 use Rattle.sync_theory.specs.Changesets.{Changeset}
-use Rattle.sync_recip.specs.declared.across.Across.{Across}
 use Rattle.sync_recip.specs.declared.carried.Became.{Became}
 use Rattle.sync_recip.specs.declared.carried.Became.TheVariants.{Moved, Changed}
 use Rattle.sync_recip.specs.declared.carried.Crossed.{Crossed}
-use Rattle.sync_recip.specs.declared.carried.Crossed.TheVariants.{One, Stretch}
+use Rattle.sync_recip.specs.declared.carried.Crossed.TheVariants.{Stretch}
 use Rattle.sync_recip.specs.Lists.{kept_entry, lists_in}
 use Rattle.sync_recip.specs.Acrossing.{put_across}
 use Rattle.sync_recip.specs.Carrying.{put_crossed, with_crossed, FitsOne, LeftAt}

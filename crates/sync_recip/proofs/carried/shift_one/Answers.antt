@@ -1,4 +1,4 @@
-use Rattle.std.proofs.Common.{map, sym, ap, subst}
+use Rattle.std.proofs.Common.{map, sym, subst}
 use Rattle.sync_rivals.specs.Lists.{Lists}
 use Rattle.sync_recip.specs.declared.carried.Became.TheVariants.{Moved}
 use Rattle.sync_recip.specs.Lists.{kept_entry, lists_in}

@@ -1,17 +1,15 @@
-use Rattle.std.proofs.Common.{◌≡◌, ◌<◌, ◌≤◌, ◌+◌, ◌-◌, ◌++◌, ◌∷◌, [], ℕ, List, Ok, Some, refl, length, map, drop, sym, ap, ◌∙◌, subst, arith}
-use Rattle.sync_data.specs.Payload.{Changes}
+use Rattle.std.proofs.Common.{◌≡◌, ◌<◌, ◌≤◌, ◌+◌, ◌-◌, ◌++◌, ◌∷◌, [], Ok, refl, length, map, drop, sym, ap, ◌∙◌, subst, arith}
 use Rattle.sync_theory.specs.Changesets.{cross_sets}
 use Rattle.sync_theory.specs.Grid.{carry}
 use Rattle.sync_law.specs.Instrs.{meet}
 use Rattle.sync_transform.specs.Sets.{made_by}
 use Rattle.sync_recip.specs.declared.across.Across.{Across}
-use Rattle.sync_recip.specs.declared.carried.Crossed.{Crossed}
 use Rattle.sync_recip.specs.declared.carried.Crossed.TheVariants.{Stretch}
 use Rattle.sync_recip.specs.Lists.{kept_entry, lists_in}
 use Rattle.sync_recip.specs.Acrossing.{CrossesStretch}
 use Rattle.sync_recip.specs.Carrying.{crossed_entry, crossed_entries, IsStuckBy}
 use Rattle.sync_recip.specs.Stretches.{IsAt}
-use Rattle.sync_recip.proofs.Turns.{element, other_at, walk_start}
+use Rattle.sync_recip.proofs.Turns.{element}
 use Rattle.sync_recip.proofs.Walk.{WalkedTo, both_go, goes_across, goes_on, goes_over, goes_past, goes_through, other_there, stops, walk_begins}
 use Rattle.sync_recip.proofs.carry.carry_over.Goals as goal
 
@@ -35,7 +33,7 @@ returns-then-next-end-clause-ok c =
     let there = goes_on c.args.index.now c.args.rivals.now c.args.codes.now c.args.own all c.args.first c.args.changes c.loop-from.crossed.items c.loop-from.left c.loop-from.from c.next-next.result c.loop-from.invariant.after c.next-next.ensures.order.0 end pass c.loop-from.invariant.walked in
     let past : length all ≤ c.next-next.result = omega (arith, c.if-next-end.true, c.len-end.ensures) in
     λ number. subst (λ x. carry (cross_sets meet) (made_by c.args.own number c.args.changes) (map kept_entry (drop c.args.first all)) ≡ Ok (made_by c.args.own number x, crossed_entries c.loop-from.crossed.items (map kept_entry (drop c.args.first all)))) (sym c.into_changes.ensures)
-        (goes_through c.args.index.now c.args.rivals.now c.args.codes.now c.args.own all c.args.first c.args.changes c.loop-from.crossed.items c.loop-from.left c.next-next.result number past there)
+    (goes_through c.args.index.now c.args.rivals.now c.args.codes.now c.args.own all c.args.first c.args.changes c.loop-from.crossed.items c.loop-from.left c.next-next.result number past there)
 
 pub counted_from-requires : goal.counted_from-requires
 counted_from-requires c =
@@ -49,11 +47,11 @@ loop-from-preserved-in-Some c =
     let pass = c.next-next.ensures.pass c.loop-from.left.instrs (lists_in (map kept_entry all)) c.loop-from.invariant.walked.served c.is_empty.ensures.0 c.requires.listed in
     let p = c.in-Some.passing in
     let crosses : CrossesStretch c.loop-from.from c.next-next.result c.args.own all c.loop-from.left p =
-        subst (λ l. CrossesStretch c.loop-from.from c.next-next.result c.args.own l c.loop-from.left p) c.loop-from.invariant.same c.in-Some.ensures
+    subst (λ l. CrossesStretch c.loop-from.from c.next-next.result c.args.own l c.loop-from.left p) c.loop-from.invariant.same c.in-Some.ensures
     in
     let reached = crosses.reached in
     let noted : c.keep.new.list.items ≡ c.loop-from.crossed.items ++ Stretch (record p.across { start = p.across.start - c.args.first }) ∷ [] =
-        c.in-Ok.ensures.ok ∙ ap (λ (a : Across). c.loop-from.crossed.items ++ Stretch a ∷ []) c.counted_from.ensures
+    c.in-Ok.ensures.ok ∙ ap (λ (a : Across). c.loop-from.crossed.items ++ Stretch a ∷ []) c.counted_from.ensures
     in
     record {
       walked = subst (WalkedTo c.args.index.now c.args.rivals.now c.args.codes.now c.args.own all c.args.first c.args.changes (p.across.start + p.across.count) c.keep.new.list.items) (sym c.passed_on-left.ensures)
@@ -147,8 +145,8 @@ returns-in-Err-clause-stuck c =
     let same = c.loop-from.invariant.same in
     let left : c.moves.new.self ≡ all = c.moves.ensures.same ∙ same in
     λ number. stops c.args.index.now c.args.rivals.now c.args.codes.now c.args.own all c.args.first c.args.changes c.loop-from.crossed.items c.loop-from.left c.next-next.result after there k.0 within k.1 number c.in-Err.refusal
-        (subst (λ x. IsStuckBy c.in-Err.refusal (cross_sets meet (made_by c.args.own number x) (kept_entry k.0))) c.into_changes-in-loop-from.ensures
-        (c.in-Err.ensures.stuck k.0 (subst (λ l. IsAt c.next-next.result l k.0) (sym left) k.1) number))
+    (subst (λ x. IsStuckBy c.in-Err.refusal (cross_sets meet (made_by c.args.own number x) (kept_entry k.0))) c.into_changes-in-loop-from.ensures
+    (c.in-Err.ensures.stuck k.0 (subst (λ l. IsAt c.next-next.result l k.0) (sym left) k.1) number))
 
 pub loop-from-preserved : goal.loop-from-preserved
 loop-from-preserved c =
@@ -178,4 +176,4 @@ returns-clause-ok c =
     let all = c.args.items.now in
     let past : length all ≤ c.loop-from.from = omega (arith, c.loop-from-test.false, c.len-end.ensures) in
     λ number. subst (λ x. carry (cross_sets meet) (made_by c.args.own number c.args.changes) (map kept_entry (drop c.args.first all)) ≡ Ok (made_by c.args.own number x, crossed_entries c.loop-from.crossed.items (map kept_entry (drop c.args.first all)))) (sym c.into_changes-2.ensures)
-        (goes_through c.args.index.now c.args.rivals.now c.args.codes.now c.args.own all c.args.first c.args.changes c.loop-from.crossed.items c.loop-from.left c.loop-from.from number past c.loop-from.invariant.walked)
+    (goes_through c.args.index.now c.args.rivals.now c.args.codes.now c.args.own all c.args.first c.args.changes c.loop-from.crossed.items c.loop-from.left c.loop-from.from number past c.loop-from.invariant.walked)

@@ -1,8 +1,7 @@
-use Rattle.std.proofs.Common.{◌≡◌, ◌≢◌, Ok, sym, ap, ◌∙◌, subst}
+use Rattle.std.proofs.Common.{Ok, sym, ap, ◌∙◌}
 use Rattle.sync_theory.specs.Changesets.{cross_sets}
 use Rattle.sync_law.specs.Instrs.{meet}
 use Rattle.sync_transform.specs.Sets.{made_by}
-use Rattle.sync_recip.specs.Lists.{kept_entry}
 use Rattle.sync_recip.proofs.Turns.{element}
 use Rattle.sync_recip.proofs.carry.cross_one.Goals as goal
 

@@ -27,4 +27,4 @@ returns-in-Ok-clause-stands c =
     let there : s.start + length s.lane.slots < length us = omega (arith, c.if-end-kept.false, c.len-count.ensures) in
     let here = subst (λ n. u ≡ get_or us (s.start + n) u) c.len-count.ensures c.index-kept-end.is in
     subst (λ (x : LaneOf). Stands us (record s { lane = x })) (sym c.in-Ok.ensures.ok)
-        (grown_stands us s c.requires u c.in-Some.op there here op c.index-kept-start.result c.index-kept-start.is (c.if-not-is_in_cell_with.ensures refl))
+    (grown_stands us s c.requires u c.in-Some.op there here op c.index-kept-start.result c.index-kept-start.is (c.if-not-is_in_cell_with.ensures refl))

@@ -1,4 +1,4 @@
-use Rattle.std.proofs.Common.{◌≡◌, ◌≤◌, ◌<◌, ◌∙◌, length, refl, sym, ap, subst, arith}
+use Rattle.std.proofs.Common.{◌≤◌, ◌∙◌, length, refl, sym, ap, subst, arith}
 use Rattle.list_lane.specs.Lanes.{LaneOf}
 use Rattle.sync_recip.specs.Stretches.{laid, Stands}
 use Rattle.sync_recip.proofs.Making.{none_shown, none_stands}

@@ -1,7 +1,6 @@
-use Rattle.std.proofs.Common.{◌≡◌, ◌<◌, ◌∙◌, add-one, length, set, sym, ap, subst, arith}
-use Rattle.sync_recip.specs.Stretches.{laid, holding, told_kept, instrs_in}
+use Rattle.std.proofs.Common.{◌≡◌, ◌<◌, ◌∙◌, add-one, length, set, ap, arith}
+use Rattle.sync_recip.specs.Stretches.{laid, told_kept}
 use Rattle.sync_recip.specs.declared.kept.Kept.{Kept}
-use Rattle.list_lane.specs.Told.{told}
 use Rattle.sync_recip.proofs.Laid.{step_shown}
 use Rattle.sync_recip.proofs.stretch.write_first.Goals as goal
 

@@ -31,8 +31,8 @@ returns-in-Some c =
     let there : c.args.place < length us = omega (arith, requires, size, now) in
     let r = c.index-one.result.now in
     ok_map c.changes_told.result
-        (λ x is k at. is ∙ sym (ap (λ (w : Kept). w.item.changes) (told_shown o us c.args.place k r (c.in-Some.slot, c.in-Some.length) c.in-Some.ensures.told there (subst (λ l. IsAt c.args.place l k) (sym view) at) c.index-one.ensures)))
-        c.changes_told.ensures
+    (λ x is k at. is ∙ sym (ap (λ (w : Kept). w.item.changes) (told_shown o us c.args.place k r (c.in-Some.slot, c.in-Some.length) c.in-Some.ensures.told there (subst (λ l. IsAt c.args.place l k) (sym view) at) c.index-one.ensures)))
+    c.changes_told.ensures
 
 pub returns-in-None : goal.returns-in-None
 returns-in-None c =
@@ -46,5 +46,5 @@ returns-in-None c =
     let there : c.args.place < length us = omega (arith, requires, size, now) in
     let r = c.index-one.result.now in
     ok_map c.changes.result
-        (λ x is k at. is ∙ sym (ap (λ (w : Kept). w.item.changes) (at_plain o us c.args.place k r (told_out o c.args.place c.in-None.ensures.told) there (subst (λ l. IsAt c.args.place l k) (sym view) at) c.index-one.ensures)))
-        c.changes.ensures
+    (λ x is k at. is ∙ sym (ap (λ (w : Kept). w.item.changes) (at_plain o us c.args.place k r (told_out o c.args.place c.in-None.ensures.told) there (subst (λ l. IsAt c.args.place l k) (sym view) at) c.index-one.ensures)))
+    c.changes.ensures

@@ -1,6 +1,5 @@
-use Rattle.std.proofs.Common.{◌≡◌, ◌<◌, ◌≤◌, ◌∙◌, All, drop, take, length, sym, ap, subst, arith}
+use Rattle.std.proofs.Common.{◌<◌, ◌≤◌, ◌∙◌, All, drop, take, length, sym, ap, subst, arith}
 use Rattle.sync_recip.specs.Lists.{versions, IsRising}
-use Rattle.sync_recip.specs.Stretches.{shown_by}
 use Rattle.sync_recip.proofs.Shown.{length_shown, versions_shown, taken_shown, dropped_shown}
 use Rattle.sync_recip.proofs.items.Items.count_below.Goals as goal
 

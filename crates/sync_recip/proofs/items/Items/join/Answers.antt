@@ -1,4 +1,4 @@
-use Rattle.std.proofs.Common.{◌≡◌, ◌∙◌, IfSome, ap, sym, subst}
+use Rattle.std.proofs.Common.{◌≡◌, ◌∙◌, IfSome, subst}
 use Rattle.sync_recip.specs.Stretches.{shown_by, Stands}
 use Rattle.sync_recip.proofs.items.Items.join.Goals as goal
 

@@ -1,5 +1,5 @@
-use Rattle.std.proofs.Common.{◌≡◌, ◌<◌, ◌∙◌, length, sym, ap, subst, arith}
-use Rattle.sync_recip.specs.Stretches.{shown_by, IsAt}
+use Rattle.std.proofs.Common.{◌≡◌, length, sym, ap, subst, arith}
+use Rattle.sync_recip.specs.Stretches.{shown_by}
 use Rattle.sync_rivals.specs.Lists.{StandsAt}
 use Rattle.sync_recip.proofs.Shown.{currents, length_shown, shown_listed}
 use Rattle.sync_recip.proofs.items.Items.listed.Goals as goal

@@ -34,4 +34,4 @@ returns-clause-moves c = λ k at.
     let there : c.args.place < length vs = omega (arith, within, long, then) in
     let same = at_plain p vs c.args.place k r c.write_around.ensures.outside there (subst (λ l. IsAt c.args.place l k) (sym became) at) c.index-one.ensures in
     subst (λ w. IfSome c.moves.result (BothMove c.args.own c.args.left.now w)) (sym same)
-        (both_moves c.args.own c.args.left.now r c.moves.result c.moves.ensures.crosses c.moves.ensures.left c.moves.ensures.right)
+    (both_moves c.args.own c.args.left.now r c.moves.result c.moves.ensures.crosses c.moves.ensures.left c.moves.ensures.right)

@@ -1,7 +1,7 @@
-use Rattle.std.proofs.Common.{◌≡◌, ◌<◌, ◌∙◌, length, get_or, set, map, refl, sym, ap, subst, arith}
+use Rattle.std.proofs.Common.{◌≡◌, ◌∙◌, length, get_or, set, map, refl, ap, subst, arith}
 use Rattle.sync_recip.specs.declared.kept.Kept.{Kept}
 use Rattle.sync_recip.specs.Lists.{kept_entry, versions}
-use Rattle.sync_recip.specs.Stretches.{shown_by, IsAt}
+use Rattle.sync_recip.specs.Stretches.{shown_by}
 use Rattle.sync_recip.proofs.Each.{map_set_same}
 use Rattle.sync_recip.proofs.Puts.{left_within, left_here, entries_set}
 use Rattle.sync_recip.proofs.Shown.{length_shown, plain_at, shown_set, stands_set}

@@ -1,4 +1,4 @@
-use Rattle.std.proofs.Common.{◌≡◌, ◌<◌, List, [], Ok, refl, length, sym, ap, subst, arith}
+use Rattle.std.proofs.Common.{◌≡◌, ◌<◌, List, Ok, length, sym, ap, subst, arith}
 use Rattle.sync_recip.specs.Stretches.{shown_by, IsAt}
 use Rattle.sync_data.specs.declared.instr.Instr.{Instr}
 use Rattle.sync_theory.specs.Lists.{cross}
@@ -29,4 +29,4 @@ returns c = λ told k at others there later.
     let requires = c.requires in
     let within : c.args.place < length us = omega (arith, requires, size, now) in
     shown_case (λ (x : List Instr). cross (λ a b. meet a b later) others x ≡ Ok (others, x)) o us c.args.place k c.index-one.result.now c.self.invariant within (subst (λ l. IsAt c.args.place l k) (sym view) at) c.index-one.ensures
-        (none_crossed (λ a b. meet a b later) others) (c.stays_apart.ensures.own told others there later) (λ a kind. c.stays_apart.ensures.told told a kind others there later)
+    (none_crossed (λ a b. meet a b later) others) (c.stays_apart.ensures.own told others there later) (λ a kind. c.stays_apart.ensures.told told a kind others there later)

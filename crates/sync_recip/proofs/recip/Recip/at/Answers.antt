@@ -1,5 +1,5 @@
-use Rattle.std.proofs.Common.{◌≡◌, ◌≢◌, ◌<◌, Some, length, map, sym, ap, ◌∙◌, subst, arith}
-use Rattle.sync_recip.specs.Lists.{entry_of, entry_at, pair_of}
+use Rattle.std.proofs.Common.{◌≢◌, ◌<◌, Some, length, sym, ap, ◌∙◌, arith}
+use Rattle.sync_recip.specs.Lists.{entry_of, entry_at}
 use Rattle.sync_recip.proofs.Turns.{element}
 use Rattle.sync_recip.proofs.Versions.{at_end, at_found, at_other}
 use Rattle.sync_recip.proofs.recip.Recip.at.Goals as goal

@@ -1,4 +1,4 @@
-use Rattle.std.proofs.Common.{◌≡◌, ◌≢◌, List, All, drop, length, map, sym, ◌∙◌, ap, subst, arith}
+use Rattle.std.proofs.Common.{◌≡◌, ◌≢◌, All, drop, length, map, sym, ◌∙◌, ap, subst, arith}
 use Rattle.sync_theory.specs.Reciprocals.{from_base}
 use Rattle.sync_rivals.specs.Lists.{Lists, Serves}
 use Rattle.sync_recip.specs.Lists.{kept_entry, lists_in, pair_of, versions, IsRising}
@@ -12,7 +12,7 @@ carry_over-requires-clause-others c =
     let n = c.count_below-first.result in
     let split = c.count_below-first.ensures in
     let from : from_base c.args.base c.args.self.now ≡ map kept_entry (drop n c.leave_before.new.self) =
-        ap (from_base c.args.base) (sym c.self.view_is) ∙ from_base_is c.args.base ks n split.below split.above ∙ ap (λ l. map kept_entry (drop n l)) (sym c.leave_before.ensures)
+    ap (from_base c.args.base) (sym c.self.view_is) ∙ from_base_is c.args.base ks n split.below split.above ∙ ap (λ l. map kept_entry (drop n l)) (sym c.leave_before.ensures)
     in
     subst (All (λ e. e.origin ≢ c.args.own)) from (all_from_base (λ e. e.origin ≢ c.args.own) c.args.base c.args.self.now c.requires)
 
@@ -46,7 +46,7 @@ returns-clause-ok c =
     let split = c.count_below-first.ensures in
     let after = c.leave_before.new.self in
     let from : from_base c.args.base c.args.self.now ≡ map kept_entry (drop n after) =
-        ap (from_base c.args.base) (sym c.self.view_is) ∙ from_base_is c.args.base ks n split.below split.above ∙ ap (λ l. map kept_entry (drop n l)) (sym c.leave_before.ensures)
+    ap (from_base c.args.base) (sym c.self.view_is) ∙ from_base_is c.args.base ks n split.below split.above ∙ ap (λ l. map kept_entry (drop n l)) (sym c.leave_before.ensures)
     in
     carried_over c.args.own c.args.base c.args.changes c.args.self.now (map kept_entry (drop n after)) from c.carry_over.result c.carry_over.ensures.base c.carry_over.ensures.ok
 
@@ -57,7 +57,7 @@ returns-clause-fits c =
     let split = c.count_below-first.ensures in
     let after = c.leave_before.new.self in
     let from : from_base c.args.base c.args.self.now ≡ map kept_entry (drop n after) =
-        ap (from_base c.args.base) (sym c.self.view_is) ∙ from_base_is c.args.base ks n split.below split.above ∙ ap (λ l. map kept_entry (drop n l)) (sym c.leave_before.ensures)
+    ap (from_base c.args.base) (sym c.self.view_is) ∙ from_base_is c.args.base ks n split.below split.above ∙ ap (λ l. map kept_entry (drop n l)) (sym c.leave_before.ensures)
     in
     carried_fits c.args.own c.args.base c.args.changes c.args.self.now (map kept_entry (drop n after)) from c.carry_over.result c.carry_over.ensures.base c.carry_over.ensures.fits
 
@@ -68,6 +68,6 @@ returns-clause-stuck c =
     let split = c.count_below-first.ensures in
     let after = c.leave_before.new.self in
     let from : from_base c.args.base c.args.self.now ≡ map kept_entry (drop n after) =
-        ap (from_base c.args.base) (sym c.self.view_is) ∙ from_base_is c.args.base ks n split.below split.above ∙ ap (λ l. map kept_entry (drop n l)) (sym c.leave_before.ensures)
+    ap (from_base c.args.base) (sym c.self.view_is) ∙ from_base_is c.args.base ks n split.below split.above ∙ ap (λ l. map kept_entry (drop n l)) (sym c.leave_before.ensures)
     in
     carried_stuck c.args.own c.args.base c.args.changes c.args.self.now (map kept_entry (drop n after)) from c.carry_over.result c.carry_over.ensures.stuck

@@ -1,4 +1,4 @@
-use Rattle.std.proofs.Common.{◌≡◌, drop, map, sym, ◌∙◌, ap, subst}
+use Rattle.std.proofs.Common.{sym, ◌∙◌, ap, subst}
 use Rattle.std.proofs.lemmas.List.{drop-map}
 use Rattle.sync_theory.specs.Reciprocals.{from_base, settle}
 use Rattle.sync_recip.specs.Lists.{kept_entry, IsRising}

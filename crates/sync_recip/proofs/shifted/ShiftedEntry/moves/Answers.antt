@@ -1,4 +1,4 @@
-use Rattle.std.proofs.Common.{◌≡◌, refl, sym, ap, ◌∙◌}
+use Rattle.std.proofs.Common.{refl, sym, ap, ◌∙◌}
 use Rattle.sync_theory.specs.Changesets.{later_stamp}
 use Rattle.sync_transform.specs.Moves.{first_cell}
 use Rattle.sync_transform.proofs.Stands.{kind_told, moves_cross, shown_cell, some_map}
