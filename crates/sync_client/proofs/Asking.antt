@@ -1,12 +1,12 @@
 -- The messages that a client sends, and what it tells of itself.
-use Rattle.std.proofs.Common.{◌≡◌, ℕ, ◌≤◌, min, Bool, true, List, [], ◌∷◌, Option, Some, None, length, Result, Ok, Err, ap, subst, ◌∙◌, sym, ◌==◌, if◌then◌else◌, le_refl, arith}
+use Rattle.std.proofs.Common.{◌≡◌, ℕ, ◌≤◌, ◌<◌, min, Bool, true, List, [], ◌∷◌, Option, Some, None, length, get_or, Result, Ok, Err, refl, ap, subst, ◌∙◌, sym, ◌==◌, if◌then◌else◌, le_refl, arith}
 use Rattle.std.specs.Prelude.{IfOk, IfErr}
 use Rattle.std.specs.Option.{is_some}
 use Rattle.sync_messages.specs.declared.message.Message.{Message as CodeMessage}
 use Rattle.sync_data.specs.declared.instr.Instr.{Instr}
 use Rattle.sync_base.specs.States.{State}
 use Rattle.sync_model.specs.Bytes.{Tables}
-use Rattle.sync_model.specs.Clients.{Client as Model, ClientRecord, Unsent, answers, ask, client_of, last, no_client, question, settled_from, NotNamed, refuse}
+use Rattle.sync_model.specs.Clients.{Client as Model, ClientRecord, Original, Unsent, answers, ask, client_of, last, no_client, question, settled_from, NotNamed, refuse}
 use Rattle.sync_model.specs.Messages.{Message, Ask, Ask2, AskTables}
 use Rattle.sync_model.specs.Each.{Each, and_each}
 use Rattle.sync_model.specs.Limits.{ClientNumbers, IsUnsent}
@@ -30,6 +30,11 @@ numbers_of records r k = numbers_records the_profile records (no_client the_prof
 settled_within : (cursor : ℕ) (us : List (Unsent Instr)) → Each (IsUnsent the_profile cursor) us → settled_from cursor us ≤ cursor
 settled_within cursor [] h = le_refl cursor
 settled_within cursor (u ∷ us) (and_each h hs) = h.base
+
+-- where there is an oldest one
+pub base_is : (cursor : ℕ) (us : List (Unsent Instr)) (o : Original Instr) → 0 < length us → ((u : Unsent Instr) → u ≡ get_or us 0 u → o ≡ u.original) → o.base ≡ settled_from cursor us
+base_is cursor [] o l h = absurd (omega (arith, l))
+base_is cursor (u ∷ us) o l h = ap (λ (x : Original Instr). x.base) (h u refl)
 
 no_less : (a b : ℕ) → a ≤ b → min a b ≡ a
 no_less a b h = grind arith
