@@ -1,9 +1,8 @@
-use Rattle.std.proofs.Common.{◌≡◌, ◌≢◌, ◌+◌, ◌-◌, ℕ, All, map, refl, sym, ap, ◌∙◌, subst, arith}
+use Rattle.std.proofs.Common.{◌≢◌, All, map, refl, sym, ap, ◌∙◌, subst}
 use Rattle.sync_data.specs.declared.instr.Instr.{Instr}
-use Rattle.sync_theory.specs.Changesets.{Changeset}
 use Rattle.sync_recip.specs.Lists.{entry_of}
 use Rattle.sync_model.specs.Parts.{Given, at_ident}
-use Rattle.sync_server.specs.History.{HistoryParts, IsHistory, IsReciprocal, len_of}
+use Rattle.sync_server.specs.History.{HistoryParts, IsHistory}
 use Rattle.sync_server.specs.Merging.{Carries}
 use Rattle.sync_server.proofs.Changed.{other_there, same_is}
 use Rattle.sync_server.proofs.Idents.{is_at}

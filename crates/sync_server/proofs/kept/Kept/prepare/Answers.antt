@@ -1,22 +1,12 @@
-use Rattle.std.proofs.Common.{◌≡◌, ◌≢◌, ◌<◌, ℕ, All, None, refl, sym, ap, ◌∙◌, subst, arith}
+use Rattle.std.proofs.Common.{◌≡◌, ◌<◌, None, sym, ap, ◌∙◌, subst, arith}
 use Rattle.sync_model.specs.Profile.{needs}
 use Rattle.sync_exchange.specs.Profile.{the_profile}
-use Rattle.sync_base.specs.Codes.{mismatch_code}
 use Rattle.sync_data.specs.declared.instr.Instr.{Instr}
-use Rattle.sync_law.specs.Instrs.{meet}
-use Rattle.sync_theory.specs.Changesets.{Changeset, cross_sets}
-use Rattle.sync_theory.specs.Grid.{carry}
-use Rattle.sync_theory.specs.Reciprocals.{from_base}
-use Rattle.sync_transform.specs.Sets.{made_by}
-use Rattle.sync_recip.specs.Carrying.{IsStuckBy}
 use Rattle.sync_model.specs.Parts.{Given, is_newer}
 use Rattle.sync_server.specs.Kept.{parts}
-use Rattle.sync_server.specs.History.{len_of, IsReciprocal}
+use Rattle.sync_server.specs.History.{len_of}
 use Rattle.sync_server.specs.Merging.{change_of, numbers_broken}
-use Rattle.sync_server.specs.declared.refusal.ChangeRefusal.TheVariants.{Refused}
-use Rattle.sync_server.specs.declared.refusal.Refusal.TheVariants as refusals
-use Rattle.sync_server.proofs.Coded.{carries_by_code, stuck_by_code}
-use Rattle.sync_server.proofs.Keeps.{all_to, the_same}
+use Rattle.sync_server.proofs.Keeps.{the_same}
 use Rattle.sync_server.proofs.Needs.{any_needs}
 use Rattle.sync_server.proofs.Steps.{ready, not_ready}
 use Rattle.sync_server.proofs.kept.Kept.prepare.Goals as goal
