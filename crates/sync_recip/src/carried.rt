@@ -11,7 +11,7 @@ use super::shared::SharedEntry;
 use std::marker::Model;
 use sync_base::Changeset;
 use sync_rivals::RivalIndex;
-use sync_transform::ListAction;
+use sync_transform::{ListAction, Shifted};
 
 /// What became of an entry as a change crossed it.
 #[derive(Drop)]
@@ -48,6 +48,17 @@ impl Model for Carried {
 }
 
 impl Carried {
+    /// A change that was made at a base, as carried, and what crossed it.
+    pub(crate) fn new(base: u32, changes: Shifted, crossed: Vec<Crossed>) -> Carried
+        ensures { result ≡ record { base = base; changes = changes; crossed = crossed.items } }
+    {
+        Carried {
+            base,
+            changes: changes.into_changes(),
+            crossed,
+        }
+    }
+
     /// The change as carried.
     pub fn changes(&self) -> &Changeset
         ensures { result.now ≡ self.now.changes }

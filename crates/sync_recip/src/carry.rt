@@ -53,23 +53,18 @@ pub(crate) fn carry_over(
     let mut pace = Pace::new();
     let end = items.len();
     let mut from = first;
-    while from < end {
+    'entries: loop {
         let next = rivals.next(&mut pace, codes, left.is_empty(), from, end);
         if next >= end {
-            return Ok(Carried {
-                base,
-                changes: left.into_changes(),
-                crossed,
-            });
+            return Ok(Carried::new(base, left, crossed));
         }
-        if let Some(passing) = items.across(from, next, own, &left) {
-            let Passing { across, left: rest } = passing;
+        if let Some(Passing { across, left: rest }) = items.across(from, next, own, &left) {
             left = passed_on(alloc, left, rest);
             from = across.start + across.count;
             let Ok(()) = keep(&mut crossed, Crossed::Stretch(counted_from(first, across))) else {
                 return Err(RecipRefusal::NoMemory);
             };
-            continue;
+            continue 'entries;
         }
         from = next + 1;
         if let Some(moves) = items.moves(next, &left, own, index) {
@@ -77,10 +72,10 @@ pub(crate) fn carry_over(
             let Ok(()) = note(&mut crossed, next - first, Some(Became::Moved(moves.right))) else {
                 return Err(RecipRefusal::NoMemory);
             };
-            continue;
+            continue 'entries;
         }
         if items.stays_apart(next, index) {
-            continue;
+            continue 'entries;
         }
         match cross_one(alloc, left.into_changes(), own, items, next) {
             Err(refusal) => return Err(refusal),
@@ -92,11 +87,6 @@ pub(crate) fn carry_over(
             }
         }
     }
-    Ok(Carried {
-        base,
-        changes: left.into_changes(),
-        crossed,
-    })
 }
 
 /// The same stretch, where places are counted from there on.
