@@ -26,7 +26,7 @@ all_again (r ∷ rs) = ap (λ xs. r ∷ xs) (all_again rs)
 
 -- ---- the node of its records
 module _ {D : Type 0} {G : Ghosts D} (b : List ℕ) where
-  pub opened_client : (c : Client D G) → client_files.Opened b c → OpenedClient G.content G.images b c
+  pub opened_client : (c : Client D G) → client_files.Opened b c → OpenedClient b c
   opened_client c o = record {
     records = o.records;
     file = ap client_in o.holds ∙ ap (at_gate o.file) o.reads;
@@ -35,7 +35,7 @@ module _ {D : Type 0} {G : Ghosts D} (b : List ℕ) where
     stored = o.stored;
   }
 
-  pub opened_server : (s : Server D G) → server_files.Opened b s → OpenedServer G.content G.images b s
+  pub opened_server : (s : Server D G) → server_files.Opened b s → OpenedServer b s
   opened_server s o = record {
     records = o.records;
     file = ap server_in o.holds ∙ ap (at_gate o.file) (ap (if_given o.file) (ap (file_gives the_profile) o.are.reads ∙ o.server.gives) ∙ ap (λ rs. Ok rs) (ap all_read o.are.reads ∙ all_again o.records));
@@ -45,10 +45,10 @@ module _ {D : Type 0} {G : Ghosts D} (b : List ℕ) where
   }
 
   -- its disk holds those records and nothing else
-  pub client_holds : (c : Client D G) → OpenedClient G.content G.images b c → HoldsThose G.content G.images b (disk_of (clients.journal_of c))
+  pub client_holds : (c : Client D G) → OpenedClient b c → HoldsThose G.content G.images b (disk_of (clients.journal_of c))
   client_holds c o = record { file = o.stored.settled.file; told = o.stored.settled.told; reads = o.stored.settled.reads ∙ sym o.holds; durable = o.stored.settled.durable }
 
-  pub server_holds : (s : Server D G) → OpenedServer G.content G.images b s → HoldsThose G.content G.images b (disk_of (servers.journal_of s))
+  pub server_holds : (s : Server D G) → OpenedServer b s → HoldsThose G.content G.images b (disk_of (servers.journal_of s))
   server_holds s o = record { file = o.stored.settled.file; told = o.stored.settled.told; reads = o.stored.settled.reads ∙ sym o.holds; durable = o.stored.settled.durable }
 
 -- ---- bytes that are no journal of the node

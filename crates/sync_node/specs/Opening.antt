@@ -65,20 +65,20 @@ pub record HoldsThose {D : Type 0} (content : D → Option (List ℕ)) (images :
 
 module _ {D : Type 0} {G : Ghosts D} where
   -- the client of the records of a file, whose disk holds them
-  pub record OpenedClient (content : D → Option (List ℕ)) (images : D → List ℕ → Type 0) (bytes : List ℕ) (c : Client D G) : Type 0 where
+  pub record OpenedClient (bytes : List ℕ) (c : Client D G) : Type 0 where
     pub records : List ClientRecord
     pub file : client_file bytes ≡ Ok records
     pub holds : records_of bytes ≡ Good (map client_bytes records)
     pub client : clients.IsClientOf records c
-    pub stored : clients.IsStored content images records c
+    pub stored : clients.IsStored records c
 
   -- the server of the records of a file, whose disk holds them
-  pub record OpenedServer (content : D → Option (List ℕ)) (images : D → List ℕ → Type 0) (bytes : List ℕ) (s : Server D G) : Type 0 where
+  pub record OpenedServer (bytes : List ℕ) (s : Server D G) : Type 0 where
     pub records : List ServerRecord
     pub file : server_file bytes ≡ Ok records
     pub holds : records_of bytes ≡ Good (map server_bytes records)
     pub server : servers.IsServerOf records s
-    pub stored : servers.IsStored content images records s
+    pub stored : servers.IsStored records s
 
 -- the node of the records of a file, whose disk holds them
 pub record OpensNode {R : Type 0} (file_of : List ℕ → Result (List R) ℕ) (Stands Holds : List R → Type 0) (bytes : List ℕ) : Type 0 where

@@ -40,7 +40,7 @@ pub(crate) fn unopened<D: Disk>(refusal: OpenRefusal<D>) -> Ended<D>
 /// Opens the client of a disk.
 pub fn open_client<D: Disk>(alloc: Global, disk: D) -> Result<Client<D>, Ended<D>>
     // The client of the records for which the content stands, or the place at which it is no journal of a client.
-    ensures opened { Told (D.content disk) (λ b. IfOk result (OpenedClient D.content D.images b)) }
+    ensures opened { Told (D.content disk) (λ b. IfOk result (OpenedClient b)) }
     ensures bad_file { Told (D.content disk) (λ b. IfErr result (λ e. (place : ℕ) → e.status ≡ Status.BadFile place → client_file b ≡ Err place)) }
     ensures kept { Told (D.content disk) (λ b. IfErr result (λ e. (place : ℕ) → e.status ≡ Status.BadFile place → D.content e.disk ≡ Some b)) }
     ensures only { IfErr result (λ e. IsOpenStatus e.status) }
@@ -67,7 +67,7 @@ pub fn open_client<D: Disk>(alloc: Global, disk: D) -> Result<Client<D>, Ended<D
 /// Opens the server of a disk.
 pub fn open_server<D: Disk>(alloc: Global, disk: D) -> Result<Server<D>, Ended<D>>
     // The server of the records for which the content stands, or the place at which it is no journal of a server.
-    ensures opened { Told (D.content disk) (λ b. IfOk result (OpenedServer D.content D.images b)) }
+    ensures opened { Told (D.content disk) (λ b. IfOk result (OpenedServer b)) }
     ensures open_ { IfOk result (λ server. servers.is_closed server ≡ false) }
     ensures bad_file { Told (D.content disk) (λ b. IfErr result (λ e. (place : ℕ) → e.status ≡ Status.BadFile place → server_file b ≡ Err place)) }
     ensures kept { Told (D.content disk) (λ b. IfErr result (λ e. (place : ℕ) → e.status ≡ Status.BadFile place → D.content e.disk ≡ Some b)) }
