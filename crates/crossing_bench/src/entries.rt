@@ -11,7 +11,11 @@ use sync_recip::Recip;
 /// The runs and the nanoseconds of carrying an insertion at the start of a list over so many insertions at its end.
 pub(crate) fn measured_list(rt: &HostRuntime, count: u32) -> Result<(u64, u128), Failure> {
     let mut kept = entries(rt.alloc(), count, true)?;
-    timed(rt, &mut kept, of_one(rt.alloc(), insertion_at_start(0)?, 9)?)
+    timed(
+        rt,
+        &mut kept,
+        of_one(rt.alloc(), insertion_at_start(0)?, 9)?,
+    )
 }
 
 /// The runs and the nanoseconds of carrying a change about the object with that key over so many entries about the object 1.
