@@ -1,0 +1,4 @@
+pub mod Spreads
+pub mod Behind
+pub mod Crossing
+pub mod Found
