@@ -11,19 +11,9 @@ use Rattle.list_lane.specs.declared.op.Op.{Op}
 use Rattle.list_lane.proofs.Chain.{still_chains}
 use Rattle.list_lane.proofs.Apart.{crosses_before, crosses_behind, passes_one, passes_among}
 use Rattle.list_regions.specs.Regions.{RegionOf, before, after, befores, afters, Spread, Woven, last, next, Whole, none, first}
+use Rattle.list_regions.specs.Kept.{at, crossed_region, with_gap}
 use Rattle.list_regions.proofs.Spreads.{spread_end, spread_crossed, crossed_empty}
 use Rattle.list_regions.proofs.Behind.{behind_front, end_none, passes_first, beyond_element, beyond_insertion}
-
--- an instruction at another place
-abbrev pub at : Op → ℕ → Op
-at b p = record b { place = p }
-
--- the regions with one that it crosses, or with other elements in front of the first
-abbrev pub crossed_region : (Stamp → Stamp → Bool) → RegionOf → Op → RegionOf
-crossed_region l q b = record q { lane = lane_after l q.lane b }
-
-abbrev pub with_gap : ℕ → RegionOf → RegionOf
-with_gap g q = record q { gap = g }
 
 -- an insertion among elements is in front of one and behind one
 abbrev pub Inner : Does → ℕ → Type 0

@@ -10,7 +10,8 @@ use Rattle.list_lane.specs.Parts.{from}
 use Rattle.list_lane.specs.declared.op.Op.{Op}
 use Rattle.list_lane.proofs.Turns.{whole_again}
 use Rattle.list_regions.specs.Regions.{RegionOf, before, after, befores, afters}
-use Rattle.list_regions.proofs.Crossing.{at, crossed_region, with_gap, Inner, from_twice, Crosses, CrossesWhole, touch, gap, tail, behind_many, whole_touch, whole_front, whole_none, whole_behind}
+use Rattle.list_regions.specs.Kept.{at, crossed_region, with_gap}
+use Rattle.list_regions.proofs.Crossing.{Inner, from_twice, Crosses, CrossesWhole, touch, gap, tail, behind_many, whole_touch, whole_front, whole_none, whole_behind}
 
 -- ---- sums
 pub befores_are : (qs : List RegionOf) → sum_by before qs ≡ befores qs

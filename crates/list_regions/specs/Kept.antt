@@ -1,0 +1,55 @@
+-- What is kept of regions, and what crossing them is.
+use Rattle.std.specs.Prelude.{◌≡◌, ℕ, zero, suc, ◌+◌, ◌<◌, ◌≤◌, Bool, List, length, Option, None, Some}
+use Rattle.sync_data.specs.declared.entry.Stamp.{Stamp}
+use Rattle.sync_base.specs.Rules.{top}
+use Rattle.sync_transform.specs.Places.{longer, Within}
+use Rattle.sync_transform.specs.declared.places.Does.{Does}
+use Rattle.sync_transform.specs.declared.places.Does.TheVariants.{Inserts, Erases, Updates}
+use Rattle.list_lane.specs.Lanes.{LaneOf, crossed, lane_after}
+use Rattle.list_lane.specs.Flat.{IsLane}
+use Rattle.list_lane.specs.declared.op.Op.{Op}
+use Rattle.list_regions.specs.Regions.{RegionOf, before, befores, Whole}
+
+-- an instruction at another place
+abbrev pub at : Op → ℕ → Op
+at b p = record b { place = p }
+
+-- a region that it crosses, or with so many elements in front
+abbrev pub crossed_region : (Stamp → Stamp → Bool) → RegionOf → Op → RegionOf
+crossed_region l q b = record q { lane = lane_after l q.lane b }
+
+abbrev pub with_gap : ℕ → RegionOf → RegionOf
+with_gap g q = record q { gap = g }
+
+-- a region has as many numbers as slots, and its list can't become too long
+pub record IsRegion (gap : ℕ) (numbers : List ℕ) (lane : LaneOf) : Type 0 where
+  pub numbers_are : length numbers ≡ length lane.slots
+  pub room : gap + lane.first + length lane.slots < top
+
+-- the regions of a lane whose first slot has that number
+pub record IsRegions (popped count first last : ℕ) (qs : List RegionOf) (ss : List (Option Op)) : Type 0 where
+  pub whole : Whole popped qs ss
+  pub lane : IsLane first last count ss
+  pub fits : befores qs ≤ first
+  pub numbers : popped + count < 18446744073709551615
+
+-- how long what it touches has to be, with all in front of that
+abbrev pub reach : Does → ℕ → ℕ
+reach Inserts p = p
+reach Erases p = p + 1
+reach Updates p = p + 1
+
+-- an instruction that was made on the list before them
+pub record Meets (qs : List RegionOf) (b : Op) : Type 0 where
+  pub popped : ℕ
+  pub length_is : ℕ
+  pub slots : List (Option Op)
+  pub whole : Whole popped qs slots
+  pub within : Within b.does b.place length_is
+  pub room : length_is + length slots + 1 < top
+  pub fits : befores qs ≤ length_is
+
+-- it crosses them, and they become others; z is left of it
+pub record Passes (l : Stamp → Stamp → Bool) (qs : List RegionOf) (b : Op) (z : Option Op) (zs : List RegionOf) : Type 0 where
+  pub slots : (k : ℕ) (ss : List (Option Op)) → Whole k qs ss → Whole k zs (crossed l ss (Some b)).slots × ((crossed l ss (Some b)).left ≡ z)
+  pub fits : (n : ℕ) → befores qs ≤ n → Within b.does b.place n → befores zs ≤ longer b.does n

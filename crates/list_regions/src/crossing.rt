@@ -1,0 +1,110 @@
+//! An instruction crosses regions.
+ghost use Rattle.std.specs.Prelude.{◌≡◌, ◌+◌, ◌≤◌, ◌<◌, Some, IfSome, IfOk, OnErr, length, slice_get, slice_set};
+ghost use Rattle.std.specs.Option.{option_map};
+ghost use Rattle.sync_base.specs.Rules.{top};
+ghost use Rattle.sync_transform.specs.Places.{Within};
+ghost use Rattle.list_lane.specs.Ops.{lane_later as later};
+ghost use Rattle.list_lane.specs.Lanes.{crossed};
+ghost use Rattle.list_lane.specs.Parts.{from};
+ghost use Rattle.list_regions.specs.Regions.{RegionOf};
+ghost use Rattle.list_regions.specs.Kept.{crossed_region, with_gap, reach as reaches, Meets, Passes};
+
+use super::region::Region;
+use list_lane::Op;
+use std::alloc::Global;
+use sum_list::SumList;
+use sync_data::NoMemory;
+use sync_transform::{Does, length_after};
+
+/// What is left of an instruction that crosses the regions. It may take memory where it erases the last element between two.
+pub(crate) fn cross_regions(
+    items: &mut SumList<Region>,
+    alloc: Global,
+    traveller: Op,
+    lane_left: bool,
+) -> Result<Option<Op>, NoMemory>
+    requires { Meets items.old traveller }
+    ensures ok { IfOk result (λ z. Passes (later lane_left) items.old traveller z items.new) }
+    ensures err { OnErr result (items.new ≡ items.old) }
+{
+    let at = items.find_before(reach(traveller));
+    let offset = traveller.place as u64 - at.before;
+    let Some(region) = items.get(at.place) else {
+        return Ok(Some(placed(traveller, offset + at.after)));
+    };
+    let gap = region.gap();
+    if offset >= gap as u64 {
+        let inner = placed(traveller, offset - gap as u64);
+        let left = cross_at(items, alloc, at.place, inner, lane_left);
+        return Ok(lifted(left, at.after + gap as u64));
+    }
+    let gap = length_after(traveller.does, gap);
+    if gap == 0 && at.place > 0 {
+        return Err(NoMemory);
+    }
+    set_gap_at(items, alloc, at.place, gap);
+    Ok(Some(placed(traveller, offset + at.after)))
+}
+
+/// How long what it touches has to be, with all in front of that.
+pub(crate) fn reach(op: Op) -> u64
+    ensures { result ≡ reaches op.does op.place }
+{
+    match op.does {
+        Does::Inserts => op.place as u64,
+        Does::Erases | Does::Updates => op.place as u64 + 1,
+    }
+}
+
+/// The instruction at another place.
+pub(crate) fn placed(op: Op, place: u64) -> Op
+    requires { place ≤ top }
+    ensures { result ≡ record op { place = place } }
+{
+    Op {
+        place: place as u32,
+        ..op
+    }
+}
+
+/// What is left of an instruction, in a list with so many elements more in front.
+pub(crate) fn lifted(left: Option<Op>, more: u64) -> Option<Op>
+    requires { IfSome left (λ z. z.place + more ≤ top) }
+    ensures { result ≡ option_map (from more) left }
+{
+    match left {
+        Some(op) => Some(placed(op, op.place as u64 + more)),
+        None => None,
+    }
+}
+
+/// What is left of an instruction that crosses the region at a place.
+fn cross_at(
+    items: &mut SumList<Region>,
+    alloc: Global,
+    place: usize,
+    inner: Op,
+    lane_left: bool,
+) -> Option<Op>
+    requires there { place < length items.old }
+    requires within { (q : RegionOf) → slice_get items.old place ≡ Some q → Within inner.does inner.place q.lane.first }
+    requires room { (q : RegionOf) → slice_get items.old place ≡ Some q → q.gap + q.lane.first + length q.lane.slots + 1 < top }
+    ensures regions { (q : RegionOf) → slice_get items.old place ≡ Some q → items.new ≡ slice_set items.old place (crossed_region (later lane_left) q inner) }
+    ensures left { (q : RegionOf) → slice_get items.old place ≡ Some q → result ≡ (crossed (later lane_left) q.lane.slots (Some inner)).left }
+{
+    let mut region = items.replace(place, Region::empty(alloc));
+    let left = region.cross(inner, lane_left);
+    items.replace(place, region);
+    left
+}
+
+/// Other elements lie in front of the region at a place.
+fn set_gap_at(items: &mut SumList<Region>, alloc: Global, place: usize, gap: u32)
+    requires there { place < length items.old }
+    requires room { (q : RegionOf) → slice_get items.old place ≡ Some q → gap + q.lane.first + length q.lane.slots < top }
+    ensures { (q : RegionOf) → slice_get items.old place ≡ Some q → items.new ≡ slice_set items.old place (with_gap gap q) }
+{
+    let mut region = items.replace(place, Region::empty(alloc));
+    region.set_gap(gap);
+    items.replace(place, region);
+}

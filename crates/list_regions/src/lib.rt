@@ -1,0 +1,9 @@
+//! Lanes whose slots lie in regions, in order of places. An instruction that crosses such a lane meets the slots of one region
+//! alone, or none.
+#![tactic(auto)]
+
+mod crossing;
+mod region;
+mod regions;
+
+pub use regions::Regions;
