@@ -2,3 +2,5 @@ pub mod Spreads
 pub mod Behind
 pub mod Crossing
 pub mod Found
+pub mod Views
+pub mod Edits

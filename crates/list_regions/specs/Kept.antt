@@ -1,5 +1,5 @@
 -- What is kept of regions, and what crossing them is.
-use Rattle.std.specs.Prelude.{◌≡◌, ℕ, zero, suc, ◌+◌, ◌<◌, ◌≤◌, Bool, List, length, Option, None, Some}
+use Rattle.std.specs.Prelude.{◌≡◌, ℕ, zero, suc, ◌+◌, ◌-◌, ◌<◌, ◌≤◌, Bool, List, [], ◌∷◌, ◌++◌, length, Option, None, Some}
 use Rattle.sync_data.specs.declared.entry.Stamp.{Stamp}
 use Rattle.sync_base.specs.Rules.{top}
 use Rattle.sync_transform.specs.Places.{longer, Within}
@@ -7,6 +7,7 @@ use Rattle.sync_transform.specs.declared.places.Does.{Does}
 use Rattle.sync_transform.specs.declared.places.Does.TheVariants.{Inserts, Erases, Updates}
 use Rattle.list_lane.specs.Lanes.{LaneOf, crossed, lane_after}
 use Rattle.list_lane.specs.Flat.{IsLane}
+use Rattle.list_lane.specs.Parts.{from}
 use Rattle.list_lane.specs.declared.op.Op.{Op}
 use Rattle.list_regions.specs.Regions.{RegionOf, before, befores, Whole}
 
@@ -20,6 +21,27 @@ crossed_region l q b = record q { lane = lane_after l q.lane b }
 
 abbrev pub with_gap : ℕ → RegionOf → RegionOf
 with_gap g q = record q { gap = g }
+
+-- a region of y elements and no slot, behind p elements
+abbrev pub fresh : ℕ → ℕ → RegionOf
+fresh p y = record { gap = p; numbers = []; lane = record { first = y; slots = [] } }
+
+-- slots in a list with n elements more in front
+abbrev pub onward : ℕ → List (Option Op) → List (Option Op)
+onward n [] = []
+onward n (None ∷ ss) = None ∷ onward n ss
+onward n (Some a ∷ ss) = Some (from n a) ∷ onward n ss
+
+-- a region with the element in front of it, or with the one behind it
+abbrev pub with_front : RegionOf → RegionOf
+with_front q = record { gap = q.gap - 1; numbers = q.numbers; lane = record { first = q.lane.first + 1; slots = onward 1 q.lane.slots } }
+
+abbrev pub with_end : RegionOf → RegionOf
+with_end q = record q { lane = record { first = q.lane.first + 1; slots = q.lane.slots } }
+
+-- a region with a slot more
+abbrev pub pushed_region : ℕ → Op → RegionOf → RegionOf
+pushed_region n b q = record { gap = q.gap; numbers = q.numbers ++ n ∷ []; lane = record { first = q.lane.first; slots = q.lane.slots ++ Some b ∷ [] } }
 
 -- a region has as many numbers as slots, and its list can't become too long
 pub record IsRegion (gap : ℕ) (numbers : List ℕ) (lane : LaneOf) : Type 0 where
