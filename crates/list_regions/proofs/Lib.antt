@@ -4,3 +4,4 @@ pub mod Crossing
 pub mod Found
 pub mod Views
 pub mod Edits
+pub mod Pushing
