@@ -14,17 +14,17 @@ use Rattle.list_regions.proofs.Behind.{alone, parts_left, parts_right}
 use Rattle.list_regions.proofs.Views.{woven_length}
 
 -- ---- slots of elements behind others
-within_on : (d : Does) (p n x : ℕ) → Within d p x → Within d (p + n) (x + n)
+pub within_on : (d : Does) (p n x : ℕ) → Within d p x → Within d (p + n) (x + n)
 within_on Inserts p n x h = omega (arith, h)
 within_on Erases p n x h = omega (arith, h)
 within_on Updates p n x h = omega (arith, h)
 
-longer_on : (d : Does) (p n x : ℕ) → Within d p x → longer d (x + n) ≡ longer d x + n
+pub longer_on : (d : Does) (p n x : ℕ) → Within d p x → longer d (x + n) ≡ longer d x + n
 longer_on Inserts p n x h = omega arith
 longer_on Erases p n x h = omega (arith, h)
 longer_on Updates p n x h = refl
 
-within_more : (d : Does) (p n x : ℕ) → Within d p x → Within d p (x + n)
+pub within_more : (d : Does) (p n x : ℕ) → Within d p x → Within d p (x + n)
 within_more Inserts p n x h = omega (arith, h)
 within_more Erases p n x h = omega (arith, h)
 within_more Updates p n x h = omega (arith, h)

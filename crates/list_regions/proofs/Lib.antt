@@ -4,4 +4,5 @@ pub mod Crossing
 pub mod Found
 pub mod Views
 pub mod Edits
+pub mod Growing
 pub mod Pushing
