@@ -6,3 +6,4 @@ pub mod Views
 pub mod Edits
 pub mod Growing
 pub mod Pushing
+pub mod Popping

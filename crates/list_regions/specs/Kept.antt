@@ -22,6 +22,10 @@ crossed_region l q b = record q { lane = lane_after l q.lane b }
 abbrev pub with_gap : ℕ → RegionOf → RegionOf
 with_gap g q = record q { gap = g }
 
+-- a region by its parts
+abbrev pub region : ℕ → List ℕ → ℕ → List (Option Op) → RegionOf
+region g ns x ss = record { gap = g; numbers = ns; lane = record { first = x; slots = ss } }
+
 -- a region of y elements and no slot, behind p elements
 abbrev pub fresh : ℕ → ℕ → RegionOf
 fresh p y = record { gap = p; numbers = []; lane = record { first = y; slots = [] } }
