@@ -7,3 +7,4 @@ pub mod Edits
 pub mod Growing
 pub mod Pushing
 pub mod Popping
+pub mod Merging

@@ -7,7 +7,7 @@ use Rattle.list_lane.specs.Parts.{Parts, end, empty, front, back, from}
 use Rattle.list_lane.specs.declared.op.Op.{Op}
 use Rattle.list_regions.specs.Regions.{RegionOf, before, befores, number, first_number, AllEmpty, Spread, skip, here, end as done, Woven, last, next, Whole, none, first}
 use Rattle.list_regions.specs.Kept.{region}
-use Rattle.list_regions.proofs.Spreads.{spread_numbers}
+use Rattle.list_regions.proofs.Spreads.{spread_from}
 use Rattle.list_regions.proofs.Behind.{parts_left, parts_right}
 use Rattle.list_regions.proofs.Views.{woven_length}
 
@@ -18,11 +18,6 @@ spread_later (skip d) h = (d, refl)
 spread_later (here d) h = absurd (h refl)
 
 -- or it is their first
-pub spread_from : {k : ℕ} {ns : List ℕ} {ss fs : List (Option Op)} → Spread k ns ss fs → (n : ℕ) (ms : List ℕ) → ns ≡ n ∷ ms → k ≤ n
-spread_from done n ms e = cc
-spread_from (skip {k = k} d) n ms e = let h = spread_from d n ms e in omega (arith, h)
-spread_from (here {k = k} d) n ms e = let h : k ≡ n = cc in omega (arith, h)
-
 spread_first : {k : ℕ} {ns ms : List ℕ} {ss fs : List (Option Op)} {t f : Option Op} → Spread k ns (t ∷ ss) (f ∷ fs) → ns ≡ k ∷ ms → Spread (suc k) ms ss fs × (f ≡ t)
 spread_first {k = k} {ms = ms} (skip d) e = absurd (let h = spread_from d k ms e in omega (arith, h))
 spread_first (here {ss = ss} {fs = fs} d) e = (subst (λ r. Spread _ r ss fs) cc d, refl)

@@ -75,27 +75,27 @@ module _ (k : ℕ) where
 
 -- ---- the lengths of the list
 -- an instruction of the first elements acts on the whole list, and one behind them too
-within_more : (d : Does) (p x y : ℕ) → Within d p x → Within d p (x + y)
+pub within_more : (d : Does) (p x y : ℕ) → Within d p x → Within d p (x + y)
 within_more Inserts p x y h = omega (arith, h)
 within_more Erases p x y h = omega (arith, h)
 within_more Updates p x y h = omega (arith, h)
 
-within_on : (d : Does) (p x g y : ℕ) → Within d p y → Within d (p + (x + g)) (x + (g + y))
+pub within_on : (d : Does) (p x g y : ℕ) → Within d p y → Within d (p + (x + g)) (x + (g + y))
 within_on Inserts p x g y h = omega (arith, h)
 within_on Erases p x g y h = omega (arith, h)
 within_on Updates p x g y h = omega (arith, h)
 
-longer_more : (d : Does) (p x y : ℕ) → Within d p x → longer d (x + y) ≡ longer d x + y
+pub longer_more : (d : Does) (p x y : ℕ) → Within d p x → longer d (x + y) ≡ longer d x + y
 longer_more Inserts p x y h = omega arith
 longer_more Erases p x y h = omega (arith, h)
 longer_more Updates p x y h = refl
 
-longer_behind : (d : Does) (p x g y : ℕ) → Within d p y → longer d (x + (g + y)) ≡ x + (g + longer d y)
+pub longer_behind : (d : Does) (p x g y : ℕ) → Within d p y → longer d (x + (g + y)) ≡ x + (g + longer d y)
 longer_behind Inserts p x g y h = omega arith
 longer_behind Erases p x g y h = omega (arith, h)
 longer_behind Updates p x g y h = refl
 
-parts_chain : {g x : ℕ} {ss ls rs : List (Option Op)} → Parts g x ss ls rs → (y : ℕ) → Chains y rs → Chains (x + (g + y)) ss
+pub parts_chain : {g x : ℕ} {ss ls rs : List (Option Op)} → Parts g x ss ls rs → (y : ℕ) → Chains y rs → Chains (x + (g + y)) ss
 parts_chain end y c = tt
 parts_chain (empty d) y c = (tt, parts_chain d y c.1)
 parts_chain {g = g} {x = x} (front {a = a} {ss = ss} w d) y c =

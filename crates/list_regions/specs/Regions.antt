@@ -1,7 +1,7 @@
 -- A lane in regions, in order of places. Between them lie elements that none of the lane erases or updates.
 use Rattle.std.specs.Prelude.{ℕ, zero, suc, ◌+◌, ◌<◌, ◌==◌, if◌then◌else◌, List, [], ◌∷◌, Option, None, Some}
 use Rattle.sync_transform.specs.Places.{longer}
-use Rattle.list_lane.specs.Lanes.{LaneOf, length_at_end, Chains}
+use Rattle.list_lane.specs.Lanes.{LaneOf, length_after, length_at_end, Chains}
 use Rattle.list_lane.specs.Parts.{Parts, from}
 use Rattle.list_lane.specs.declared.op.Op.{Op}
 
@@ -81,3 +81,26 @@ pub data Woven (k : ℕ) : ℕ → List (Option Op) → List RegionOf → List (
 pub data Whole (k : ℕ) : List RegionOf → List (Option Op) → Type 0 where
   none : {ss : List (Option Op)} → AllEmpty ss → Whole k [] ss
   first : {q : RegionOf} {qs : List RegionOf} {ls fs rs ss : List (Option Op)} → AllEmpty ls → Spread k q.numbers q.lane.slots fs → Woven k q.lane.first fs qs rs → Parts q.gap zero ss ls rs → Whole k (q ∷ qs) ss
+
+-- ---- slots of two regions in one, by their numbers
+-- a number is in front of those of other slots
+abbrev pub Ahead : ℕ → List ℕ → Type 0
+Ahead n [] = Unit {0}
+Ahead n (m ∷ ms) = n < m
+
+-- a slot in a list with n elements more in front
+abbrev pub moved_on : ℕ → Option Op → Option Op
+moved_on n None = None
+moved_on n (Some a) = Some (from n a)
+
+abbrev pub either : Option Op → Option Op → Option Op
+either None t = t
+either (Some a) t = Some a
+
+-- the slots of a region of x elements and those of the one behind the g elements that follow. Where they share a number, at
+-- most one of both slots has an instruction
+pub data Merge (g : ℕ) : ℕ → List ℕ → List (Option Op) → List ℕ → List (Option Op) → List ℕ → List (Option Op) → Type 0 where
+  nothing : {x : ℕ} → Merge g x [] [] [] [] [] []
+  left : {x n : ℕ} {s : Option Op} {ns ms os : List ℕ} {ss ts us : List (Option Op)} → Ahead n ms → Merge g (length_after s x) ns ss ms ts os us → Merge g x (n ∷ ns) (s ∷ ss) ms ts (n ∷ os) (s ∷ us)
+  right : {x m : ℕ} {t : Option Op} {ns ms os : List ℕ} {ss ts us : List (Option Op)} → Ahead m ns → Merge g x ns ss ms ts os us → Merge g x ns ss (m ∷ ms) (t ∷ ts) (m ∷ os) (moved_on (x + g) t ∷ us)
+  both : {x n : ℕ} {s t : Option Op} {ns ms os : List ℕ} {ss ts us : List (Option Op)} → Merge g (length_after s x) ns ss ms ts os us → Merge g x (n ∷ ns) (s ∷ ss) (n ∷ ms) (t ∷ ts) (n ∷ os) (either s (moved_on (x + g) t) ∷ us)
