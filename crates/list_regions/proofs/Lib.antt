@@ -4,7 +4,9 @@ pub mod Crossing
 pub mod Found
 pub mod Views
 pub mod Edits
+pub mod Ahead
 pub mod Growing
+pub mod Opening
 pub mod Pushing
 pub mod Popping
 pub mod Merging

@@ -1,15 +1,15 @@
 -- What is kept of regions, and what crossing them is.
-use Rattle.std.specs.Prelude.{◌≡◌, ℕ, zero, suc, ◌+◌, ◌-◌, ◌<◌, ◌≤◌, Bool, List, [], ◌∷◌, ◌++◌, length, Option, None, Some}
+use Rattle.std.specs.Prelude.{◌≡◌, ℕ, zero, suc, ◌+◌, ◌-◌, ◌<◌, ◌≤◌, Bool, List, [], ◌∷◌, ◌++◌, length, take, max, slice_get, Option, None, Some}
 use Rattle.sync_data.specs.declared.entry.Stamp.{Stamp}
 use Rattle.sync_base.specs.Rules.{top}
 use Rattle.sync_transform.specs.Places.{longer, Within}
 use Rattle.sync_transform.specs.declared.places.Does.{Does}
 use Rattle.sync_transform.specs.declared.places.Does.TheVariants.{Inserts, Erases, Updates}
-use Rattle.list_lane.specs.Lanes.{LaneOf, crossed, lane_after}
+use Rattle.list_lane.specs.Lanes.{LaneOf, crossed, lane_after, length_at_end}
 use Rattle.list_lane.specs.Flat.{IsLane}
 use Rattle.list_lane.specs.Parts.{from}
 use Rattle.list_lane.specs.declared.op.Op.{Op}
-use Rattle.list_regions.specs.Regions.{RegionOf, before, befores, Whole}
+use Rattle.list_regions.specs.Regions.{RegionOf, before, befores, afters, Whole}
 
 -- an instruction at another place
 abbrev pub at : Op → ℕ → Op
@@ -42,6 +42,10 @@ with_front q = record { gap = q.gap - 1; numbers = q.numbers; lane = record { fi
 
 abbrev pub with_end : RegionOf → RegionOf
 with_end q = record q { lane = record { first = q.lane.first + 1; slots = q.lane.slots } }
+
+-- an insertion in front of a region, which pushes all of it
+abbrev pub earliest : Op
+earliest = record { does = Inserts; place = 0; stamp = record { ms = 0; ident = 0 } }
 
 -- a region with a slot more
 abbrev pub pushed_region : ℕ → Op → RegionOf → RegionOf
@@ -79,3 +83,31 @@ pub record Meets (qs : List RegionOf) (b : Op) : Type 0 where
 pub record Passes (l : Stamp → Stamp → Bool) (qs : List RegionOf) (b : Op) (z : Option Op) (zs : List RegionOf) : Type 0 where
   pub slots : (k : ℕ) (ss : List (Option Op)) → Whole k qs ss → Whole k zs (crossed l ss (Some b)).slots × ((crossed l ss (Some b)).left ≡ z)
   pub fits : (n : ℕ) → befores qs ≤ n → Within b.does b.place n → befores zs ≤ longer b.does n
+
+-- ---- an instruction that acts on the list behind them, to become the slot with that number
+pub record Ends (qs : List RegionOf) (b : Op) (number : ℕ) : Type 0 where
+  pub popped : ℕ
+  pub length_is : ℕ
+  pub slots : List (Option Op)
+  pub whole : Whole popped qs slots
+  pub within : Within b.does b.place (length_at_end length_is slots)
+  pub room : length_is + length slots + 1 < top
+  pub fits : befores qs ≤ length_is
+  pub number_is : popped + length slots ≡ number
+
+-- others tell the same slots, and lie in a list that is long enough for b
+pub record Opened (qs : List RegionOf) (b : Op) (zs : List RegionOf) : Type 0 where
+  pub same : (k : ℕ) (ss : List (Option Op)) → Whole k qs ss → Whole k zs ss
+  pub fits : befores zs + afters qs ≤ befores qs + max (afters qs) (reach b.does b.place)
+
+-- the region at a place is touched by b there
+pub record Touches (qs : List RegionOf) (b : Op) (i : ℕ) (inner : Op) : Type 0 where
+  pub region : RegionOf
+  pub is : slice_get qs i ≡ Some region
+  pub within : Within inner.does inner.place (length_at_end region.lane.first region.lane.slots)
+  pub place : b ≡ at inner (afters (take i qs) + (region.gap + inner.place))
+
+-- they have a slot more
+pub record Pushed (qs : List RegionOf) (b : Op) (number : ℕ) (zs : List RegionOf) : Type 0 where
+  pub slots : (k : ℕ) (ss : List (Option Op)) → k + length ss ≡ number → Whole k qs ss → Whole k zs (ss ++ Some b ∷ [])
+  pub fits : befores zs + afters qs ≤ befores qs + max (afters qs) (reach b.does b.place)
