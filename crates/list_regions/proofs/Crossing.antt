@@ -107,10 +107,10 @@ module _ (l : Stamp → Stamp → Bool) (k : ℕ) where
   tail b p i = tail_by b.does b p refl i
 
   -- ---- regions in front
-  further_on : (q : RegionOf) (b : Op) (x p : ℕ) (ss : List (Option Op)) → crossed l ss (Some (from (x + q.gap) (at b (q.lane.first + p)))) ≡ crossed l ss (Some (at b (x + (before q + p))))
+  pub further_on : (q : RegionOf) (b : Op) (x p : ℕ) (ss : List (Option Op)) → crossed l ss (Some (from (x + q.gap) (at b (q.lane.first + p)))) ≡ crossed l ss (Some (at b (x + (before q + p))))
   further_on q b x p ss = let e : q.lane.first + p + (x + q.gap) ≡ x + (q.gap + q.lane.first + p) = omega arith in ap (λ m. crossed l ss (Some (at b m))) e
 
-  further_left : (q : RegionOf) (fs : List (Option Op)) (r s : Crossed) (z : Option Op) (n : ℕ) → length_at_end q.lane.first fs ≡ length_at_end q.lane.first q.lane.slots → s.left ≡ option_map (from (length_at_end q.lane.first fs)) z → r.left ≡ option_map (from (n + q.gap)) s.left
+  pub further_left : (q : RegionOf) (fs : List (Option Op)) (r s : Crossed) (z : Option Op) (n : ℕ) → length_at_end q.lane.first fs ≡ length_at_end q.lane.first q.lane.slots → s.left ≡ option_map (from (length_at_end q.lane.first fs)) z → r.left ≡ option_map (from (n + q.gap)) s.left
       → r.left ≡ option_map (from n) (option_map (from (after q)) z)
   further_left q fs r s z n e h g =
       let m = length_at_end q.lane.first fs in
@@ -136,10 +136,10 @@ module _ (l : Stamp → Stamp → Bool) (k : ℕ) where
       (behind_one x (xs ++ qs) (xs ++ zs) b (befores xs + p) (option_map (from (afters xs)) z) (behind_many xs qs zs b p z c))
 
   -- ---- all regions
-  no_more : (n : ℕ) (g : ℕ) (r : Option Op) (s z : Option Op) → n ≡ 0 → r ≡ option_map (from (n + g)) s → s ≡ z → r ≡ option_map (from g) z
+  pub no_more : (n : ℕ) (g : ℕ) (r : Option Op) (s z : Option Op) → n ≡ 0 → r ≡ option_map (from (n + g)) s → s ≡ z → r ≡ option_map (from g) z
   no_more n g r s z e h k = let j : n + g ≡ g = omega arith in h ∙ (λ i. option_map (from (j i)) (k i))
 
-  at_start : (b : Op) (g p : ℕ) (ss : List (Option Op)) → crossed l ss (Some (from (zero + g) (at b p))) ≡ crossed l ss (Some (at b (g + p)))
+  pub at_start : (b : Op) (g p : ℕ) (ss : List (Option Op)) → crossed l ss (Some (from (zero + g) (at b p))) ≡ crossed l ss (Some (at b (g + p)))
   at_start b g p ss = let e : p + (zero + g) ≡ g + p = omega arith in ap (λ m. crossed l ss (Some (at b m))) e
 
   pub whole_touch : (q : RegionOf) (qs : List RegionOf) (b : Op) (p : ℕ) → Within b.does p q.lane.first → CrossesWhole (q ∷ qs) (crossed_region l q (at b p) ∷ qs) (at b (q.gap + p)) (option_map (from q.gap) (crossed l q.lane.slots (Some (at b p))).left)

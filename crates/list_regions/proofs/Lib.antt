@@ -2,6 +2,7 @@ pub mod Spreads
 pub mod Behind
 pub mod Crossing
 pub mod Found
+pub mod Leaving
 pub mod Views
 pub mod Edits
 pub mod Ahead
@@ -10,3 +11,4 @@ pub mod Opening
 pub mod Pushing
 pub mod Popping
 pub mod Merging
+pub mod Slots

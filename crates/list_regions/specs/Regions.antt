@@ -1,5 +1,5 @@
 -- A lane in regions, in order of places. Between them lie elements that none of the lane erases or updates.
-use Rattle.std.specs.Prelude.{ℕ, zero, suc, ◌+◌, ◌<◌, ◌==◌, if◌then◌else◌, List, [], ◌∷◌, Option, None, Some}
+use Rattle.std.specs.Prelude.{ℕ, zero, suc, ◌+◌, ◌<◌, ◌==◌, nat_lt, if◌then◌else◌, List, [], ◌∷◌, Option, None, Some}
 use Rattle.sync_transform.specs.Places.{longer}
 use Rattle.list_lane.specs.Lanes.{LaneOf, length_after, length_at_end, Chains}
 use Rattle.list_lane.specs.Parts.{Parts, from}
@@ -104,3 +104,24 @@ pub data Merge (g : ℕ) : ℕ → List ℕ → List (Option Op) → List ℕ �
   left : {x n : ℕ} {s : Option Op} {ns ms os : List ℕ} {ss ts us : List (Option Op)} → Ahead n ms → Merge g (length_after s x) ns ss ms ts os us → Merge g x (n ∷ ns) (s ∷ ss) ms ts (n ∷ os) (s ∷ us)
   right : {x m : ℕ} {t : Option Op} {ns ms os : List ℕ} {ss ts us : List (Option Op)} → Ahead m ns → Merge g x ns ss ms ts os us → Merge g x ns ss (m ∷ ms) (t ∷ ts) (m ∷ os) (moved_on (x + g) t ∷ us)
   both : {x n : ℕ} {s t : Option Op} {ns ms os : List ℕ} {ss ts us : List (Option Op)} → Merge g (length_after s x) ns ss ms ts os us → Merge g x (n ∷ ns) (s ∷ ss) (n ∷ ms) (t ∷ ts) (n ∷ os) (either s (moved_on (x + g) t) ∷ us)
+
+-- ---- a slot by its number
+abbrev pub find : ℕ → List ℕ → List (Option Op) → Option Op
+find n [] ss = None
+find n (m ∷ ms) [] = None
+find n (m ∷ ms) (s ∷ ss) = if m == n then s else find n ms ss
+
+-- the length of the list before it, where it was x before them all
+abbrev pub length_to : ℕ → ℕ → List ℕ → List (Option Op) → ℕ
+length_to n x [] ss = x
+length_to n x (m ∷ ms) [] = x
+length_to n x (m ∷ ms) (s ∷ ss) = if nat_lt m n then length_to n (length_after s x) ms ss else x
+
+-- the same of all regions
+abbrev pub look : ℕ → List RegionOf → Option Op
+look n [] = None
+look n (q ∷ qs) = either (moved_on q.gap (find n q.numbers q.lane.slots)) (moved_on (q.gap + length_to n q.lane.first q.numbers q.lane.slots) (look n qs))
+
+abbrev pub lengths_to : ℕ → List RegionOf → ℕ
+lengths_to n [] = 0
+lengths_to n (q ∷ qs) = q.gap + length_to n q.lane.first q.numbers q.lane.slots + lengths_to n qs
