@@ -41,6 +41,11 @@ flat (empty d) h = ap (λ xs. None ∷ xs) (flat d h)
 flat (front w d) h = absurd h
 flat (back {a = a} d) h = let e : a.place + (zero + zero) ≡ a.place = omega arith in (λ i. Some (record a { place = e i }) ∷ flat d h i)
 
+flat_back : (a : Op) {ss ls rs : List (Option Op)} → Parts zero zero ss ls rs → Parts zero zero (Some a ∷ ss) (None ∷ ls) (Some a ∷ rs)
+flat_back a {ss = ss} {ls = ls} {rs = rs} d =
+    let e : a.place + (zero + zero) ≡ a.place = omega arith in
+    subst (λ n. Parts zero zero (Some (record a { place = n }) ∷ ss) (None ∷ ls) (Some a ∷ rs)) e (back {a = a} d)
+
 pub flat_parts : {ss ls rs : List (Option Op)} → Parts zero zero ss ls rs → AllEmpty ls → (ts : List (Option Op)) → length ts ≡ length rs → Parts zero zero ts ls ts
 flat_parts end h [] e = end
 flat_parts end h (t ∷ ts) e = absurd (omega (arith, e))
@@ -52,10 +57,11 @@ flat_parts (back d) h [] e = absurd (omega (arith, e))
 flat_parts (back d) h (None ∷ ts) e = empty (flat_parts d h ts (omega (arith, e)))
 flat_parts (back d) h (Some a ∷ ts) e = flat_back a (flat_parts d h ts (omega (arith, e)))
 
-flat_back : (a : Op) {ss ls rs : List (Option Op)} → Parts zero zero ss ls rs → Parts zero zero (Some a ∷ ss) (None ∷ ls) (Some a ∷ rs)
-flat_back a {ss = ss} {ls = ls} {rs = rs} d =
-    let e : a.place + (zero + zero) ≡ a.place = omega arith in
-    subst (λ n. Parts zero zero (Some (record a { place = n }) ∷ ss) (None ∷ ls) (Some a ∷ rs)) e (back {a = a} d)
+-- ---- nothing is behind the elements among which it is
+pub alone : (g : ℕ) (ls : List (Option Op)) (x : ℕ) → Chains x ls → Parts g x ls ls (empties (length ls))
+alone g [] x h = end
+alone g (None ∷ ls) x h = empty (alone g ls x h.1)
+alone g (Some a ∷ ls) x h = front h.0 (alone g ls (longer a.does x) h.1)
 
 module _ (l : Stamp → Stamp → Bool) where
   abbrev pub Behind : ℕ → ℕ → ℕ → List (Option Op) → Crossed → Crossed → Type 0
@@ -105,12 +111,6 @@ module _ (l : Stamp → Stamp → Bool) where
       ∙ ap (λ n. behind (Some (record a { place = n })) (crossed l ss (Some b))) (first_on b.does g b.place a.place lt) in
       subst (First (longer b.does g) (None ∷ ls) (Some a ∷ rs) b) (sym met) (back r.0, r.1)
 
-  -- ---- nothing is behind the elements among which it is
-  pub alone : (g : ℕ) (ls : List (Option Op)) (x : ℕ) → Chains x ls → Parts g x ls ls (empties (length ls))
-  alone g [] x h = end
-  alone g (None ∷ ls) x h = empty (alone g ls x h.1)
-  alone g (Some a ∷ ls) x h = front h.0 (alone g ls (longer a.does x) h.1)
-
   alone_is : {g x : ℕ} {ss ls rs : List (Option Op)} → Parts g x ss ls rs → AllEmpty rs → ss ≡ ls
   alone_is end h = refl
   alone_is (empty d) h = ap (λ xs. None ∷ xs) (alone_is d h)
@@ -124,11 +124,11 @@ module _ (l : Stamp → Stamp → Bool) where
   abbrev pub Beyond : ℕ → ℕ → List (Option Op) → Op → Type 0
   Beyond x p ls b = crossed l ls (Some (record b { place = x + p })) ≡ record { slots = ls; left = Some (record b { place = length_at_end x ls + p }) }
 
-  beyond : {g n x : ℕ} (ls : List (Option Op)) (b : Op) (r : Crossed) (z : Op) → Parts g x r.slots ls (empties n) × (r.left ≡ Some z) → r ≡ record { slots = ls; left = Some z }
-  beyond {n = n} ls b r z h = (λ i. record { slots = alone_is h.0 (no_slots n) i; left = h.1 i })
+  beyond : {g x : ℕ} (n : ℕ) (ls : List (Option Op)) (b : Op) (r : Crossed) (z : Op) → Parts g x r.slots ls (empties n) × (r.left ≡ Some z) → r ≡ record { slots = ls; left = Some z }
+  beyond n ls b r z h = (λ i. record { slots = alone_is h.0 (no_slots n) i; left = h.1 i })
 
   pub beyond_element : (x p : ℕ) (ls : List (Option Op)) (b : Op) → Chains x ls → IsOfElement b.does → Beyond x p ls b
-  beyond_element x p ls b h i = beyond ls b (crossed l ls (Some (record b { place = x + p }))) (record b { place = length_at_end x ls + p }) (passes_one l (suc p) p b (alone (suc p) ls x h) i (omega arith))
+  beyond_element x p ls b h i = beyond (length ls) ls b (crossed l ls (Some (record b { place = x + p }))) (record b { place = length_at_end x ls + p }) (passes_one l (suc p) p b (alone (suc p) ls x h) i (omega arith))
 
   pub beyond_insertion : (x p : ℕ) (ls : List (Option Op)) (b : Op) → Chains x ls → b.does ≡ Inserts → 0 < p → Beyond x p ls b
-  beyond_insertion x p ls b h i lt = beyond ls b (crossed l ls (Some (record b { place = x + p }))) (record b { place = length_at_end x ls + p }) (passes_among l (suc p) p b (alone (suc p) ls x h) i lt (omega arith))
+  beyond_insertion x p ls b h i lt = beyond (length ls) ls b (crossed l ls (Some (record b { place = x + p }))) (record b { place = length_at_end x ls + p }) (passes_among l (suc p) p b (alone (suc p) ls x h) i lt (omega arith))

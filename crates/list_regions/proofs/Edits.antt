@@ -34,25 +34,26 @@ pub split_gap : (p n g : ℕ) {x : ℕ} {ss ls rs : List (Option Op)} → g ≡ 
 split_gap p n g e end = end
 split_gap p n g e (empty d) = empty (split_gap p n g e d)
 split_gap p n g e (front w d) = front w (split_gap p n g e d)
-split_gap p n g e {x = x} (back {a = a} {ss = ss} {ls = ls} {rs = rs} d) =
+split_gap p n g {x = x} e (back {a = a} {ss = ss} {ls = ls} {rs = rs} d) =
     let k : a.place + n + (x + p) ≡ a.place + (x + g) = omega (arith, e) in
     subst (λ m. Parts p x (Some (record a { place = m }) ∷ ss) (None ∷ ls) (Some (from n a) ∷ onward n rs)) k (back {a = from n a} (split_gap p n g e d))
 
 pub join_gap : (p n g : ℕ) {x : ℕ} {ss ls rs : List (Option Op)} (ts : List (Option Op)) → g ≡ p + n → rs ≡ onward n ts → Parts p x ss ls rs → Parts g x ss ls ts
 join_gap p n g [] e h end = end
-join_gap p n g (t ∷ ts) e h end = cc
-join_gap p n g [] e h (empty d) = cc
-join_gap p n g (None ∷ ts) e h (empty d) = empty (join_gap p n g ts e cc d)
-join_gap p n g (Some a ∷ ts) e h (empty d) = cc
-join_gap p n g [] e h (front w d) = cc
-join_gap p n g (None ∷ ts) e h (front w d) = front w (join_gap p n g ts e cc d)
-join_gap p n g (Some a ∷ ts) e h (front w d) = cc
-join_gap p n g [] e h (back d) = cc
-join_gap p n g (None ∷ ts) e h (back d) = cc
+join_gap p n g (None ∷ ts) e h end = absurd (cc)
+join_gap p n g (Some a ∷ ts) e h end = absurd (cc)
+join_gap p n g [] e h (empty d) = absurd (cc)
+join_gap p n g (None ∷ ts) e h (empty d) = empty (join_gap p n g ts e (cc) d)
+join_gap p n g (Some a ∷ ts) e h (empty d) = absurd (cc)
+join_gap p n g [] e h (front w d) = absurd (cc)
+join_gap p n g (None ∷ ts) e h (front w d) = front w (join_gap p n g ts e (cc) d)
+join_gap p n g (Some a ∷ ts) e h (front w d) = absurd (cc)
+join_gap p n g [] e h (back d) = absurd (cc)
+join_gap p n g (None ∷ ts) e h (back d) = absurd (cc)
 join_gap p n g {x = x} (Some b ∷ ts) e h (back {a = a} {ss = ss} {ls = ls} {rs = rs} d) =
     let i : a ≡ from n b = cc in
     let k : b.place + n + (x + p) ≡ b.place + (x + g) = omega (arith, e) in
-    let r = back {a = b} (join_gap p n g ts e cc d) in
+    let r = back {a = b} (join_gap p n g ts e (cc) d) in
     subst (λ (y : Op). Parts g x (Some (from (x + p) y) ∷ ss) (None ∷ ls) (Some b ∷ ts)) (sym i) (subst (λ m. Parts g x (Some (record b { place = m }) ∷ ss) (None ∷ ls) (Some b ∷ ts)) (sym k) r)
 
 pub empty_front : (g y : ℕ) (rs : List (Option Op)) → Parts g y (onward (y + g) rs) (empties (length rs)) rs
@@ -84,7 +85,7 @@ module _ (k : ℕ) where
 
   -- ---- also behind others
   pub same_many : (xs qs zs : List RegionOf) → Same qs zs → Same (xs ++ qs) (xs ++ zs)
-  same_many [] qs zs c = c
+  same_many [] qs zs c x ls ss w = c x ls ss w
   same_many (q ∷ xs) qs zs c x ls ss (next {fs = fs} {rs = rs} h f m d) = next h f (same_many xs qs zs c q.lane.first fs rs m) d
 
   pub same_behind : (q : RegionOf) (qs zs : List RegionOf) → Same qs zs → SameWhole (q ∷ qs) (q ∷ zs)

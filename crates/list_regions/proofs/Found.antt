@@ -1,5 +1,5 @@
 -- The region that is found by a place, and what becomes of all regions as an instruction crosses them there.
-use Rattle.std.proofs.Common.{◌≡◌, ℕ, zero, suc, ◌+◌, ◌-◌, ◌<◌, ◌≤◌, List, [], ◌∷◌, ◌++◌, length, take, drop, set, Option, Some, None, refl, sym, ap, ◌∙◌, subst, arith}
+use Rattle.std.proofs.Common.{◌≡◌, ℕ, zero, suc, ◌+◌, ◌-◌, ◌<◌, ◌≤◌, Bool, List, [], ◌∷◌, ◌++◌, length, take, drop, set, Option, Some, None, refl, sym, ap, ◌∙◌, subst, arith}
 use Rattle.std.specs.Prelude.{sum_by, slice_get}
 use Rattle.std.specs.Option.{option_map}
 use Rattle.std.proofs.lemmas.List.Sums.{sum_by-cons}
@@ -11,7 +11,7 @@ use Rattle.list_lane.specs.declared.op.Op.{Op}
 use Rattle.list_lane.proofs.Turns.{whole_again}
 use Rattle.list_regions.specs.Regions.{RegionOf, before, after, befores, afters}
 use Rattle.list_regions.specs.Kept.{at, crossed_region, with_gap}
-use Rattle.list_regions.proofs.Crossing.{Inner, from_twice, Crosses, CrossesWhole, touch, gap, tail, behind_many, whole_touch, whole_front, whole_none, whole_behind}
+use Rattle.list_regions.proofs.Across.{Inner, from_twice, Crosses, CrossesWhole, touch, gap, tail, behind_many, whole_touch, whole_front, whole_none, whole_behind}
 
 -- ---- sums
 pub befores_are : (qs : List RegionOf) → sum_by before qs ≡ befores qs

@@ -15,9 +15,9 @@ use Rattle.list_regions.proofs.Edits.{split_gap, within_on, longer_on, within_mo
 grown_end : (g h : ℕ) {x : ℕ} {ss ls rs : List (Option Op)} → g ≡ suc h → Parts g x ss ls rs → Parts h (x + 1) ss ls rs
 grown_end g h e end = end
 grown_end g h e (empty d) = empty (grown_end g h e d)
-grown_end g h e {x = x} (front {a = a} {ss = ss} {ls = ls} {rs = rs} w d) =
+grown_end g h {x = x} e (front {a = a} {ss = ss} {ls = ls} {rs = rs} w d) =
     front (within_more a.does a.place 1 x w) (subst (λ n. Parts h n ss ls rs) (sym (longer_on a.does a.place 1 x w)) (grown_end g h e d))
-grown_end g h e {x = x} (back {a = a} {ss = ss} {ls = ls} {rs = rs} d) =
+grown_end g h {x = x} e (back {a = a} {ss = ss} {ls = ls} {rs = rs} d) =
     let k : a.place + (x + 1 + h) ≡ a.place + (x + g) = omega (arith, e) in
     subst (λ m. Parts h (x + 1) (Some (record a { place = m }) ∷ ss) (None ∷ ls) (Some a ∷ rs)) k (back {a = a} (grown_end g h e d))
 

@@ -1,5 +1,5 @@
 -- What is left of an instruction that erases or updates one of the elements between regions, which stay.
-use Rattle.std.proofs.Common.{◌≡◌, ℕ, zero, suc, ◌+◌, ◌-◌, ◌<◌, ◌≤◌, List, [], ◌∷◌, ◌++◌, length, take, Option, Some, None, refl, sym, ap, ◌∙◌, subst, arith}
+use Rattle.std.proofs.Common.{◌≡◌, ℕ, zero, suc, ◌+◌, ◌-◌, ◌<◌, ◌≤◌, Bool, List, [], ◌∷◌, ◌++◌, length, take, Option, Some, None, refl, sym, ap, ◌∙◌, subst, arith}
 use Rattle.std.specs.Prelude.{slice_get}
 use Rattle.std.specs.Option.{option_map}
 use Rattle.sync_data.specs.declared.entry.Stamp.{Stamp}
@@ -11,7 +11,7 @@ use Rattle.list_regions.specs.Regions.{RegionOf, before, after, befores, afters,
 use Rattle.list_regions.specs.Kept.{at}
 use Rattle.list_regions.proofs.Spreads.{spread_end}
 use Rattle.list_regions.proofs.Behind.{behind_front, end_none}
-use Rattle.list_regions.proofs.Crossing.{from_twice, further_on, further_left, at_start, no_more}
+use Rattle.list_regions.proofs.Across.{from_twice, further_on, further_left, at_start, no_more}
 
 module _ (l : Stamp → Stamp → Bool) (k : ℕ) (b : Op) where
   abbrev pub Leaves : List RegionOf → ℕ → Option Op → Type 0

@@ -1,6 +1,6 @@
 pub mod Spreads
 pub mod Behind
-pub mod Crossing
+pub mod Across
 pub mod Found
 pub mod Leaving
 pub mod Views

@@ -14,8 +14,8 @@ with_fresh qs i q p y g = insert (set qs i (with_gap g q)) i (fresh p y)
 
 module _ (k : ℕ) (q : RegionOf) (p y g : ℕ) (more : 0 < g) (e : q.gap ≡ p + (y + g)) where
   fresh_woven : (qs : List RegionOf) (i : ℕ) → slice_get qs i ≡ Some q → 0 < p → Same k qs (with_fresh qs i q p y g)
-  fresh_woven [] i h lt = cc
-  fresh_woven (x ∷ qs) zero h lt = let j : x ≡ q = cc in subst (λ (r : RegionOf). Same k (r ∷ qs) (fresh p y ∷ with_gap g q ∷ qs)) (sym j) (fresh_gap k p y g q qs lt more e)
+  fresh_woven [] i h lt n ls ss w = cc
+  fresh_woven (x ∷ qs) zero h lt n ls ss w = let j : x ≡ q = cc in fresh_gap k p y g q qs lt more e n ls ss (subst (λ (r : RegionOf). Woven k n ls (r ∷ qs) ss) j w)
   fresh_woven (x ∷ qs) (suc i) h lt n ls ss (next {fs = fs} {rs = rs} z f m d) = next z f (fresh_woven qs i h lt x.lane.first fs rs m) d
 
   pub fresh_whole : (qs : List RegionOf) (i : ℕ) → slice_get qs i ≡ Some q → (0 < i → 0 < p) → SameWhole k qs (with_fresh qs i q p y g)
@@ -44,7 +44,7 @@ fresh_take q p y g (x ∷ qs) (suc i) h = ap (λ r. x ∷ r) (fresh_take q p y g
 -- ---- or behind all regions
 module _ (k : ℕ) (p y : ℕ) where
   tail_woven : (qs : List RegionOf) → 0 < p → Same k qs (qs ++ fresh p y ∷ [])
-  tail_woven [] lt = fresh_tail k p y lt
+  tail_woven [] lt n ls ss w = fresh_tail k p y lt n ls ss w
   tail_woven (x ∷ qs) lt n ls ss (next {fs = fs} {rs = rs} z f m d) = next z f (tail_woven qs lt x.lane.first fs rs m) d
 
   pub tail_whole : (qs : List RegionOf) → (0 < length qs → 0 < p) → SameWhole k qs (qs ++ fresh p y ∷ [])
@@ -66,8 +66,8 @@ tail_take p y (x ∷ qs) = ap (λ r. x ∷ r) (tail_take p y qs)
 -- ---- a region takes the element in front of it
 module _ (k : ℕ) (q : RegionOf) where
   grown_woven : (qs : List RegionOf) (i : ℕ) → slice_get qs i ≡ Some q → 1 < q.gap → Same k qs (set qs i (with_front q))
-  grown_woven [] i h lt = cc
-  grown_woven (x ∷ qs) zero h lt = let j : x ≡ q = cc in subst (λ (r : RegionOf). Same k (r ∷ qs) (with_front q ∷ qs)) (sym j) (front_grown k q qs lt)
+  grown_woven [] i h lt n ls ss w = cc
+  grown_woven (x ∷ qs) zero h lt n ls ss w = let j : x ≡ q = cc in front_grown k q qs lt n ls ss (subst (λ (r : RegionOf). Woven k n ls (r ∷ qs) ss) j w)
   grown_woven (x ∷ qs) (suc i) h lt n ls ss (next {fs = fs} {rs = rs} z f m d) = next z f (grown_woven qs i h lt x.lane.first fs rs m) d
 
   pub grown_whole : (qs : List RegionOf) (i : ℕ) → slice_get qs i ≡ Some q → 0 < q.gap → (0 < i → 1 < q.gap) → SameWhole k qs (set qs i (with_front q))

@@ -20,7 +20,7 @@ spread_later (here d) h = absurd (h refl)
 -- or it is their first
 spread_first : {k : ℕ} {ns ms : List ℕ} {ss fs : List (Option Op)} {t f : Option Op} → Spread k ns (t ∷ ss) (f ∷ fs) → ns ≡ k ∷ ms → Spread (suc k) ms ss fs × (f ≡ t)
 spread_first {k = k} {ms = ms} (skip d) e = absurd (let h = spread_from d k ms e in omega (arith, h))
-spread_first (here {ss = ss} {fs = fs} d) e = (subst (λ r. Spread _ r ss fs) cc d, refl)
+spread_first {k = k} {ms = ms} (here {ns = ns} {ss = ss} {fs = fs} d) e = let h : ns ≡ ms = cc in (subst (λ r. Spread (suc k) r ss fs) h d, refl)
 
 -- ---- the first of parts
 parts_first : {g x : ℕ} {ss ls rs : List (Option Op)} {s l r : Option Op} → Parts g x (s ∷ ss) (l ∷ ls) (r ∷ rs) → r ≡ None → Parts g (length_after l x) ss ls rs × (s ≡ l)
@@ -76,7 +76,7 @@ module _ (k : ℕ) where
   front_popped : {x : ℕ} {qs : List RegionOf} {ls ss : List (Option Op)} {a : Op} {s : Option Op} → Woven k x (Some a ∷ ls) qs (s ∷ ss) → Woven k (longer a.does x) (None ∷ ls) qs (None ∷ ss) × (s ≡ Some a)
   front_popped (last h) = (last (tt, h.1), refl)
   front_popped (next {rs = []} h f m d) = absurd (let v = parts_right d in omega (arith, v))
-  front_popped (next {rs = r ∷ rs} h f m d) = let p = parts_front d in (next h f (subst (λ o. Woven k _ _ _ (o ∷ rs)) p.2 m) (empty p.0), p.1)
+  front_popped (next {q = q} {qs = qs} {fs = fs} {rs = r ∷ rs} h f m d) = let p = parts_front d in (next h f (subst (λ o. Woven k q.lane.first fs qs (o ∷ rs)) p.2 m) (empty p.0), p.1)
 
   empty_pair : {g x : ℕ} {ss ls rs : List (Option Op)} (l : Option Op) → l ≡ None → Parts g x ss ls rs → Parts g x (None ∷ ss) (l ∷ ls) (None ∷ rs)
   empty_pair {g = g} {x = x} {ss = ss} {ls = ls} {rs = rs} l e d = subst (λ o. Parts g x (None ∷ ss) (o ∷ ls) (None ∷ rs)) (sym e) (empty d)

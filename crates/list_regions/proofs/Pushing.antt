@@ -70,15 +70,15 @@ module _ (k : ℕ) where
   abbrev pub PushesWhole : ℕ → List RegionOf → List RegionOf → Op → Type 0
   PushesWhole n qs zs b = (ss : List (Option Op)) → k + length ss ≡ n → Whole k qs ss → Whole k zs (ss ++ Some b ∷ [])
 
-  touched_rest : {q : RegionOf} {qs : List RegionOf} {fs rs : List (Option Op)} (b : Op) (p : ℕ) → Spread k q.numbers q.lane.slots fs → Woven k q.lane.first fs qs rs → Within b.does p (length_at_end q.lane.first q.lane.slots)
+  touched_rest : (q : RegionOf) {qs : List RegionOf} {fs rs : List (Option Op)} (b : Op) (p : ℕ) → Spread k q.numbers q.lane.slots fs → Woven k q.lane.first fs qs rs → Within b.does p (length_at_end q.lane.first q.lane.slots)
       → Woven k q.lane.first (fs ++ Some (at b p) ∷ []) qs (rs ++ Some (at b p) ∷ [])
-  touched_rest {q = q} b p f m w = front_pushed m (at b p) (subst (Within b.does p) (sym (spread_end q.lane.first f)) w)
+  touched_rest q b p f m w = front_pushed m (at b p) (subst (Within b.does p) (sym (spread_end q.lane.first f)) w)
 
   push_touch : (n : ℕ) (q : RegionOf) (qs : List RegionOf) (b : Op) (p : ℕ) → Within b.does p (length_at_end q.lane.first q.lane.slots) → Pushes n (q ∷ qs) (pushed_region n (at b p) q ∷ qs) b (q.gap + p)
   push_touch n q qs b p w x ls ss e (next {fs = fs} {rs = rs} h f m d) =
       let u = woven_length m in
       let v = parts_right d in
-      next h (spread_more f n (Some (at b p)) (omega (arith, e, u, v))) (touched_rest b p f m w) (parts_at d b p (length_at_end x ls + (q.gap + p)) (omega arith))
+      next h (spread_more f n (Some (at b p)) (omega (arith, e, u, v))) (touched_rest q b p f m w) (parts_at d b p (length_at_end x ls + (q.gap + p)) (omega arith))
 
   push_behind : (n : ℕ) (q : RegionOf) (qs zs : List RegionOf) (b : Op) (p : ℕ) → Pushes n qs zs b p → Pushes n (q ∷ qs) (q ∷ zs) b (after q + p)
   push_behind n q qs zs b p c x ls ss e (next {fs = fs} {rs = rs} h f m d) =
@@ -111,7 +111,7 @@ module _ (k : ℕ) where
       let u = woven_length m in
       let v = parts_right d in
       let z = end_empty zero ls h in
-      first (empty_more ls h) (spread_more f n (Some (at b p)) (omega (arith, e, u, v))) (touched_rest b p f m w) (parts_at d b p b.place (omega (arith, i, z)))
+      first (empty_more ls h) (spread_more f n (Some (at b p)) (omega (arith, e, u, v))) (touched_rest q b p f m w) (parts_at d b p b.place (omega (arith, i, z)))
 
   pub pushed_at : (n : ℕ) (qs : List RegionOf) (i : ℕ) (q : RegionOf) (b : Op) (p : ℕ) → slice_get qs i ≡ Some q → Within b.does p (length_at_end q.lane.first q.lane.slots) → b.place ≡ afters (take i qs) + (q.gap + p)
       → PushesWhole n qs (set qs i (pushed_region n (at b p) q)) b

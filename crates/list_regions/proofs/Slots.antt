@@ -65,13 +65,13 @@ spread_slot (here {k = k} {ns = ns} {s = s} {ss = ss} d) (suc i) n e = spread_sl
 to_later : {k : ℕ} (n x : ℕ) {ns : List ℕ} {ss fs : List (Option Op)} → Spread k ns ss fs → n ≤ k → length_to n x ns ss ≡ x
 to_later n x done le = refl
 to_later n x (skip d) le = to_later n x d (omega (arith, le))
-to_later n x (here {k = k} {ns = ns} {s = s} {ss = ss} d) le = ap (λ t. cond t (length_to n (length_after s x) ns ss) x) (le-ltb n k le)
+to_later n x (here {k = k} {ns = ns} {s = s} {ss = ss} d) le = ap (λ t. cond t (length_to n (length_after s x) ns ss) x) (le-ltb k n le)
 
 spread_before : {k : ℕ} {ns : List ℕ} {ss fs : List (Option Op)} → Spread k ns ss fs → (i n x : ℕ) → k + i ≡ n → length_before i x fs ≡ length_to n x ns ss
 spread_before done i n x e = refl
 spread_before (skip d) zero n x e = sym (to_later n x d (omega (arith, e)))
 spread_before (skip d) (suc i) n x e = spread_before d i n x (omega (arith, e))
-spread_before (here {k = k} {ns = ns} {s = s} {ss = ss} d) zero n x e = ap (λ t. cond t (length_to n (length_after s x) ns ss) x) (sym (le-ltb n k (omega (arith, e))))
+spread_before (here {k = k} {ns = ns} {s = s} {ss = ss} d) zero n x e = ap (λ t. cond t (length_to n (length_after s x) ns ss) x) (sym (le-ltb k n (omega (arith, e))))
 spread_before (here {k = k} {ns = ns} {s = s} {ss = ss} d) (suc i) n x e = spread_before d i n (length_after s x) (omega (arith, e)) ∙ ap (λ t. cond t (length_to n (length_after s x) ns ss) x) (sym (lt-ltb k n (omega (arith, e))))
 
 -- ---- of all regions

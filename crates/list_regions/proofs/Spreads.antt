@@ -57,7 +57,7 @@ module _ (l : Stamp → Stamp → Bool) where
 
   pub spread_crossed : {k : ℕ} {ns : List ℕ} {ss fs : List (Option Op)} → Spread k ns ss fs → (x : Option Op) → SpreadCrossed k ns (crossed l fs x) (crossed l ss x)
   spread_crossed end x = (end, refl)
-  spread_crossed {ss = ss} (skip {fs = fs} d) None = subst (λ (r : Crossed). SpreadCrossed _ _ (record { slots = None ∷ fs; left = None }) r) (sym (crossed_none l ss)) (skip d, refl)
+  spread_crossed {k = k} {ns = ns} {ss = ss} (skip {fs = fs} d) None = subst (λ (r : Crossed). SpreadCrossed k ns (record { slots = None ∷ fs; left = None }) r) (sym (crossed_none l ss)) (skip d, refl)
   spread_crossed (skip d) (Some b) = let r = spread_crossed d (Some b) in (skip r.0, r.1)
   spread_crossed (here {s = s} d) None = (here d, refl)
   spread_crossed (here {s = None} d) (Some b) = let r = spread_crossed d (Some b) in (here r.0, r.1)

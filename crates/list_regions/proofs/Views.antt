@@ -21,22 +21,22 @@ spread_all q qs fs rs m = woven_length m
 
 pub woven_slots : {k x : ℕ} {qs : List RegionOf} {ls ss : List (Option Op)} → Woven k x ls qs ss → (i : ℕ) (q : RegionOf) → slice_get qs i ≡ Some q → length q.lane.slots ≤ length ss
 woven_slots (last h) i q e = cc
-woven_slots (next {q = r} h f m d) zero q e =
+woven_slots {ss = ss} (next {q = r} h f m d) zero q e =
     let k : r ≡ q = cc in
     let a = spread_length f in
     let b = woven_length m in
     let c = parts_right d in
-    subst (λ (y : RegionOf). length y.lane.slots ≤ _) k (omega (arith, a, b, c))
+    subst (λ (y : RegionOf). length y.lane.slots ≤ length ss) k (omega (arith, a, b, c))
 woven_slots (next h f m d) (suc i) q e = let a = woven_slots m i q e in let c = parts_right d in omega (arith, a, c)
 
 pub whole_slots : {k : ℕ} {qs : List RegionOf} {ss : List (Option Op)} → Whole k qs ss → (i : ℕ) (q : RegionOf) → slice_get qs i ≡ Some q → length q.lane.slots ≤ length ss
 whole_slots (none h) i q e = cc
-whole_slots (first {q = r} h f m d) zero q e =
+whole_slots {ss = ss} (first {q = r} h f m d) zero q e =
     let k : r ≡ q = cc in
     let a = spread_length f in
     let b = woven_length m in
     let c = parts_right d in
-    subst (λ (y : RegionOf). length y.lane.slots ≤ _) k (omega (arith, a, b, c))
+    subst (λ (y : RegionOf). length y.lane.slots ≤ length ss) k (omega (arith, a, b, c))
 whole_slots (first h f m d) (suc i) q e = let a = woven_slots m i q e in let c = parts_right d in omega (arith, a, c)
 
 pub before_at : (qs : List RegionOf) (i : ℕ) (q : RegionOf) → slice_get qs i ≡ Some q → befores (take i qs) + before q ≤ befores qs

@@ -1,5 +1,5 @@
 -- A lane in regions, in order of places. Between them lie elements that none of the lane erases or updates.
-use Rattle.std.specs.Prelude.{ℕ, zero, suc, ◌+◌, ◌<◌, ◌==◌, nat_lt, if◌then◌else◌, List, [], ◌∷◌, Option, None, Some}
+use Rattle.std.specs.Prelude.{◌≡◌, ℕ, zero, suc, ◌+◌, ◌<◌, ◌==◌, nat_lt, if◌then◌else◌, List, [], ◌∷◌, Option, None, Some}
 use Rattle.sync_transform.specs.Places.{longer}
 use Rattle.list_lane.specs.Lanes.{LaneOf, length_after, length_at_end, Chains}
 use Rattle.list_lane.specs.Parts.{Parts, from}
@@ -103,7 +103,7 @@ pub data Merge (g : ℕ) : ℕ → List ℕ → List (Option Op) → List ℕ �
   nothing : {x : ℕ} → Merge g x [] [] [] [] [] []
   left : {x n : ℕ} {s : Option Op} {ns ms os : List ℕ} {ss ts us : List (Option Op)} → Ahead n ms → Merge g (length_after s x) ns ss ms ts os us → Merge g x (n ∷ ns) (s ∷ ss) ms ts (n ∷ os) (s ∷ us)
   right : {x m : ℕ} {t : Option Op} {ns ms os : List ℕ} {ss ts us : List (Option Op)} → Ahead m ns → Merge g x ns ss ms ts os us → Merge g x ns ss (m ∷ ms) (t ∷ ts) (m ∷ os) (moved_on (x + g) t ∷ us)
-  both : {x n : ℕ} {s t : Option Op} {ns ms os : List ℕ} {ss ts us : List (Option Op)} → Merge g (length_after s x) ns ss ms ts os us → Merge g x (n ∷ ns) (s ∷ ss) (n ∷ ms) (t ∷ ts) (n ∷ os) (either s (moved_on (x + g) t) ∷ us)
+  both : {x n m : ℕ} {s t : Option Op} {ns ms os : List ℕ} {ss ts us : List (Option Op)} → n ≡ m → Merge g (length_after s x) ns ss ms ts os us → Merge g x (n ∷ ns) (s ∷ ss) (m ∷ ms) (t ∷ ts) (n ∷ os) (either s (moved_on (x + g) t) ∷ us)
 
 -- ---- a slot by its number
 abbrev pub find : ℕ → List ℕ → List (Option Op) → Option Op
