@@ -38,7 +38,7 @@ split_gap p n g {x = x} e (back {a = a} {ss = ss} {ls = ls} {rs = rs} d) =
     let k : a.place + n + (x + p) ≡ a.place + (x + g) = omega (arith, e) in
     subst (λ m. Parts p x (Some (record a { place = m }) ∷ ss) (None ∷ ls) (Some (from n a) ∷ onward n rs)) k (back {a = from n a} (split_gap p n g e d))
 
-pub join_gap : (p n g : ℕ) {x : ℕ} {ss ls rs : List (Option Op)} (ts : List (Option Op)) → g ≡ p + n → rs ≡ onward n ts → Parts p x ss ls rs → Parts g x ss ls ts
+pub join_gap : (p n g : ℕ) (ts : List (Option Op)) {x : ℕ} {ss ls rs : List (Option Op)} → g ≡ p + n → rs ≡ onward n ts → Parts p x ss ls rs → Parts g x ss ls ts
 join_gap p n g [] e h end = end
 join_gap p n g (None ∷ ts) e h end = absurd (cc)
 join_gap p n g (Some a ∷ ts) e h end = absurd (cc)
@@ -50,7 +50,7 @@ join_gap p n g (None ∷ ts) e h (front w d) = front w (join_gap p n g ts e (cc)
 join_gap p n g (Some a ∷ ts) e h (front w d) = absurd (cc)
 join_gap p n g [] e h (back d) = absurd (cc)
 join_gap p n g (None ∷ ts) e h (back d) = absurd (cc)
-join_gap p n g {x = x} (Some b ∷ ts) e h (back {a = a} {ss = ss} {ls = ls} {rs = rs} d) =
+join_gap p n g (Some b ∷ ts) {x = x} e h (back {a = a} {ss = ss} {ls = ls} {rs = rs} d) =
     let i : a ≡ from n b = cc in
     let k : b.place + n + (x + p) ≡ b.place + (x + g) = omega (arith, e) in
     let r = back {a = b} (join_gap p n g ts e (cc) d) in

@@ -1,3 +1,4 @@
+pub mod Sets
 pub mod Spreads
 pub mod Behind
 pub mod Across
@@ -8,6 +9,8 @@ pub mod Edits
 pub mod Ahead
 pub mod Growing
 pub mod Opening
+pub mod Meeting
+pub mod Keeping
 pub mod Pushing
 pub mod Popping
 pub mod Merging

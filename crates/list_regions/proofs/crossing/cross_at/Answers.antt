@@ -1,16 +1,16 @@
-use Rattle.std.proofs.Common.{rules, ◌≡◌, ◌+◌, ◌≤◌, ◌<◌, Some, IfSome, IfOk, OnErr, length, slice_get, slice_set, ℕ, ◌-◌, ◌*◌, ◌/◌, ◌%◌, Bool, true, false, nat_eq, nat_lt, List, [], ◌∷◌, ◌++◌, slice_index_or, bit_and, bit_or, Fits, w8, w32, w64, Bor, MutBor}
-use Rattle.std.specs.Option.{option_map}
-use Rattle.sync_base.specs.Rules.{top}
-use Rattle.sync_transform.specs.Places.{Within}
-use Rattle.list_lane.specs.Ops.{lane_later as later}
+use Rattle.std.proofs.Common.{◌≡◌, Some, set, sym, ap, ◌∙◌, subst}
 use Rattle.list_lane.specs.Lanes.{crossed}
-use Rattle.list_lane.specs.Parts.{from}
+use Rattle.list_lane.specs.Ops.{lane_later as later}
 use Rattle.list_regions.specs.Regions.{RegionOf}
-use Rattle.list_regions.specs.Kept.{crossed_region, with_gap}
-use Rattle.list_regions.specs.Kept.{reach as reaches}
-use Rattle.list_regions.specs.Kept.{Meets, Passes}
+use Rattle.list_regions.specs.Kept.{crossed_region}
+use Rattle.list_regions.proofs.Sets.{set_twice, same_item}
 use Rattle.list_regions.proofs.crossing.cross_at.Goals as goal
 
--- src/crossing.rt:82:1
 pub returns-clause-regions : goal.returns-clause-regions
-returns-clause-regions c = ?
+returns-clause-regions c = λ q g.
+    let l = later c.args.lane_left in
+    let e = same_item c.args.items.now c.args.place c.replace-region.result q c.replace-region.ensures.value g in
+    c.replace.ensures.list
+    ∙ (λ i. set (c.replace-region.ensures.list i) c.args.place (c.cross-left.ensures.region i))
+    ∙ set_twice c.args.items.now c.args.place c.empty.result (crossed_region l c.replace-region.result c.args.inner)
+    ∙ ap (λ (r : RegionOf). set c.args.items.now c.args.place (crossed_region l r c.args.inner)) e

@@ -1,16 +1,13 @@
-use Rattle.std.proofs.Common.{rules, ◌≡◌, ◌+◌, ◌≤◌, ◌<◌, Some, IfSome, IfOk, OnErr, length, slice_get, slice_set, ℕ, ◌-◌, ◌*◌, ◌/◌, ◌%◌, Bool, true, false, nat_eq, nat_lt, List, [], ◌∷◌, ◌++◌, slice_index_or, bit_and, bit_or, Fits, w8, w32, w64, Bor, MutBor}
-use Rattle.std.specs.Option.{option_map}
-use Rattle.sync_base.specs.Rules.{top}
-use Rattle.sync_transform.specs.Places.{Within}
-use Rattle.list_lane.specs.Ops.{lane_later as later}
-use Rattle.list_lane.specs.Lanes.{crossed}
-use Rattle.list_lane.specs.Parts.{from}
+use Rattle.std.proofs.Common.{◌≡◌, Some, set, sym, ap, ◌∙◌}
 use Rattle.list_regions.specs.Regions.{RegionOf}
-use Rattle.list_regions.specs.Kept.{crossed_region, with_gap}
-use Rattle.list_regions.specs.Kept.{reach as reaches}
-use Rattle.list_regions.specs.Kept.{Meets, Passes}
+use Rattle.list_regions.specs.Kept.{with_gap}
+use Rattle.list_regions.proofs.Sets.{set_twice, same_item}
 use Rattle.list_regions.proofs.crossing.set_gap_at.Goals as goal
 
--- src/crossing.rt:102:1
 pub returns : goal.returns
-returns c = ?
+returns c = λ q g.
+    let e = same_item c.args.items.now c.args.place c.replace-region.result q c.replace-region.ensures.value g in
+    c.replace.ensures.list
+    ∙ (λ i. set (c.replace-region.ensures.list i) c.args.place (c.set_gap.ensures i))
+    ∙ set_twice c.args.items.now c.args.place c.empty.result (with_gap c.args.gap c.replace-region.result)
+    ∙ ap (λ (r : RegionOf). set c.args.items.now c.args.place (with_gap c.args.gap r)) e

@@ -1,33 +1,84 @@
-use Rattle.std.proofs.Common.{rules, ◌≡◌, ◌+◌, ◌<◌, [], Some, IfSome, IfOk, OnOk, OnErr, IsTrue, IsFalse, length, ℕ, ◌-◌, ◌*◌, ◌≤◌, ◌/◌, ◌%◌, Bool, true, false, nat_eq, nat_lt, List, ◌∷◌, ◌++◌, slice_index_or, slice_set, bit_and, bit_or, Fits, w8, w32, w64, Bor, MutBor}
+use Rattle.std.proofs.Common.{◌≡◌, ◌<◌, ◌+◌, Option, Some, length, refl, sym, ap, ◌∙◌, subst, arith}
+use Rattle.std.specs.Prelude.{IfSome}
 use Rattle.sync_base.specs.Rules.{top}
-use Rattle.sync_transform.specs.Places.{Within}
+use Rattle.sync_transform.specs.Places.{Within, longer}
+use Rattle.list_lane.specs.Lanes.{LaneOf, crossed, lane_after, length_at_end, IsLeftOf, length_after as after}
 use Rattle.list_lane.specs.Ops.{lane_later}
-use Rattle.list_lane.specs.Lanes.{crossed, length_at_end}
-use Rattle.list_lane.specs.Lanes.{length_after as behind}
-use Rattle.list_lane.specs.Lanes.{lane_after, Chains, IsLeftOf}
 use Rattle.list_lane.specs.Laws.{CrossesLeft, CrossesRight}
+use Rattle.list_lane.proofs.Rooms.{last_below, is_left, on_left, on_right}
+use Rattle.list_regions.specs.Regions.{empties, woven}
+use Rattle.list_regions.specs.Kept.{IsRegions}
+use Rattle.list_regions.specs.contracts.regions.Regions.{the_view}
+use Rattle.list_regions.proofs.Keeping.{all, crossed_is, left_is, crossed_keeps}
 use Rattle.list_regions.proofs.regions.Regions.cross.Goals as goal
 
--- src/regions.rt:92:21
 pub length_behind-self-inside-requires : goal.length_behind-self-inside-requires
-length_behind-self-inside-requires c = ?
+length_behind-self-inside-requires c =
+    let a = c.self.inside in
+    let low = last_below (all a.popped a.count a.items) a.first in
+    let last = c.self.invariant.lane.last_is in
+    let room = c.self.invariant.lane.room in
+    omega (arith, low, last, room)
 
--- src/regions.rt:80:5
 pub invariant_of-self-2 : goal.invariant_of-self-2
-invariant_of-self-2 c = ?
+invariant_of-self-2 c =
+    let a = c.self.inside in
+    let b = c.args.traveller in
+    let l = lane_later c.args.lane_left in
+    let zs = c.cross_regions.new.items in
+    let within = subst (λ (v : LaneOf). Within b.does b.place v.first) (sym c.self.view_is) c.requires.within in
+    let room = subst (λ (v : LaneOf). v.first + length v.slots + 1 < top) (sym c.self.view_is) c.requires.room in
+    let keeps = crossed_keeps l a.popped a.count a.first a.last a.items zs b c.in_ok-left.left c.self.invariant c.in_ok-left.ensures.ok within room in
+    subst (λ n. IsRegions a.popped a.count n c.length_behind-self-inside.result zs (all a.popped a.count zs)) (sym c.length_after-self-inside.ensures)
+    (subst (λ n. IsRegions a.popped a.count (longer b.does a.first) n zs (all a.popped a.count zs)) (sym c.length_behind-self-inside.ensures) keeps)
 
--- src/regions.rt:80:5
 pub returns-clause-lane : goal.returns-clause-lane
-returns-clause-lane c = ?
+returns-clause-lane c =
+    let a = c.self.inside in
+    let b = c.args.traveller in
+    let l = lane_later c.args.lane_left in
+    let is = crossed_is l a.popped a.count a.first a.last a.items c.cross_regions.new.items b c.in_ok-left.left c.self.invariant c.in_ok-left.ensures.ok in
+    (λ i. record { first = c.length_after-self-inside.ensures i; slots = is i }) ∙ ap (λ (v : LaneOf). lane_after l v b) c.self.view_is
 
--- src/regions.rt:80:5
 pub returns-clause-is_left : goal.returns-clause-is_left
-returns-clause-is_left c = ?
+returns-clause-is_left c =
+    let a = c.self.inside in
+    let b = c.args.traveller in
+    let l = lane_later c.args.lane_left in
+    let ss = all a.popped a.count a.items in
+    let within = subst (λ (v : LaneOf). Within b.does b.place v.first) (sym c.self.view_is) c.requires.within in
+    let left = left_is l a.popped a.count a.first a.last a.items c.cross_regions.new.items b c.in_ok-left.left c.self.invariant c.in_ok-left.ensures.ok in
+    subst (λ (v : LaneOf). IfSome c.in_ok-left.left (IsLeftOf b (length_at_end v.first v.slots))) c.self.view_is
+    (subst (λ r. IfSome r (IsLeftOf b (length_at_end a.first ss))) (sym left) (is_left l a.first a.last a.count ss b c.self.invariant.lane within))
 
--- src/regions.rt:80:5
 pub returns-clause-on_left : goal.returns-clause-on_left
-returns-clause-on_left c = ?
+returns-clause-on_left c =
+    let a = c.self.inside in
+    let b = c.args.traveller in
+    let l = lane_later c.args.lane_left in
+    let ss = all a.popped a.count a.items in
+    let zs = c.cross_regions.new.items in
+    let within = subst (λ (v : LaneOf). Within b.does b.place v.first) (sym c.self.view_is) c.requires.within in
+    let left = left_is l a.popped a.count a.first a.last a.items zs b c.in_ok-left.left c.self.invariant c.in_ok-left.ensures.ok in
+    let is = crossed_is l a.popped a.count a.first a.last a.items zs b c.in_ok-left.left c.self.invariant c.in_ok-left.ensures.ok in
+    let new : lane_after l (the_view a) b ≡ record { first = c.length_after-self-inside.result; slots = all a.popped a.count zs } = (λ i. record { first = sym c.length_after-self-inside.ensures i; slots = sym is i }) in
+    λ h.
+    subst (λ (v : LaneOf). CrossesLeft v b c.in_ok-left.left (record { first = c.length_after-self-inside.result; slots = all a.popped a.count zs })) c.self.view_is
+    (subst (λ r. CrossesLeft (the_view a) b r (record { first = c.length_after-self-inside.result; slots = all a.popped a.count zs })) (sym left)
+    (subst (CrossesLeft (the_view a) b (crossed l ss (Some b)).left) new (on_left c.args.lane_left a.first a.last a.count ss b c.self.invariant.lane within h)))
 
--- src/regions.rt:80:5
 pub returns-clause-on_right : goal.returns-clause-on_right
-returns-clause-on_right c = ?
+returns-clause-on_right c =
+    let a = c.self.inside in
+    let b = c.args.traveller in
+    let l = lane_later c.args.lane_left in
+    let ss = all a.popped a.count a.items in
+    let zs = c.cross_regions.new.items in
+    let within = subst (λ (v : LaneOf). Within b.does b.place v.first) (sym c.self.view_is) c.requires.within in
+    let left = left_is l a.popped a.count a.first a.last a.items zs b c.in_ok-left.left c.self.invariant c.in_ok-left.ensures.ok in
+    let is = crossed_is l a.popped a.count a.first a.last a.items zs b c.in_ok-left.left c.self.invariant c.in_ok-left.ensures.ok in
+    let new : lane_after l (the_view a) b ≡ record { first = c.length_after-self-inside.result; slots = all a.popped a.count zs } = (λ i. record { first = sym c.length_after-self-inside.ensures i; slots = sym is i }) in
+    λ h.
+    subst (λ (v : LaneOf). CrossesRight v b c.in_ok-left.left (record { first = c.length_after-self-inside.result; slots = all a.popped a.count zs })) c.self.view_is
+    (subst (λ r. CrossesRight (the_view a) b r (record { first = c.length_after-self-inside.result; slots = all a.popped a.count zs })) (sym left)
+    (subst (CrossesRight (the_view a) b (crossed l ss (Some b)).left) new (on_right c.args.lane_left a.first a.last a.count ss b c.self.invariant.lane within h)))
