@@ -11,15 +11,9 @@ use Rattle.list_lane.specs.declared.op.Op.{Op}
 use Rattle.list_lane.proofs.Chain.{still_chains}
 use Rattle.list_lane.proofs.Apart.{crosses_before, crosses_behind, passes_one, passes_among}
 use Rattle.list_regions.specs.Regions.{RegionOf, before, after, befores, afters, Spread, Woven, last, next, Whole, none, first}
-use Rattle.list_regions.specs.Kept.{at, crossed_region, with_gap}
+use Rattle.list_regions.specs.Kept.{at, crossed_region, with_gap, Inner}
 use Rattle.list_regions.proofs.Spreads.{spread_end, spread_crossed, crossed_empty}
 use Rattle.list_regions.proofs.Behind.{behind_front, end_none, passes_first, beyond_element, beyond_insertion}
-
--- an insertion among elements is in front of one and behind one
-abbrev pub Inner : Does → ℕ → Type 0
-Inner Inserts p = 0 < p
-Inner Erases p = Unit {0}
-Inner Updates p = Unit {0}
 
 pub from_twice : (m n : ℕ) (b : Option Op) → option_map (from m) (option_map (from n) b) ≡ option_map (from (m + n)) b
 from_twice m n None = refl

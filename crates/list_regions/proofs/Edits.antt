@@ -70,7 +70,7 @@ empty_chain x [] h = tt
 empty_chain x (None ∷ ls) h = (tt, empty_chain x ls h)
 empty_chain x (Some a ∷ ls) h = absurd h
 
-onward_length : (n : ℕ) (rs : List (Option Op)) → length (onward n rs) ≡ length rs
+pub onward_length : (n : ℕ) (rs : List (Option Op)) → length (onward n rs) ≡ length rs
 onward_length n [] = refl
 onward_length n (None ∷ rs) = ap (λ m. suc m) (onward_length n rs)
 onward_length n (Some a ∷ rs) = ap (λ m. suc m) (onward_length n rs)

@@ -10,8 +10,8 @@ use Rattle.list_lane.specs.Parts.{from}
 use Rattle.list_lane.specs.declared.op.Op.{Op}
 use Rattle.list_lane.proofs.Turns.{whole_again}
 use Rattle.list_regions.specs.Regions.{RegionOf, before, after, befores, afters}
-use Rattle.list_regions.specs.Kept.{at, crossed_region, with_gap}
-use Rattle.list_regions.proofs.Across.{Inner, from_twice, Crosses, CrossesWhole, touch, gap, tail, behind_many, whole_touch, whole_front, whole_none, whole_behind}
+use Rattle.list_regions.specs.Kept.{at, crossed_region, with_gap, Inner}
+use Rattle.list_regions.proofs.Across.{from_twice, Crosses, CrossesWhole, touch, gap, tail, behind_many, whole_touch, whole_front, whole_none, whole_behind}
 
 -- ---- sums
 pub befores_are : (qs : List RegionOf) → sum_by before qs ≡ befores qs
@@ -38,7 +38,7 @@ set_at [] i q y e = cc
 set_at (x ∷ qs) zero q y e = refl
 set_at (x ∷ qs) (suc i) q y e = ap (λ r. x ∷ r) (set_at qs i q y e)
 
-take_all_of : {A : Type 0} (qs : List A) → take (length qs) qs ≡ qs
+pub take_all_of : {A : Type 0} (qs : List A) → take (length qs) qs ≡ qs
 take_all_of [] = refl
 take_all_of (x ∷ qs) = ap (λ r. x ∷ r) (take_all_of qs)
 

@@ -41,6 +41,11 @@ onward_chains n [] x h = tt
 onward_chains n (None ∷ ss) x h = (tt, onward_chains n ss x h.1)
 onward_chains n (Some a ∷ ss) x h = (within_on a.does a.place n x h.0, subst (λ m. Chains m (onward n ss)) (sym (longer_on a.does a.place n x h.0)) (onward_chains n ss (longer a.does x) h.1))
 
+pub onward_end : (ss : List (Option Op)) (x : ℕ) → Chains x ss → length_at_end (x + 1) (onward 1 ss) ≡ length_at_end x ss + 1
+onward_end [] x h = refl
+onward_end (None ∷ ss) x h = onward_end ss x h.1
+onward_end (Some a ∷ ss) x h = ap (λ n. length_at_end n (onward 1 ss)) (longer_on a.does a.place 1 x h.0) ∙ onward_end ss (longer a.does x) h.1
+
 onward_spread : (n : ℕ) {k : ℕ} {ns : List ℕ} {ss fs : List (Option Op)} → Spread k ns ss fs → Spread k ns (onward n ss) (onward n fs)
 onward_spread n done = done
 onward_spread n (skip d) = skip (onward_spread n d)

@@ -10,6 +10,7 @@ pub mod Ahead
 pub mod Growing
 pub mod Opening
 pub mod Meeting
+pub mod Ending
 pub mod Keeping
 pub mod Pushing
 pub mod Popping

@@ -1,5 +1,5 @@
 -- Where an instruction meets regions, and that it crosses them there.
-use Rattle.std.proofs.Common.{◌≡◌, ℕ, zero, suc, ◌+◌, ◌-◌, ◌<◌, ◌≤◌, Bool, List, [], ◌∷◌, ◌++◌, length, take, drop, set, Option, Some, None, refl, sym, ap, ◌∙◌, subst, arith}
+use Rattle.std.proofs.Common.{◌≡◌, ◌⊎◌, inl, inr, ℕ, zero, suc, ◌+◌, ◌-◌, ◌<◌, ◌≤◌, Bool, List, [], ◌∷◌, ◌++◌, length, take, drop, set, Option, Some, None, refl, sym, ap, ◌∙◌, subst, arith}
 use Rattle.std.specs.Prelude.{slice_get, sum_by, IfSome}
 use Rattle.std.specs.Option.{option_map}
 use Rattle.sync_data.specs.declared.entry.Stamp.{Stamp}
@@ -14,19 +14,18 @@ use Rattle.list_lane.specs.Parts.{from}
 use Rattle.list_lane.specs.declared.op.Op.{Op}
 use Rattle.list_lane.proofs.Rooms.{within_most, left_at, last_below}
 use Rattle.list_regions.specs.Regions.{RegionOf, before, after, befores, afters, Whole}
-use Rattle.list_regions.specs.Kept.{at, crossed_region, with_gap, reach, Meets, Passes}
-use Rattle.list_regions.proofs.Across.{Inner}
+use Rattle.list_regions.specs.Kept.{at, crossed_region, with_gap, reach, Inner, Meets, Passes}
 use Rattle.list_regions.proofs.Found.{befores_are, afters_are, befores_more, touched_at, gap_at, front_at, tail_at}
 use Rattle.list_regions.proofs.Views.{whole_slots, whole_end, before_at}
 use Rattle.list_regions.proofs.Opening.{set_befores}
 
 -- ---- places by what is done
-inner_of : (d : Does) (p s : ℕ) → s < reach d p → Inner d (p - s)
+pub inner_of : (d : Does) (p s : ℕ) → s < reach d p → Inner d (p - s)
 inner_of Inserts p s h = omega (arith, h)
 inner_of Erases p s h = tt
 inner_of Updates p s h = tt
 
-start_of : (d : Does) (p s : ℕ) → s < reach d p → s ≤ p
+pub start_of : (d : Does) (p s : ℕ) → s < reach d p → s ≤ p
 start_of Inserts p s h = omega (arith, h)
 start_of Erases p s h = omega (arith, h)
 start_of Updates p s h = omega (arith, h)
@@ -39,10 +38,16 @@ some_front : (qs : List RegionOf) (i : ℕ) → take i qs ≡ qs → 0 < length 
 some_front qs zero e h = let k = ap length e in absurd (omega (arith, k, h))
 some_front qs (suc i) e h = omega arith
 
-within_of : (d : Does) (p s g f : ℕ) → reach d p ≤ s + (g + f) → s + g ≤ p → Within d (p - s - g) f
+pub within_of : (d : Does) (p s g f : ℕ) → reach d p ≤ s + (g + f) → s + g ≤ p → Within d (p - s - g) f
 within_of Inserts p s g f h k = omega (arith, h, k)
 within_of Erases p s g f h k = omega (arith, h, k)
 within_of Updates p s g f h k = omega (arith, h, k)
+
+-- what isn't the first has some, where it hasn't none
+pub more_of : (g i : ℕ) → (g ≡ 0 × i ≤ 0) ⊎ (g ≡ 0 → ⊥) → 0 < i → 0 < g
+more_of g i (inl h) lt = let k = h.1 in absurd (omega (arith, k, lt))
+more_of zero i (inr h) lt = absurd (h refl)
+more_of (suc g) i (inr h) lt = omega arith
 
 -- the sums of other regions
 tail_fits : (d : Does) (p s n : ℕ) → s ≤ p → s ≤ n → Within d p n → s ≤ longer d n
@@ -60,7 +65,7 @@ gap_fits Inserts p g f s t n w e h k = omega (arith, e, k)
 gap_fits Erases p g f s t n w e h k = omega (arith, e, w, h, k)
 gap_fits Updates p g f s t n w e h k = omega (arith, e, k)
 
-nothing_there : {A : Type 0} (qs : List A) (i : ℕ) → i ≤ length qs → slice_get qs i ≡ None → take i qs ≡ qs
+pub nothing_there : {A : Type 0} (qs : List A) (i : ℕ) → i ≤ length qs → slice_get qs i ≡ None → take i qs ≡ qs
 nothing_there [] zero h e = refl
 nothing_there [] (suc i) h e = refl
 nothing_there (x ∷ qs) zero h e = cc
@@ -71,7 +76,7 @@ there [] i q e = cc
 there (x ∷ qs) zero q e = omega arith
 there (x ∷ qs) (suc i) q e = let h = there qs i q e in omega (arith, h)
 
-one_more : {A : Type 0} (qs : List A) (i : ℕ) → take (i + 1) qs ≡ take (suc i) qs
+pub one_more : {A : Type 0} (qs : List A) (i : ℕ) → take (i + 1) qs ≡ take (suc i) qs
 one_more qs i = let e : i + 1 ≡ suc i = omega arith in ap (λ n. take n qs) e
 
 -- nothing that is left is too far
@@ -92,7 +97,7 @@ roomy qs b i q m g =
     let room = m.room in
     omega (arith, few, low, fits, room)
 
-after_at : (qs : List RegionOf) (i : ℕ) (q : RegionOf) → slice_get qs i ≡ Some q → afters (take i qs) + after q ≤ afters qs
+pub after_at : (qs : List RegionOf) (i : ℕ) (q : RegionOf) → slice_get qs i ≡ Some q → afters (take i qs) + after q ≤ afters qs
 after_at [] i q e = cc
 after_at (r ∷ qs) zero q e = let k : r ≡ q = cc in let n = ap after k in omega (arith, n)
 after_at (r ∷ qs) (suc i) q e = let n = after_at qs i q e in omega (arith, n)

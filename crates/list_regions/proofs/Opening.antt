@@ -4,14 +4,11 @@ use Rattle.std.specs.Prelude.{slice_get, insert}
 use Rattle.list_lane.specs.Lanes.{length_at_end}
 use Rattle.list_lane.specs.declared.op.Op.{Op}
 use Rattle.list_regions.specs.Regions.{RegionOf, before, after, befores, afters, Woven, last, next, Whole, none, first}
-use Rattle.list_regions.specs.Kept.{with_gap, fresh, with_front, onward}
+use Rattle.list_regions.specs.Kept.{with_gap, fresh, with_fresh, with_front, onward}
 use Rattle.list_regions.proofs.Edits.{Same, SameWhole, same_behind, fresh_gap, fresh_front, fresh_tail, fresh_first}
 use Rattle.list_regions.proofs.Growing.{front_grown, first_grown}
 
 -- ---- a region without slots among elements
-abbrev pub with_fresh : List RegionOf → ℕ → RegionOf → ℕ → ℕ → ℕ → List RegionOf
-with_fresh qs i q p y g = insert (set qs i (with_gap g q)) i (fresh p y)
-
 module _ (k : ℕ) (q : RegionOf) (p y g : ℕ) (more : 0 < g) (e : q.gap ≡ p + (y + g)) where
   fresh_woven : (qs : List RegionOf) (i : ℕ) → slice_get qs i ≡ Some q → 0 < p → Same k qs (with_fresh qs i q p y g)
   fresh_woven [] i h lt n ls ss w = cc

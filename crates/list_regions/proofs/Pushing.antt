@@ -74,7 +74,7 @@ module _ (k : ℕ) where
       → Woven k q.lane.first (fs ++ Some (at b p) ∷ []) qs (rs ++ Some (at b p) ∷ [])
   touched_rest q b p f m w = front_pushed m (at b p) (subst (Within b.does p) (sym (spread_end q.lane.first f)) w)
 
-  push_touch : (n : ℕ) (q : RegionOf) (qs : List RegionOf) (b : Op) (p : ℕ) → Within b.does p (length_at_end q.lane.first q.lane.slots) → Pushes n (q ∷ qs) (pushed_region n (at b p) q ∷ qs) b (q.gap + p)
+  push_touch : (n : ℕ) (q : RegionOf) (qs : List RegionOf) (b : Op) (p : ℕ) → Within b.does p (length_at_end q.lane.first q.lane.slots) → Pushes n (q ∷ qs) (pushed_region n (Some (at b p)) q ∷ qs) b (q.gap + p)
   push_touch n q qs b p w x ls ss e (next {fs = fs} {rs = rs} h f m d) =
       let u = woven_length m in
       let v = parts_right d in
@@ -89,15 +89,15 @@ module _ (k : ℕ) where
   same_place : (n : ℕ) (qs zs : List RegionOf) (b : Op) (p m : ℕ) → p ≡ m → Pushes n qs zs b p → Pushes n qs zs b m
   same_place n qs zs b p m e c = subst (Pushes n qs zs b) e c
 
-  push_many : (n : ℕ) (qs : List RegionOf) (i : ℕ) (q : RegionOf) (b : Op) (p : ℕ) → slice_get qs i ≡ Some q → Within b.does p (length_at_end q.lane.first q.lane.slots) → Pushes n qs (set qs i (pushed_region n (at b p) q)) b (afters (take i qs) + (q.gap + p))
+  push_many : (n : ℕ) (qs : List RegionOf) (i : ℕ) (q : RegionOf) (b : Op) (p : ℕ) → slice_get qs i ≡ Some q → Within b.does p (length_at_end q.lane.first q.lane.slots) → Pushes n qs (set qs i (pushed_region n (Some (at b p)) q)) b (afters (take i qs) + (q.gap + p))
   push_many n [] i q b p g w = cc
   push_many n (y ∷ qs) zero q b p g w =
       let h : y ≡ q = cc in
-      subst (λ (r : RegionOf). Pushes n (r ∷ qs) (pushed_region n (at b p) q ∷ qs) b (0 + (q.gap + p))) (sym h)
-      (same_place n (q ∷ qs) (pushed_region n (at b p) q ∷ qs) b (q.gap + p) (0 + (q.gap + p)) (omega arith) (push_touch n q qs b p w))
+      subst (λ (r : RegionOf). Pushes n (r ∷ qs) (pushed_region n (Some (at b p)) q ∷ qs) b (0 + (q.gap + p))) (sym h)
+      (same_place n (q ∷ qs) (pushed_region n (Some (at b p)) q ∷ qs) b (q.gap + p) (0 + (q.gap + p)) (omega arith) (push_touch n q qs b p w))
   push_many n (y ∷ qs) (suc i) q b p g w =
-      same_place n (y ∷ qs) (y ∷ set qs i (pushed_region n (at b p) q)) b (after y + (afters (take i qs) + (q.gap + p))) (after y + afters (take i qs) + (q.gap + p)) (omega arith)
-      (push_behind n y qs (set qs i (pushed_region n (at b p) q)) b (afters (take i qs) + (q.gap + p)) (push_many n qs i q b p g w))
+      same_place n (y ∷ qs) (y ∷ set qs i (pushed_region n (Some (at b p)) q)) b (after y + (afters (take i qs) + (q.gap + p))) (after y + afters (take i qs) + (q.gap + p)) (omega arith)
+      (push_behind n y qs (set qs i (pushed_region n (Some (at b p)) q)) b (afters (take i qs) + (q.gap + p)) (push_many n qs i q b p g w))
 
   whole_at : (n : ℕ) (q : RegionOf) (qs zs : List RegionOf) (b : Op) (p : ℕ) → Pushes n qs zs b p → b.place ≡ after q + p → PushesWhole n (q ∷ qs) (q ∷ zs) b
   whole_at n q qs zs b p c i ss e (first {ls = ls} {fs = fs} {rs = rs} h f m d) =
@@ -106,7 +106,7 @@ module _ (k : ℕ) where
       let z = end_empty zero ls h in
       first (empty_more ls h) (spread_empty f) (c q.lane.first fs rs (omega (arith, e, v)) m) (parts_at d b (length_at_end q.lane.first fs + p) b.place (omega (arith, i, j, z)))
 
-  whole_touch : (n : ℕ) (q : RegionOf) (qs : List RegionOf) (b : Op) (p : ℕ) → Within b.does p (length_at_end q.lane.first q.lane.slots) → b.place ≡ q.gap + p → PushesWhole n (q ∷ qs) (pushed_region n (at b p) q ∷ qs) b
+  whole_touch : (n : ℕ) (q : RegionOf) (qs : List RegionOf) (b : Op) (p : ℕ) → Within b.does p (length_at_end q.lane.first q.lane.slots) → b.place ≡ q.gap + p → PushesWhole n (q ∷ qs) (pushed_region n (Some (at b p)) q ∷ qs) b
   whole_touch n q qs b p w i ss e (first {ls = ls} {fs = fs} {rs = rs} h f m d) =
       let u = woven_length m in
       let v = parts_right d in
@@ -114,13 +114,13 @@ module _ (k : ℕ) where
       first (empty_more ls h) (spread_more f n (Some (at b p)) (omega (arith, e, u, v))) (touched_rest q b p f m w) (parts_at d b p b.place (omega (arith, i, z)))
 
   pub pushed_at : (n : ℕ) (qs : List RegionOf) (i : ℕ) (q : RegionOf) (b : Op) (p : ℕ) → slice_get qs i ≡ Some q → Within b.does p (length_at_end q.lane.first q.lane.slots) → b.place ≡ afters (take i qs) + (q.gap + p)
-      → PushesWhole n qs (set qs i (pushed_region n (at b p) q)) b
+      → PushesWhole n qs (set qs i (pushed_region n (Some (at b p)) q)) b
   pushed_at n [] i q b p g w e = cc
   pushed_at n (y ∷ qs) zero q b p g w e =
       let h : y ≡ q = cc in
-      subst (λ (r : RegionOf). PushesWhole n (r ∷ qs) (pushed_region n (at b p) q ∷ qs) b) (sym h) (whole_touch n q qs b p w (omega (arith, e)))
+      subst (λ (r : RegionOf). PushesWhole n (r ∷ qs) (pushed_region n (Some (at b p)) q ∷ qs) b) (sym h) (whole_touch n q qs b p w (omega (arith, e)))
   pushed_at n (y ∷ qs) (suc i) q b p g w e =
-      whole_at n y qs (set qs i (pushed_region n (at b p) q)) b (afters (take i qs) + (q.gap + p)) (push_many n qs i q b p g w) (omega (arith, e))
+      whole_at n y qs (set qs i (pushed_region n (Some (at b p)) q)) b (afters (take i qs) + (q.gap + p)) (push_many n qs i q b p g w) (omega (arith, e))
 
   pub whole_none_pushed : (qs : List RegionOf) (ss : List (Option Op)) → Whole k qs ss → Whole k qs (ss ++ None ∷ [])
   whole_none_pushed [] ss (none h) = none (empty_more ss h)

@@ -4,10 +4,10 @@ use Rattle.std.specs.Prelude.{slice_get}
 use Rattle.sync_transform.specs.Places.{longer, Within}
 use Rattle.sync_transform.specs.declared.places.Does.{Does}
 use Rattle.sync_transform.specs.declared.places.Does.TheVariants.{Inserts, Erases, Updates}
-use Rattle.list_lane.specs.Lanes.{length_at_end, Chains}
+use Rattle.list_lane.specs.Lanes.{length_after, length_at_end, Chains}
 use Rattle.list_lane.specs.Parts.{Parts, end, empty, front, back, from}
 use Rattle.list_lane.specs.declared.op.Op.{Op}
-use Rattle.list_regions.specs.Regions.{RegionOf, before, after, befores, afters, AllEmpty, empties, weave, spread, woven, Spread, Woven, last, next, Whole, none, first}
+use Rattle.list_regions.specs.Regions.{RegionOf, before, after, befores, afters, AllEmpty, empties, weave, spread, woven, Spread, skip, here, end as done, Woven, last, next, Whole, none, first}
 use Rattle.list_regions.proofs.Spreads.{empties_are, length_empties, end_empty, spread_end, spread_length, spread_is}
 use Rattle.list_regions.proofs.Behind.{parts_left, parts_right, weave_is}
 
@@ -153,3 +153,29 @@ whole_end {ss = ss} (first {q = q} {qs = qs} {ls = ls} {fs = fs} {rs = rs} h f m
     let last = length_at_end q.lane.first q.lane.slots in
     let k : length_at_end 0 ls + (q.gap + length_at_end y rs) ≡ q.gap + last + afters qs + t = omega (arith, s, v, z) in
     ap (λ n. length_at_end n ss) e ∙ r ∙ k
+
+-- ---- each region chains
+parts_front_chain : {g x : ℕ} {ss ls rs : List (Option Op)} → Parts g x ss ls rs → Chains x ls
+parts_front_chain end = tt
+parts_front_chain (empty d) = (tt, parts_front_chain d)
+parts_front_chain (front w d) = (w, parts_front_chain d)
+parts_front_chain (back d) = (tt, parts_front_chain d)
+
+spread_chain : {k : ℕ} {ns : List ℕ} {ss fs : List (Option Op)} (x : ℕ) → Spread k ns ss fs → Chains x fs → Chains x ss
+spread_chain x done c = tt
+spread_chain x (skip d) c = spread_chain x d c.1
+spread_chain x (here {s = s} d) c = (c.0, spread_chain (length_after s x) d c.1)
+
+woven_front : {k x : ℕ} {qs : List RegionOf} {ls ss : List (Option Op)} → Woven k x ls qs ss → Chains x ls
+woven_front (last h) = h
+woven_front (next h f m d) = parts_front_chain d
+
+woven_chain_at : {k x : ℕ} {qs : List RegionOf} {ls ss : List (Option Op)} → Woven k x ls qs ss → (i : ℕ) (q : RegionOf) → slice_get qs i ≡ Some q → Chains q.lane.first q.lane.slots
+woven_chain_at (last h) i q e = cc
+woven_chain_at (next {q = r} h f m d) zero q e = let j : r ≡ q = cc in subst (λ (y : RegionOf). Chains y.lane.first y.lane.slots) j (spread_chain r.lane.first f (woven_front m))
+woven_chain_at (next h f m d) (suc i) q e = woven_chain_at m i q e
+
+pub whole_chain_at : {k : ℕ} {qs : List RegionOf} {ss : List (Option Op)} → Whole k qs ss → (i : ℕ) (q : RegionOf) → slice_get qs i ≡ Some q → Chains q.lane.first q.lane.slots
+whole_chain_at (none h) i q e = cc
+whole_chain_at (first {q = r} h f m d) zero q e = let j : r ≡ q = cc in subst (λ (y : RegionOf). Chains y.lane.first y.lane.slots) j (spread_chain r.lane.first f (woven_front m))
+whole_chain_at (first h f m d) (suc i) q e = woven_chain_at m i q e

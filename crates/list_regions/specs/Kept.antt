@@ -1,5 +1,5 @@
 -- What is kept of regions, and what crossing them is.
-use Rattle.std.specs.Prelude.{◌≡◌, ℕ, zero, suc, ◌+◌, ◌-◌, ◌<◌, ◌≤◌, Bool, List, [], ◌∷◌, ◌++◌, length, take, max, slice_get, Option, None, Some}
+use Rattle.std.specs.Prelude.{◌≡◌, ℕ, zero, suc, ◌+◌, ◌-◌, ◌<◌, ◌≤◌, Bool, List, [], ◌∷◌, ◌++◌, length, take, set, insert, max, slice_get, Option, None, Some}
 use Rattle.sync_data.specs.declared.entry.Stamp.{Stamp}
 use Rattle.sync_base.specs.Rules.{top}
 use Rattle.sync_transform.specs.Places.{longer, Within}
@@ -30,6 +30,10 @@ region g ns x ss = record { gap = g; numbers = ns; lane = record { first = x; sl
 abbrev pub fresh : ℕ → ℕ → RegionOf
 fresh p y = record { gap = p; numbers = []; lane = record { first = y; slots = [] } }
 
+-- regions with such a one in front of the i-th, which lies behind g elements then
+abbrev pub with_fresh : List RegionOf → ℕ → RegionOf → ℕ → ℕ → ℕ → List RegionOf
+with_fresh qs i q p y g = insert (set qs i (record q { gap = g })) i (fresh p y)
+
 -- slots in a list with n elements more in front
 abbrev pub onward : ℕ → List (Option Op) → List (Option Op)
 onward n [] = []
@@ -48,8 +52,8 @@ abbrev pub earliest : Op
 earliest = record { does = Inserts; place = 0; stamp = record { ms = 0; ident = 0 } }
 
 -- a region with a slot more
-abbrev pub pushed_region : ℕ → Op → RegionOf → RegionOf
-pushed_region n b q = record { gap = q.gap; numbers = q.numbers ++ n ∷ []; lane = record { first = q.lane.first; slots = q.lane.slots ++ Some b ∷ [] } }
+abbrev pub pushed_region : ℕ → Option Op → RegionOf → RegionOf
+pushed_region n s q = record { gap = q.gap; numbers = q.numbers ++ n ∷ []; lane = record { first = q.lane.first; slots = q.lane.slots ++ s ∷ [] } }
 
 -- a region has as many numbers as slots, and its list can't become too long
 pub record IsRegion (gap : ℕ) (numbers : List ℕ) (lane : LaneOf) : Type 0 where
@@ -62,6 +66,12 @@ pub record IsRegions (popped count first last : ℕ) (qs : List RegionOf) (ss : 
   pub lane : IsLane first last count ss
   pub fits : befores qs ≤ first
   pub numbers : popped + count < 18446744073709551615
+
+-- how many elements an instruction needs for itself
+abbrev pub elements : Does → ℕ
+elements Inserts = 0
+elements Erases = 1
+elements Updates = 1
 
 -- how long what it touches has to be, with all in front of that
 abbrev pub reach : Does → ℕ → ℕ
@@ -95,6 +105,17 @@ pub record Ends (qs : List RegionOf) (b : Op) (number : ℕ) : Type 0 where
   pub fits : befores qs ≤ length_is
   pub number_is : popped + length slots ≡ number
 
+-- an insertion among elements is in front of one and behind one
+abbrev pub Inner : Does → ℕ → Type 0
+Inner Inserts p = 0 < p
+Inner Erases p = Unit {0}
+Inner Updates p = Unit {0}
+
+-- it acts so far behind the regions in front of a place
+pub record LiesBehind (qs : List RegionOf) (b : Op) (i offset : ℕ) : Type 0 where
+  pub place : b.place ≡ afters (take i qs) + offset
+  pub inner : 0 < i → Inner b.does offset
+
 -- others tell the same slots, and lie in a list that is long enough for b
 pub record Opened (qs : List RegionOf) (b : Op) (zs : List RegionOf) : Type 0 where
   pub same : (k : ℕ) (ss : List (Option Op)) → Whole k qs ss → Whole k zs ss
@@ -104,8 +125,9 @@ pub record Opened (qs : List RegionOf) (b : Op) (zs : List RegionOf) : Type 0 wh
 pub record Touches (qs : List RegionOf) (b : Op) (i : ℕ) (inner : Op) : Type 0 where
   pub region : RegionOf
   pub is : slice_get qs i ≡ Some region
-  pub within : Within inner.does inner.place (length_at_end region.lane.first region.lane.slots)
-  pub place : b ≡ at inner (afters (take i qs) + (region.gap + inner.place))
+  pub inner_is : inner ≡ at b inner.place
+  pub within : Within b.does inner.place (length_at_end region.lane.first region.lane.slots)
+  pub place : b.place ≡ afters (take i qs) + (region.gap + inner.place)
 
 -- they have a slot more
 pub record Pushed (qs : List RegionOf) (b : Op) (number : ℕ) (zs : List RegionOf) : Type 0 where

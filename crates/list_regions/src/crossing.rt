@@ -99,7 +99,7 @@ fn cross_at(
 }
 
 /// Other elements lie in front of the region at a place.
-fn set_gap_at(items: &mut SumList<Region>, alloc: Global, place: usize, gap: u32)
+pub(crate) fn set_gap_at(items: &mut SumList<Region>, alloc: Global, place: usize, gap: u32)
     requires there { place < length items.old }
     requires room { (q : RegionOf) → slice_get items.old place ≡ Some q → gap + q.lane.first + length q.lane.slots < top }
     ensures { (q : RegionOf) → slice_get items.old place ≡ Some q → items.new ≡ slice_set items.old place (with_gap gap q) }

@@ -1,15 +1,17 @@
-ghost use Rattle.std.specs.Prelude.{◌≡◌, ◌+◌, ◌<◌, [], Some, length};
+ghost use Rattle.std.specs.Prelude.{◌≡◌, ◌+◌, ◌<◌, [], Some, OnOk, OnErr, IsTrue, length};
 ghost use Rattle.sync_base.specs.Rules.{top};
 ghost use Rattle.sync_transform.specs.Places.{Within};
 ghost use Rattle.list_lane.specs.Ops.{lane_later as later};
-ghost use Rattle.list_lane.specs.Lanes.{crossed};
-ghost use Rattle.list_regions.specs.Kept.{crossed_region, with_gap as having};
+ghost use Rattle.list_lane.specs.Lanes.{crossed, length_at_end, Fits};
+ghost use Rattle.list_regions.specs.Kept.{crossed_region, fresh as fresh_region, pushed_region, with_front, with_gap as having};
 
 use list_lane::{Lane, Op};
 use std::alloc::Global;
 use std::collections::VecDeque;
 use std::marker::Model;
 use sum_list::Measured;
+use sync_data::{NoMemory, Stamp};
+use sync_transform::Does;
 
 /// Slots of a lane whose instructions lie near each other, as a lane of their own, with their numbers. In front of them lie
 /// elements that none of the whole lane erases or updates.
@@ -68,6 +70,18 @@ impl Region {
         }
     }
 
+    /// A region of so many elements and no slot, behind so many. It takes no memory.
+    pub(crate) fn fresh(alloc: Global, gap: u32, elements: u32) -> Region
+        requires { gap + elements < top }
+        ensures { result ≡ fresh_region gap elements }
+    {
+        Region {
+            gap,
+            numbers: VecDeque::new(alloc),
+            lane: Lane::new(alloc, elements),
+        }
+    }
+
     /// How many elements lie in front of it.
     pub(crate) fn gap(&self) -> u32
         ensures { result ≡ self.now.gap }
@@ -81,6 +95,45 @@ impl Region {
         ensures { self.new ≡ having gap self.old }
     {
         self.gap = gap;
+    }
+
+    /// It takes the last of the elements in front of it.
+    pub(crate) fn take_front(&mut self)
+        requires { 0 < self.old.gap }
+        ensures { self.new ≡ with_front self.old }
+    {
+        self.gap -= 1;
+        let earliest = Op {
+            does: Does::Inserts,
+            place: 0,
+            stamp: Stamp { ms: 0, ident: 0 },
+        };
+        let _front = self.lane.cross(earliest, false);
+    }
+
+    /// Appends a slot with that number, which is behind all others.
+    pub(crate) fn push(&mut self, number: u64, slot: Option<Op>) -> Result<(), NoMemory>
+        requires { Fits (length_at_end self.old.lane.first self.old.lane.slots) slot }
+        ensures ok { OnOk result (self.new ≡ pushed_region number slot self.old) }
+        ensures err { OnErr result (self.new ≡ self.old) }
+    {
+        if !self.has_room() || self.numbers.reserve(1).is_err() {
+            return Err(NoMemory);
+        }
+        match slot {
+            Some(op) => self.lane.push(op)?,
+            None => self.lane.push_empty()?,
+        }
+        self.numbers.push_back_reserved(number);
+        Ok(())
+    }
+
+    /// Whether its list can't become too long by another instruction.
+    fn has_room(&self) -> bool
+        ensures { IsTrue result → self.now.gap + self.now.lane.first + length self.now.lane.slots + 1 < top }
+    {
+        let length = self.gap as u64 + self.lane.first() as u64;
+        length + (self.lane.len() as u64) + 1 < u32::MAX as u64
     }
 
     /// What is left of an instruction that crosses it, whose place counts from its first element.

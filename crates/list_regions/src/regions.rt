@@ -1,11 +1,12 @@
-ghost use Rattle.std.specs.Prelude.{◌≡◌, ◌+◌, ◌<◌, [], Some, IfSome, IfOk, OnOk, OnErr, IsTrue, IsFalse, length};
+ghost use Rattle.std.specs.Prelude.{◌≡◌, ◌+◌, ◌<◌, ◌∷◌, ◌++◌, [], None, Some, IfSome, IfOk, OnOk, OnErr, IsTrue, IsFalse, length};
 ghost use Rattle.sync_base.specs.Rules.{top};
 ghost use Rattle.sync_transform.specs.Places.{Within};
 ghost use Rattle.list_lane.specs.Ops.{lane_later};
-ghost use Rattle.list_lane.specs.Lanes.{crossed, length_at_end, length_after as behind, lane_after, Chains, IsLeftOf};
+ghost use Rattle.list_lane.specs.Lanes.{crossed, first_slot, length_at_end, length_after as behind, length_before as before, slot_at, without_first, lane_after, Chains, Fits, IsLeftOf};
 ghost use Rattle.list_lane.specs.Laws.{CrossesLeft, CrossesRight};
 
 use super::crossing::cross_regions;
+use super::push::push_to;
 use super::region::Region;
 use list_lane::Op;
 use std::alloc::Global;
@@ -75,6 +76,31 @@ impl Regions {
         self.last
     }
 
+    /// Appends an instruction that acts on the list behind the lane.
+    pub fn push(&mut self, op: Op) -> Result<(), NoMemory>
+        requires within { Within op.does op.place (length_at_end self.old.first self.old.slots) }
+        requires room { self.old.first + length self.old.slots + 1 < top }
+        ensures ok { OnOk result (self.new ≡ record { first = self.old.first; slots = self.old.slots ++ Some op ∷ [] }) }
+        ensures err { OnErr result (self.new ≡ self.old) }
+    {
+        let number = next_number(self.popped, self.count)?;
+        push_to(&mut self.items, self.alloc, op, number)?;
+        self.count += 1;
+        self.last = length_after(op.does, self.last);
+        Ok(())
+    }
+
+    /// Appends an empty slot.
+    pub fn push_empty(&mut self) -> Result<(), NoMemory>
+        requires { self.old.first + length self.old.slots + 1 < top }
+        ensures ok { OnOk result (self.new ≡ record { first = self.old.first; slots = self.old.slots ++ None ∷ [] }) }
+        ensures err { OnErr result (self.new ≡ self.old) }
+    {
+        let _number = next_number(self.popped, self.count)?;
+        self.count += 1;
+        Ok(())
+    }
+
     /// What is left of an instruction that was made on the list before the lane, where it crosses the lane, which stands as
     /// crossed. Where it would take memory and there is none, nothing changes.
     pub fn cross(&mut self, traveller: Op, lane_left: bool) -> Result<Option<Op>, NoMemory>
@@ -91,6 +117,16 @@ impl Regions {
         self.first = length_after(traveller.does, self.first);
         self.last = length_behind(left, self.last);
         Ok(left)
+    }
+}
+
+/// The number of the next slot.
+fn next_number(popped: u64, count: usize) -> Result<u64, NoMemory>
+    ensures ok { IfOk result (λ n. (n ≡ popped + count) × (n < 18446744073709551614)) }
+{
+    match popped.checked_add(count as u64) {
+        Some(number) if number < u64::MAX - 1 => Ok(number),
+        _ => Err(NoMemory),
     }
 }
 

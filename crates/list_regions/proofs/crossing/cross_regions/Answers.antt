@@ -1,4 +1,4 @@
-use Rattle.std.proofs.Common.{◌≡◌, ◌⊎◌, ℕ, zero, suc, inl, inr, ◌+◌, ◌-◌, ◌<◌, ◌≤◌, Option, None, Some, length, set, refl, sym, ap, ◌∙◌, subst, arith}
+use Rattle.std.proofs.Common.{◌≡◌, ◌+◌, ◌-◌, ◌<◌, ◌≤◌, Option, None, Some, length, set, refl, sym, ap, ◌∙◌, subst, arith}
 use Rattle.std.specs.Prelude.{slice_get, IfSome}
 use Rattle.std.specs.Option.{option_map, option_copied}
 use Rattle.sync_base.specs.Rules.{top}
@@ -12,7 +12,7 @@ use Rattle.list_regions.specs.Regions.{RegionOf, before, after}
 use Rattle.list_regions.specs.Kept.{at, crossed_region, with_gap, reach, Passes}
 use Rattle.sum_list.specs.Places.{Reaches}
 use Rattle.list_regions.proofs.Sets.{same_item}
-use Rattle.list_regions.proofs.Meeting.{there, roomy, after_low, left_low, lifted_low, after_is, within, pass_tail, pass_touch, pass_gap}
+use Rattle.list_regions.proofs.Meeting.{more_of, there, roomy, after_low, left_low, lifted_low, after_is, within, pass_tail, pass_touch, pass_gap}
 use Rattle.list_regions.proofs.crossing.cross_regions.Goals as goal
 
 pub placed-requires : goal.placed-requires
@@ -136,11 +136,6 @@ set_gap_at-requires-clause-room c =
     let more = after_more (Some c.args.traveller) c.gap-gap.result in
     let new = c.length_after-gap.ensures in
     omega (arith, gap, room, more, new)
-
-more_of : (g i : ℕ) → (g ≡ 0 × i ≤ 0) ⊎ (g ≡ 0 → ⊥) → 0 < i → 0 < g
-more_of g i (inl h) lt = let k = h.1 in absurd (omega (arith, k, lt))
-more_of zero i (inr h) lt = absurd (h refl)
-more_of (suc g) i (inr h) lt = omega arith
 
 passes : (c : goal.After-struct_known-3-1) → let b = c.args.traveller in let a = c.find_before-at.result in Passes (later c.args.lane_left) c.args.items.now b (Some (at b (b.place - a.before + a.after))) c.set_gap_at.new.items
 passes c =
