@@ -10,12 +10,13 @@ use Rattle.sync_transform.specs.declared.places.Does.TheVariants.{Inserts, Erase
 use Rattle.sum_list.specs.declared.at.At.{At}
 use Rattle.sum_list.specs.Places.{IsAt, Reaches}
 use Rattle.list_lane.specs.Lanes.{crossed, length_at_end}
-use Rattle.list_lane.specs.Parts.{from}
+use Rattle.list_lane.specs.Parts.{from, IsOfElement}
 use Rattle.list_lane.specs.declared.op.Op.{Op}
 use Rattle.list_lane.proofs.Rooms.{within_most, left_at, last_below}
 use Rattle.list_regions.specs.Regions.{RegionOf, before, after, befores, afters, Whole}
 use Rattle.list_regions.specs.Kept.{at, crossed_region, with_gap, reach, Inner, Meets, Passes}
 use Rattle.list_regions.proofs.Found.{befores_are, afters_are, befores_more, touched_at, gap_at, front_at, tail_at}
+use Rattle.list_regions.proofs.Leaving.{whole_leaves}
 use Rattle.list_regions.proofs.Views.{whole_slots, whole_end, before_at}
 use Rattle.list_regions.proofs.Opening.{set_befores}
 
@@ -205,3 +206,30 @@ module _ (l : Stamp → Stamp → Bool) (qs : List RegionOf) (b : Op) (a : At) (
         (subst (λ r. Whole k r (crossed l ss (Some b)).slots) (sym new) c.0, c.1 ∙ ap (λ n. Some (at b (b.place - a.before + n))) (sym after_is));
         fits = λ n k v. gap_fits b.does (b.place - a.before) q.gap q.lane.first (befores qs) (befores zs) n h (omega (arith, sum, all)) (omega (arith, low)) k;
       }
+
+  -- ---- what is left of it where they stay
+  left_by : (d : Does) (q : RegionOf) → b.does ≡ d → slice_get qs a.place ≡ Some q → b.place - a.before < q.gap → (i : ℕ) → i ≡ a.place → (k : ℕ) (ss : List (Option Op)) → Whole k qs ss
+      → (crossed l ss (Some b)).left ≡ Some (at b (b.place - a.before + afters (take i qs)))
+  left_by d q e g h zero i k ss v = let r = gap_slots q zero i (ap (slice_get qs) i ∙ g) h (λ z. absurd (omega (arith, z))) k ss v in r.1
+  left_by Inserts q e g h (suc m) i k ss v =
+      let more : 0 < longer b.does q.gap = subst (λ (d : Does). 0 < longer d q.gap) (sym e) (omega arith) in
+      let r = gap_slots q (suc m) i (ap (slice_get qs) i ∙ g) h (λ z. more) k ss v in
+      r.1
+  left_by Erases q e g h (suc m) i k ss v =
+      let s = starts in let f = front_is in let same = ap (λ n. befores (take n qs)) i in
+      whole_leaves l k b qs (suc m) q (b.place - a.before) (ap (slice_get qs) i ∙ g) (omega arith) (subst IsOfElement (sym e) tt) h (omega (arith, s, f, same)) ss v
+  left_by Updates q e g h (suc m) i k ss v =
+      let s = starts in let f = front_is in let same = ap (λ n. befores (take n qs)) i in
+      whole_leaves l k b qs (suc m) q (b.place - a.before) (ap (slice_get qs) i ∙ g) (omega arith) (subst IsOfElement (sym e) tt) h (omega (arith, s, f, same)) ss v
+
+  pub left_gap : (q : RegionOf) → slice_get qs a.place ≡ Some q → b.place - a.before < q.gap → (k : ℕ) (ss : List (Option Op)) → Whole k qs ss → (crossed l ss (Some b)).left ≡ Some (at b (b.place - a.before + a.after))
+  left_gap q g h k ss v = left_by b.does q refl g h a.place refl k ss v ∙ ap (λ n. Some (at b (b.place - a.before + n))) (sym after_is)
+
+-- nothing that is left is too far
+pub left_is_low : (l : Stamp → Stamp → Bool) (qs : List RegionOf) (b : Op) (z : Option Op) → Meets qs b → ((k : ℕ) (ss : List (Option Op)) → Whole k qs ss → (crossed l ss (Some b)).left ≡ z) → IfSome z (λ y. y.place ≤ top)
+left_is_low l qs b None m p = tt
+left_is_low l qs b (Some y) m p =
+    let far = left_at l m.slots b y (sym (p m.popped m.slots m.whole)) in
+    let most = within_most b.does b.place m.length_is m.within in
+    let room = m.room in
+    omega (arith, far, most, room)

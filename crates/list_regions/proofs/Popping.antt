@@ -1,15 +1,19 @@
 -- The first slot leaves.
 use Rattle.std.proofs.Common.{◌≡◌, ℕ, zero, suc, ◌+◌, ◌-◌, ◌<◌, ◌≤◌, List, [], ◌∷◌, ◌++◌, length, take, drop, set, Option, Some, None, refl, sym, ap, ◌∙◌, subst, arith}
-use Rattle.std.specs.Prelude.{slice_get}
+use Rattle.std.specs.Prelude.{slice_get, IfSome}
+use Rattle.sync_transform.specs.declared.places.Does.{Does}
+use Rattle.sync_transform.specs.declared.places.Does.TheVariants.{Inserts, Erases, Updates}
 use Rattle.sync_transform.specs.Places.{longer, Within}
 use Rattle.list_lane.specs.Lanes.{length_after, length_at_end, Chains}
 use Rattle.list_lane.specs.Parts.{Parts, end, empty, front, back, from}
 use Rattle.list_lane.specs.declared.op.Op.{Op}
-use Rattle.list_regions.specs.Regions.{RegionOf, before, befores, number, first_number, AllEmpty, Spread, skip, here, end as done, Woven, last, next, Whole, none, first}
-use Rattle.list_regions.specs.Kept.{region}
+use Rattle.list_regions.specs.Regions.{RegionOf, before, befores, number, first_number, moved_on, either, AllEmpty, Spread, skip, here, end as done, Woven, last, next, Whole, none, first}
+use Rattle.list_regions.specs.Kept.{region, AllLater, PopsAt, PopsFirst}
 use Rattle.list_regions.proofs.Spreads.{spread_from}
 use Rattle.list_regions.proofs.Behind.{parts_left, parts_right}
-use Rattle.list_regions.proofs.Views.{woven_length}
+use Rattle.list_regions.proofs.Views.{woven_length, whole_chain_at, before_at}
+use Rattle.list_regions.proofs.Opening.{set_befores}
+use Rattle.list_regions.proofs.Slots.{either_none}
 
 -- ---- the first of spread slots
 -- it is none of those with numbers
@@ -41,11 +45,8 @@ parts_back {g = g} {x = x} (back {a = b} d) e = (d, refl, ap (λ o. option_from 
     option_from n (Some c) = Some (from n c)
 
 module _ (k : ℕ) where
-  abbrev pub AllLater : List RegionOf → Type 0
-  AllLater qs = (i : ℕ) (q : RegionOf) → slice_get qs i ≡ Some q → number q ≡ k → ⊥
-
   -- no region has it
-  woven_later : {x : ℕ} {qs : List RegionOf} {ls ss : List (Option Op)} {l s : Option Op} → Woven k x (l ∷ ls) qs (s ∷ ss) → AllLater qs → Woven (suc k) (length_after l x) ls qs ss × (s ≡ l)
+  woven_later : {x : ℕ} {qs : List RegionOf} {ls ss : List (Option Op)} {l s : Option Op} → Woven k x (l ∷ ls) qs (s ∷ ss) → AllLater k qs → Woven (suc k) (length_after l x) ls qs ss × (s ≡ l)
   woven_later (last h) a = (last h.1, refl)
   woven_later (next {fs = []} h f m d) a = absurd (let u = woven_length m in let v = parts_right d in omega (arith, u, v))
   woven_later (next {fs = f0 ∷ fs} {rs = []} h f m d) a = absurd (let v = parts_right d in omega (arith, v))
@@ -55,7 +56,7 @@ module _ (k : ℕ) where
       let u = parts_first d (w.1 ∙ p.1) in
       (next h p.0 (subst (λ (t : Option Op). Woven (suc k) (length_after t q.lane.first) fs qs rs) p.1 w.0) u.0, u.1)
 
-  pub whole_later : {qs : List RegionOf} {ss : List (Option Op)} {s : Option Op} → Whole k qs (s ∷ ss) → AllLater qs → Whole (suc k) qs ss × (s ≡ None)
+  pub whole_later : {qs : List RegionOf} {ss : List (Option Op)} {s : Option Op} → Whole k qs (s ∷ ss) → AllLater k qs → Whole (suc k) qs ss × (s ≡ None)
   whole_later {s = None} (none h) a = (none h, refl)
   whole_later {s = Some b} (none h) a = absurd h
   whole_later (first {ls = []} h f m d) a = absurd (let v = parts_left d in omega (arith, v))
@@ -152,3 +153,81 @@ module _ (k : ℕ) where
       let u = parts_back d w.2 in
       let j : a.place + (q.lane.first + (befores (take i qs) + g)) + (zero + q.gap) ≡ a.place + (before q + befores (take i qs) + g) = omega arith in
       (first {ls = None ∷ ls} h f w.0 (empty u.0), u.2 ∙ ap (λ n. Some (record a { place = n })) j)
+
+  -- ---- from one region to the next that has it
+  -- what is left of the first slot and what was popped; nothing is left behind what was
+  pub record Popping (qs zs : List RegionOf) (z s : Option Op) (ss : List (Option Op)) : Type 0 where
+    pub rest : Option Op
+    pub whole : Whole k zs (rest ∷ ss)
+    pub slot : s ≡ either z rest
+    pub once : IfSome z (λ a. rest ≡ None)
+    pub sum : befores zs ≡ length_after z (befores qs)
+
+  pub popping_none : (qs : List RegionOf) (s : Option Op) (ss : List (Option Op)) → Whole k qs (s ∷ ss) → Popping qs qs None s ss
+  popping_none qs s ss w = record { rest = s; whole = w; slot = refl; once = tt; sum = refl }
+
+  longer_part : (d : Does) (p x y n : ℕ) → Within d p x → y + x ≡ n → y + longer d x ≡ longer d n
+  longer_part Inserts p x y n w e = omega (arith, e)
+  longer_part Erases p x y n w e = omega (arith, w, e)
+  longer_part Updates p x y n w e = e
+
+  first_chain : (ys : List RegionOf) (i g x : ℕ) (ns : List ℕ) (a : Op) (ts ss : List (Option Op)) → Whole k ys ss → slice_get ys i ≡ Some (region g ns x (Some a ∷ ts)) → Within a.does a.place x
+  first_chain ys i g x ns a ts ss w e = let c = whole_chain_at w i (region g ns x (Some a ∷ ts)) e in c.0
+
+  popped_more : (qs ys zs : List RegionOf) (z t s : Option Op) (ss : List (Option Op)) (i g x : ℕ) (ns : List ℕ) (u : Option Op) (ts : List (Option Op)) → Popping qs ys z s ss → slice_get ys i ≡ Some (region g (k ∷ ns) x (u ∷ ts))
+      → zs ≡ set ys i (region g ns (length_after u x) ts) → t ≡ moved_on (befores (take i ys) + g) u → Popping qs zs (either z t) s ss
+  popped_more qs ys zs z t s ss i g x ns None ts p e new is =
+      let y = region g ns x ts in
+      let sum = set_befores (region g (k ∷ ns) x (None ∷ ts)) y ys i e in
+      let same = ap befores new in
+      let gone : either z t ≡ z = ap (either z) is ∙ either_none z in
+      let old = p.sum in
+      subst (λ o. Popping qs zs o s ss) (sym gone) (record {
+        rest = p.rest;
+        whole = subst (λ r. Whole k r (p.rest ∷ ss)) (sym new) (pop_whole ys i g x ns None ts e p.rest ss p.whole);
+        slot = p.slot;
+        once = p.once;
+        sum = omega (arith, sum, same) ∙ old;
+      })
+  popped_more qs ys zs None t s ss i g x ns (Some a) ts p e new is =
+      let y = region g ns (longer a.does x) ts in
+      let r = pop_whole ys i g x ns (Some a) ts e p.rest ss p.whole in
+      let sum = set_befores (region g (k ∷ ns) x (Some a ∷ ts)) y ys i e in
+      let same = ap befores new in
+      let w = first_chain ys i g x (k ∷ ns) a ts (p.rest ∷ ss) p.whole e in
+      let low = before_at ys i (region g (k ∷ ns) x (Some a ∷ ts)) e in
+      let others = befores ys - x in
+      let part = longer_part a.does a.place x others (befores ys) w (omega (arith, low)) in
+      let all : befores zs ≡ longer a.does (befores ys) = omega (arith, sum, same, part, low) in
+      let place = befores (take i ys) + g in
+      subst (λ o. Popping qs zs o s ss) (sym is) (record {
+        rest = None;
+        whole = subst (λ r. Whole k r (None ∷ ss)) (sym new) r.0;
+        slot = p.slot ∙ r.1;
+        once = refl;
+        sum = all ∙ ap (longer a.does) p.sum;
+      })
+  popped_more qs ys zs (Some b) t s ss i g x ns (Some a) ts p e new is =
+      let r = pop_whole ys i g x ns (Some a) ts e p.rest ss p.whole in
+      let gone = p.once in
+      cc
+
+  pub pop_more : (qs ys zs : List RegionOf) (z t s : Option Op) (ss : List (Option Op)) (i : ℕ) → Popping qs ys z s ss → PopsAt ys k i t zs → Popping qs zs (either z t) s ss
+  pop_more qs ys zs z t s ss i p r = popped_more qs ys zs z t s ss i r.gap r.first r.numbers r.slot r.slots p r.is r.regions r.popped
+
+  pub pop_done : (qs zs : List RegionOf) (z s : Option Op) (ss : List (Option Op)) → Popping qs zs z s ss → AllLater k zs → Whole (suc k) zs ss × (z ≡ s)
+  pop_done qs zs z s ss p a = let r = whole_later p.whole a in (r.0, sym (p.slot ∙ ap (either z) r.1 ∙ either_none z))
+
+  spread_low : {ns : List ℕ} {ss fs : List (Option Op)} → Spread k ns ss fs → k < 18446744073709551615 → k ≤ first_number ns
+  spread_low {ns = []} d low = omega (arith, low)
+  spread_low {ns = n ∷ ns} d low = spread_from d n ns refl
+
+  woven_from : {x : ℕ} {qs : List RegionOf} {ls ss : List (Option Op)} → Woven k x ls qs ss → k < 18446744073709551615 → (i : ℕ) (q : RegionOf) → slice_get qs i ≡ Some q → k ≤ number q
+  woven_from (last h) low i q e = cc
+  woven_from (next {q = r} h f m d) low zero q e = let j : r ≡ q = cc in subst (λ (y : RegionOf). k ≤ number y) j (spread_low f low)
+  woven_from (next h f m d) low (suc i) q e = woven_from m low i q e
+
+  pub whole_from : {qs : List RegionOf} {ss : List (Option Op)} → Whole k qs ss → k < 18446744073709551615 → (i : ℕ) (q : RegionOf) → slice_get qs i ≡ Some q → k ≤ number q
+  whole_from (none h) low i q e = cc
+  whole_from (first {q = r} h f m d) low zero q e = let j : r ≡ q = cc in subst (λ (y : RegionOf). k ≤ number y) j (spread_low f low)
+  whole_from (first h f m d) low (suc i) q e = woven_from m low i q e

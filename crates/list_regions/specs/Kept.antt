@@ -2,14 +2,15 @@
 use Rattle.std.specs.Prelude.{◌≡◌, ℕ, zero, suc, ◌+◌, ◌-◌, ◌<◌, ◌≤◌, Bool, List, [], ◌∷◌, ◌++◌, length, take, set, insert, max, slice_get, Option, None, Some}
 use Rattle.sync_data.specs.declared.entry.Stamp.{Stamp}
 use Rattle.sync_base.specs.Rules.{top}
+use Rattle.sync_theory.specs.Grid.{tail}
 use Rattle.sync_transform.specs.Places.{longer, Within}
 use Rattle.sync_transform.specs.declared.places.Does.{Does}
 use Rattle.sync_transform.specs.declared.places.Does.TheVariants.{Inserts, Erases, Updates}
-use Rattle.list_lane.specs.Lanes.{LaneOf, crossed, lane_after, length_at_end}
+use Rattle.list_lane.specs.Lanes.{LaneOf, crossed, lane_after, length_after, length_at_end, without_first}
 use Rattle.list_lane.specs.Flat.{IsLane}
 use Rattle.list_lane.specs.Parts.{from}
 use Rattle.list_lane.specs.declared.op.Op.{Op}
-use Rattle.list_regions.specs.Regions.{RegionOf, before, befores, afters, Whole}
+use Rattle.list_regions.specs.Regions.{RegionOf, number, moved_on, before, befores, afters, Whole}
 
 -- an instruction at another place
 abbrev pub at : Op → ℕ → Op
@@ -54,6 +55,10 @@ earliest = record { does = Inserts; place = 0; stamp = record { ms = 0; ident = 
 -- a region with a slot more
 abbrev pub pushed_region : ℕ → Option Op → RegionOf → RegionOf
 pushed_region n s q = record { gap = q.gap; numbers = q.numbers ++ n ∷ []; lane = record { first = q.lane.first; slots = q.lane.slots ++ s ∷ [] } }
+
+-- a region without its first slot
+abbrev pub popped_region : RegionOf → RegionOf
+popped_region q = record { gap = q.gap; numbers = tail q.numbers; lane = without_first q.lane.first q.lane.slots }
 
 -- a region has as many numbers as slots, and its list can't become too long
 pub record IsRegion (gap : ℕ) (numbers : List ℕ) (lane : LaneOf) : Type 0 where
@@ -133,3 +138,44 @@ pub record Touches (qs : List RegionOf) (b : Op) (i : ℕ) (inner : Op) : Type 0
 pub record Pushed (qs : List RegionOf) (b : Op) (number : ℕ) (zs : List RegionOf) : Type 0 where
   pub slots : (k : ℕ) (ss : List (Option Op)) → k + length ss ≡ number → Whole k qs ss → Whole k zs (ss ++ Some b ∷ [])
   pub fits : befores zs + afters qs ≤ befores qs + max (afters qs) (reach b.does b.place)
+
+-- ---- the first slot leaves
+-- they tell some slots, of which the first has that number
+pub record Starts (qs : List RegionOf) (k : ℕ) : Type 0 where
+  pub length_is : ℕ
+  pub slot : Option Op
+  pub slots : List (Option Op)
+  pub whole : Whole k qs (slot ∷ slots)
+  pub room : length_is + length slots + 1 < top
+  pub fits : befores qs ≤ length_is
+  pub low : k < 18446744073709551615
+
+-- no region has it
+abbrev pub AllLater : ℕ → List RegionOf → Type 0
+AllLater k qs = (i : ℕ) (q : RegionOf) → slice_get qs i ≡ Some q → number q ≡ k → ⊥
+
+-- the first slot of the region at a place leaves
+pub record PopsAt (qs : List RegionOf) (k i : ℕ) (z : Option Op) (zs : List RegionOf) : Type 0 where
+  pub gap : ℕ
+  pub first : ℕ
+  pub numbers : List ℕ
+  pub slot : Option Op
+  pub slots : List (Option Op)
+  pub is : slice_get qs i ≡ Some (region gap (k ∷ numbers) first (slot ∷ slots))
+  pub regions : zs ≡ set qs i (region gap numbers (length_after slot first) slots)
+  pub popped : z ≡ moved_on (befores (take i qs) + gap) slot
+
+-- the slot with that number leaves, and z was in it
+pub record PopsFirst (qs : List RegionOf) (k : ℕ) (z : Option Op) (zs : List RegionOf) : Type 0 where
+  pub slots : (s : Option Op) (ss : List (Option Op)) → Whole k qs (s ∷ ss) → Whole (suc k) zs ss × (z ≡ s)
+  pub fits : befores zs ≡ length_after z (befores qs)
+
+-- ---- a walk over all of them
+pub record Walked (qs : List RegionOf) (n : ℕ) : Type 0 where
+  pub popped : ℕ
+  pub length_is : ℕ
+  pub slots : List (Option Op)
+  pub whole : Whole popped qs slots
+  pub room : length_is + length slots < top
+  pub fits : befores qs ≤ length_is
+  pub from_popped : popped ≤ n

@@ -1,12 +1,13 @@
 //! An instruction crosses regions.
-ghost use Rattle.std.specs.Prelude.{◌≡◌, ◌+◌, ◌≤◌, ◌<◌, Some, IfSome, IfOk, OnErr, length, slice_get, slice_set};
+ghost use Rattle.std.specs.Prelude.{◌≡◌, ℕ, ◌+◌, ◌≤◌, ◌<◌, List, Option, Some, IfSome, IfOk, OnErr, length, slice_get, slice_set};
 ghost use Rattle.std.specs.Option.{option_map};
 ghost use Rattle.sync_base.specs.Rules.{top};
 ghost use Rattle.sync_transform.specs.Places.{Within};
 ghost use Rattle.list_lane.specs.Ops.{lane_later as later};
 ghost use Rattle.list_lane.specs.Lanes.{crossed};
 ghost use Rattle.list_lane.specs.Parts.{from};
-ghost use Rattle.list_regions.specs.Regions.{RegionOf};
+ghost use Rattle.list_lane.specs.declared.op.Op as operation;
+ghost use Rattle.list_regions.specs.Regions.{RegionOf, Whole};
 ghost use Rattle.list_regions.specs.Kept.{crossed_region, with_gap, reach as reaches, Meets, Passes};
 
 use super::region::Region;
@@ -44,6 +45,29 @@ pub(crate) fn cross_regions(
     }
     set_gap_at(items, alloc, at.place, gap);
     Ok(Some(placed(traveller, offset + at.after)))
+}
+
+/// The same, and they stay.
+pub(crate) fn left_of(
+    items: &SumList<Region>,
+    traveller: Op,
+    lane_left: bool,
+) -> Option<Op>
+    requires { Meets items.now traveller }
+    ensures { (k : ℕ) (ss : List (Option operation.Op)) → Whole k items.now ss → (crossed (later lane_left) ss (Some traveller)).left ≡ result }
+{
+    let at = items.find_before(reach(traveller));
+    let offset = traveller.place as u64 - at.before;
+    let Some(region) = items.get(at.place) else {
+        return Some(placed(traveller, offset + at.after));
+    };
+    let gap = region.gap();
+    if offset < gap as u64 {
+        return Some(placed(traveller, offset + at.after));
+    }
+    let inner = placed(traveller, offset - gap as u64);
+    let left = region.left(inner, lane_left);
+    lifted(left, at.after + gap as u64)
 }
 
 /// How long what it touches has to be, with all in front of that.

@@ -2,8 +2,8 @@ ghost use Rattle.std.specs.Prelude.{◌≡◌, ◌+◌, ◌<◌, [], Some, OnOk,
 ghost use Rattle.sync_base.specs.Rules.{top};
 ghost use Rattle.sync_transform.specs.Places.{Within};
 ghost use Rattle.list_lane.specs.Ops.{lane_later as later};
-ghost use Rattle.list_lane.specs.Lanes.{crossed, length_at_end, Fits};
-ghost use Rattle.list_regions.specs.Kept.{crossed_region, fresh as fresh_region, pushed_region, with_front, with_gap as having};
+ghost use Rattle.list_lane.specs.Lanes.{crossed, first_slot, length_at_end, Fits};
+ghost use Rattle.list_regions.specs.Kept.{crossed_region, fresh as fresh_region, popped_region, pushed_region, with_front, with_gap as having};
 
 use list_lane::{Lane, Op};
 use std::alloc::Global;
@@ -126,6 +126,16 @@ impl Region {
         }
         self.numbers.push_back_reserved(number);
         Ok(())
+    }
+
+    /// Takes its first slot out, and tells what was in it.
+    pub(crate) fn pop_first(&mut self) -> Option<Op>
+        ensures region { self.new ≡ popped_region self.old }
+        ensures slot { result ≡ first_slot self.old.lane.slots }
+        ensures fits { Fits self.old.lane.first result }
+    {
+        let _number = self.numbers.pop_front();
+        self.lane.pop_first()
     }
 
     /// Whether its list can't become too long by another instruction.

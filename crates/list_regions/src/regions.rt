@@ -5,7 +5,8 @@ ghost use Rattle.list_lane.specs.Ops.{lane_later};
 ghost use Rattle.list_lane.specs.Lanes.{crossed, first_slot, length_at_end, length_after as behind, length_before as before, slot_at, without_first, lane_after, Chains, Fits, IsLeftOf};
 ghost use Rattle.list_lane.specs.Laws.{CrossesLeft, CrossesRight};
 
-use super::crossing::cross_regions;
+use super::crossing::{cross_regions, left_of};
+use super::pop::pop_number;
 use super::push::push_to;
 use super::region::Region;
 use list_lane::Op;
@@ -99,6 +100,34 @@ impl Regions {
         let _number = next_number(self.popped, self.count)?;
         self.count += 1;
         Ok(())
+    }
+
+    /// Takes the first slot out, where there is one, and tells what was in it.
+    pub fn pop_first(&mut self) -> Option<Op>
+        ensures lane { self.new ≡ without_first self.old.first self.old.slots }
+        ensures slot { result ≡ first_slot self.old.slots }
+        ensures fits { Fits self.old.first result }
+    {
+        if self.count == 0 {
+            return None;
+        }
+        let slot = pop_number(&mut self.items, self.alloc, self.popped);
+        self.first = length_behind(slot, self.first);
+        self.count -= 1;
+        self.popped += 1;
+        slot
+    }
+
+    /// What is left of an instruction that was made on the list before the lane, where it crosses the lane, which stays.
+    pub fn left(&self, traveller: Op, lane_left: bool) -> Option<Op>
+        requires within { Within traveller.does traveller.place self.now.first }
+        requires room { self.now.first + length self.now.slots + 1 < top }
+        ensures left { result ≡ (crossed (lane_later lane_left) self.now.slots (Some traveller)).left }
+        ensures is_left { IfSome result (IsLeftOf traveller (length_at_end self.now.first self.now.slots)) }
+        ensures on_left { IsTrue lane_left → CrossesLeft self.now traveller result (lane_after (lane_later lane_left) self.now traveller) }
+        ensures on_right { IsFalse lane_left → CrossesRight self.now traveller result (lane_after (lane_later lane_left) self.now traveller) }
+    {
+        left_of(&self.items, traveller, lane_left)
     }
 
     /// What is left of an instruction that was made on the list before the lane, where it crosses the lane, which stands as

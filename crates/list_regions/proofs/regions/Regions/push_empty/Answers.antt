@@ -1,18 +1,19 @@
-use Rattle.std.proofs.Common.{rules, ◌≡◌, ◌+◌, ◌<◌, ◌∷◌, ◌++◌, [], None, Some, IfSome, IfOk, OnOk, OnErr, IsTrue, IsFalse, length, ℕ, ◌-◌, ◌*◌, ◌≤◌, ◌/◌, ◌%◌, Bool, true, false, nat_eq, nat_lt, List, slice_index_or, slice_set, bit_and, bit_or, w8, w32, w64, Bor, MutBor}
+use Rattle.std.proofs.Common.{◌≡◌, ◌<◌, ◌+◌, [], ◌∷◌, ◌++◌, Option, None, length, refl, sym, ap, ◌∙◌, subst, arith}
 use Rattle.sync_base.specs.Rules.{top}
-use Rattle.sync_transform.specs.Places.{Within}
-use Rattle.list_lane.specs.Ops.{lane_later}
-use Rattle.list_lane.specs.Lanes.{crossed, first_slot, length_at_end}
-use Rattle.list_lane.specs.Lanes.{length_after as behind}
-use Rattle.list_lane.specs.Lanes.{length_before as before}
-use Rattle.list_lane.specs.Lanes.{slot_at, without_first, lane_after, Chains, Fits, IsLeftOf}
-use Rattle.list_lane.specs.Laws.{CrossesLeft, CrossesRight}
+use Rattle.list_lane.specs.Lanes.{LaneOf}
+use Rattle.list_regions.proofs.Keeping.{empty_is, empty_keeps}
 use Rattle.list_regions.proofs.regions.Regions.push_empty.Goals as goal
 
--- src/regions.rt:94:5
 pub invariant_of-self : goal.invariant_of-self
-invariant_of-self c = ?
+invariant_of-self c =
+    let a = c.self.inside in
+    let room = subst (λ (v : LaneOf). v.first + length v.slots + 1 < top) (sym c.self.view_is) c.requires in
+    let low = c.in_ok-_number.ensures.ok.1 in
+    let is = c.in_ok-_number.ensures.ok.0 in
+    empty_keeps a.popped a.count a.first a.last a.items c.self.invariant room (omega (arith, low, is))
 
--- src/regions.rt:94:5
 pub returns-clause-ok : goal.returns-clause-ok
-returns-clause-ok c = ?
+returns-clause-ok c =
+    let a = c.self.inside in
+    let is = empty_is a.popped a.count a.first a.last a.items c.self.invariant in
+    (λ i. record { first = a.first; slots = is i }) ∙ ap (λ (v : LaneOf). record { first = v.first; slots = v.slots ++ None ∷ [] }) c.self.view_is
