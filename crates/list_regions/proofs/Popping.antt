@@ -231,3 +231,13 @@ module _ (k : ℕ) where
   whole_from (none h) low i q e = cc
   whole_from (first {q = r} h f m d) low zero q e = let j : r ≡ q = cc in subst (λ (y : RegionOf). k ≤ number y) j (spread_low f low)
   whole_from (first h f m d) low (suc i) q e = woven_from m low i q e
+
+-- how many slots there are
+abbrev pub slots_in : List RegionOf → ℕ
+slots_in [] = 0
+slots_in (q ∷ qs) = length q.numbers + slots_in qs
+
+pub fewer_slots : (qs : List RegionOf) (i : ℕ) (q y : RegionOf) → slice_get qs i ≡ Some q → length y.numbers < length q.numbers → slots_in (set qs i y) < slots_in qs
+fewer_slots [] i q y e lt = cc
+fewer_slots (x ∷ qs) zero q y e lt = let h : x ≡ q = cc in let n = ap (λ (r : RegionOf). length r.numbers) h in omega (arith, lt, n)
+fewer_slots (x ∷ qs) (suc i) q y e lt = let h = fewer_slots qs i q y e lt in omega (arith, h)

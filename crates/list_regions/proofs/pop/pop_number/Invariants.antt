@@ -1,0 +1,11 @@
+use Rattle.std.proofs.Common.{ℕ, suc, List, [], ◌∷◌, Option}
+use Rattle.list_lane.specs.declared.op.Op.{Op}
+use Rattle.list_regions.specs.Regions.{RegionOf, Whole}
+use Rattle.list_regions.proofs.Popping.{Popping, slots_in}
+use Rattle.list_regions.proofs.pop.pop_number.Given as goal
+
+abbrev pub invariant-loop-1 : goal.invariant-loop-1
+invariant-loop-1 l = (s : Option Op) (ss : List (Option Op)) → Whole l.number l.fn.items (s ∷ ss) → Popping l.number l.fn.items l.items l.popped s ss
+
+abbrev pub decreases-loop-1 : goal.decreases-loop-1
+decreases-loop-1 l = slots_in l.items
