@@ -1,17 +1,18 @@
 -- What is kept of regions, as they are crossed and grow.
-use Rattle.std.proofs.Common.{◌≡◌, ℕ, ◌+◌, ◌-◌, ◌<◌, ◌≤◌, Bool, List, [], ◌∷◌, ◌++◌, length, length-append, Option, Some, None, refl, sym, ap, ◌∙◌, subst, arith}
+use Rattle.std.proofs.Common.{◌≡◌, ℕ, suc, ◌+◌, ◌-◌, ◌<◌, ◌≤◌, Bool, List, [], ◌∷◌, ◌++◌, length, length-append, Option, Some, None, refl, sym, ap, ◌∙◌, subst, arith}
 use Rattle.std.specs.Prelude.{max}
 use Rattle.sync_data.specs.declared.entry.Stamp.{Stamp}
 use Rattle.sync_base.specs.Rules.{top}
+use Rattle.sync_theory.specs.Grid.{tail}
 use Rattle.sync_transform.specs.Places.{longer, Within}
-use Rattle.list_lane.specs.Lanes.{crossed, length_after, length_at_end}
+use Rattle.list_lane.specs.Lanes.{LaneOf, crossed, first_slot, without_first, length_after, length_at_end}
 use Rattle.sync_transform.specs.declared.places.Does.{Does}
 use Rattle.sync_transform.specs.declared.places.Does.TheVariants.{Inserts, Erases, Updates}
 use Rattle.list_lane.specs.Flat.{IsLane}
 use Rattle.list_lane.specs.declared.op.Op.{Op}
-use Rattle.list_lane.proofs.Rooms.{crossed_length, crossed_lane, lane_more}
+use Rattle.list_lane.proofs.Rooms.{crossed_length, crossed_lane, lane_more, lane_less, less_is}
 use Rattle.list_regions.specs.Regions.{RegionOf, befores, afters, empties, woven, Whole}
-use Rattle.list_regions.specs.Kept.{reach, IsRegions, Meets, Passes, Ends, Opened, Pushed}
+use Rattle.list_regions.specs.Kept.{reach, IsRegions, Meets, Passes, Ends, Opened, Pushed, Starts, PopsFirst}
 use Rattle.list_regions.proofs.Views.{whole_is, whole_end}
 use Rattle.list_regions.proofs.Pushing.{whole_none_pushed}
 
@@ -107,3 +108,70 @@ module _ (k c first last : ℕ) (qs : List RegionOf) (h : IsRegions k c first la
         fits = h.fits;
         numbers = omega (arith, low);
       })
+
+-- ---- a slot less
+starts_of : (k c first last : ℕ) (qs : List RegionOf) (ss : List (Option Op)) → IsRegions k c first last qs ss → 0 < c → Starts qs k
+starts_of k c first last qs [] h lt = let count = h.lane.count_is in absurd (omega (arith, count, lt))
+starts_of k c first last qs (s ∷ ss) h lt =
+    let room = h.lane.room in
+    let low = h.numbers in
+    record { length_is = first; slot = s; slots = ss; whole = h.whole; room = omega (arith, room); fits = h.fits; low = omega (arith, low) }
+
+pub starts : (k c first last : ℕ) (qs : List RegionOf) → IsRegions k c first last qs (all k c qs) → 0 < c → Starts qs k
+starts k c first last qs h lt = starts_of k c first last qs (all k c qs) h lt
+
+popped_of : (k : ℕ) (qs zs : List RegionOf) (z : Option Op) (ss : List (Option Op)) → Whole k qs ss → 0 < length ss → PopsFirst qs k z zs → Whole (suc k) zs (tail ss) × (z ≡ first_slot ss)
+popped_of k qs zs z [] w lt p = absurd (omega (arith, lt))
+popped_of k qs zs z (s ∷ ss) w lt p = p.slots s ss w
+
+tail_length : (ss : List (Option Op)) → length (tail ss) ≡ length ss - 1
+tail_length [] = refl
+tail_length (s ∷ ss) = omega arith
+
+longer_less : (d : Does) (m n : ℕ) → m ≤ n → longer d m ≤ longer d n
+longer_less Inserts m n h = omega (arith, h)
+longer_less Erases m n h = omega (arith, h)
+longer_less Updates m n h = h
+
+after_less : (z : Option Op) (m n : ℕ) → m ≤ n → length_after z m ≤ length_after z n
+after_less None m n h = h
+after_less (Some a) m n h = longer_less a.does m n h
+
+module _ (k c first last : ℕ) (qs zs : List RegionOf) (z : Option Op) (h : IsRegions k c first last qs (all k c qs)) (lt : 0 < c) (p : PopsFirst qs k z zs) where
+  popped_whole : Whole (suc k) zs (tail (all k c qs)) × (z ≡ first_slot (all k c qs))
+  popped_whole = let count = h.lane.count_is in popped_of k qs zs z (all k c qs) h.whole (omega (arith, count, lt)) p
+
+  pub popped_slot : z ≡ first_slot (all k c qs)
+  popped_slot = popped_whole.1
+
+  pub popped_is : all (k + 1) (c - 1) zs ≡ tail (all k c qs)
+  popped_is =
+      let count = h.lane.count_is in
+      let long = tail_length (all k c qs) in
+      let e : k + 1 ≡ suc k = omega arith in
+      ap (λ n. all n (c - 1) zs) e ∙ whole_is (suc k) popped_whole.0 (c - 1) (omega (arith, count, long))
+
+  pub popped_keeps : IsRegions (k + 1) (c - 1) (length_after z first) last zs (all (k + 1) (c - 1) zs)
+  popped_keeps =
+      let e : suc k ≡ k + 1 = omega arith in
+      let low = h.numbers in
+      let less = after_less z (befores qs) first h.fits in
+      let sum = p.fits in
+      subst (IsRegions (k + 1) (c - 1) (length_after z first) last zs) (sym popped_is) (record {
+        whole = subst (λ n. Whole n zs (tail (all k c qs))) e popped_whole.0;
+        lane = subst (λ o. IsLane (length_after o first) last (c - 1) (tail (all k c qs))) (sym popped_slot) (lane_less first last c (all k c qs) h.lane);
+        fits = omega (arith, less, sum);
+        numbers = omega (arith, low, lt);
+      })
+
+-- where there is none
+abbrev pub lane_of : ℕ → List (Option Op) → LaneOf
+lane_of n ss = record { first = n; slots = ss }
+
+pub nothing_first : (n : ℕ) (ss : List (Option Op)) → 0 ≡ length ss → lane_of n ss ≡ without_first n ss
+nothing_first n [] e = refl
+nothing_first n (s ∷ ss) e = absurd (omega (arith, e))
+
+pub nothing_slot : (ss : List (Option Op)) → 0 ≡ length ss → None ≡ first_slot ss
+nothing_slot [] e = refl
+nothing_slot (s ∷ ss) e = absurd (omega (arith, e))

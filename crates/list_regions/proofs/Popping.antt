@@ -4,12 +4,15 @@ use Rattle.std.specs.Prelude.{slice_get, IfSome}
 use Rattle.sync_transform.specs.declared.places.Does.{Does}
 use Rattle.sync_transform.specs.declared.places.Does.TheVariants.{Inserts, Erases, Updates}
 use Rattle.sync_transform.specs.Places.{longer, Within}
-use Rattle.list_lane.specs.Lanes.{length_after, length_at_end, Chains}
+use Rattle.list_lane.specs.Lanes.{first_slot, length_after, length_at_end, Chains, Fits}
 use Rattle.list_lane.specs.Parts.{Parts, end, empty, front, back, from}
 use Rattle.list_lane.specs.declared.op.Op.{Op}
+use Rattle.std.specs.Option.{option_map}
+use Rattle.sync_base.specs.Rules.{top}
+use Rattle.list_lane.proofs.Rooms.{within_most}
 use Rattle.list_regions.specs.Regions.{RegionOf, before, befores, number, first_number, moved_on, either, AllEmpty, Spread, skip, here, end as done, Woven, last, next, Whole, none, first}
-use Rattle.list_regions.specs.Kept.{region, AllLater, PopsAt, PopsFirst}
-use Rattle.list_regions.proofs.Spreads.{spread_from}
+use Rattle.list_regions.specs.Kept.{region, popped_region, AllLater, PopsAt, PopsFirst}
+use Rattle.list_regions.proofs.Spreads.{spread_from, spread_numbers}
 use Rattle.list_regions.proofs.Behind.{parts_left, parts_right}
 use Rattle.list_regions.proofs.Views.{woven_length, whole_chain_at, before_at}
 use Rattle.list_regions.proofs.Opening.{set_befores}
@@ -241,3 +244,49 @@ pub fewer_slots : (qs : List RegionOf) (i : ℕ) (q y : RegionOf) → slice_get 
 fewer_slots [] i q y e lt = cc
 fewer_slots (x ∷ qs) zero q y e lt = let h : x ≡ q = cc in let n = ap (λ (r : RegionOf). length r.numbers) h in omega (arith, lt, n)
 fewer_slots (x ∷ qs) (suc i) q y e lt = let h = fewer_slots qs i q y e lt in omega (arith, h)
+
+-- ---- a region with a first slot
+pub record HasFirst (k : ℕ) (q : RegionOf) : Type 0 where
+  pub numbers : List ℕ
+  pub slot : Option Op
+  pub slots : List (Option Op)
+  pub is : q ≡ region q.gap (k ∷ numbers) q.lane.first (slot ∷ slots)
+
+first_of : (k g x : ℕ) (ns : List ℕ) (ss : List (Option Op)) → first_number ns ≡ k → k < 18446744073709551615 → length ns ≡ length ss → HasFirst k (region g ns x ss)
+first_of k g x [] ss e low same = absurd (omega (arith, e, low))
+first_of k g x (n ∷ ns) [] e low same = absurd (omega (arith, same))
+first_of k g x (n ∷ ns) (t ∷ ts) e low same = record { numbers = ns; slot = t; slots = ts; is = (λ i. region g (e i ∷ ns) x (t ∷ ts)) }
+
+pub has_first : (k : ℕ) (q : RegionOf) → number q ≡ k → k < 18446744073709551615 → length q.numbers ≡ length q.lane.slots → HasFirst k q
+has_first k q e low same = first_of k q.gap q.lane.first q.numbers q.lane.slots e low same
+
+pub moved_is : (m : ℕ) (s : Option Op) → option_map (from m) s ≡ moved_on m s
+moved_is m None = refl
+moved_is m (Some a) = refl
+
+pub pops : (qs : List RegionOf) (k i : ℕ) (q : RegionOf) (z : Option Op) (zs : List RegionOf) → slice_get qs i ≡ Some q → HasFirst k q → zs ≡ set qs i (popped_region q) → z ≡ moved_on (befores (take i qs) + q.gap) (first_slot q.lane.slots) → PopsAt qs k i z zs
+pops qs k i q z zs g h new is = record {
+  gap = q.gap;
+  first = q.lane.first;
+  numbers = h.numbers;
+  slot = h.slot;
+  slots = h.slots;
+  is = g ∙ ap Some h.is;
+  regions = new ∙ ap (λ (r : RegionOf). set qs i (popped_region r)) h.is;
+  popped = is ∙ ap (λ (r : RegionOf). moved_on (befores (take i qs) + q.gap) (first_slot r.lane.slots)) h.is;
+}
+
+-- as many numbers as slots
+woven_numbers : {k x : ℕ} {qs : List RegionOf} {ls ss : List (Option Op)} → Woven k x ls qs ss → (i : ℕ) (q : RegionOf) → slice_get qs i ≡ Some q → length q.numbers ≡ length q.lane.slots
+woven_numbers (last h) i q e = cc
+woven_numbers (next {q = r} h f m d) zero q e = let j : r ≡ q = cc in subst (λ (y : RegionOf). length y.numbers ≡ length y.lane.slots) j (spread_numbers f)
+woven_numbers (next h f m d) (suc i) q e = woven_numbers m i q e
+
+pub whole_numbers : {k : ℕ} {qs : List RegionOf} {ss : List (Option Op)} → Whole k qs ss → (i : ℕ) (q : RegionOf) → slice_get qs i ≡ Some q → length q.numbers ≡ length q.lane.slots
+whole_numbers (none h) i q e = cc
+whole_numbers (first {q = r} h f m d) zero q e = let j : r ≡ q = cc in subst (λ (y : RegionOf). length y.numbers ≡ length y.lane.slots) j (spread_numbers f)
+whole_numbers (first h f m d) (suc i) q e = woven_numbers m i q e
+
+pub popped_low : (z : Option Op) (n : ℕ) (x m : ℕ) → Fits n z → n + m ≤ top → x ≡ m → IfSome z (λ y. y.place + x ≤ top)
+popped_low None n x m f low e = tt
+popped_low (Some a) n x m f low e = let w = within_most a.does a.place n f in omega (arith, w, low, e)

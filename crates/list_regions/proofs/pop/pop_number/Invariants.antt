@@ -4,8 +4,8 @@ use Rattle.list_regions.specs.Regions.{RegionOf, Whole}
 use Rattle.list_regions.proofs.Popping.{Popping, slots_in}
 use Rattle.list_regions.proofs.pop.pop_number.Given as goal
 
-abbrev pub invariant-loop-1 : goal.invariant-loop-1
-invariant-loop-1 l = (s : Option Op) (ss : List (Option Op)) → Whole l.number l.fn.items (s ∷ ss) → Popping l.number l.fn.items l.items l.popped s ss
+abbrev pub invariant-loop-place : goal.invariant-loop-place
+invariant-loop-place l = (s : Option Op) (ss : List (Option Op)) → Whole l.number l.fn.items (s ∷ ss) → Popping l.number l.fn.items l.items l.popped s ss
 
-abbrev pub decreases-loop-1 : goal.decreases-loop-1
-decreases-loop-1 l = slots_in l.items
+abbrev pub decreases-loop-place : goal.decreases-loop-place
+decreases-loop-place l = slots_in l.items
