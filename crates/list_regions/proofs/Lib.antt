@@ -15,4 +15,5 @@ pub mod Keeping
 pub mod Pushing
 pub mod Popping
 pub mod Merging
+pub mod Turned
 pub mod Slots

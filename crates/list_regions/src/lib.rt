@@ -3,6 +3,7 @@
 #![tactic(auto)]
 
 mod crossing;
+mod merge;
 mod pop;
 mod push;
 mod region;

@@ -1,8 +1,8 @@
-ghost use Rattle.std.specs.Prelude.{◌≡◌, ◌+◌, ◌<◌, [], Some, OnOk, OnErr, IsTrue, length};
+ghost use Rattle.std.specs.Prelude.{◌≡◌, ◌+◌, ◌<◌, [], Some, OnOk, OnErr, IsTrue, length, slice_get};
 ghost use Rattle.sync_base.specs.Rules.{top};
 ghost use Rattle.sync_transform.specs.Places.{Within};
 ghost use Rattle.list_lane.specs.Ops.{lane_later as later};
-ghost use Rattle.list_lane.specs.Lanes.{crossed, first_slot, length_at_end, Fits};
+ghost use Rattle.list_lane.specs.Lanes.{crossed, first_slot, length_at_end, length_before, slot_at, Fits};
 ghost use Rattle.list_regions.specs.Kept.{crossed_region, fresh as fresh_region, popped_region, pushed_region, with_front, with_gap as having};
 
 use list_lane::{Lane, Op};
@@ -138,8 +138,46 @@ impl Region {
         self.lane.pop_first()
     }
 
+    /// How many slots it has.
+    pub(crate) fn len(&self) -> usize
+        ensures numbers { result ≡ length self.now.numbers }
+        ensures slots { result ≡ length self.now.lane.slots }
+    {
+        self.lane.len()
+    }
+
+    /// How long its list is before its first slot.
+    pub(crate) fn elements(&self) -> u32
+        ensures { result ≡ self.now.lane.first }
+    {
+        self.lane.first()
+    }
+
+    /// How long its list is behind its last slot.
+    pub(crate) fn last(&self) -> u32
+        ensures { result ≡ length_at_end self.now.lane.first self.now.lane.slots }
+    {
+        self.lane.last()
+    }
+
+    /// The number of a slot.
+    pub(crate) fn number(&self, place: usize) -> u64
+        requires { place < length self.now.numbers }
+        ensures { slice_get self.now.numbers place ≡ Some result }
+    {
+        self.numbers[place]
+    }
+
+    /// What is in a slot.
+    pub(crate) fn slot(&self, place: usize) -> Option<Op>
+        ensures slot { result ≡ slot_at place self.now.lane.slots }
+        ensures fits { Fits (length_before place self.now.lane.first self.now.lane.slots) result }
+    {
+        self.lane.slot(place)
+    }
+
     /// Whether its list can't become too long by another instruction.
-    fn has_room(&self) -> bool
+    pub(crate) fn has_room(&self) -> bool
         ensures { IsTrue result → self.now.gap + self.now.lane.first + length self.now.lane.slots + 1 < top }
     {
         let length = self.gap as u64 + self.lane.first() as u64;

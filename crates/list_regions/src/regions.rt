@@ -2,10 +2,11 @@ ghost use Rattle.std.specs.Prelude.{◌≡◌, ◌+◌, ◌<◌, ◌∷◌, ◌+
 ghost use Rattle.sync_base.specs.Rules.{top};
 ghost use Rattle.sync_transform.specs.Places.{Within};
 ghost use Rattle.list_lane.specs.Ops.{lane_later};
-ghost use Rattle.list_lane.specs.Lanes.{crossed, first_slot, length_at_end, length_after as behind, length_before as before, slot_at, without_first, lane_after, Chains, Fits, IsLeftOf};
+ghost use Rattle.list_lane.specs.Lanes.{crossed, first_slot, length_at_end, length_before as before, slot_at, without_first, lane_after, Chains, Fits, IsLeftOf};
 ghost use Rattle.list_lane.specs.Laws.{CrossesLeft, CrossesRight};
 
 use super::crossing::{cross_regions, left_of};
+use super::merge::length_behind;
 use super::pop::pop_number;
 use super::push::push_to;
 use super::region::Region;
@@ -156,17 +157,5 @@ fn next_number(popped: u64, count: usize) -> Result<u64, NoMemory>
     match popped.checked_add(count as u64) {
         Some(number) if number < u64::MAX - 1 => Ok(number),
         _ => Err(NoMemory),
-    }
-}
-
-/// The length of a list behind an instruction, if it is there.
-#[inline(always)]
-fn length_behind(slot: Option<Op>, length: u32) -> u32
-    requires { length < top }
-    ensures { result ≡ behind slot length }
-{
-    match slot {
-        Some(op) => length_after(op.does, length),
-        None => length,
     }
 }
