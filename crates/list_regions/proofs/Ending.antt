@@ -20,7 +20,7 @@ use Rattle.list_regions.proofs.Pushing.{pushed_at}
 use Rattle.list_regions.proofs.Opening.{fresh_whole, fresh_befores, fresh_get, fresh_take, tail_whole, tail_befores, tail_get, tail_take, grown_whole, set_befores, set_get, set_take}
 use Rattle.list_regions.proofs.Meeting.{inner_of, start_of, within_of, there, one_more, after_at}
 
-reach_is : (d : Does) (p : ℕ) → reach d p ≡ p + elements d
+pub reach_is : (d : Does) (p : ℕ) → reach d p ≡ p + elements d
 reach_is Inserts p = omega arith
 reach_is Erases p = refl
 reach_is Updates p = refl

@@ -49,10 +49,10 @@ ends k c first last qs b n h w room e =
     let count = h.lane.count_is in
     record { popped = k; length_is = first; slots = all k c qs; whole = h.whole; within = w; room = room; fits = h.fits; number_is = omega (arith, e, count) }
 
-more_fits : (a b c d n : ℕ) → a + b ≤ c + max b d → c ≤ n → d ≤ b + (n - c) → a ≤ n
+pub more_fits : (a b c d n : ℕ) → a + b ≤ c + max b d → c ≤ n → d ≤ b + (n - c) → a ≤ n
 more_fits a b c d n h k m = omega (arith, h, k, m)
 
-reach_low : (d : Does) (p n : ℕ) → Within d p n → reach d p ≤ n
+pub reach_low : (d : Does) (p n : ℕ) → Within d p n → reach d p ≤ n
 reach_low Inserts p n h = h
 reach_low Erases p n h = omega (arith, h)
 reach_low Updates p n h = omega (arith, h)

@@ -12,6 +12,7 @@ pub mod Opening
 pub mod Meeting
 pub mod Ending
 pub mod Keeping
+pub mod Alike
 pub mod Pushing
 pub mod Popping
 pub mod Merging

@@ -1,6 +1,8 @@
 -- Two regions become one: from one slot to the next.
 use Rattle.std.proofs.Common.{◌≡◌, ℕ, zero, suc, ◌+◌, ◌<◌, ◌≤◌, List, [], ◌∷◌, ◌++◌, length, take, drop, Option, Some, None, refl, sym, ap, ◌∙◌, subst, append_assoc, append-nil, arith, inl, inr, ◌⊎◌}
-use Rattle.std.specs.Prelude.{slice_get}
+use Rattle.std.specs.Prelude.{slice_get, IfSome}
+use Rattle.sync_base.specs.Rules.{top}
+use Rattle.list_lane.proofs.Rooms.{last_below, within_most}
 use Rattle.sync_transform.specs.Places.{longer, Within}
 use Rattle.list_lane.specs.Lanes.{length_after, length_at_end, length_before, slot_at, Fits}
 use Rattle.list_lane.specs.declared.op.Op.{Op}
@@ -134,7 +136,7 @@ module _ (q r : RegionOf) (t : Turn) (m : RegionOf) (h : Merging q r t m) where
       }))
 
 -- ---- from the start to the end
-none_left : {A : Type 0} (xs : List A) (i : ℕ) → length xs ≤ i → drop i xs ≡ []
+pub none_left : {A : Type 0} (xs : List A) (i : ℕ) → length xs ≤ i → drop i xs ≡ []
 none_left [] zero h = refl
 none_left [] (suc i) h = refl
 none_left (x ∷ xs) zero h = absurd (omega (arith, h))
@@ -177,3 +179,28 @@ merge_ends q r m t sq sr h lt rt =
       merge = subst (λ os. Merge r.gap q.lane.first q.numbers q.lane.slots r.numbers r.lane.slots os m.lane.slots) (append-nil m.numbers) (subst (Merge r.gap q.lane.first q.numbers q.lane.slots r.numbers r.lane.slots (m.numbers ++ [])) (append-nil m.lane.slots) (h.steps [] [] x));
       last = h.last ∙ (λ i. (h.length_is ∙ before_all q.lane.slots t.left q.lane.first lt) i + (r.gap + before_all r.lane.slots t.right r.lane.first rt i));
     }
+
+-- ---- what is known at a turn
+pub first_some : (a b c d : ℕ) → (a < b) ⊎ (c < d) → d ≤ c → a < b
+first_some a b c d (inl h) e = h
+first_some a b c d (inr h) e = absurd (omega (arith, h, e))
+
+pub second_some : (a b c d : ℕ) → (a < b) ⊎ (c < d) → b ≤ a → c < d
+second_some a b c d (inl h) e = absurd (omega (arith, h, e))
+second_some a b c d (inr h) e = h
+
+pub ahead_none : (n : ℕ) (ms : List ℕ) → ms ≡ [] → Ahead n ms
+ahead_none n ms e = subst (Ahead n) (sym e) tt
+
+pub ahead_one : (n m : ℕ) (ms ks : List ℕ) → ms ≡ m ∷ ks → n < m → Ahead n ms
+ahead_one n m ms ks e h = subst (Ahead n) (sym e) h
+
+pub turn_low : (q r : RegionOf) (t : Turn) (m : RegionOf) → Merging q r t m → m.gap + m.lane.first + length m.lane.slots + 1 < top → t.length + (r.gap + length_before t.right r.lane.first r.lane.slots) < top
+turn_low q r t m h room = let low = last_below m.lane.slots m.lane.first in let last = h.last in omega (arith, low, last, room)
+
+pub right_low : (s : Option Op) (n x g y : ℕ) → Fits y s → x + (g + y) < top → n ≡ x + g → IfSome s (λ z. z.place + n ≤ top)
+right_low None n x g y f low e = tt
+right_low (Some a) n x g y f low e = let w = within_most a.does a.place y f in omega (arith, w, low, e)
+
+pub less_shared : (n m : ℕ) → n ≤ m → m ≤ n → n ≡ m
+less_shared n m h k = omega (arith, h, k)

@@ -179,3 +179,18 @@ pub record Walked (qs : List RegionOf) (n : ℕ) : Type 0 where
   pub room : length_is + length slots < top
   pub fits : befores qs ≤ length_is
   pub from_popped : popped ≤ n
+
+-- ---- regions that others took the place of
+-- they tell some slots of a list that can't become too long
+pub record Holds (qs : List RegionOf) : Type 0 where
+  pub popped : ℕ
+  pub length_is : ℕ
+  pub slots : List (Option Op)
+  pub whole : Whole popped qs slots
+  pub room : length_is + length slots + 1 < top
+  pub fits : befores qs ≤ length_is
+
+-- others tell the same slots, and lie in a list of that length
+pub record Alike (qs zs : List RegionOf) : Type 0 where
+  pub same : (k : ℕ) (ss : List (Option Op)) → Whole k qs ss → Whole k zs ss
+  pub befores_are : befores zs ≡ befores qs

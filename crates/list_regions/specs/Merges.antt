@@ -1,5 +1,6 @@
 -- Two regions become one, slot by slot.
 use Rattle.std.specs.Prelude.{◌≡◌, ℕ, ◌+◌, ◌<◌, ◌≤◌, List, [], ◌∷◌, ◌++◌, length, drop, slice_get, Option, None, Some}
+use Rattle.sync_base.specs.Rules.{top}
 use Rattle.list_lane.specs.Lanes.{length_at_end, length_before}
 use Rattle.list_lane.specs.declared.op.Op.{Op}
 use Rattle.list_regions.specs.Regions.{RegionOf, Ahead, Merge}
@@ -7,9 +8,10 @@ use Rattle.list_regions.specs.declared.merge.Turn.{Turn}
 use Rattle.list_regions.specs.declared.merge.Next.{Next}
 use Rattle.list_regions.specs.declared.merge.Next.TheVariants.{Own, Other, Shared}
 
--- as many numbers as slots
+-- as many numbers as slots, and not too many
 pub record Slots (q : RegionOf) : Type 0 where
   pub are : length q.numbers ≡ length q.lane.slots
+  pub few : length q.lane.slots < top
 
 -- what is left to merge makes the whole of what is merged
 pub record Merging (q r : RegionOf) (t : Turn) (m : RegionOf) : Type 0 where

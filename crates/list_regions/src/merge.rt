@@ -1,8 +1,9 @@
 //! Two regions become one.
-ghost use Rattle.std.specs.Prelude.{◌≡◌, ◌+◌, ◌<◌, Some, None, IfOk, ◌⊎◌, length, slice_get};
+ghost use Rattle.std.specs.Prelude.{◌≡◌, ◌+◌, ◌<◌, ◌^◌, Some, None, IfOk, ◌⊎◌, length, slice_get};
 ghost use Rattle.sync_base.specs.Rules.{top};
 ghost use Rattle.list_lane.specs.Lanes.{length_after as after};
 ghost use Rattle.list_regions.specs.Regions.{either};
+ghost use Rattle.list_regions.specs.Kept.{Alike, Holds};
 ghost use Rattle.list_regions.specs.declared.merge.Next.TheVariants as nexts;
 ghost use Rattle.list_regions.specs.Merges.{IsBefore, IsMerged, Merging, Slots};
 
@@ -10,6 +11,7 @@ use super::crossing::lifted;
 use super::region::Region;
 use list_lane::Op;
 use std::alloc::Global;
+use sum_list::SumList;
 use sync_data::NoMemory;
 use sync_transform::length_after;
 
@@ -27,6 +29,29 @@ pub enum Next {
     Own,
     Other,
     Shared,
+}
+
+/// The region at a place and the next one become one, where there are both.
+pub(crate) fn merge_at(
+    items: &mut SumList<Region>,
+    alloc: Global,
+    place: usize,
+) -> Result<(), NoMemory>
+    requires holds { Holds items.old }
+    requires few { place < 2 ^ 32 }
+    ensures { Alike items.old items.new }
+{
+    let next = place + 1;
+    let Some(left) = items.get(place) else {
+        return Ok(());
+    };
+    let Some(right) = items.get(next) else {
+        return Ok(());
+    };
+    let one = merged(alloc, left, right)?;
+    items.replace(place, one);
+    items.remove(next);
+    Ok(())
 }
 
 /// A region and the next one behind it as one.

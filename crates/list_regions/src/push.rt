@@ -7,6 +7,7 @@ ghost use Rattle.list_regions.specs.Regions.{RegionOf};
 ghost use Rattle.list_regions.specs.Kept.{elements, fresh, pushed_region, with_fresh, with_front, Ends, LiesBehind, Opened, Pushed, Touches};
 
 use super::crossing::{placed, reach, set_gap_at};
+use super::merge::merge_at;
 use super::region::Region;
 use list_lane::Op;
 use std::alloc::Global;
@@ -32,6 +33,7 @@ pub(crate) fn push_to(
     ensures ok { OnOk result (Pushed items.old op number items.new) }
     ensures err { OnErr result (Opened items.old op items.new) }
 {
+    ready(items, alloc, op, number)?;
     let touch = open(items, alloc, op, number)?;
     append_at(items, alloc, touch, number)
 }
@@ -78,7 +80,7 @@ fn open_behind(
     ensures err { OnErr result (items.new ≡ items.old) }
 {
     if offset == 0 && place > 0 {
-        return join_end(items, alloc, op, number, place);
+        return Err(NoMemory);
     }
     push_fresh(items, alloc, offset, elements_of(op.does))?;
     Ok(Touch {
@@ -105,7 +107,7 @@ fn open_front(
     ensures err { OnErr result (items.new ≡ items.old) }
 {
     if offset == 0 && place > 0 {
-        return join_front(items, alloc, op, number, place);
+        return Err(NoMemory);
     }
     let gap = gap_at(items, place);
     let size = elements_of(op.does);
@@ -124,46 +126,34 @@ fn open_front(
     })
 }
 
-/// It touches the element right behind the last region, which takes it.
-fn join_end(
+/// Where the instruction touches the element right behind a region, that region takes the element; where it was the last one
+/// before the next region, both become one.
+fn ready(
     items: &mut SumList<Region>,
     alloc: Global,
     op: Op,
     number: u64,
-    place: usize,
-) -> Result<Touch, NoMemory>
-    requires ends { Ends items.old op number }
-    requires last { place ≡ length items.old }
-    requires found { LiesBehind items.old op place 0 }
-    requires behind { 0 < place }
-    ensures ok { IfOk result (λ t. Opened items.old op items.new × Touches items.new op t.place t.inner) }
-    ensures err { OnErr result (items.new ≡ items.old) }
+) -> Result<(), NoMemory>
+    requires { Ends items.old op number }
+    ensures { Opened items.old op items.new }
 {
-    Err(NoMemory)
-}
-
-/// It touches the element right behind a region, which takes it, or the next region as well where it was the only one.
-fn join_front(
-    items: &mut SumList<Region>,
-    alloc: Global,
-    op: Op,
-    number: u64,
-    place: usize,
-) -> Result<Touch, NoMemory>
-    requires ends { Ends items.old op number }
-    requires there { place < length items.old }
-    requires few { place < 2 ^ 32 }
-    requires found { LiesBehind items.old op place 0 }
-    requires behind { 0 < place }
-    requires gap { (q : RegionOf) → slice_get items.old place ≡ Some q → 0 < q.gap }
-    ensures ok { IfOk result (λ t. Opened items.old op items.new × Touches items.new op t.place t.inner) }
-    ensures err { OnErr result (items.new ≡ items.old) }
-{
-    Err(NoMemory)
+    let at = items.find_after(reach(op));
+    if op.place as u64 > at.after || at.place == 0 {
+        return Ok(());
+    }
+    if at.place == items.len() {
+        push_fresh(items, alloc, 1, 0)?;
+        return merge_at(items, alloc, at.place - 1);
+    }
+    let gap = gap_at(items, at.place);
+    if gap > 1 {
+        insert_fresh(items, alloc, at.place, 1, 0, gap - 1)?;
+    }
+    merge_at(items, alloc, at.place - 1)
 }
 
 /// How many elements lie in front of the region at a place.
-fn gap_at(items: &SumList<Region>, place: usize) -> u32
+pub(crate) fn gap_at(items: &SumList<Region>, place: usize) -> u32
     requires { place < length items.now }
     ensures { (q : RegionOf) → slice_get items.now place ≡ Some q → result ≡ q.gap }
 {
