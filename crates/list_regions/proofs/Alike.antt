@@ -9,7 +9,7 @@ use Rattle.sync_transform.specs.declared.places.Does.TheVariants.{Inserts, Erase
 use Rattle.list_lane.specs.Lanes.{length_at_end}
 use Rattle.list_lane.specs.declared.op.Op.{Op}
 use Rattle.list_regions.specs.Regions.{RegionOf, before, befores, afters, Woven, last, next, Whole, none, first}
-use Rattle.list_regions.specs.Kept.{fresh, with_fresh, elements, reach, region, Inner, Meets, Passes, Ends, Opened, Holds, Alike, LiesBehind}
+use Rattle.list_regions.specs.Kept.{fresh, with_fresh, elements, reach, region, Inner, Meets, Passes, Ends, Opened, Pushed, Holds, Alike, LiesBehind}
 use Rattle.list_regions.specs.Merges.{Slots, IsMerged}
 use Rattle.list_regions.proofs.Views.{whole_slots, whole_end, before_at}
 use Rattle.list_regions.proofs.Edits.{Same, SameWhole, same_behind}
@@ -134,3 +134,32 @@ pub fresh_between : (qs : List RegionOf) (b : Op) (i g : ℕ) (q : RegionOf) →
 fresh_between qs b i g q e more is =
     let sum = fresh_befores q 1 0 g is qs i e in
     record { same = λ k. fresh_whole k q 1 0 g more is qs i e (λ z. omega arith); fits = omega (arith, sum) }
+
+-- the same twice, in a list that is long enough for both
+then_fits : (bq aq by ay bz r n l : ℕ) → l ≡ aq + (n - bq) → l ≡ ay + (n - by) → bq ≤ n → by ≤ n → by + aq ≤ bq + max aq r → bz + ay ≤ by + max ay r → bz + aq ≤ bq + max aq r
+then_fits bq aq by ay bz r n l e f h k m o = omega (arith, e, f, h, k, m, o)
+
+pub opened_fits : (qs zs : List RegionOf) (b : Op) (n : ℕ) (e : Ends qs b n) → Opened qs b zs → befores zs ≤ e.length_is
+opened_fits qs zs b n e o =
+    let fits = e.fits in
+    let whole : befores qs + (e.length_is - befores qs) ≡ e.length_is = omega (arith, fits) in
+    let last = whole_end e.whole (e.length_is - befores qs) in
+    let same = ap (λ n. length_at_end n e.slots) whole in
+    let far = reach_low b.does b.place (length_at_end e.length_is e.slots) e.within in
+    more_fits (befores zs) (afters qs) (befores qs) (reach b.does b.place) e.length_is o.fits fits (omega (arith, last, same, far))
+
+end_sums : (qs : List RegionOf) (k n : ℕ) (ss : List (Option Op)) → Whole k qs ss → befores qs ≤ n → length_at_end n ss ≡ afters qs + (n - befores qs)
+end_sums qs k n ss w fits =
+    let whole : n ≡ befores qs + (n - befores qs) = omega (arith, fits) in
+    ap (λ n. length_at_end n ss) whole ∙ whole_end w (n - befores qs)
+
+both_fit : (qs ys zs : List RegionOf) (b : Op) (n : ℕ) → Ends qs b n → Opened qs b ys → befores zs + afters ys ≤ befores ys + max (afters ys) (reach b.does b.place) → befores zs + afters qs ≤ befores qs + max (afters qs) (reach b.does b.place)
+both_fit qs ys zs b n e o p =
+    let low = opened_fits qs ys b n e o in
+    then_fits (befores qs) (afters qs) (befores ys) (afters ys) (befores zs) (reach b.does b.place) e.length_is (length_at_end e.length_is e.slots) (end_sums qs e.popped e.length_is e.slots e.whole e.fits) (end_sums ys e.popped e.length_is e.slots (o.same e.popped e.slots e.whole) low) e.fits low o.fits p
+
+pub opened_then : (qs ys zs : List RegionOf) (b : Op) (n : ℕ) → Ends qs b n → Opened qs b ys → Opened ys b zs → Opened qs b zs
+opened_then qs ys zs b n e o p = record { same = λ k ss w. p.same k ss (o.same k ss w); fits = both_fit qs ys zs b n e o p.fits }
+
+pub pushed_then : (qs ys zs : List RegionOf) (b : Op) (n : ℕ) → Ends qs b n → Opened qs b ys → Pushed ys b n zs → Pushed qs b n zs
+pushed_then qs ys zs b n e o p = record { slots = λ k ss c w. p.slots k ss c (o.same k ss w); fits = both_fit qs ys zs b n e o p.fits }

@@ -12,7 +12,7 @@ use Rattle.list_lane.specs.Flat.{IsLane}
 use Rattle.list_lane.specs.declared.op.Op.{Op}
 use Rattle.list_lane.proofs.Rooms.{crossed_length, crossed_lane, lane_more, lane_less, less_is}
 use Rattle.list_regions.specs.Regions.{RegionOf, befores, afters, empties, woven, Whole}
-use Rattle.list_regions.specs.Kept.{reach, IsRegions, Meets, Passes, Ends, Opened, Pushed, Starts, PopsFirst}
+use Rattle.list_regions.specs.Kept.{reach, IsRegions, Meets, Passes, Ends, Opened, Pushed, Starts, PopsFirst, Alike}
 use Rattle.list_regions.proofs.Views.{whole_is, whole_end}
 use Rattle.list_regions.proofs.Pushing.{whole_none_pushed}
 
@@ -175,3 +175,14 @@ nothing_first n (s ∷ ss) e = absurd (omega (arith, e))
 pub nothing_slot : (ss : List (Option Op)) → 0 ≡ length ss → None ≡ first_slot ss
 nothing_slot [] e = refl
 nothing_slot (s ∷ ss) e = absurd (omega (arith, e))
+
+-- ---- others that tell the same
+module _ (k c first last : ℕ) (qs zs : List RegionOf) (h : IsRegions k c first last qs (all k c qs)) (a : Alike qs zs) where
+  pub alike_is : all k c zs ≡ all k c qs
+  alike_is = whole_is k (a.same k (all k c qs) h.whole) c h.lane.count_is
+
+  pub alike_keeps : IsRegions k c first last zs (all k c zs)
+  alike_keeps =
+      let fits = h.fits in
+      let same = a.befores_are in
+      subst (IsRegions k c first last zs) (sym alike_is) (record { whole = a.same k (all k c qs) h.whole; lane = h.lane; fits = omega (arith, fits, same); numbers = h.numbers })

@@ -13,6 +13,7 @@ pub mod Meeting
 pub mod Ending
 pub mod Keeping
 pub mod Alike
+pub mod Walking
 pub mod Pushing
 pub mod Popping
 pub mod Merging

@@ -39,3 +39,8 @@ ok_of (Err y) e p = cc
 pub on_err : {A E : Type 0} {P : Type 0} (r : Result A E) → P → OnErr r P
 on_err (Ok x) p = tt
 on_err (Err y) p = p
+
+pub set_length : {A : Type 0} (xs : List A) (i : ℕ) (x : A) → length (set xs i x) ≡ length xs
+set_length [] i x = refl
+set_length (z ∷ xs) zero x = refl
+set_length (z ∷ xs) (suc i) x = ap (λ n. suc n) (set_length xs i x)

@@ -109,3 +109,38 @@ module _ (k i n : ℕ) (e : k + i ≡ n) where
       ∙ (λ j. either (none_at i ls h j) (moved_on (none_before i zero ls h j + q.gap) (slot_at i rs)))
       ∙ one_slot q qs 0 fs rs (spread_slot f i n e) (spread_before f i n q.lane.first e) (woven_slot m)
       ∙ moved_zero (look n (q ∷ qs))
+
+before_on : (i : ℕ) (ss : List (Option Op)) (x t : ℕ) → Chains x ss → length_before i (x + t) ss ≡ length_before i x ss + t
+before_on i [] x t h = refl
+before_on zero (s ∷ ss) x t h = refl
+before_on (suc i) (None ∷ ss) x t h = before_on i ss x t h.1
+before_on (suc i) (Some a ∷ ss) x t h = ap (λ n. length_before i n ss) (longer_more a.does a.place x t h.0) ∙ before_on i ss (longer a.does x) t h.1
+
+module _ (k i n : ℕ) (e : k + i ≡ n) where
+  woven_before : {x : ℕ} {qs : List RegionOf} {ls ss : List (Option Op)} → Woven k x ls qs ss → (t : ℕ) → length_before i (x + (befores qs + t)) ss ≡ length_before i x ls + (lengths_to n qs + t)
+  woven_before {x = x} {ls = ls} (last h) t =
+      let j : x + (0 + t) ≡ x + t = omega arith in
+      let m : length_before i x ls + t ≡ length_before i x ls + (0 + t) = omega arith in
+      ap (λ n. length_before i n ls) j ∙ before_on i ls x t h ∙ m
+  woven_before {x = x} {ls = ls} {ss = ss} (next {q = q} {qs = qs} {fs = fs} {rs = rs} h f m d) t =
+      let y = q.lane.first + (befores qs + t) in
+      let j : x + (q.gap + q.lane.first + befores qs + t) ≡ x + (q.gap + y) = omega arith in
+      let r = parts_before d i y (woven_chain m t) in
+      let s = woven_before m t in
+      let v = spread_before f i n q.lane.first e in
+      let own = length_to n q.lane.first q.numbers q.lane.slots in
+      let z : length_before i x ls + (q.gap + length_before i y rs) ≡ length_before i x ls + (q.gap + own + lengths_to n qs + t) = omega (arith, s, v) in
+      ap (λ n. length_before i n ss) j ∙ r ∙ z
+
+  pub whole_before : {qs : List RegionOf} {ss : List (Option Op)} → Whole k qs ss → (t : ℕ) → length_before i (befores qs + t) ss ≡ lengths_to n qs + t
+  whole_before {ss = ss} (none h) t = none_before i (0 + t) ss h
+  whole_before {ss = ss} (first {q = q} {qs = qs} {ls = ls} {fs = fs} {rs = rs} h f m d) t =
+      let y = q.lane.first + (befores qs + t) in
+      let j : q.gap + q.lane.first + befores qs + t ≡ 0 + (q.gap + y) = omega arith in
+      let r = parts_before d i y (woven_chain m t) in
+      let s = woven_before m t in
+      let v = spread_before f i n q.lane.first e in
+      let z0 = none_before i 0 ls h in
+      let own = length_to n q.lane.first q.numbers q.lane.slots in
+      let z : length_before i 0 ls + (q.gap + length_before i y rs) ≡ q.gap + own + lengths_to n qs + t = omega (arith, s, v, z0) in
+      ap (λ n. length_before i n ss) j ∙ r ∙ z

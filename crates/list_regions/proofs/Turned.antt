@@ -31,7 +31,7 @@ number_there [] i n g = cc
 number_there (m ∷ ns) zero n g = omega arith
 number_there (m ∷ ns) (suc i) n g = let h = number_there ns i n g in omega (arith, h)
 
-before_more : (ss : List (Option Op)) (i x : ℕ) → i < length ss → length_before (i + 1) x ss ≡ length_after (slot_at i ss) (length_before i x ss)
+pub before_more : (ss : List (Option Op)) (i x : ℕ) → i < length ss → length_before (i + 1) x ss ≡ length_after (slot_at i ss) (length_before i x ss)
 before_more ss i x lt = let e : i + 1 ≡ suc i = omega arith in ap (λ n. length_before n x ss) e ∙ one ss i x lt
   where
     one : (ss : List (Option Op)) (i x : ℕ) → i < length ss → length_before (suc i) x ss ≡ length_after (slot_at i ss) (length_before i x ss)
@@ -142,7 +142,7 @@ none_left [] (suc i) h = refl
 none_left (x ∷ xs) zero h = absurd (omega (arith, h))
 none_left (x ∷ xs) (suc i) h = none_left xs i (omega (arith, h))
 
-before_all : (ss : List (Option Op)) (i x : ℕ) → length ss ≤ i → length_before i x ss ≡ length_at_end x ss
+pub before_all : (ss : List (Option Op)) (i x : ℕ) → length ss ≤ i → length_before i x ss ≡ length_at_end x ss
 before_all [] i x h = refl
 before_all (s ∷ ss) zero x h = absurd (omega (arith, h))
 before_all (s ∷ ss) (suc i) x h = before_all ss i (length_after s x) (omega (arith, h))

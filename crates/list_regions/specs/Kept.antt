@@ -6,7 +6,7 @@ use Rattle.sync_theory.specs.Grid.{tail}
 use Rattle.sync_transform.specs.Places.{longer, Within}
 use Rattle.sync_transform.specs.declared.places.Does.{Does}
 use Rattle.sync_transform.specs.declared.places.Does.TheVariants.{Inserts, Erases, Updates}
-use Rattle.list_lane.specs.Lanes.{LaneOf, crossed, lane_after, length_after, length_at_end, without_first}
+use Rattle.list_lane.specs.Lanes.{LaneOf, crossed, lane_after, length_after, length_at_end, without_first, Chains}
 use Rattle.list_lane.specs.Flat.{IsLane}
 use Rattle.list_lane.specs.Parts.{from}
 use Rattle.list_lane.specs.declared.op.Op.{Op}
@@ -171,14 +171,18 @@ pub record PopsFirst (qs : List RegionOf) (k : ℕ) (z : Option Op) (zs : List R
   pub fits : befores zs ≡ length_after z (befores qs)
 
 -- ---- a walk over all of them
+-- they tell some slots, of which one has that number
 pub record Walked (qs : List RegionOf) (n : ℕ) : Type 0 where
   pub popped : ℕ
+  pub place : ℕ
   pub length_is : ℕ
   pub slots : List (Option Op)
   pub whole : Whole popped qs slots
+  pub chains : Chains length_is slots
   pub room : length_is + length slots < top
   pub fits : befores qs ≤ length_is
-  pub from_popped : popped ≤ n
+  pub within : place < length slots
+  pub number_is : popped + place ≡ n
 
 -- ---- regions that others took the place of
 -- they tell some slots of a list that can't become too long

@@ -8,8 +8,10 @@ ghost use Rattle.list_lane.specs.Lanes.{crossed};
 ghost use Rattle.list_lane.specs.Parts.{from};
 ghost use Rattle.list_lane.specs.declared.op.Op as operation;
 ghost use Rattle.list_regions.specs.Regions.{RegionOf, Whole};
-ghost use Rattle.list_regions.specs.Kept.{crossed_region, with_gap, reach as reaches, Meets, Passes};
+ghost use Rattle.list_regions.specs.Kept.{crossed_region, with_gap, reach as reaches, Alike, Meets, Passes};
 
+use super::merge::merge_at;
+use super::push::gap_at;
 use super::region::Region;
 use list_lane::Op;
 use std::alloc::Global;
@@ -17,8 +19,50 @@ use sum_list::SumList;
 use sync_data::NoMemory;
 use sync_transform::{Does, length_after};
 
-/// What is left of an instruction that crosses the regions. It may take memory where it erases the last element between two.
+/// What is left of an instruction that crosses the regions. It takes memory where it erases the last element between two, which
+/// become one before.
 pub(crate) fn cross_regions(
+    items: &mut SumList<Region>,
+    alloc: Global,
+    traveller: Op,
+    lane_left: bool,
+) -> Result<Option<Op>, NoMemory>
+    requires { Meets items.old traveller }
+    ensures ok { IfOk result (λ z. Passes (later lane_left) items.old traveller z items.new) }
+    ensures err { OnErr result (Alike items.old items.new) }
+{
+    join_closing(items, alloc, traveller)?;
+    cross_open(items, alloc, traveller, lane_left)
+}
+
+/// Where an instruction erases the last element between two regions, these become one.
+fn join_closing(
+    items: &mut SumList<Region>,
+    alloc: Global,
+    traveller: Op,
+) -> Result<(), NoMemory>
+    requires { Meets items.old traveller }
+    ensures { Alike items.old items.new }
+{
+    let at = items.find_before(reach(traveller));
+    if !is_erasure(traveller.does) || at.place == 0 || at.place >= items.len() {
+        return Ok(());
+    }
+    if gap_at(items, at.place) > 1 || traveller.place as u64 > at.before {
+        return Ok(());
+    }
+    merge_at(items, alloc, at.place - 1)
+}
+
+fn is_erasure(does: Does) -> bool {
+    match does {
+        Does::Erases => true,
+        Does::Inserts | Does::Updates => false,
+    }
+}
+
+/// The same, where some element stays between all regions.
+fn cross_open(
     items: &mut SumList<Region>,
     alloc: Global,
     traveller: Op,

@@ -8,5 +8,6 @@ mod pop;
 mod push;
 mod region;
 mod regions;
+mod walk;
 
 pub use regions::Regions;

@@ -146,9 +146,10 @@ fn ready(
         return merge_at(items, alloc, at.place - 1);
     }
     let gap = gap_at(items, at.place);
-    if gap > 1 {
-        insert_fresh(items, alloc, at.place, 1, 0, gap - 1)?;
+    if gap <= 1 {
+        return merge_at(items, alloc, at.place - 1);
     }
+    insert_fresh(items, alloc, at.place, 1, 0, gap - 1)?;
     merge_at(items, alloc, at.place - 1)
 }
 

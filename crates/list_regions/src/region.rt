@@ -176,6 +176,14 @@ impl Region {
         self.lane.slot(place)
     }
 
+    /// How long its list is before a slot.
+    pub(crate) fn length_before(&self, place: usize) -> u32
+        requires { place < length self.now.lane.slots }
+        ensures { result ≡ length_before place self.now.lane.first self.now.lane.slots }
+    {
+        self.lane.length_before(place)
+    }
+
     /// Whether its list can't become too long by another instruction.
     pub(crate) fn has_room(&self) -> bool
         ensures { IsTrue result → self.now.gap + self.now.lane.first + length self.now.lane.slots + 1 < top }

@@ -9,8 +9,18 @@ use Rattle.list_lane.proofs.Rooms.{last_below, is_left, on_left, on_right}
 use Rattle.list_regions.specs.Regions.{empties, woven}
 use Rattle.list_regions.specs.Kept.{IsRegions}
 use Rattle.list_regions.specs.contracts.regions.Regions.{the_view}
-use Rattle.list_regions.proofs.Keeping.{all, crossed_is, left_is, crossed_keeps}
+use Rattle.list_regions.proofs.Keeping.{all, crossed_is, left_is, crossed_keeps, alike_is, alike_keeps}
+use Rattle.list_regions.proofs.Sets.{on_err}
 use Rattle.list_regions.proofs.regions.Regions.cross.Goals as goal
+
+pub invariant_of-self : goal.invariant_of-self
+invariant_of-self c = let a = c.self.inside in alike_keeps a.popped a.count a.first a.last a.items c.cross_regions.new.items c.self.invariant c.in_err-left.ensures.err
+
+pub returns-in_err-left-clause-err : goal.returns-in_err-left-clause-err
+returns-in_err-left-clause-err c =
+    let a = c.self.inside in
+    let is = alike_is a.popped a.count a.first a.last a.items c.cross_regions.new.items c.self.invariant c.in_err-left.ensures.err in
+    on_err c.from_residual.result ((λ i. record { first = a.first; slots = is i }) ∙ c.self.view_is)
 
 pub length_behind-self-inside-requires : goal.length_behind-self-inside-requires
 length_behind-self-inside-requires c =

@@ -13,7 +13,7 @@ use Rattle.list_regions.specs.Kept.{at, crossed_region, with_gap, reach, Passes}
 use Rattle.sum_list.specs.Places.{Reaches}
 use Rattle.list_regions.proofs.Sets.{same_item}
 use Rattle.list_regions.proofs.Meeting.{more_of, there, roomy, after_low, left_low, lifted_low, after_is, within, pass_tail, pass_touch, pass_gap}
-use Rattle.list_regions.proofs.crossing.cross_regions.Goals as goal
+use Rattle.list_regions.proofs.crossing.cross_open.Goals as goal
 
 pub placed-requires : goal.placed-requires
 placed-requires c =
