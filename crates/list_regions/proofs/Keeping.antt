@@ -1,18 +1,18 @@
 -- What is kept of regions, as they are crossed and grow.
-use Rattle.std.proofs.Common.{◌≡◌, ℕ, suc, ◌+◌, ◌-◌, ◌<◌, ◌≤◌, Bool, List, [], ◌∷◌, ◌++◌, length, length-append, Option, Some, None, refl, sym, ap, ◌∙◌, subst, arith}
+use Rattle.std.proofs.Common.{◌≡◌, ℕ, zero, suc, ◌+◌, ◌-◌, ◌<◌, ◌≤◌, Bool, List, [], ◌∷◌, ◌++◌, length, length-append, Option, Some, None, refl, sym, ap, ◌∙◌, subst, arith}
 use Rattle.std.specs.Prelude.{max}
 use Rattle.sync_data.specs.declared.entry.Stamp.{Stamp}
 use Rattle.sync_base.specs.Rules.{top}
 use Rattle.sync_theory.specs.Grid.{tail}
 use Rattle.sync_transform.specs.Places.{longer, Within}
-use Rattle.list_lane.specs.Lanes.{LaneOf, crossed, first_slot, without_first, length_after, length_at_end}
+use Rattle.list_lane.specs.Lanes.{LaneOf, crossed, slot_at, first_slot, without_first, length_after, length_at_end}
 use Rattle.sync_transform.specs.declared.places.Does.{Does}
 use Rattle.sync_transform.specs.declared.places.Does.TheVariants.{Inserts, Erases, Updates}
 use Rattle.list_lane.specs.Flat.{IsLane}
 use Rattle.list_lane.specs.declared.op.Op.{Op}
 use Rattle.list_lane.proofs.Rooms.{crossed_length, crossed_lane, lane_more, lane_less, less_is}
 use Rattle.list_regions.specs.Regions.{RegionOf, befores, afters, empties, woven, Whole}
-use Rattle.list_regions.specs.Kept.{reach, IsRegions, Meets, Passes, Ends, Opened, Pushed, Starts, PopsFirst, Alike}
+use Rattle.list_regions.specs.Kept.{reach, IsRegions, Meets, Passes, Ends, Opened, Pushed, Starts, PopsFirst, Alike, Walked}
 use Rattle.list_regions.proofs.Views.{whole_is, whole_end}
 use Rattle.list_regions.proofs.Pushing.{whole_none_pushed}
 
@@ -186,3 +186,14 @@ module _ (k c first last : ℕ) (qs zs : List RegionOf) (h : IsRegions k c first
       let fits = h.fits in
       let same = a.befores_are in
       subst (IsRegions k c first last zs) (sym alike_is) (record { whole = a.same k (all k c qs) h.whole; lane = h.lane; fits = omega (arith, fits, same); numbers = h.numbers })
+
+-- ---- one slot
+pub walked : (k c first last : ℕ) (qs : List RegionOf) (i n : ℕ) → IsRegions k c first last qs (all k c qs) → i < c → k + i ≡ n → Walked qs n
+walked k c first last qs i n h lt e =
+    let count = h.lane.count_is in
+    record { popped = k; place = i; length_is = first; slots = all k c qs; whole = h.whole; chains = h.lane.chains; room = h.lane.room; fits = h.fits; within = omega (arith, lt, count); number_is = e }
+
+pub slot_past : (i : ℕ) (ss : List (Option Op)) → length ss ≤ i → None ≡ slot_at i ss
+slot_past i [] h = refl
+slot_past zero (s ∷ ss) h = absurd (omega (arith, h))
+slot_past (suc i) (s ∷ ss) h = slot_past i ss (omega (arith, h))

@@ -10,6 +10,7 @@ use super::merge::length_behind;
 use super::pop::pop_number;
 use super::push::push_to;
 use super::region::Region;
+use super::walk::{lengths_in, slot_in};
 use list_lane::Op;
 use std::alloc::Global;
 use std::marker::Model;
@@ -117,6 +118,27 @@ impl Regions {
         self.count -= 1;
         self.popped += 1;
         slot
+    }
+
+    /// What is in the slot at a place; none past the end. It may take as long as a walk.
+    pub fn slot(&self, place: usize) -> Option<Op>
+        ensures slot { result ≡ slot_at place self.now.slots }
+        ensures fits { Fits (before place self.now.first self.now.slots) result }
+    {
+        if place >= self.count {
+            return None;
+        }
+        slot_in(&self.items, self.popped + place as u64)
+    }
+
+    /// The length of the list on which the instruction in the slot at a place acts. It may take as long as a walk.
+    pub fn length_before(&self, place: usize) -> u32
+        requires { place < length self.now.slots }
+        ensures { result ≡ before place self.now.first self.now.slots }
+    {
+        let covered = self.items.sums_to(self.items.len()).before;
+        let lengths = lengths_in(&self.items, self.popped + place as u64);
+        (self.first as u64 - covered + lengths) as u32
     }
 
     /// What is left of an instruction that was made on the list before the lane, where it crosses the lane, which stays.

@@ -1,13 +1,15 @@
-use Rattle.std.proofs.Common.{rules, ◌≡◌, ◌<◌, ℕ, ◌+◌, ◌-◌, ◌*◌, ◌≤◌, length, ◌/◌, ◌%◌, Bool, true, false, nat_eq, nat_lt, List, [], ◌∷◌, ◌++◌, slice_index_or, slice_set, bit_and, bit_or, Fits, w8, w32, w64, Bor, MutBor}
-use Rattle.list_regions.specs.Regions.{find, length_to, look, lengths_to}
-use Rattle.list_regions.specs.Kept.{Walked}
-use Rattle.list_regions.specs.Merges.{Slots}
+use Rattle.std.proofs.Common.{◌≡◌, ◌<◌, length, sym, ap, ◌∙◌, arith}
+use Rattle.list_regions.proofs.Walking.{find_here, find_on}
 use Rattle.list_regions.proofs.walk.find_in.Goals as goal
 
--- src/walk.rt:56:13
 pub returns-then-number : goal.returns-then-number
-returns-then-number c = ?
+returns-then-number c =
+    let q = c.args.region.now in
+    let lt : c.loop-i.i < length q.lane.slots = omega arith in
+    c.slot.ensures.slot ∙ sym (find_here c.args.number c.number.result c.loop-i.i q.numbers q.lane.slots c.number.ensures lt c.if-number.true) ∙ sym c.loop-i.invariant
 
--- src/walk.rt:54:5
 pub loop-i-preserved : goal.loop-i-preserved
-loop-i-preserved c = ?
+loop-i-preserved c =
+    let q = c.args.region.now in
+    let lt : c.loop-i.i < length q.lane.slots = omega arith in
+    c.loop-i.invariant ∙ find_on c.args.number c.number.result c.loop-i.i q.numbers q.lane.slots c.number.ensures lt c.if-number.false

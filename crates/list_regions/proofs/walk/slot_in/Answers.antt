@@ -1,37 +1,59 @@
-use Rattle.std.proofs.Common.{rules, ◌≡◌, ◌<◌, ℕ, ◌+◌, ◌-◌, ◌*◌, ◌≤◌, length, ◌/◌, ◌%◌, Bool, true, false, nat_eq, nat_lt, List, [], ◌∷◌, ◌++◌, slice_index_or, slice_set, bit_and, bit_or, Fits, w8, w32, w64, Bor, MutBor}
-use Rattle.list_regions.specs.Regions.{find, length_to, look, lengths_to}
-use Rattle.list_regions.specs.Kept.{Walked}
-use Rattle.list_regions.specs.Merges.{Slots}
+use Rattle.std.proofs.Common.{◌≡◌, ◌+◌, ◌≤◌, ◌<◌, Some, None, length, sym, ap, ◌∙◌, subst, arith}
+use Rattle.std.specs.Option.{option_copied}
+use Rattle.list_lane.specs.declared.op.Op.{Op}
+use Rattle.list_regions.specs.Regions.{length_to, look}
+use Rattle.list_regions.proofs.Walking.{walked_slots, lengths_low, look_low, some_low, walk_here, walk_on, sum_here, sum_on}
 use Rattle.list_regions.proofs.walk.slot_in.Goals as goal
 
--- src/walk.rt:23:27
 pub find_in-requires : goal.find_in-requires
-find_in-requires c = ?
+find_in-requires c = walked_slots c.args.items.now c.args.number c.loop-i.i c.in-Some.region.now c.requires (sym c.get.ensures ∙ ap option_copied c.in-Some.is)
 
--- src/walk.rt:24:55
 pub overflow_add-passed : goal.overflow_add-passed
-overflow_add-passed c = ?
+overflow_add-passed c =
+    let q = c.in-Some.region.now in
+    let here = sum_here c.args.number c.loop-i.i c.loop-i.passed c.args.items.now q (sym c.get.ensures ∙ ap option_copied c.in-Some.is) c.loop-i.invariant.sum in
+    let low = lengths_low c.args.items.now c.args.number c.requires in
+    let gap = c.gap-gap.ensures in
+    omega (arith, here, low, gap)
 
--- src/walk.rt:24:36
-pub overflow_add-op : goal.overflow_add-op
-overflow_add-op c = ?
-
--- src/walk.rt:24:25
 pub placed-requires : goal.placed-requires
-placed-requires c = ?
+placed-requires c =
+    let q = c.in-Some.region.now in
+    let op = c.in-Some-find_in.op in
+    let is = walk_here (look c.args.number c.args.items.now) c.args.number c.loop-i.i c.loop-i.passed c.args.items.now q op c.loop-i.invariant.so_far (sym c.get.ensures ∙ ap option_copied c.in-Some.is) (sym c.in-Some-find_in.is ∙ c.find_in.ensures) in
+    let low = some_low (look c.args.number c.args.items.now) (record op { place = op.place + (c.loop-i.passed + q.gap) }) is (look_low c.args.items.now c.args.number c.requires) in
+    let gap = c.gap-gap.ensures in
+    omega (arith, low, gap)
 
--- src/walk.rt:24:13
+pub overflow_add-op : goal.overflow_add-op
+overflow_add-op c = let low = placed-requires c in omega (arith, low)
+
 pub returns-in-Some-find_in : goal.returns-in-Some-find_in
-returns-in-Some-find_in c = ?
+returns-in-Some-find_in c =
+    let q = c.in-Some.region.now in
+    let op = c.in-Some-find_in.op in
+    let is = walk_here (look c.args.number c.args.items.now) c.args.number c.loop-i.i c.loop-i.passed c.args.items.now q op c.loop-i.invariant.so_far (sym c.get.ensures ∙ ap option_copied c.in-Some.is) (sym c.in-Some-find_in.is ∙ c.find_in.ensures) in
+    ap Some c.placed.ensures ∙ ap (λ g. Some (record op { place = op.place + (c.loop-i.passed + g) })) c.gap-gap.ensures ∙ sym is
 
--- src/walk.rt:26:13
 pub length_to_in-length-requires : goal.length_to_in-length-requires
-length_to_in-length-requires c = ?
+length_to_in-length-requires c = walked_slots c.args.items.now c.args.number c.loop-i.i c.in-Some.region.now c.requires (sym c.get.ensures ∙ ap option_copied c.in-Some.is)
 
--- src/walk.rt:27:9
 pub overflow_add-passed-in-loop-i-2 : goal.overflow_add-passed-in-loop-i-2
-overflow_add-passed-in-loop-i-2 c = ?
+overflow_add-passed-in-loop-i-2 c =
+    let q = c.in-Some.region.now in
+    let here = sum_here c.args.number c.loop-i.i c.loop-i.passed c.args.items.now q (sym c.get.ensures ∙ ap option_copied c.in-Some.is) c.loop-i.invariant.sum in
+    let low = lengths_low c.args.items.now c.args.number c.requires in
+    let gap = c.gap-gap.ensures in
+    let length = c.length_to_in-length.ensures in
+    omega (arith, here, low, gap, length)
 
--- src/walk.rt:18:5
 pub loop-i-preserved : goal.loop-i-preserved
-loop-i-preserved c = ?
+loop-i-preserved c =
+    let q = c.in-Some.region.now in
+    let m = c.loop-i.passed + (c.gap-gap.result + c.length_to_in-length.result) in
+    let is : m ≡ c.loop-i.passed + (q.gap + length_to c.args.number q.lane.first q.numbers q.lane.slots) = (λ j. c.loop-i.passed + (c.gap-gap.ensures j + c.length_to_in-length.ensures j)) in
+    let here = sym c.get.ensures ∙ ap option_copied c.in-Some.is in
+    record {
+      so_far = walk_on (look c.args.number c.args.items.now) c.args.number c.loop-i.i c.loop-i.passed c.args.items.now q c.loop-i.invariant.so_far here (sym c.in_default-find_in.is ∙ c.find_in.ensures) m is;
+      sum = sum_on c.args.number c.loop-i.i c.loop-i.passed c.args.items.now q here c.loop-i.invariant.sum m is;
+    }
