@@ -5,15 +5,17 @@ use Rattle.sync_data.specs.declared.entry.Stamp.{Stamp}
 use Rattle.sync_base.specs.Rules.{top}
 use Rattle.sync_theory.specs.Grid.{tail}
 use Rattle.sync_transform.specs.Places.{longer, Within}
-use Rattle.list_lane.specs.Lanes.{LaneOf, crossed, slot_at, first_slot, without_first, length_after, length_at_end}
+use Rattle.list_lane.specs.Lanes.{LaneOf, crossed, slot_at, length_before, first_slot, without_first, length_after, length_at_end}
 use Rattle.sync_transform.specs.declared.places.Does.{Does}
 use Rattle.sync_transform.specs.declared.places.Does.TheVariants.{Inserts, Erases, Updates}
 use Rattle.list_lane.specs.Flat.{IsLane}
 use Rattle.list_lane.specs.declared.op.Op.{Op}
 use Rattle.list_lane.proofs.Rooms.{crossed_length, crossed_lane, lane_more, lane_less, less_is}
-use Rattle.list_regions.specs.Regions.{RegionOf, befores, afters, empties, woven, Whole}
+use Rattle.list_regions.specs.Regions.{RegionOf, befores, afters, empties, woven, lengths_to, Whole}
 use Rattle.list_regions.specs.Kept.{reach, IsRegions, Meets, Passes, Ends, Opened, Pushed, Starts, PopsFirst, Alike, Walked}
 use Rattle.list_regions.proofs.Views.{whole_is, whole_end}
+use Rattle.list_lane.proofs.Joins.{before_most}
+use Rattle.list_regions.proofs.Slots.{whole_before}
 use Rattle.list_regions.proofs.Pushing.{whole_none_pushed}
 
 -- all slots
@@ -197,3 +199,18 @@ pub slot_past : (i : ℕ) (ss : List (Option Op)) → length ss ≤ i → None �
 slot_past i [] h = refl
 slot_past zero (s ∷ ss) h = absurd (omega (arith, h))
 slot_past (suc i) (s ∷ ss) h = slot_past i ss (omega (arith, h))
+
+pub lengths_kept : (k c first last : ℕ) (qs : List RegionOf) (i : ℕ) → IsRegions k c first last qs (all k c qs) → length_before i first (all k c qs) ≡ first - befores qs + lengths_to (k + i) qs
+lengths_kept k c first last qs i h =
+    let fits = h.fits in
+    let t = first - befores qs in
+    let whole : first ≡ befores qs + t = omega (arith, fits) in
+    let turn : lengths_to (k + i) qs + t ≡ t + lengths_to (k + i) qs = omega arith in
+    ap (λ m. length_before i m (all k c qs)) whole ∙ whole_before k i (k + i) refl h.whole t ∙ turn
+
+pub lengths_few : (k c first last : ℕ) (qs : List RegionOf) (i : ℕ) → IsRegions k c first last qs (all k c qs) → i < c → length_before i first (all k c qs) < top
+lengths_few k c first last qs i h lt =
+    let most = before_most (all k c qs) i first in
+    let room = h.lane.room in
+    let count = h.lane.count_is in
+    omega (arith, most, room, count, lt)

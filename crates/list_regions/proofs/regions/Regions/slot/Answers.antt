@@ -1,21 +1,26 @@
-use Rattle.std.proofs.Common.{rules, ◌≡◌, ◌+◌, ◌<◌, ◌∷◌, ◌++◌, [], None, Some, IfSome, IfOk, OnOk, OnErr, IsTrue, IsFalse, length, ℕ, ◌-◌, ◌*◌, ◌≤◌, ◌/◌, ◌%◌, Bool, true, false, nat_eq, nat_lt, List, slice_index_or, slice_set, bit_and, bit_or, w8, w32, w64, Bor, MutBor}
-use Rattle.sync_base.specs.Rules.{top}
-use Rattle.sync_transform.specs.Places.{Within}
-use Rattle.list_lane.specs.Ops.{lane_later}
-use Rattle.list_lane.specs.Lanes.{crossed, first_slot, length_at_end}
-use Rattle.list_lane.specs.Lanes.{length_before as before}
-use Rattle.list_lane.specs.Lanes.{slot_at, without_first, lane_after, Chains, Fits, IsLeftOf}
-use Rattle.list_lane.specs.Laws.{CrossesLeft, CrossesRight}
+use Rattle.std.proofs.Common.{◌≡◌, ◌+◌, ◌≤◌, length, refl, sym, ap, ◌∙◌, subst, arith}
+use Rattle.list_lane.specs.Lanes.{LaneOf, Fits, length_before, slot_at}
+use Rattle.list_lane.proofs.Rooms.{slot_fits}
+use Rattle.list_regions.proofs.Slots.{whole_slot}
+use Rattle.list_regions.proofs.Keeping.{all, slot_past}
 use Rattle.list_regions.proofs.regions.Regions.slot.Goals as goal
 
--- src/regions.rt:129:13
 pub returns-then-place-self-clause-slot : goal.returns-then-place-self-clause-slot
-returns-then-place-self-clause-slot c = ?
+returns-then-place-self-clause-slot c =
+    let a = c.self.inside in
+    let count = c.self.invariant.lane.count_is in
+    let past : length (all a.popped a.count a.items) ≤ c.args.place = omega (arith, count) in
+    slot_past c.args.place (all a.popped a.count a.items) past ∙ ap (λ (v : LaneOf). slot_at c.args.place v.slots) c.self.view_is
 
--- src/regions.rt:124:5
 pub returns-clause-slot : goal.returns-clause-slot
-returns-clause-slot c = ?
+returns-clause-slot c =
+    let a = c.self.inside in
+    c.slot_in.ensures ∙ sym (whole_slot a.popped c.args.place (a.popped + c.args.place) refl c.self.invariant.whole) ∙ ap (λ (v : LaneOf). slot_at c.args.place v.slots) c.self.view_is
 
--- src/regions.rt:124:5
 pub returns-clause-fits : goal.returns-clause-fits
-returns-clause-fits c = ?
+returns-clause-fits c =
+    let a = c.self.inside in
+    let ss = all a.popped a.count a.items in
+    let is = c.slot_in.ensures ∙ sym (whole_slot a.popped c.args.place (a.popped + c.args.place) refl c.self.invariant.whole) in
+    subst (λ (v : LaneOf). Fits (length_before c.args.place v.first v.slots) c.slot_in.result) c.self.view_is
+    (subst (Fits (length_before c.args.place a.first ss)) (sym is) (slot_fits c.args.place a.first ss c.self.invariant.lane.chains))
