@@ -111,7 +111,7 @@ module _ (l : Stamp → Stamp → Bool) where
       ∙ ap (λ n. behind (Some (record a { place = n })) (crossed l ss (Some b))) (first_on b.does g b.place a.place lt) in
       subst (First (longer b.does g) (None ∷ ls) (Some a ∷ rs) b) (sym met) (back r.0, r.1)
 
-  alone_is : {g x : ℕ} {ss ls rs : List (Option Op)} → Parts g x ss ls rs → AllEmpty rs → ss ≡ ls
+  pub alone_is : {g x : ℕ} {ss ls rs : List (Option Op)} → Parts g x ss ls rs → AllEmpty rs → ss ≡ ls
   alone_is end h = refl
   alone_is (empty d) h = ap (λ xs. None ∷ xs) (alone_is d h)
   alone_is (front {a = a} w d) h = ap (λ xs. Some a ∷ xs) (alone_is d h)

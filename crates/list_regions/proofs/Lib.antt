@@ -16,6 +16,7 @@ pub mod Alike
 pub mod Walking
 pub mod Pushing
 pub mod Popping
+pub mod Dropping
 pub mod Merging
 pub mod Turned
 pub mod Slots

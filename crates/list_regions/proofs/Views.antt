@@ -155,7 +155,7 @@ whole_end {ss = ss} (first {q = q} {qs = qs} {ls = ls} {fs = fs} {rs = rs} h f m
     ap (λ n. length_at_end n ss) e ∙ r ∙ k
 
 -- ---- each region chains
-parts_front_chain : {g x : ℕ} {ss ls rs : List (Option Op)} → Parts g x ss ls rs → Chains x ls
+pub parts_front_chain : {g x : ℕ} {ss ls rs : List (Option Op)} → Parts g x ss ls rs → Chains x ls
 parts_front_chain end = tt
 parts_front_chain (empty d) = (tt, parts_front_chain d)
 parts_front_chain (front w d) = (w, parts_front_chain d)

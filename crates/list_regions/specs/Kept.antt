@@ -168,7 +168,7 @@ pub record PopsAt (qs : List RegionOf) (k i : ℕ) (z : Option Op) (zs : List Re
 -- the slot with that number leaves, and z was in it
 pub record PopsFirst (qs : List RegionOf) (k : ℕ) (z : Option Op) (zs : List RegionOf) : Type 0 where
   pub slots : (s : Option Op) (ss : List (Option Op)) → Whole k qs (s ∷ ss) → Whole (suc k) zs ss × (z ≡ s)
-  pub fits : befores zs ≡ length_after z (befores qs)
+  pub fits : befores zs ≤ length_after z (befores qs)
 
 -- ---- a walk over all of them
 -- they tell some slots, of which one has that number
@@ -198,3 +198,15 @@ pub record Holds (qs : List RegionOf) : Type 0 where
 pub record Alike (qs zs : List RegionOf) : Type 0 where
   pub same : (k : ℕ) (ss : List (Option Op)) → Whole k qs ss → Whole k zs ss
   pub befores_are : befores zs ≡ befores qs
+
+-- they tell some slots, and neither they nor a list with one more element can become too long
+pub record Loose (qs : List RegionOf) : Type 0 where
+  pub popped : ℕ
+  pub slots : List (Option Op)
+  pub whole : Whole popped qs slots
+  pub room : befores qs + length slots < top
+
+-- others tell the same slots, and are no longer
+pub record Shrunk (qs zs : List RegionOf) : Type 0 where
+  pub same : (k : ℕ) (ss : List (Option Op)) → Whole k qs ss → Whole k zs ss
+  pub low : befores zs ≤ befores qs

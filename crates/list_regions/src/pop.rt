@@ -2,9 +2,10 @@
 ghost use Rattle.std.specs.Prelude.{◌≡◌, ℕ, ◌≤◌, ◌<◌, Some, MatchOption, length, slice_get};
 ghost use Rattle.sync_base.specs.Rules.{top};
 ghost use Rattle.list_regions.specs.Regions.{RegionOf, befores, either, number as number_of};
-ghost use Rattle.list_regions.specs.Kept.{AllLater, PopsAt, PopsFirst, Starts};
+ghost use Rattle.list_regions.specs.Kept.{AllLater, Loose, PopsAt, PopsFirst, Shrunk, Starts};
 
-use super::crossing::lifted;
+use super::crossing::{lifted, set_gap_at};
+use super::push::gap_at;
 use super::region::Region;
 use list_lane::Op;
 use std::alloc::Global;
@@ -12,6 +13,19 @@ use sum_list::{Measured, SumList};
 
 /// Takes the slot out that has that number, which is the least, and tells what was in it.
 pub(crate) fn pop_number(items: &mut SumList<Region>, alloc: Global, number: u64) -> Option<Op>
+    requires { Starts items.old number }
+    ensures { PopsFirst items.old number result items.new }
+{
+    let place = place_with(items, number);
+    let popped = pop_slots(items, alloc, number);
+    if let Some(place) = place {
+        drop_spent(items, alloc, place);
+    }
+    popped
+}
+
+/// Takes the slot out from all regions that have it.
+fn pop_slots(items: &mut SumList<Region>, alloc: Global, number: u64) -> Option<Op>
     requires { Starts items.old number }
     ensures { PopsFirst items.old number result items.new }
 {
@@ -66,4 +80,26 @@ fn pop_at(items: &mut SumList<Region>, alloc: Global, place: usize, number: u64)
     let slot = region.pop_first();
     items.replace(place, region);
     lifted(slot, before + gap as u64)
+}
+
+/// A region without slots leaves. Its elements come to those in front of the next one.
+fn drop_spent(items: &mut SumList<Region>, alloc: Global, place: usize)
+    requires { Loose items.old }
+    ensures { Shrunk items.old items.new }
+{
+    let count = items.len();
+    let Some(region) = items.get(place) else {
+        return;
+    };
+    if region.len() > 0 {
+        return;
+    }
+    let spent = region.gap() + region.elements();
+    if place + 1 >= count {
+        items.remove(place);
+        return;
+    }
+    let gap = gap_at(items, place + 1);
+    set_gap_at(items, alloc, place + 1, gap + spent);
+    items.remove(place);
 }
