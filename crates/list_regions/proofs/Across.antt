@@ -157,6 +157,8 @@ module _ (l : Stamp → Stamp → Bool) (k : ℕ) where
       let e : q.gap + (q.lane.first + p) ≡ before q + p = omega arith in
       let last = spread_end q.lane.first f in
       let k : q.gap + length_at_end q.lane.first fs ≡ after q = omega (arith, last) in
-      subst (WholeAfter (q ∷ zs) (option_map (from (after q)) z)) (at_start b q.gap (q.lane.first + p) ss ∙ ap (λ n. crossed l ss (Some (at b n))) e)
-      (first h f s.0 r.0, no_more (length_at_end zero ls) q.gap (crossed l ss (Some (from (zero + q.gap) (at b (q.lane.first + p))))).left (crossed l rs (Some (at b (q.lane.first + p)))).left (option_map (from (length_at_end q.lane.first fs)) z) (end_none l ls h) r.1 s.1
-      ∙ from_twice q.gap (length_at_end q.lane.first fs) z ∙ ap (λ j. option_map (from j) z) k)
+      subst (WholeAfter (q ∷ zs) (option_map (from (after q)) z)) (at_start b q.gap (q.lane.first + p) ss ∙ ap (λ n. crossed l ss (Some (at b n))) e) (
+        first h f s.0 r.0,
+        no_more (length_at_end zero ls) q.gap (crossed l ss (Some (from (zero + q.gap) (at b (q.lane.first + p))))).left (crossed l rs (Some (at b (q.lane.first + p)))).left (option_map (from (length_at_end q.lane.first fs)) z) (end_none l ls h) r.1 s.1
+            ∙ from_twice q.gap (length_at_end q.lane.first fs) z ∙ ap (λ j. option_map (from j) z) k,
+      )

@@ -91,9 +91,12 @@ opened_ends qs zs b n e o =
     let same = ap (λ n. length_at_end n e.slots) whole in
     let far = reach_low b.does b.place (length_at_end e.length_is e.slots) e.within in
     record {
-      popped = e.popped; length_is = e.length_is; slots = e.slots;
+      popped = e.popped;
+      length_is = e.length_is;
+      slots = e.slots;
       whole = o.same e.popped e.slots e.whole;
-      within = e.within; room = e.room;
+      within = e.within;
+      room = e.room;
       fits = more_fits (befores zs) (afters qs) (befores qs) (reach b.does b.place) e.length_is o.fits fits (omega (arith, last, same, far));
       number_is = e.number_is;
     }

@@ -112,15 +112,16 @@ module _ (qs : List RegionOf) (b : Op) (i offset : ℕ) (lies : LiesBehind qs b 
       let more = tail_befores offset size qs in
       let far = reach_is b.does b.place in
       let place = lies.place in
-      let front = ap (λ n. afters (take n (qs ++ fresh offset size ∷ []))) len ∙ ap afters (tail_take offset size qs) in
-      (record { same = λ k. tail_whole k offset size qs (λ m. lt (omega (arith, len, m))); fits = omega (arith, all, more, far, place) },
-      record {
-        region = fresh offset size;
-        is = ap (slice_get (qs ++ fresh offset size ∷ [])) len ∙ tail_get offset size qs;
-        inner_is = refl;
-        within = fresh_within b.does;
-        place = omega (arith, front, all, place);
-      })
+      let front = ap (λ n. afters (take n (qs ++ fresh offset size ∷ []))) len ∙ ap afters (tail_take offset size qs) in (
+        record { same = λ k. tail_whole k offset size qs (λ m. lt (omega (arith, len, m))); fits = omega (arith, all, more, far, place) },
+        record {
+          region = fresh offset size;
+          is = ap (slice_get (qs ++ fresh offset size ∷ [])) len ∙ tail_get offset size qs;
+          inner_is = refl;
+          within = fresh_within b.does;
+          place = omega (arith, front, all, place);
+        },
+      )
 
   -- ---- or in front of one
   pub opened_fresh : (q : RegionOf) (g : ℕ) → slice_get qs i ≡ Some q → 0 < g → q.gap ≡ offset + (elements b.does + g) → (0 < i → 0 < offset) → Opened qs b (with_fresh qs i q offset (elements b.does) g) × Touches (with_fresh qs i q offset (elements b.does) g) b i (at b 0)
@@ -128,15 +129,16 @@ module _ (qs : List RegionOf) (b : Op) (i offset : ℕ) (lies : LiesBehind qs b 
       let size = elements b.does in
       let sum = fresh_befores q offset size g e qs i is in
       let front = ap afters (fresh_take q offset size g qs i is) in
-      let place = lies.place in
-      (record { same = λ k. fresh_whole k q offset size g more e qs i is lt; fits = omega (arith, sum) },
-      record {
-        region = fresh offset size;
-        is = fresh_get q offset size g qs i is;
-        inner_is = refl;
-        within = fresh_within b.does;
-        place = omega (arith, front, place);
-      })
+      let place = lies.place in (
+        record { same = λ k. fresh_whole k q offset size g more e qs i is lt; fits = omega (arith, sum) },
+        record {
+          region = fresh offset size;
+          is = fresh_get q offset size g qs i is;
+          inner_is = refl;
+          within = fresh_within b.does;
+          place = omega (arith, front, place);
+        },
+      )
 
   pub opened_front : (q : RegionOf) (n : ℕ) → Ends qs b n → slice_get qs i ≡ Some q → q.gap ≡ offset + 1 → (0 < i → 0 < offset) → Opened qs b (set qs i (with_front q)) × Touches (set qs i (with_front q)) b i (at b 0)
   opened_front q n e is one lt =
@@ -144,15 +146,16 @@ module _ (qs : List RegionOf) (b : Op) (i offset : ℕ) (lies : LiesBehind qs b 
       let sum = set_befores q y qs i is in
       let front = ap afters (set_take y qs i) in
       let place = lies.place in
-      let long = onward_end q.lane.slots q.lane.first (whole_chain_at e.whole i q is) in
-      (record { same = λ k. grown_whole k q qs i is (omega (arith, one)) (λ h. let m = lt h in omega (arith, one, m)); fits = omega (arith, sum, one) },
-      record {
-        region = y;
-        is = set_get q y qs i is;
-        inner_is = refl;
-        within = some_within b.does (length_at_end y.lane.first y.lane.slots) (omega (arith, long));
-        place = omega (arith, front, place, one);
-      })
+      let long = onward_end q.lane.slots q.lane.first (whole_chain_at e.whole i q is) in (
+        record { same = λ k. grown_whole k q qs i is (omega (arith, one)) (λ h. let m = lt h in omega (arith, one, m)); fits = omega (arith, sum, one) },
+        record {
+          region = y;
+          is = set_get q y qs i is;
+          inner_is = refl;
+          within = some_within b.does (length_at_end y.lane.first y.lane.slots) (omega (arith, long));
+          place = omega (arith, front, place, one);
+        },
+      )
 
 -- ---- what touches a region becomes one of its slots
 pub pushed : (qs ys zs : List RegionOf) (b : Op) (n i : ℕ) (inner : Op) → Opened qs b ys → (t : Touches ys b i inner) → zs ≡ set ys i (pushed_region n (Some inner) t.region) → Pushed qs b n zs

@@ -173,8 +173,8 @@ module _ (l : Stamp → Stamp → Bool) (qs : List RegionOf) (b : Op) (a : At) (
       let low = before_at qs a.place q g in
       record {
         slots = λ k ss v.
-        let c = touched_at l k qs a.place q b p g w (omega (arith, e, f, h)) ss v in
-        (subst (λ r. Whole k r (crossed l ss (Some b)).slots) (sym new) c.0, c.1 ∙ (λ j. option_map (from (sym after_is j + q.gap)) (sym left j)));
+            let c = touched_at l k qs a.place q b p g w (omega (arith, e, f, h)) ss v in
+            (subst (λ r. Whole k r (crossed l ss (Some b)).slots) (sym new) c.0, c.1 ∙ (λ j. option_map (from (sym after_is j + q.gap)) (sym left j)));
         fits = λ n k v. more_fits b.does p q.gap q.lane.first (befores qs) (befores zs) n w (omega (arith, sum, all)) (omega (arith, low)) k;
       }
 
@@ -202,8 +202,8 @@ module _ (l : Stamp → Stamp → Bool) (qs : List RegionOf) (b : Op) (a : At) (
       let low = before_at qs a.place q g in
       record {
         slots = λ k ss v.
-        let c = gap_slots q a.place refl g h more k ss v in
-        (subst (λ r. Whole k r (crossed l ss (Some b)).slots) (sym new) c.0, c.1 ∙ ap (λ n. Some (at b (b.place - a.before + n))) (sym after_is));
+            let c = gap_slots q a.place refl g h more k ss v in
+            (subst (λ r. Whole k r (crossed l ss (Some b)).slots) (sym new) c.0, c.1 ∙ ap (λ n. Some (at b (b.place - a.before + n))) (sym after_is));
         fits = λ n k v. gap_fits b.does (b.place - a.before) q.gap q.lane.first (befores qs) (befores zs) n h (omega (arith, sum, all)) (omega (arith, low)) k;
       }
 

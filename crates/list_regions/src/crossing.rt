@@ -36,11 +36,7 @@ pub(crate) fn cross_regions(
 }
 
 /// Where an instruction erases the last element between two regions, these become one.
-fn join_closing(
-    items: &mut SumList<Region>,
-    alloc: Global,
-    traveller: Op,
-) -> Result<(), NoMemory>
+fn join_closing(items: &mut SumList<Region>, alloc: Global, traveller: Op) -> Result<(), NoMemory>
     requires { Meets items.old traveller }
     ensures { Alike items.old items.new }
 {
@@ -61,7 +57,7 @@ fn is_erasure(does: Does) -> bool {
     }
 }
 
-/// The same, where some element stays between all regions.
+/// The same, where some element stays between all regions, as `join_closing` saw to.
 fn cross_open(
     items: &mut SumList<Region>,
     alloc: Global,
@@ -92,11 +88,7 @@ fn cross_open(
 }
 
 /// The same, and they stay.
-pub(crate) fn left_of(
-    items: &SumList<Region>,
-    traveller: Op,
-    lane_left: bool,
-) -> Option<Op>
+pub(crate) fn left_of(items: &SumList<Region>, traveller: Op, lane_left: bool) -> Option<Op>
     requires { Meets items.now traveller }
     ensures { (k : ℕ) (ss : List (Option operation.Op)) → Whole k items.now ss → (crossed (later lane_left) ss (Some traveller)).left ≡ result }
 {

@@ -11,3 +11,6 @@ mod regions;
 mod walk;
 
 pub use regions::Regions;
+
+#[cfg(test)]
+mod tests;

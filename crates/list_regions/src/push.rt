@@ -39,12 +39,7 @@ pub(crate) fn push_to(
 }
 
 /// The region that an instruction touches, which acts on the list behind the slots. Where it touches none, elements become one.
-fn open(
-    items: &mut SumList<Region>,
-    alloc: Global,
-    op: Op,
-    number: u64,
-) -> Result<Touch, NoMemory>
+fn open(items: &mut SumList<Region>, alloc: Global, op: Op, number: u64) -> Result<Touch, NoMemory>
     requires { Ends items.old op number }
     ensures ok { IfOk result (λ t. Opened items.old op items.new × Touches items.new op t.place t.inner) }
     ensures err { OnErr result (items.new ≡ items.old) }
@@ -64,7 +59,7 @@ fn open(
     })
 }
 
-/// It touches elements behind all regions.
+/// It touches elements behind all regions, but not the first of them, as `ready` saw to.
 fn open_behind(
     items: &mut SumList<Region>,
     alloc: Global,
@@ -89,7 +84,7 @@ fn open_behind(
     })
 }
 
-/// It touches elements in front of the region at a place.
+/// It touches elements in front of the region at a place, but not the first of them behind another region, as `ready` saw to.
 fn open_front(
     items: &mut SumList<Region>,
     alloc: Global,
@@ -128,12 +123,7 @@ fn open_front(
 
 /// Where the instruction touches the element right behind a region, that region takes the element; where it was the last one
 /// before the next region, both become one.
-fn ready(
-    items: &mut SumList<Region>,
-    alloc: Global,
-    op: Op,
-    number: u64,
-) -> Result<(), NoMemory>
+fn ready(items: &mut SumList<Region>, alloc: Global, op: Op, number: u64) -> Result<(), NoMemory>
     requires { Ends items.old op number }
     ensures { Opened items.old op items.new }
 {
@@ -197,7 +187,10 @@ fn insert_fresh(
     ensures ok { OnOk result ((q : RegionOf) → slice_get items.old place ≡ Some q → items.new ≡ with_fresh items.old place q gap size rest) }
     ensures err { OnErr result (items.new ≡ items.old) }
 {
-    if items.insert(place, Region::fresh(alloc, gap, size)).is_err() {
+    if items
+        .insert(place, Region::fresh(alloc, gap, size))
+        .is_err()
+    {
         return Err(NoMemory);
     }
     set_gap_at(items, alloc, place + 1, rest);

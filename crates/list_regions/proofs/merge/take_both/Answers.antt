@@ -55,5 +55,9 @@ returns c =
     let moved = c.lifted-other.ensures ∙ moved_is (t.length + c.gap.result) o ∙ ap (λ g. moved_on (t.length + g) o) c.gap.ensures in
     let one = subst (λ p. (s ≡ None) ⊎ (p ≡ None)) moved c.in_ok-slot.ensures.1 in
     let is = c.in_ok-slot.ensures.0 ∙ ap (either s) moved in
-    record { ok = (subst (Merging q r u) (sym c.in_ok-push.ensures.ok) (both_taken q r t c.args.region.now c.requires.so_far n s o v u (omega (arith, lt, a)) (omega (arith, rt, b)) c.number.ensures number c.slot-own.ensures.slot c.slot.ensures.slot c.slot-own.ensures.fits c.slot.ensures.fits one is (λ i. record { left = t.left + 1; right = t.right + 1; length = c.length_behind.ensures i })),
-    omega arith) }
+    record {
+      ok = (
+        subst (Merging q r u) (sym c.in_ok-push.ensures.ok) (both_taken q r t c.args.region.now c.requires.so_far n s o v u (omega (arith, lt, a)) (omega (arith, rt, b)) c.number.ensures number c.slot-own.ensures.slot c.slot.ensures.slot c.slot-own.ensures.fits c.slot.ensures.fits one is (λ i. record { left = t.left + 1; right = t.right + 1; length = c.length_behind.ensures i })),
+        omega arith,
+      );
+    }

@@ -28,5 +28,9 @@ returns c =
     let are = c.requires.left.are in
     let same : c.requires.next.0 ≡ n = (let a = c.requires.next.1 in let b = c.number.ensures in cc) in
     let ahead = subst (λ k. Ahead k (drop t.right r.numbers)) same c.requires.next.2 in
-    record { ok = (subst (Merging q r u) (sym c.in_ok-push.ensures.ok) (left_taken q r t c.args.region.now c.requires.so_far n s u (omega (arith, there, are)) c.number.ensures ahead c.slot-slot.ensures.slot c.slot-slot.ensures.fits (λ i. record { left = t.left + 1; right = t.right; length = c.length_behind.ensures i })),
-    omega arith) }
+    record {
+      ok = (
+        subst (Merging q r u) (sym c.in_ok-push.ensures.ok) (left_taken q r t c.args.region.now c.requires.so_far n s u (omega (arith, there, are)) c.number.ensures ahead c.slot-slot.ensures.slot c.slot-slot.ensures.fits (λ i. record { left = t.left + 1; right = t.right; length = c.length_behind.ensures i })),
+        omega arith,
+      );
+    }

@@ -39,5 +39,9 @@ returns c =
     let same : c.requires.next.0 ≡ n = (let a = c.requires.next.1 in let b = c.number.ensures in cc) in
     let ahead = subst (λ k. Ahead k (drop t.left q.numbers)) same c.requires.next.2 in
     let moved = c.lifted-slot.ensures ∙ moved_is (t.length + c.gap.result) s ∙ ap (λ g. moved_on (t.length + g) s) c.gap.ensures in
-    record { ok = (subst (Merging q r u) (sym (c.in_ok-push.ensures.ok ∙ ap (λ v. pushed_region n v c.args.region.now) moved)) (right_taken q r t c.args.region.now c.requires.so_far n s u (omega (arith, there, are)) c.number.ensures ahead c.slot.ensures.slot c.slot.ensures.fits refl),
-    omega arith) }
+    record {
+      ok = (
+        subst (Merging q r u) (sym (c.in_ok-push.ensures.ok ∙ ap (λ v. pushed_region n v c.args.region.now) moved)) (right_taken q r t c.args.region.now c.requires.so_far n s u (omega (arith, there, are)) c.number.ensures ahead c.slot.ensures.slot c.slot.ensures.fits refl),
+        omega arith,
+      );
+    }

@@ -19,6 +19,7 @@ returns-clause-ok c =
     let b = c.args.op in
     let more = more_of c.args.offset c.args.place c.else-offset-eq0.either in
     let new = c.in_ok-push_fresh.ensures.ok ∙ ap (λ n. qs ++ fresh c.args.offset n ∷ []) c.elements_of.ensures in
-    let r = opened_tail qs b c.args.place c.args.offset c.requires.found c.requires.last more in
-    (subst (Opened qs b) (sym new) r.0,
-    subst (λ (o : Op). Touches c.push_fresh.new.items b c.args.place o) (sym c.placed.ensures) (subst (λ zs. Touches zs b c.args.place (at b 0)) (sym new) r.1))
+    let r = opened_tail qs b c.args.place c.args.offset c.requires.found c.requires.last more in (
+      subst (Opened qs b) (sym new) r.0,
+      subst (λ (o : Op). Touches c.push_fresh.new.items b c.args.place o) (sym c.placed.ensures) (subst (λ zs. Touches zs b c.args.place (at b 0)) (sym new) r.1),
+    )

@@ -36,9 +36,10 @@ returns-then-rest-eq0-clause-ok c =
     let rest = c.if-rest-eq0.true in
     let more = more_of c.args.offset c.args.place c.else-offset-eq0.either in
     let new = c.take_front_at.ensures h.0 h.1 in
-    let r = opened_front qs b c.args.place c.args.offset c.requires.found h.0 c.args.number c.requires.ends h.1 (omega (arith, gap, low, few, size, rest)) more in
-    (subst (Opened qs b) (sym new) r.0,
-    subst (λ (o : Op). Touches c.take_front_at.new.items b c.args.place o) (sym c.placed.ensures) (subst (λ zs. Touches zs b c.args.place (at b 0)) (sym new) r.1))
+    let r = opened_front qs b c.args.place c.args.offset c.requires.found h.0 c.args.number c.requires.ends h.1 (omega (arith, gap, low, few, size, rest)) more in (
+      subst (Opened qs b) (sym new) r.0,
+      subst (λ (o : Op). Touches c.take_front_at.new.items b c.args.place o) (sym c.placed.ensures) (subst (λ zs. Touches zs b c.args.place (at b 0)) (sym new) r.1),
+    )
 
 pub insert_fresh-requires-clause-low : goal.insert_fresh-requires-clause-low
 insert_fresh-requires-clause-low c =
@@ -67,6 +68,7 @@ returns-clause-ok c =
     let more = more_of c.args.offset c.args.place c.else-offset-eq0.either in
     let new = c.in_ok-insert_fresh.ensures.ok h.0 h.1 ∙ ap (λ n. with_fresh qs c.args.place h.0 c.args.offset n g) size in
     let some : 0 < g = omega (arith, rest) in
-    let r = opened_fresh qs b c.args.place c.args.offset c.requires.found h.0 g h.1 some (omega (arith, gap, low, few, size)) more in
-    (subst (Opened qs b) (sym new) r.0,
-    subst (λ (o : Op). Touches c.insert_fresh.new.items b c.args.place o) (sym c.placed-2.ensures) (subst (λ zs. Touches zs b c.args.place (at b 0)) (sym new) r.1))
+    let r = opened_fresh qs b c.args.place c.args.offset c.requires.found h.0 g h.1 some (omega (arith, gap, low, few, size)) more in (
+      subst (Opened qs b) (sym new) r.0,
+      subst (λ (o : Op). Touches c.insert_fresh.new.items b c.args.place o) (sym c.placed-2.ensures) (subst (λ zs. Touches zs b c.args.place (at b 0)) (sym new) r.1),
+    )
