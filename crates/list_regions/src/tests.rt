@@ -110,7 +110,7 @@ fn agree(alloc: Global) -> Option<bool> {
     for i in 0..12 {
         agreed = same(lane.slot(i), regions.slot(i)) && agreed;
     }
-    while lane.len() > 0 {
+    for _ in 0..lane.len() {
         agreed = same(lane.pop_first(), regions.pop_first()) && agreed;
     }
     Some(agreed && regions.len() == 0)
