@@ -1,16 +1,16 @@
 -- An instruction crosses the regions of a lane.
-use Rattle.std.proofs.Common.{◌≡◌, ℕ, zero, suc, ◌+◌, ◌-◌, ◌<◌, ◌≤◌, Bool, not, List, [], ◌∷◌, ◌++◌, length, Option, Some, None, refl, sym, ap, ◌∙◌, subst, arith}
+use Rattle.std.proofs.Common.{◌≡◌, ℕ, zero, ◌+◌, ◌<◌, Bool, List, [], ◌∷◌, ◌++◌, Option, Some, None, refl, sym, ap, ◌∙◌, subst, arith}
 use Rattle.std.specs.Option.{option_map}
 use Rattle.sync_data.specs.declared.entry.Stamp.{Stamp}
 use Rattle.sync_transform.specs.Places.{longer, Within}
 use Rattle.sync_transform.specs.declared.places.Does.{Does}
 use Rattle.sync_transform.specs.declared.places.Does.TheVariants.{Inserts, Erases, Updates}
-use Rattle.list_lane.specs.Lanes.{LaneOf, Crossed, crossed, length_at_end, lane_after, Chains}
-use Rattle.list_lane.specs.Parts.{Parts, from, IsOfElement}
+use Rattle.list_lane.specs.Lanes.{Crossed, crossed, length_at_end}
+use Rattle.list_lane.specs.Parts.{from, IsOfElement}
 use Rattle.list_lane.specs.declared.op.Op.{Op}
 use Rattle.list_lane.proofs.Chain.{still_chains}
 use Rattle.list_lane.proofs.Apart.{crosses_before, crosses_behind, passes_one, passes_among}
-use Rattle.list_regions.specs.Regions.{RegionOf, before, after, befores, afters, Spread, Woven, last, next, Whole, none, first}
+use Rattle.list_regions.specs.Regions.{RegionOf, before, after, befores, afters, Woven, last, next, Whole, none, first}
 use Rattle.list_regions.specs.Kept.{at, crossed_region, with_gap, Inner}
 use Rattle.list_regions.proofs.Spreads.{spread_end, spread_crossed, crossed_empty}
 use Rattle.list_regions.proofs.Behind.{behind_front, end_none, passes_first, beyond_element, beyond_insertion}

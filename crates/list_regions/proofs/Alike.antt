@@ -1,17 +1,16 @@
 -- Others take the place of regions, and tell the same.
-use Rattle.std.proofs.Common.{◌≡◌, ℕ, zero, suc, ◌+◌, ◌-◌, ◌<◌, ◌≤◌, Bool, List, [], ◌∷◌, ◌++◌, length, take, drop, set, Option, Some, None, refl, sym, ap, ◌∙◌, subst, arith}
+use Rattle.std.proofs.Common.{◌≡◌, ℕ, zero, suc, ◌+◌, ◌-◌, ◌<◌, ◌≤◌, Bool, List, [], ◌∷◌, ◌++◌, take, set, Option, Some, refl, sym, ap, ◌∙◌, subst, arith}
 use Rattle.std.specs.Prelude.{slice_get, remove, max}
 use Rattle.sync_data.specs.declared.entry.Stamp.{Stamp}
 use Rattle.sync_base.specs.Rules.{top}
-use Rattle.sync_transform.specs.Places.{longer, Within}
 use Rattle.sync_transform.specs.declared.places.Does.{Does}
 use Rattle.sync_transform.specs.declared.places.Does.TheVariants.{Inserts, Erases, Updates}
 use Rattle.list_lane.specs.Lanes.{length_at_end}
 use Rattle.list_lane.specs.declared.op.Op.{Op}
-use Rattle.list_regions.specs.Regions.{RegionOf, before, befores, afters, Woven, last, next, Whole, none, first}
+use Rattle.list_regions.specs.Regions.{RegionOf, before, befores, afters, Woven, next, Whole}
 use Rattle.list_regions.specs.Kept.{fresh, with_fresh, elements, reach, region, Inner, Meets, Passes, Ends, Opened, Pushed, Holds, Alike, LiesBehind}
 use Rattle.list_regions.specs.Merges.{Slots, IsMerged}
-use Rattle.list_regions.proofs.Views.{whole_slots, whole_end, before_at}
+use Rattle.list_regions.proofs.Views.{whole_slots, whole_end}
 use Rattle.list_regions.proofs.Edits.{Same, SameWhole, same_behind}
 use Rattle.list_regions.proofs.Opening.{fresh_whole, fresh_befores, tail_whole, tail_befores}
 use Rattle.list_regions.proofs.Merging.{merge_two, merge_first}

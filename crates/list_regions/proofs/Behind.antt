@@ -1,12 +1,12 @@
 -- What is behind elements that part a lane, or among them; also where nothing is in front of them.
-use Rattle.std.proofs.Common.{◌≡◌, ℕ, zero, suc, ◌+◌, ◌-◌, ◌<◌, ◌≤◌, Bool, not, List, [], ◌∷◌, length, Option, Some, None, refl, sym, ap, ◌∙◌, subst, arith}
+use Rattle.std.proofs.Common.{◌≡◌, ℕ, zero, suc, ◌+◌, ◌<◌, Bool, not, List, [], ◌∷◌, length, Option, Some, None, refl, sym, ap, ◌∙◌, subst, arith}
 use Rattle.std.specs.Option.{option_map}
 use Rattle.sync_data.specs.declared.entry.Stamp.{Stamp}
-use Rattle.sync_transform.specs.Places.{longer, Within, place_after}
+use Rattle.sync_transform.specs.Places.{longer}
 use Rattle.sync_transform.specs.declared.places.Does.{Does}
 use Rattle.sync_transform.specs.declared.places.Does.TheVariants.{Inserts, Erases, Updates}
 use Rattle.list_lane.specs.Ops.{moved}
-use Rattle.list_lane.specs.Lanes.{Crossed, behind, crossed, length_at_end, length_after, Chains}
+use Rattle.list_lane.specs.Lanes.{Crossed, behind, crossed, length_at_end, Chains}
 use Rattle.list_lane.specs.Parts.{Parts, end, empty, front, back, from, IsOfElement}
 use Rattle.list_lane.specs.declared.op.Op.{Op}
 use Rattle.list_lane.proofs.Beside.{first_stands, second_pushed}

@@ -1,13 +1,12 @@
 -- A region without slots leaves.
-use Rattle.std.proofs.Common.{◌≡◌, ℕ, zero, suc, ◌+◌, ◌<◌, ◌≤◌, Bool, false, List, [], ◌∷◌, ◌++◌, length, take, drop, set, Option, Some, None, refl, sym, ap, ◌∙◌, subst, arith}
+use Rattle.std.proofs.Common.{◌≡◌, ℕ, zero, suc, ◌+◌, ◌<◌, ◌≤◌, Bool, false, List, [], ◌∷◌, length, set, Option, Some, None, refl, sym, ap, ◌∙◌, subst, arith}
 use Rattle.std.specs.Prelude.{slice_get, remove}
 use Rattle.sync_data.specs.declared.entry.Stamp.{Stamp}
 use Rattle.sync_base.specs.Rules.{top}
-use Rattle.list_lane.specs.Lanes.{LaneOf, length_after, Chains}
 use Rattle.list_lane.specs.Parts.{Parts, end, empty, front, back, from}
 use Rattle.list_lane.specs.declared.op.Op.{Op}
 use Rattle.list_lane.proofs.Rooms.{after_more}
-use Rattle.list_regions.specs.Regions.{RegionOf, before, befores, AllEmpty, Spread, skip, here, end as done, Woven, last, next, Whole, none, first}
+use Rattle.list_regions.specs.Regions.{RegionOf, before, befores, AllEmpty, Spread, skip, end as done, Woven, last, next, Whole, none, first}
 use Rattle.list_regions.specs.Kept.{region, with_gap, onward, Starts, PopsFirst, Loose, Shrunk}
 use Rattle.list_regions.proofs.Behind.{alone_is}
 use Rattle.list_regions.proofs.Views.{parts_front_chain, whole_slots, before_at}

@@ -1,17 +1,16 @@
 -- Regions are cut otherwise, and tell the same slots.
-use Rattle.std.proofs.Common.{◌≡◌, ℕ, zero, suc, ◌+◌, ◌-◌, ◌<◌, ◌≤◌, List, [], ◌∷◌, ◌++◌, length, take, drop, Option, Some, None, refl, sym, ap, ◌∙◌, subst, arith}
+use Rattle.std.proofs.Common.{◌≡◌, ℕ, zero, suc, ◌+◌, ◌<◌, List, [], ◌∷◌, ◌++◌, length, take, drop, Option, Some, None, refl, sym, ap, subst, arith}
 use Rattle.sync_transform.specs.Places.{longer, Within}
 use Rattle.sync_transform.specs.declared.places.Does.{Does}
 use Rattle.sync_transform.specs.declared.places.Does.TheVariants.{Inserts, Erases, Updates}
-use Rattle.list_lane.specs.Lanes.{length_at_end, Chains}
+use Rattle.list_lane.specs.Lanes.{Chains}
 use Rattle.list_lane.specs.Parts.{Parts, end, empty, front, back, from}
 use Rattle.list_lane.specs.declared.op.Op.{Op}
 use Rattle.list_lane.proofs.Turns.{whole_again}
-use Rattle.list_regions.specs.Regions.{RegionOf, AllEmpty, empties, Spread, skip, here, end as done, Woven, last, next, Whole, none, first}
+use Rattle.list_regions.specs.Regions.{RegionOf, AllEmpty, empties, Spread, skip, end as done, Woven, last, next, Whole, none, first}
 use Rattle.list_regions.specs.Kept.{with_gap, fresh, onward}
 use Rattle.list_regions.proofs.Spreads.{all_empties}
-use Rattle.list_regions.proofs.Behind.{alone, parts_left, parts_right}
-use Rattle.list_regions.proofs.Views.{woven_length}
+use Rattle.list_regions.proofs.Behind.{alone}
 
 -- ---- slots of elements behind others
 pub within_on : (d : Does) (p n x : ℕ) → Within d p x → Within d (p + n) (x + n)

@@ -1,24 +1,24 @@
 -- Where an instruction acts on the list behind regions, and that elements become one there.
-use Rattle.std.proofs.Common.{◌≡◌, ℕ, zero, suc, ◌+◌, ◌-◌, ◌<◌, ◌≤◌, List, [], ◌∷◌, ◌++◌, length, take, drop, set, Option, Some, None, refl, sym, ap, ◌∙◌, subst, arith}
-use Rattle.std.specs.Prelude.{slice_get, max}
+use Rattle.std.proofs.Common.{◌≡◌, ℕ, zero, suc, ◌+◌, ◌-◌, ◌<◌, ◌≤◌, List, [], ◌∷◌, ◌++◌, length, take, set, Some, refl, sym, ap, ◌∙◌, subst, arith}
+use Rattle.std.specs.Prelude.{slice_get}
 use Rattle.sync_base.specs.Rules.{top}
-use Rattle.sync_transform.specs.Places.{longer, Within}
+use Rattle.sync_transform.specs.Places.{Within}
 use Rattle.sync_transform.specs.declared.places.Does.{Does}
 use Rattle.sync_transform.specs.declared.places.Does.TheVariants.{Inserts, Erases, Updates}
 use Rattle.sum_list.specs.declared.at.At.{At}
 use Rattle.sum_list.specs.Places.{IsAt, Reaches}
-use Rattle.list_lane.specs.Lanes.{length_at_end, Chains}
+use Rattle.list_lane.specs.Lanes.{length_at_end}
 use Rattle.list_lane.specs.declared.op.Op.{Op}
-use Rattle.list_lane.proofs.Rooms.{within_most, last_below}
+use Rattle.list_lane.proofs.Rooms.{last_below}
 use Rattle.list_regions.specs.Regions.{RegionOf, before, after, befores, afters, Whole}
-use Rattle.list_regions.specs.Kept.{at, with_gap, fresh, with_fresh, with_front, onward, pushed_region, elements, reach, Inner, Ends, LiesBehind, Opened, Touches, Pushed}
+use Rattle.list_regions.specs.Kept.{at, fresh, with_fresh, with_front, pushed_region, elements, reach, Ends, LiesBehind, Opened, Touches, Pushed}
 use Rattle.list_regions.proofs.Sets.{same_item}
-use Rattle.list_regions.proofs.Found.{befores_are, afters_are, take_all_of}
-use Rattle.list_regions.proofs.Views.{whole_slots, whole_end, whole_chain_at, before_at}
+use Rattle.list_regions.proofs.Found.{afters_are, take_all_of}
+use Rattle.list_regions.proofs.Views.{whole_slots, whole_chain_at, before_at}
 use Rattle.list_regions.proofs.Growing.{onward_end}
 use Rattle.list_regions.proofs.Pushing.{pushed_at}
 use Rattle.list_regions.proofs.Opening.{fresh_whole, fresh_befores, fresh_get, fresh_take, tail_whole, tail_befores, tail_get, tail_take, grown_whole, set_befores, set_get, set_take}
-use Rattle.list_regions.proofs.Meeting.{inner_of, start_of, within_of, there, one_more, after_at}
+use Rattle.list_regions.proofs.Meeting.{inner_of, start_of, within_of, there, one_more}
 
 pub reach_is : (d : Does) (p : ℕ) → reach d p ≡ p + elements d
 reach_is Inserts p = omega arith

@@ -1,15 +1,12 @@
 -- A region takes an element beside it.
-use Rattle.std.proofs.Common.{◌≡◌, ℕ, zero, suc, ◌+◌, ◌-◌, ◌<◌, ◌≤◌, Bool, true, false, cond, not, ◌&&◌, ◌||◌, List, [], ◌∷◌, ◌++◌, length, take, drop, set, Option, Some, None, refl, sym, ap, ◌∙◌, subst, arith}
-use Rattle.std.specs.Prelude.{slice_get}
-use Rattle.sync_transform.specs.Places.{longer, Within}
-use Rattle.sync_transform.specs.declared.places.Does.{Does}
-use Rattle.sync_transform.specs.declared.places.Does.TheVariants.{Inserts, Erases, Updates}
+use Rattle.std.proofs.Common.{◌≡◌, ℕ, suc, ◌+◌, ◌-◌, ◌<◌, List, [], ◌∷◌, Option, Some, None, refl, sym, ap, ◌∙◌, subst, arith}
+use Rattle.sync_transform.specs.Places.{longer}
 use Rattle.list_lane.specs.Lanes.{length_at_end, Chains}
-use Rattle.list_lane.specs.Parts.{Parts, end, empty, front, back, from}
+use Rattle.list_lane.specs.Parts.{Parts, end, empty, front, back}
 use Rattle.list_lane.specs.declared.op.Op.{Op}
-use Rattle.list_regions.specs.Regions.{RegionOf, AllEmpty, Spread, skip, here, end as done, Woven, last, next, Whole, none, first}
+use Rattle.list_regions.specs.Regions.{RegionOf, Spread, skip, here, end as done, Woven, last, next, first}
 use Rattle.list_regions.specs.Kept.{with_gap, onward, with_front, with_end}
-use Rattle.list_regions.proofs.Edits.{split_gap, within_on, longer_on, within_more, Same, SameWhole, same_many, same_behind}
+use Rattle.list_regions.proofs.Edits.{split_gap, within_on, longer_on, within_more, Same, SameWhole}
 
 -- ---- at its end
 grown_end : (g h : ℕ) {x : ℕ} {ss ls rs : List (Option Op)} → g ≡ suc h → Parts g x ss ls rs → Parts h (x + 1) ss ls rs

@@ -10,7 +10,7 @@ use Rattle.sync_transform.specs.declared.places.Does.{Does}
 use Rattle.sync_transform.specs.declared.places.Does.TheVariants.{Inserts, Erases, Updates}
 use Rattle.list_lane.specs.Flat.{IsLane}
 use Rattle.list_lane.specs.declared.op.Op.{Op}
-use Rattle.list_lane.proofs.Rooms.{crossed_length, crossed_lane, lane_more, lane_less, less_is}
+use Rattle.list_lane.proofs.Rooms.{crossed_length, crossed_lane, lane_more, lane_less}
 use Rattle.list_regions.specs.Regions.{RegionOf, befores, afters, empties, woven, lengths_to, Whole}
 use Rattle.list_regions.specs.Kept.{reach, IsRegions, Meets, Passes, Ends, Opened, Pushed, Starts, PopsFirst, Alike, Walked}
 use Rattle.list_regions.proofs.Views.{whole_is, whole_end}

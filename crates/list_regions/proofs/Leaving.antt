@@ -1,13 +1,13 @@
 -- What is left of an instruction that erases or updates one of the elements between regions, which stay.
-use Rattle.std.proofs.Common.{◌≡◌, ℕ, zero, suc, ◌+◌, ◌-◌, ◌<◌, ◌≤◌, Bool, List, [], ◌∷◌, ◌++◌, length, take, Option, Some, None, refl, sym, ap, ◌∙◌, subst, arith}
+use Rattle.std.proofs.Common.{◌≡◌, ℕ, zero, suc, ◌+◌, ◌<◌, Bool, List, [], ◌∷◌, take, Option, Some, sym, ap, ◌∙◌, subst, arith}
 use Rattle.std.specs.Prelude.{slice_get}
 use Rattle.std.specs.Option.{option_map}
 use Rattle.sync_data.specs.declared.entry.Stamp.{Stamp}
 use Rattle.list_lane.specs.Lanes.{Crossed, crossed, length_at_end}
-use Rattle.list_lane.specs.Parts.{Parts, from, IsOfElement}
+use Rattle.list_lane.specs.Parts.{from, IsOfElement}
 use Rattle.list_lane.specs.declared.op.Op.{Op}
 use Rattle.list_lane.proofs.Apart.{crosses_behind, passes_one}
-use Rattle.list_regions.specs.Regions.{RegionOf, before, after, befores, afters, Spread, Woven, last, next, Whole, none, first}
+use Rattle.list_regions.specs.Regions.{RegionOf, before, after, befores, afters, Woven, next, Whole, first}
 use Rattle.list_regions.specs.Kept.{at}
 use Rattle.list_regions.proofs.Spreads.{spread_end}
 use Rattle.list_regions.proofs.Behind.{behind_front, end_none}

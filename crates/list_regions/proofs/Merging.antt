@@ -1,10 +1,8 @@
 -- Two regions become one.
-use Rattle.std.proofs.Common.{◌≡◌, ℕ, zero, suc, ◌+◌, ◌-◌, ◌<◌, ◌≤◌, List, [], ◌∷◌, ◌++◌, length, take, drop, set, Option, Some, None, refl, sym, ap, ◌∙◌, subst, arith}
-use Rattle.sync_transform.specs.Places.{longer, Within}
-use Rattle.list_lane.specs.Lanes.{length_after, length_at_end, Chains}
+use Rattle.std.proofs.Common.{◌≡◌, ℕ, suc, ◌+◌, ◌<◌, List, [], ◌∷◌, Option, Some, None, refl, sym, subst, arith}
 use Rattle.list_lane.specs.Parts.{Parts, end, empty, front, back, from}
 use Rattle.list_lane.specs.declared.op.Op.{Op}
-use Rattle.list_regions.specs.Regions.{RegionOf, Spread, skip, here, end as done, Woven, last, next, Whole, none, first, Ahead, Merge, nothing, left, right, both}
+use Rattle.list_regions.specs.Regions.{RegionOf, Spread, skip, here, end as done, Woven, last, next, first, Merge, nothing, left, right, both}
 use Rattle.list_regions.specs.Kept.{region}
 use Rattle.list_regions.proofs.Spreads.{spread_from}
 use Rattle.list_regions.proofs.Views.{within_more, within_on, longer_more, longer_behind, parts_chain}

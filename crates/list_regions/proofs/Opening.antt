@@ -1,10 +1,8 @@
 -- Elements become a region, or come to one.
-use Rattle.std.proofs.Common.{◌≡◌, ℕ, zero, suc, ◌+◌, ◌-◌, ◌<◌, ◌≤◌, List, [], ◌∷◌, ◌++◌, length, take, drop, set, Option, Some, None, refl, sym, ap, ◌∙◌, subst, arith}
-use Rattle.std.specs.Prelude.{slice_get, insert}
-use Rattle.list_lane.specs.Lanes.{length_at_end}
-use Rattle.list_lane.specs.declared.op.Op.{Op}
-use Rattle.list_regions.specs.Regions.{RegionOf, before, after, befores, afters, Woven, last, next, Whole, none, first}
-use Rattle.list_regions.specs.Kept.{with_gap, fresh, with_fresh, with_front, onward}
+use Rattle.std.proofs.Common.{◌≡◌, ℕ, zero, suc, ◌+◌, ◌<◌, List, [], ◌∷◌, ◌++◌, length, take, set, Some, refl, sym, ap, subst, arith}
+use Rattle.std.specs.Prelude.{slice_get}
+use Rattle.list_regions.specs.Regions.{RegionOf, before, befores, Woven, next}
+use Rattle.list_regions.specs.Kept.{with_gap, fresh, with_fresh, with_front}
 use Rattle.list_regions.proofs.Edits.{Same, SameWhole, same_behind, fresh_gap, fresh_front, fresh_tail, fresh_first}
 use Rattle.list_regions.proofs.Growing.{front_grown, first_grown}
 

@@ -1,17 +1,17 @@
 -- The first slot leaves.
-use Rattle.std.proofs.Common.{◌≡◌, ℕ, zero, suc, ◌+◌, ◌-◌, ◌<◌, ◌≤◌, List, [], ◌∷◌, ◌++◌, length, take, drop, set, Option, Some, None, refl, sym, ap, ◌∙◌, subst, arith}
+use Rattle.std.proofs.Common.{◌≡◌, ℕ, zero, suc, ◌+◌, ◌-◌, ◌<◌, ◌≤◌, List, [], ◌∷◌, length, take, set, Option, Some, None, refl, sym, ap, ◌∙◌, subst, arith}
 use Rattle.std.specs.Prelude.{slice_get, IfSome}
 use Rattle.sync_transform.specs.declared.places.Does.{Does}
 use Rattle.sync_transform.specs.declared.places.Does.TheVariants.{Inserts, Erases, Updates}
 use Rattle.sync_transform.specs.Places.{longer, Within}
-use Rattle.list_lane.specs.Lanes.{first_slot, length_after, length_at_end, Chains, Fits}
-use Rattle.list_lane.specs.Parts.{Parts, end, empty, front, back, from}
+use Rattle.list_lane.specs.Lanes.{first_slot, length_after, Fits}
+use Rattle.list_lane.specs.Parts.{Parts, empty, front, back, from}
 use Rattle.list_lane.specs.declared.op.Op.{Op}
 use Rattle.std.specs.Option.{option_map}
 use Rattle.sync_base.specs.Rules.{top}
 use Rattle.list_lane.proofs.Rooms.{within_most}
-use Rattle.list_regions.specs.Regions.{RegionOf, before, befores, number, first_number, moved_on, either, AllEmpty, Spread, skip, here, end as done, Woven, last, next, Whole, none, first}
-use Rattle.list_regions.specs.Kept.{region, popped_region, AllLater, PopsAt, PopsFirst}
+use Rattle.list_regions.specs.Regions.{RegionOf, before, befores, number, first_number, moved_on, either, Spread, skip, here, Woven, last, next, Whole, none, first}
+use Rattle.list_regions.specs.Kept.{region, popped_region, AllLater, PopsAt}
 use Rattle.list_regions.proofs.Spreads.{spread_from, spread_numbers}
 use Rattle.list_regions.proofs.Behind.{parts_left, parts_right}
 use Rattle.list_regions.proofs.Views.{woven_length, whole_chain_at, before_at}

@@ -1,16 +1,15 @@
 -- A slot more.
-use Rattle.std.proofs.Common.{◌≡◌, ℕ, zero, suc, ◌+◌, ◌-◌, ◌<◌, ◌≤◌, List, [], ◌∷◌, ◌++◌, length, take, drop, set, Option, Some, None, refl, sym, ap, ◌∙◌, subst, arith}
+use Rattle.std.proofs.Common.{◌≡◌, ℕ, zero, suc, ◌+◌, List, [], ◌∷◌, ◌++◌, length, take, set, Option, Some, None, sym, subst, arith}
 use Rattle.std.specs.Prelude.{slice_get}
-use Rattle.sync_transform.specs.Places.{longer, Within}
+use Rattle.sync_transform.specs.Places.{Within}
 use Rattle.list_lane.specs.Lanes.{length_after, length_at_end, Chains, Fits}
 use Rattle.list_lane.specs.Parts.{Parts, end, empty, front, back, from}
 use Rattle.list_lane.specs.declared.op.Op.{Op}
 use Rattle.list_regions.specs.Regions.{RegionOf, after, afters, AllEmpty, Spread, skip, here, end as done, Woven, last, next, Whole, none, first}
 use Rattle.list_regions.specs.Kept.{at, pushed_region}
 use Rattle.list_regions.proofs.Spreads.{spread_end, end_empty}
-use Rattle.list_regions.proofs.Behind.{parts_left, parts_right}
+use Rattle.list_regions.proofs.Behind.{parts_right}
 use Rattle.list_regions.proofs.Views.{woven_length}
-use Rattle.list_regions.proofs.Found.{rest_at, set_at}
 
 -- ---- at the end of slots
 pub spread_more : {k : ℕ} {ns : List ℕ} {ss fs : List (Option Op)} → Spread k ns ss fs → (n : ℕ) (s : Option Op) → k + length fs ≡ n → Spread k (ns ++ n ∷ []) (ss ++ s ∷ []) (fs ++ s ∷ [])

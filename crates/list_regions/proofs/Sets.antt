@@ -1,5 +1,5 @@
 -- An item of a list is replaced, and once more.
-use Rattle.std.proofs.Common.{◌≡◌, ℕ, zero, suc, ◌+◌, ◌<◌, List, [], ◌∷◌, length, set, Option, Some, None, Result, Ok, Err, false, refl, sym, ap, ◌∙◌, arith}
+use Rattle.std.proofs.Common.{◌≡◌, ℕ, zero, suc, ◌<◌, List, [], ◌∷◌, length, set, Some, Result, Ok, Err, false, refl, ap, arith}
 use Rattle.std.specs.Prelude.{slice_get, insert, OnOk, OnErr, is_err}
 
 pub set_twice : {A : Type 0} (xs : List A) (i : ℕ) (x y : A) → set (set xs i x) i y ≡ set xs i y

@@ -1,14 +1,12 @@
 -- A slot by its number, and the length of the list before it.
-use Rattle.std.proofs.Common.{◌≡◌, ℕ, zero, suc, ◌+◌, ◌-◌, ◌<◌, ◌≤◌, Bool, true, false, cond, List, [], ◌∷◌, ◌++◌, length, take, Option, Some, None, refl, sym, ap, ◌∙◌, subst, arith}
-use Rattle.std.specs.Prelude.{◌==◌, nat_lt}
+use Rattle.std.proofs.Common.{◌≡◌, ℕ, zero, suc, ◌+◌, ◌<◌, ◌≤◌, cond, List, [], ◌∷◌, Option, Some, None, refl, sym, ap, ◌∙◌, arith}
 use Rattle.std.proofs.lemmas.Bool.{eq-eqb, ne_eqb, lt-ltb, le-ltb}
-use Rattle.sync_transform.specs.Places.{longer, Within}
+use Rattle.sync_transform.specs.Places.{longer}
 use Rattle.list_lane.specs.Lanes.{length_after, length_before, slot_at, Chains}
-use Rattle.list_lane.specs.Parts.{Parts, end, empty, front, back, from}
+use Rattle.list_lane.specs.Parts.{Parts, end, empty, front, back}
 use Rattle.list_lane.specs.declared.op.Op.{Op}
 use Rattle.list_regions.specs.Regions.{RegionOf, befores, AllEmpty, Spread, skip, here, end as done, Woven, last, next, Whole, none, first, moved_on, either, find, length_to, look, lengths_to}
-use Rattle.list_regions.proofs.Spreads.{spread_from}
-use Rattle.list_regions.proofs.Views.{longer_more, longer_behind, woven_chain, woven_length}
+use Rattle.list_regions.proofs.Views.{longer_more, longer_behind, woven_chain}
 
 -- ---- a slot of two parts
 pub moved_zero : (s : Option Op) → moved_on 0 s ≡ s

@@ -1,18 +1,17 @@
 -- Two regions become one: from one slot to the next.
-use Rattle.std.proofs.Common.{◌≡◌, ℕ, zero, suc, ◌+◌, ◌<◌, ◌≤◌, List, [], ◌∷◌, ◌++◌, length, take, drop, Option, Some, None, refl, sym, ap, ◌∙◌, subst, append_assoc, append-nil, arith, inl, inr, ◌⊎◌}
+use Rattle.std.proofs.Common.{◌≡◌, ℕ, zero, suc, ◌+◌, ◌<◌, ◌≤◌, List, [], ◌∷◌, ◌++◌, length, drop, Option, Some, None, refl, sym, ap, ◌∙◌, subst, append_assoc, append-nil, arith, inl, inr, ◌⊎◌}
 use Rattle.std.specs.Prelude.{slice_get, IfSome}
 use Rattle.sync_base.specs.Rules.{top}
 use Rattle.list_lane.proofs.Rooms.{last_below, within_most}
-use Rattle.sync_transform.specs.Places.{longer, Within}
+use Rattle.sync_transform.specs.Places.{Within}
 use Rattle.list_lane.specs.Lanes.{length_after, length_at_end, length_before, slot_at, Fits}
 use Rattle.list_lane.specs.declared.op.Op.{Op}
 use Rattle.list_regions.specs.Regions.{RegionOf, Ahead, Merge, nothing, left, right, both, moved_on, either}
-use Rattle.list_regions.specs.Kept.{pushed_region, fresh, with_end, region}
-use Rattle.list_regions.specs.Merges.{Slots, Merging, IsBefore, IsMerged}
+use Rattle.list_regions.specs.Kept.{pushed_region, fresh}
+use Rattle.list_regions.specs.Merges.{Slots, Merging, IsMerged}
 use Rattle.list_regions.specs.declared.merge.Turn.{Turn}
 use Rattle.list_regions.proofs.Found.{rest_at}
 use Rattle.list_regions.proofs.Views.{within_more, within_on, longer_more, longer_behind}
-use Rattle.list_regions.proofs.Slots.{either_none}
 
 -- ---- slots
 pub slot_rest : (ss : List (Option Op)) (i : ℕ) → i < length ss → drop i ss ≡ slot_at i ss ∷ drop (i + 1) ss

@@ -1,14 +1,14 @@
 -- What regions tell: their slots as one list, how many these are, and the lengths of the list.
-use Rattle.std.proofs.Common.{◌≡◌, ℕ, zero, suc, ◌+◌, ◌-◌, ◌<◌, ◌≤◌, List, [], ◌∷◌, length, take, Option, Some, None, refl, sym, ap, ◌∙◌, subst, arith}
+use Rattle.std.proofs.Common.{◌≡◌, ℕ, zero, suc, ◌+◌, ◌≤◌, List, [], ◌∷◌, length, take, Option, Some, None, refl, sym, ap, ◌∙◌, subst, arith}
 use Rattle.std.specs.Prelude.{slice_get}
 use Rattle.sync_transform.specs.Places.{longer, Within}
 use Rattle.sync_transform.specs.declared.places.Does.{Does}
 use Rattle.sync_transform.specs.declared.places.Does.TheVariants.{Inserts, Erases, Updates}
 use Rattle.list_lane.specs.Lanes.{length_after, length_at_end, Chains}
-use Rattle.list_lane.specs.Parts.{Parts, end, empty, front, back, from}
+use Rattle.list_lane.specs.Parts.{Parts, end, empty, front, back}
 use Rattle.list_lane.specs.declared.op.Op.{Op}
-use Rattle.list_regions.specs.Regions.{RegionOf, before, after, befores, afters, AllEmpty, empties, weave, spread, woven, Spread, skip, here, end as done, Woven, last, next, Whole, none, first}
-use Rattle.list_regions.proofs.Spreads.{empties_are, length_empties, end_empty, spread_end, spread_length, spread_is}
+use Rattle.list_regions.specs.Regions.{RegionOf, before, befores, afters, empties, weave, spread, woven, Spread, skip, here, end as done, Woven, last, next, Whole, none, first}
+use Rattle.list_regions.proofs.Spreads.{empties_are, end_empty, spread_end, spread_length, spread_is}
 use Rattle.list_regions.proofs.Behind.{parts_left, parts_right, weave_is}
 
 -- ---- how many slots

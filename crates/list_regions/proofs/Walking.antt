@@ -1,20 +1,19 @@
 -- A walk over regions, and over the slots of one.
-use Rattle.std.proofs.Common.{◌≡◌, ℕ, zero, suc, ◌+◌, ◌-◌, ◌<◌, ◌≤◌, Bool, true, false, cond, List, [], ◌∷◌, length, drop, Option, Some, None, refl, sym, ap, ◌∙◌, subst, arith}
+use Rattle.std.proofs.Common.{◌≡◌, ℕ, suc, ◌+◌, ◌-◌, ◌<◌, ◌≤◌, cond, List, length, drop, Option, Some, None, sym, ap, ◌∙◌, subst, arith}
 use Rattle.std.specs.Prelude.{slice_get, IfSome, ◌==◌, nat_lt}
 use Rattle.std.proofs.lemmas.Bool.{eq-eqb, ne_eqb, lt-ltb, le-ltb}
 use Rattle.sync_base.specs.Rules.{top}
-use Rattle.list_lane.specs.Lanes.{length_after, length_at_end, length_before, slot_at, Fits}
-use Rattle.list_lane.specs.Parts.{from}
+use Rattle.list_lane.specs.Lanes.{length_at_end, length_before, slot_at, Fits}
 use Rattle.list_lane.specs.declared.op.Op.{Op}
 use Rattle.list_lane.proofs.Rooms.{slot_fits, within_most}
 use Rattle.list_lane.proofs.Joins.{before_most}
-use Rattle.list_regions.specs.Regions.{RegionOf, befores, Whole, moved_on, either, find, length_to, look, lengths_to}
+use Rattle.list_regions.specs.Regions.{RegionOf, befores, moved_on, either, find, length_to, look, lengths_to}
 use Rattle.list_regions.specs.Kept.{Walked}
 use Rattle.list_regions.specs.Merges.{Slots}
 use Rattle.list_regions.proofs.Found.{rest_at}
 use Rattle.list_regions.proofs.Views.{whole_slots}
 use Rattle.list_regions.proofs.Popping.{whole_numbers}
-use Rattle.list_regions.proofs.Slots.{moved_twice, moved_zero, whole_slot, whole_before}
+use Rattle.list_regions.proofs.Slots.{moved_twice, whole_slot, whole_before}
 use Rattle.list_regions.proofs.Turned.{slot_rest, number_rest, before_more, before_all, none_left}
 
 -- ---- in a region

@@ -1,5 +1,5 @@
 -- What is kept of regions, and what crossing them is.
-use Rattle.std.specs.Prelude.{◌≡◌, ℕ, zero, suc, ◌+◌, ◌-◌, ◌<◌, ◌≤◌, Bool, List, [], ◌∷◌, ◌++◌, length, take, set, insert, max, slice_get, Option, None, Some}
+use Rattle.std.specs.Prelude.{◌≡◌, ℕ, suc, ◌+◌, ◌-◌, ◌<◌, ◌≤◌, Bool, List, [], ◌∷◌, ◌++◌, length, take, set, insert, max, slice_get, Option, None, Some}
 use Rattle.sync_data.specs.declared.entry.Stamp.{Stamp}
 use Rattle.sync_base.specs.Rules.{top}
 use Rattle.sync_theory.specs.Grid.{tail}
@@ -10,7 +10,7 @@ use Rattle.list_lane.specs.Lanes.{LaneOf, crossed, lane_after, length_after, len
 use Rattle.list_lane.specs.Flat.{IsLane}
 use Rattle.list_lane.specs.Parts.{from}
 use Rattle.list_lane.specs.declared.op.Op.{Op}
-use Rattle.list_regions.specs.Regions.{RegionOf, number, moved_on, before, befores, afters, Whole}
+use Rattle.list_regions.specs.Regions.{RegionOf, number, moved_on, befores, afters, Whole}
 
 -- an instruction at another place
 abbrev pub at : Op → ℕ → Op

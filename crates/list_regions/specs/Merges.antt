@@ -1,5 +1,5 @@
 -- Two regions become one, slot by slot.
-use Rattle.std.specs.Prelude.{◌≡◌, ℕ, ◌+◌, ◌<◌, ◌≤◌, List, [], ◌∷◌, ◌++◌, length, drop, slice_get, Option, None, Some}
+use Rattle.std.specs.Prelude.{◌≡◌, ℕ, ◌+◌, ◌<◌, ◌≤◌, List, ◌++◌, length, drop, slice_get, Option, Some}
 use Rattle.sync_base.specs.Rules.{top}
 use Rattle.list_lane.specs.Lanes.{length_at_end, length_before}
 use Rattle.list_lane.specs.declared.op.Op.{Op}

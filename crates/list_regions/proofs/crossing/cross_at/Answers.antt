@@ -1,5 +1,4 @@
-use Rattle.std.proofs.Common.{◌≡◌, Some, set, sym, ap, ◌∙◌, subst}
-use Rattle.list_lane.specs.Lanes.{crossed}
+use Rattle.std.proofs.Common.{set, ap, ◌∙◌}
 use Rattle.list_lane.specs.Ops.{lane_later as later}
 use Rattle.list_regions.specs.Regions.{RegionOf}
 use Rattle.list_regions.specs.Kept.{crossed_region}

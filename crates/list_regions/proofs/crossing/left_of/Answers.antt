@@ -1,16 +1,13 @@
-use Rattle.std.proofs.Common.{◌≡◌, ℕ, ◌+◌, ◌-◌, ◌<◌, ◌≤◌, List, Option, None, Some, length, set, refl, sym, ap, ◌∙◌, subst, arith}
-use Rattle.std.specs.Prelude.{slice_get, IfSome}
+use Rattle.std.proofs.Common.{◌≡◌, ◌+◌, ◌-◌, Some, set, refl, sym, ap, ◌∙◌, subst, arith}
 use Rattle.std.specs.Option.{option_map, option_copied}
-use Rattle.sync_base.specs.Rules.{top}
-use Rattle.sync_transform.specs.Places.{longer, Within}
+use Rattle.sync_transform.specs.Places.{Within}
 use Rattle.list_lane.specs.Ops.{lane_later as later}
 use Rattle.list_lane.specs.Lanes.{crossed}
 use Rattle.list_lane.specs.Parts.{from}
 use Rattle.list_lane.specs.declared.op.Op.{Op}
-use Rattle.list_regions.specs.Regions.{RegionOf, Whole, before, after}
-use Rattle.list_regions.specs.Kept.{at, crossed_region, reach, Passes}
+use Rattle.list_regions.specs.Regions.{before}
+use Rattle.list_regions.specs.Kept.{at, crossed_region}
 use Rattle.sum_list.specs.Places.{Reaches}
-use Rattle.list_regions.proofs.Sets.{same_item}
 use Rattle.list_regions.proofs.Meeting.{roomy, after_low, left_is_low, lifted_low, after_is, within, pass_tail, pass_touch, left_gap}
 use Rattle.list_regions.proofs.crossing.left_of.Goals as goal
 

@@ -1,4 +1,4 @@
-use Rattle.std.proofs.Common.{◌≡◌, Some, set, sym, ap, ◌∙◌}
+use Rattle.std.proofs.Common.{set, ap, ◌∙◌}
 use Rattle.list_regions.specs.Regions.{RegionOf}
 use Rattle.list_regions.specs.Kept.{with_gap}
 use Rattle.list_regions.proofs.Sets.{set_twice, same_item}

@@ -1,7 +1,6 @@
-use Rattle.std.proofs.Common.{◌≡◌, suc, ◌+◌, ◌<◌, Some, length, set, sym, ap, ◌∙◌, subst, arith}
+use Rattle.std.proofs.Common.{◌≡◌, suc, ◌+◌, length, sym, ap, ◌∙◌, arith}
 use Rattle.std.specs.Prelude.{slice_get, remove}
 use Rattle.std.specs.Option.{option_copied}
-use Rattle.list_regions.specs.Regions.{RegionOf}
 use Rattle.list_regions.proofs.Sets.{set_length}
 use Rattle.list_regions.proofs.Meeting.{there}
 use Rattle.list_regions.proofs.Alike.{merged_alike, merge_low, slots_of}

@@ -1,5 +1,4 @@
-use Rattle.std.proofs.Common.{◌≡◌, ◌+◌, ◌≤◌, length, sym, ap, ◌∙◌, arith}
-use Rattle.list_regions.specs.Kept.{fresh}
+use Rattle.std.proofs.Common.{arith}
 use Rattle.list_regions.proofs.Turned.{merge_starts, merge_ends}
 use Rattle.list_regions.proofs.merge.merged.Goals as goal
 

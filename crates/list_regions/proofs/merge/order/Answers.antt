@@ -1,7 +1,6 @@
-use Rattle.std.proofs.Common.{◌≡◌, ◌+◌, ◌<◌, ◌≤◌, Some, length, drop, sym, ap, ◌∙◌, subst, arith}
-use Rattle.std.specs.Prelude.{slice_get}
+use Rattle.std.proofs.Common.{◌+◌, length, drop, arith}
 use Rattle.list_regions.proofs.Sets.{some_there}
-use Rattle.list_regions.proofs.Turned.{none_left, first_some, second_some, ahead_none, ahead_one, number_rest, less_shared}
+use Rattle.list_regions.proofs.Turned.{none_left, first_some, second_some, ahead_none, ahead_one, number_rest}
 use Rattle.list_regions.proofs.merge.order.Goals as goal
 
 pub returns-then-turn-len : goal.returns-then-turn-len

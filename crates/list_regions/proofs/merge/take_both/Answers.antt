@@ -1,8 +1,6 @@
-use Rattle.std.proofs.Common.{◌≡◌, ◌⊎◌, ◌+◌, ◌<◌, ◌≤◌, Some, None, length, drop, refl, sym, ap, ◌∙◌, subst, arith}
-use Rattle.std.specs.Prelude.{slice_get}
+use Rattle.std.proofs.Common.{◌≡◌, ◌⊎◌, ◌+◌, Some, None, sym, ap, ◌∙◌, subst, arith}
 use Rattle.list_lane.specs.Lanes.{length_before}
-use Rattle.list_regions.specs.Regions.{RegionOf, Ahead, moved_on, either}
-use Rattle.list_regions.specs.Kept.{pushed_region}
+use Rattle.list_regions.specs.Regions.{moved_on, either}
 use Rattle.list_regions.specs.Merges.{Merging}
 use Rattle.list_regions.specs.declared.merge.Turn.{Turn}
 use Rattle.list_regions.proofs.Popping.{moved_is}

@@ -1,6 +1,5 @@
-use Rattle.std.proofs.Common.{◌≡◌, ◌+◌, ◌<◌, ◌≤◌, Some, length, drop, refl, sym, ap, ◌∙◌, subst, arith}
-use Rattle.std.specs.Prelude.{slice_get}
-use Rattle.list_regions.specs.Regions.{RegionOf, Ahead}
+use Rattle.std.proofs.Common.{◌≡◌, ◌+◌, drop, sym, subst, arith}
+use Rattle.list_regions.specs.Regions.{Ahead}
 use Rattle.list_regions.specs.Merges.{Merging}
 use Rattle.list_regions.specs.declared.merge.Turn.{Turn}
 use Rattle.list_regions.proofs.Turned.{number_there, turn_low, left_taken}

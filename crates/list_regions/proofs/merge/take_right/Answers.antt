@@ -1,7 +1,6 @@
-use Rattle.std.proofs.Common.{◌≡◌, ◌+◌, ◌<◌, ◌≤◌, Some, length, drop, refl, sym, ap, ◌∙◌, subst, arith}
-use Rattle.std.specs.Prelude.{slice_get}
+use Rattle.std.proofs.Common.{◌≡◌, ◌+◌, drop, refl, sym, ap, ◌∙◌, subst, arith}
 use Rattle.list_lane.specs.Lanes.{length_before}
-use Rattle.list_regions.specs.Regions.{RegionOf, Ahead, moved_on}
+use Rattle.list_regions.specs.Regions.{Ahead, moved_on}
 use Rattle.list_regions.specs.Kept.{pushed_region}
 use Rattle.list_regions.specs.Merges.{Merging}
 use Rattle.list_regions.specs.declared.merge.Turn.{Turn}

@@ -1,7 +1,6 @@
-use Rattle.std.proofs.Common.{◌≡◌, suc, ◌+◌, ◌≤◌, ◌<◌, Some, length, set, sym, ap, ◌∙◌, subst, arith}
+use Rattle.std.proofs.Common.{◌≡◌, suc, ◌+◌, length, set, sym, ap, ◌∙◌, arith}
 use Rattle.std.specs.Prelude.{slice_get, remove}
 use Rattle.std.specs.Option.{option_copied}
-use Rattle.list_regions.specs.Regions.{RegionOf}
 use Rattle.list_regions.specs.Kept.{with_gap}
 use Rattle.list_regions.proofs.Sets.{some_there, set_length}
 use Rattle.list_regions.proofs.Meeting.{there}

@@ -1,8 +1,5 @@
-use Rattle.std.proofs.Common.{◌≡◌, ◌+◌, ◌≤◌, ◌<◌, Some, length, take, set, sym, ap, ◌∙◌, subst, arith}
-use Rattle.std.specs.Prelude.{IfSome, sum_by}
-use Rattle.sync_base.specs.Rules.{top}
-use Rattle.list_lane.specs.Lanes.{first_slot}
-use Rattle.list_regions.specs.Regions.{RegionOf, before, befores, moved_on}
+use Rattle.std.proofs.Common.{◌≡◌, ◌+◌, take, set, ap, ◌∙◌, arith}
+use Rattle.list_regions.specs.Regions.{befores, moved_on}
 use Rattle.list_regions.specs.Kept.{popped_region}
 use Rattle.list_regions.proofs.Sets.{set_twice}
 use Rattle.list_regions.proofs.Found.{befores_are}

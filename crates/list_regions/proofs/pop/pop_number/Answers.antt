@@ -1,6 +1,5 @@
-use Rattle.std.proofs.Common.{◌≡◌}
 use Rattle.list_regions.proofs.Popping.{whole_from}
-use Rattle.list_regions.proofs.Dropping.{loose, pops_shrunk}
+use Rattle.list_regions.proofs.Dropping.{loose}
 use Rattle.list_regions.proofs.pop.pop_number.Goals as goal
 
 pub place_with-place-requires : goal.place_with-place-requires

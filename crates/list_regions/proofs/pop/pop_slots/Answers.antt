@@ -1,7 +1,6 @@
-use Rattle.std.proofs.Common.{◌≡◌, ◌<◌, ◌≤◌, ◌∷◌, Some, None, length, set, sym, ap, ◌∙◌, subst, arith}
-use Rattle.list_regions.specs.Regions.{RegionOf, Whole, number, either}
+use Rattle.std.proofs.Common.{◌∷◌, sym, ap, subst, arith}
 use Rattle.list_regions.specs.Kept.{region}
-use Rattle.list_regions.proofs.Popping.{Popping, slots_in, pop_more, pop_done, popping_none, whole_from, whole_numbers, fewer_slots}
+use Rattle.list_regions.proofs.Popping.{Popping, slots_in, pop_more, pop_done, whole_from, whole_numbers, fewer_slots}
 use Rattle.list_lane.specs.Lanes.{length_after}
 use Rattle.list_regions.proofs.pop.pop_slots.Goals as goal
 

@@ -1,6 +1,6 @@
-use Rattle.std.proofs.Common.{ℕ, suc, List, [], ◌∷◌, Option}
+use Rattle.std.proofs.Common.{List, ◌∷◌, Option}
 use Rattle.list_lane.specs.declared.op.Op.{Op}
-use Rattle.list_regions.specs.Regions.{RegionOf, Whole}
+use Rattle.list_regions.specs.Regions.{Whole}
 use Rattle.list_regions.proofs.Popping.{Popping, slots_in}
 use Rattle.list_regions.proofs.pop.pop_slots.Given as goal
 

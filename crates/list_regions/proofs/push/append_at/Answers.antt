@@ -1,5 +1,4 @@
-use Rattle.std.proofs.Common.{◌≡◌, Some, set, sym, ap, ◌∙◌}
-use Rattle.std.specs.Prelude.{OnOk, OnErr}
+use Rattle.std.proofs.Common.{Some, set, ap, ◌∙◌}
 use Rattle.std.proofs.lemmas.Result.{on_ok_weaker, on_err_weaker}
 use Rattle.list_regions.specs.Regions.{RegionOf}
 use Rattle.list_regions.specs.Kept.{pushed_region}

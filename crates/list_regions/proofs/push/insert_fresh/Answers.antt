@@ -1,7 +1,6 @@
-use Rattle.std.proofs.Common.{◌≡◌, suc, ◌+◌, ◌<◌, Some, length, set, sym, ap, ◌∙◌, subst, arith}
+use Rattle.std.proofs.Common.{◌≡◌, suc, ◌+◌, set, sym, ap, ◌∙◌, arith}
 use Rattle.std.specs.Prelude.{slice_get, insert}
-use Rattle.list_regions.specs.Regions.{RegionOf}
-use Rattle.list_regions.specs.Kept.{fresh, with_gap}
+use Rattle.list_regions.specs.Kept.{with_gap}
 use Rattle.list_regions.proofs.Sets.{inserted_next, insert_set, ok_of}
 use Rattle.list_regions.proofs.push.insert_fresh.Goals as goal
 

@@ -1,8 +1,7 @@
-use Rattle.std.proofs.Common.{◌≡◌, ◌+◌, ◌-◌, ◌≤◌, Some, sym, ap, ◌∙◌, subst, arith}
+use Rattle.std.proofs.Common.{◌-◌, ap, ◌∙◌, subst, arith}
 use Rattle.sum_list.specs.Places.{Reaches}
-use Rattle.list_regions.specs.Regions.{RegionOf, before, after}
-use Rattle.list_regions.specs.Kept.{at, reach, Opened, Touches}
-use Rattle.list_lane.specs.declared.op.Op.{Op}
+use Rattle.list_regions.specs.Regions.{after}
+use Rattle.list_regions.specs.Kept.{at}
 use Rattle.list_regions.proofs.Sets.{some_there}
 use Rattle.list_regions.proofs.Ending.{lies, touches, opened_same}
 use Rattle.list_regions.proofs.push.open.Goals as goal

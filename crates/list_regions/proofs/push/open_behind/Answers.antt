@@ -1,6 +1,5 @@
-use Rattle.std.proofs.Common.{◌≡◌, ◌+◌, ◌<◌, [], ◌∷◌, ◌++◌, sym, ap, ◌∙◌, subst, arith}
-use Rattle.list_regions.specs.Regions.{RegionOf}
-use Rattle.list_regions.specs.Kept.{at, fresh, elements, Opened, Touches}
+use Rattle.std.proofs.Common.{[], ◌∷◌, ◌++◌, sym, ap, ◌∙◌, subst, arith}
+use Rattle.list_regions.specs.Kept.{at, fresh, Opened, Touches}
 use Rattle.list_lane.specs.declared.op.Op.{Op}
 use Rattle.list_regions.proofs.Meeting.{more_of}
 use Rattle.list_regions.proofs.Ending.{end_low, opened_tail}

@@ -1,7 +1,5 @@
-use Rattle.std.proofs.Common.{◌≡◌, ℕ, ◌+◌, ◌-◌, ◌≤◌, ◌<◌, Some, set, sym, ap, ◌∙◌, subst, arith}
-use Rattle.std.specs.Prelude.{slice_get}
-use Rattle.list_regions.specs.Regions.{RegionOf}
-use Rattle.list_regions.specs.Kept.{at, elements, with_front, with_fresh, Opened, Touches}
+use Rattle.std.proofs.Common.{◌-◌, ◌<◌, sym, ap, ◌∙◌, subst, arith}
+use Rattle.list_regions.specs.Kept.{at, with_fresh, Opened, Touches}
 use Rattle.list_lane.specs.declared.op.Op.{Op}
 use Rattle.list_regions.proofs.Sets.{some_there}
 use Rattle.list_regions.proofs.Meeting.{more_of}

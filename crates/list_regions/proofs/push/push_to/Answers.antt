@@ -1,9 +1,6 @@
-use Rattle.std.proofs.Common.{◌≡◌, Some, set, sym, ap, ◌∙◌, subst}
-use Rattle.std.specs.Prelude.{OnOk, OnErr}
+use Rattle.std.proofs.Common.{sym, subst}
 use Rattle.std.proofs.lemmas.Result.{on_ok_weaker, on_err_weaker}
-use Rattle.list_regions.specs.Regions.{RegionOf}
-use Rattle.list_regions.specs.Kept.{at, Opened}
-use Rattle.list_regions.proofs.Sets.{on_err}
+use Rattle.list_regions.specs.Kept.{Opened}
 use Rattle.list_regions.proofs.Meeting.{there}
 use Rattle.list_regions.proofs.Ending.{pushed, touched_within}
 use Rattle.list_regions.proofs.Alike.{opened_ends, opened_then, pushed_then}

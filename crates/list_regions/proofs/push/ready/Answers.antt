@@ -1,6 +1,6 @@
-use Rattle.std.proofs.Common.{◌≡◌, ◌+◌, ◌-◌, ◌≤◌, ◌<◌, Some, length, take, sym, ap, ◌∙◌, subst, arith}
+use Rattle.std.proofs.Common.{◌≡◌, ◌-◌, ◌<◌, length, take, sym, ap, ◌∙◌, subst, arith}
 use Rattle.sum_list.specs.Places.{Reaches}
-use Rattle.list_regions.specs.Regions.{RegionOf, before, after}
+use Rattle.list_regions.specs.Regions.{after}
 use Rattle.list_regions.specs.Kept.{LiesBehind, Opened}
 use Rattle.list_regions.proofs.Sets.{some_there}
 use Rattle.list_regions.proofs.Found.{take_all_of}

@@ -1,4 +1,4 @@
-use Rattle.std.proofs.Common.{◌≡◌, ◌<◌, length, sym, ap, ◌∙◌, arith}
+use Rattle.std.proofs.Common.{◌<◌, length, sym, ◌∙◌, arith}
 use Rattle.list_regions.proofs.Walking.{find_here, find_on}
 use Rattle.list_regions.proofs.walk.find_in.Goals as goal
 

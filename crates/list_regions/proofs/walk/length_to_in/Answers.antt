@@ -1,4 +1,4 @@
-use Rattle.std.proofs.Common.{◌≡◌, ◌<◌, ◌≤◌, length, sym, ap, ◌∙◌, arith}
+use Rattle.std.proofs.Common.{◌<◌, ◌≤◌, length, sym, ap, ◌∙◌, arith}
 use Rattle.list_lane.proofs.Joins.{before_none}
 use Rattle.list_regions.specs.Regions.{length_to}
 use Rattle.list_regions.proofs.Walking.{to_here, to_on, to_end}

@@ -1,7 +1,7 @@
-use Rattle.std.proofs.Common.{◌≡◌, ◌+◌, ◌≤◌, ◌<◌, length, sym, ap, ◌∙◌, arith}
+use Rattle.std.proofs.Common.{◌≡◌, ◌+◌, sym, ap, ◌∙◌, arith}
 use Rattle.std.specs.Option.{option_copied}
 use Rattle.list_regions.specs.Regions.{length_to}
-use Rattle.list_regions.proofs.Walking.{walked_slots, lengths_low, sum_here, sum_on, sum_end}
+use Rattle.list_regions.proofs.Walking.{walked_slots, lengths_low, sum_here, sum_on}
 use Rattle.list_regions.proofs.walk.lengths_in.Goals as goal
 
 pub length_to_in-length-requires : goal.length_to_in-length-requires

@@ -1,6 +1,5 @@
-use Rattle.std.proofs.Common.{◌≡◌, ◌+◌, ◌≤◌, ◌<◌, Some, None, length, sym, ap, ◌∙◌, subst, arith}
+use Rattle.std.proofs.Common.{◌≡◌, ◌+◌, Some, sym, ap, ◌∙◌, arith}
 use Rattle.std.specs.Option.{option_copied}
-use Rattle.list_lane.specs.declared.op.Op.{Op}
 use Rattle.list_regions.specs.Regions.{length_to, look}
 use Rattle.list_regions.proofs.Walking.{walked_slots, lengths_low, look_low, some_low, walk_here, walk_on, sum_here, sum_on}
 use Rattle.list_regions.proofs.walk.slot_in.Goals as goal

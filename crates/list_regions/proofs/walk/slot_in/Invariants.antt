@@ -1,6 +1,5 @@
 use Rattle.std.proofs.Common.{◌≡◌, ◌+◌, drop}
-use Rattle.list_lane.specs.Lanes.{length_before}
-use Rattle.list_regions.specs.Regions.{moved_on, find, length_to, look, lengths_to}
+use Rattle.list_regions.specs.Regions.{moved_on, look, lengths_to}
 use Rattle.list_regions.proofs.walk.slot_in.Given as goal
 
 abbrev pub invariant-loop-i : goal.invariant-loop-i

@@ -1,9 +1,8 @@
-use Rattle.std.proofs.Common.{◌≡◌, ◌+◌, ◌<◌, Some, length, sym, ap, ◌∙◌, subst, arith}
+use Rattle.std.proofs.Common.{◌+◌, ◌<◌, Some, length, sym, ap, subst, arith}
 use Rattle.sync_base.specs.Rules.{top}
 use Rattle.list_lane.specs.Lanes.{LaneOf}
 use Rattle.list_lane.specs.Ops.{lane_later as later}
 use Rattle.list_lane.proofs.Rooms.{crossed_length, after_more}
-use Rattle.list_regions.specs.Kept.{IsRegion}
 use Rattle.list_regions.specs.Regions.{RegionOf}
 use Rattle.list_regions.proofs.region.Region.cross.Goals as goal
 

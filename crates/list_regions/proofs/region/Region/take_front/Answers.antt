@@ -1,7 +1,7 @@
-use Rattle.std.proofs.Common.{◌≡◌, ◌+◌, ◌-◌, ◌<◌, length, sym, ap, ◌∙◌, subst, arith}
+use Rattle.std.proofs.Common.{◌+◌, ◌-◌, ◌<◌, length, sym, ap, ◌∙◌, subst, arith}
 use Rattle.list_lane.specs.Lanes.{LaneOf, Crossed}
 use Rattle.list_regions.specs.Regions.{RegionOf}
-use Rattle.list_regions.specs.Kept.{onward, with_front}
+use Rattle.list_regions.specs.Kept.{with_front}
 use Rattle.list_regions.proofs.Edits.{onward_length}
 use Rattle.list_regions.proofs.Ahead.{crossed_ahead}
 use Rattle.list_regions.proofs.region.Region.take_front.Goals as goal

@@ -1,12 +1,11 @@
-use Rattle.std.proofs.Common.{◌≡◌, ◌<◌, ◌+◌, Option, Some, length, refl, sym, ap, ◌∙◌, subst, arith}
+use Rattle.std.proofs.Common.{◌≡◌, ◌<◌, ◌+◌, Some, length, sym, ap, ◌∙◌, subst, arith}
 use Rattle.std.specs.Prelude.{IfSome}
 use Rattle.sync_base.specs.Rules.{top}
 use Rattle.sync_transform.specs.Places.{Within, longer}
-use Rattle.list_lane.specs.Lanes.{LaneOf, crossed, lane_after, length_at_end, IsLeftOf, length_after as after}
+use Rattle.list_lane.specs.Lanes.{LaneOf, crossed, lane_after, length_at_end, IsLeftOf}
 use Rattle.list_lane.specs.Ops.{lane_later}
 use Rattle.list_lane.specs.Laws.{CrossesLeft, CrossesRight}
 use Rattle.list_lane.proofs.Rooms.{last_below, is_left, on_left, on_right}
-use Rattle.list_regions.specs.Regions.{empties, woven}
 use Rattle.list_regions.specs.Kept.{IsRegions}
 use Rattle.list_regions.specs.contracts.regions.Regions.{the_view}
 use Rattle.list_regions.proofs.Keeping.{all, crossed_is, left_is, crossed_keeps, alike_is, alike_keeps}

@@ -1,8 +1,7 @@
-use Rattle.std.proofs.Common.{◌≡◌, ◌<◌, ◌+◌, Option, Some, length, refl, sym, ap, ◌∙◌, subst, arith}
+use Rattle.std.proofs.Common.{sym, subst}
 use Rattle.std.specs.Prelude.{IfSome}
-use Rattle.sync_base.specs.Rules.{top}
 use Rattle.sync_transform.specs.Places.{Within}
-use Rattle.list_lane.specs.Lanes.{LaneOf, crossed, lane_after, length_at_end, IsLeftOf}
+use Rattle.list_lane.specs.Lanes.{LaneOf, lane_after, length_at_end, IsLeftOf}
 use Rattle.list_lane.specs.Ops.{lane_later}
 use Rattle.list_lane.specs.Laws.{CrossesLeft, CrossesRight}
 use Rattle.list_lane.proofs.Rooms.{is_left, on_left, on_right}

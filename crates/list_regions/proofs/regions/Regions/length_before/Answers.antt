@@ -1,8 +1,8 @@
-use Rattle.std.proofs.Common.{◌≡◌, ◌+◌, ◌-◌, ◌≤◌, ◌<◌, length, take, refl, sym, ap, ◌∙◌, subst, arith}
+use Rattle.std.proofs.Common.{◌≡◌, ◌+◌, ◌-◌, ◌<◌, length, take, sym, ap, ◌∙◌, subst, arith}
 use Rattle.list_lane.specs.Lanes.{LaneOf, length_before}
 use Rattle.list_regions.specs.Regions.{befores}
 use Rattle.list_regions.proofs.Found.{befores_are, take_all_of}
-use Rattle.list_regions.proofs.Keeping.{all, lengths_kept, lengths_few}
+use Rattle.list_regions.proofs.Keeping.{lengths_kept, lengths_few}
 use Rattle.list_regions.proofs.regions.Regions.length_before.Goals as goal
 
 pub overflow_sub-result : goal.overflow_sub-result

@@ -1,6 +1,6 @@
 use Rattle.std.proofs.Common.{[], sym, subst, refl, arith}
 use Rattle.list_regions.specs.Kept.{IsRegions}
-use Rattle.list_regions.specs.Regions.{RegionOf, woven, none}
+use Rattle.list_regions.specs.Regions.{woven, none}
 use Rattle.list_regions.proofs.regions.Regions.new.Goals as goal
 
 pub invariant_of-result : goal.invariant_of-result

@@ -1,4 +1,4 @@
-use Rattle.std.proofs.Common.{◌≡◌, ◌<◌, ◌+◌, ◌-◌, sym, ap, ◌∙◌, subst, arith}
+use Rattle.std.proofs.Common.{◌<◌, ◌+◌, ◌-◌, sym, ap, ◌∙◌, subst, arith}
 use Rattle.list_lane.specs.Lanes.{LaneOf, without_first, length_after}
 use Rattle.list_lane.proofs.Rooms.{less_is}
 use Rattle.list_regions.specs.Kept.{IsRegions}

@@ -1,4 +1,4 @@
-use Rattle.std.proofs.Common.{◌≡◌, ◌<◌, ◌+◌, [], ◌∷◌, ◌++◌, Option, None, length, refl, sym, ap, ◌∙◌, subst, arith}
+use Rattle.std.proofs.Common.{◌<◌, ◌+◌, [], ◌∷◌, ◌++◌, None, length, sym, ap, ◌∙◌, subst, arith}
 use Rattle.sync_base.specs.Rules.{top}
 use Rattle.list_lane.specs.Lanes.{LaneOf}
 use Rattle.list_regions.proofs.Keeping.{empty_is, empty_keeps}

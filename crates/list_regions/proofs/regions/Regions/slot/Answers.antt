@@ -1,4 +1,4 @@
-use Rattle.std.proofs.Common.{◌≡◌, ◌+◌, ◌≤◌, length, refl, sym, ap, ◌∙◌, subst, arith}
+use Rattle.std.proofs.Common.{◌+◌, ◌≤◌, length, refl, sym, ap, ◌∙◌, subst, arith}
 use Rattle.list_lane.specs.Lanes.{LaneOf, Fits, length_before, slot_at}
 use Rattle.list_lane.proofs.Rooms.{slot_fits}
 use Rattle.list_regions.proofs.Slots.{whole_slot}
