@@ -17,13 +17,14 @@ use Rattle.list_lane.specs.Lanes.{LaneOf, crossed, lane_after, length_at_end, Ch
 use Rattle.list_lane.specs.Told.{action, place_in, prior_in, IsTold}
 use Rattle.list_lane.specs.Laws.{CrossesLeft}
 use Rattle.sync_rebase.specs.Acrossing.{op_across, LeavesAction, TakesAcross, CrossesStretch}
-use Rattle.sync_rebase.specs.Settling.{instrs_left, passed, put_across, CanPass}
+use Rattle.list_lane.specs.Actions.{instrs_left}
+use Rattle.sync_rebase.specs.Settling.{passed, put_across, CanPass}
 use Rattle.sync_rebase.specs.Stretches.{from_place, overlaid, laid, Holds, AllHold, Stands}
 use Rattle.sync_rebase.specs.declared.carried.Across.{Across}
 use Rattle.sync_rebase.specs.declared.items.Passing.{Passing}
 use Rattle.list_lane.specs.declared.op.Op.{Op}
 use Rattle.sync_rebase.specs.declared.stretch.Stretch.{Stretch}
-use Rattle.sync_rebase.proofs.Acting.{action_parts, kind_action, told_itself, kind_known, in_cell, one_of}
+use Rattle.list_lane.proofs.Acting.{action_parts, kind_action, told_itself, kind_known, in_cell, one_of}
 use Rattle.sync_rebase.proofs.Across.{lane_passes, lane_can_pass, lane_rebases}
 use Rattle.sync_rebase.proofs.Laid.{from_twice, from_same, drop_from, length_laid}
 

@@ -14,7 +14,7 @@ use Rattle.list_lane.specs.Told.{action, place_in, prior_in}
 use Rattle.sync_rebase.specs.Stretches.{told_unsent, overlaid, laid, lane_with, shown_by, stamp_by, Follows, Holds, AllHold, IsSlotOf, Stands}
 use Rattle.list_lane.specs.declared.op.Op.{Op}
 use Rattle.sync_rebase.specs.declared.stretch.Stretch.{Stretch}
-use Rattle.sync_rebase.proofs.Acting.{action_parts, kind_known, told_itself}
+use Rattle.list_lane.proofs.Acting.{action_parts, kind_known, told_itself}
 use Rattle.sync_rebase.proofs.Laid.{from_same, laid_none}
 
 -- ---- what a changeset is in a lane

@@ -17,7 +17,8 @@ use Rattle.list_lane.specs.Ops.{lane_later}
 use Rattle.list_lane.specs.Lanes.{lane_after, length_at_end, Chains}
 use Rattle.list_lane.specs.Laws.{CrossesLeft}
 use Rattle.list_lane.specs.declared.op.Op.{Op}
-use Rattle.sync_rebase.specs.Settling.{CanPass, instrs_left, passed}
+use Rattle.list_lane.specs.Actions.{instrs_left}
+use Rattle.sync_rebase.specs.Settling.{CanPass, passed}
 use Rattle.sync_rebase.specs.declared.carried.Across.{Across}
 use Rattle.sync_rebase.specs.declared.items.Passing.{Passing}
 use Rattle.sync_rebase.specs.declared.stretch.Stretch.{Stretch}

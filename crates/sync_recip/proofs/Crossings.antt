@@ -20,13 +20,14 @@ use Rattle.list_lane.specs.Lanes.{LaneOf, crossed, lane_after, length_at_end, Ch
 use Rattle.list_lane.specs.Told.{action, place_in, prior_in, IsTold}
 use Rattle.list_lane.specs.Laws.{CrossesRight}
 use Rattle.sync_recip.specs.Acrossing.{op_across, put_across, LeavesAction, TakesAcross, CrossesStretch}
-use Rattle.sync_recip.specs.Passing.{instrs_left, passed, CanPass}
+use Rattle.list_lane.specs.Actions.{instrs_left}
+use Rattle.sync_recip.specs.Passing.{passed, CanPass}
 use Rattle.sync_recip.specs.Stretches.{from_place, instrs_in, overlaid, laid, Holds, AllHold, Stands}
 use Rattle.sync_recip.specs.declared.across.Across.{Across}
 use Rattle.sync_recip.specs.declared.items.Passing.{Passing}
 use Rattle.list_lane.specs.declared.op.Op.{Op}
 use Rattle.sync_recip.specs.declared.stretch.Stretch.{Stretch}
-use Rattle.sync_recip.proofs.Acting.{action_parts, kind_action, told_itself, kind_known, in_cell, one_of}
+use Rattle.list_lane.proofs.Acting.{action_parts, kind_action, told_itself, kind_known, in_cell, one_of}
 use Rattle.sync_recip.proofs.Lanes.{lane_passes, lane_can_pass, lane_carries}
 use Rattle.sync_recip.proofs.Laid.{bare_of, drop_from, laid_bare, length_laid}
 

@@ -24,9 +24,10 @@ use Rattle.list_lane.specs.Told.{action, prior_in, told, told_set, told_sets, Is
 use Rattle.list_lane.specs.Laws.{CrossesRight}
 use Rattle.sync_recip.specs.Acrossing.{left_action}
 use Rattle.sync_recip.specs.Stretches.{instrs_in, told_kept, overlaid, Holds, AllHold}
-use Rattle.sync_recip.specs.Passing.{action_there, change_later, own_left, other_left, instrs_left, passed, CanPass}
+use Rattle.list_lane.specs.Actions.{action_there, own_left, other_left, instrs_left}
+use Rattle.sync_recip.specs.Passing.{change_later, passed, CanPass}
 use Rattle.list_lane.specs.declared.op.Op.{Op}
-use Rattle.sync_recip.proofs.Acting.{prior_action, after_is, told_action, told_over, one_of}
+use Rattle.list_lane.proofs.Acting.{prior_action, after_is, told_action, told_over, one_of}
 use Rattle.list_lane.proofs.Lengths.{Lengths, lengths}
 
 crossed_none : (l : Stamp → Stamp → Bool) (ss : List (Option Op)) → (crossed l ss None).slots ≡ ss

@@ -17,7 +17,8 @@ use Rattle.list_lane.specs.Lanes.{lane_after, length_at_end, Chains}
 use Rattle.list_lane.specs.Laws.{CrossesRight}
 use Rattle.list_lane.specs.declared.op.Op.{Op}
 use Rattle.sync_recip.specs.Lists.{kept_entry}
-use Rattle.sync_recip.specs.Passing.{instrs_left, passed, CanPass}
+use Rattle.list_lane.specs.Actions.{instrs_left}
+use Rattle.sync_recip.specs.Passing.{passed, CanPass}
 use Rattle.sync_recip.specs.Stretches.{from_place, instrs_in, with_instrs}
 use Rattle.sync_recip.specs.declared.across.Across.{Across}
 use Rattle.sync_recip.specs.declared.items.Passing.{Passing}

@@ -3,14 +3,14 @@ ghost use Rattle.sync_base.specs.Rules.{top};
 ghost use Rattle.sync_transform.specs.Places.{Within};
 ghost use Rattle.sync_transform.specs.Moves.{kind_of};
 ghost use Rattle.list_lane.specs.Told.{place_in, prior_in};
-ghost use Rattle.sync_rebase.specs.Settling.{action_after};
+ghost use Rattle.list_lane.specs.Actions.{action_after};
 
-use list_lane::{Op, action_of};
+use super::op::{Op, action_of};
 use sync_data::Stamp;
 use sync_transform::{Does, ListAction, length_after, place_after};
 
-/// What an action does, where, and how long its list is.
-pub(crate) fn parts(action: &ListAction) -> (Does, u32, u32)
+/// What an action does, where, and on a list of which length.
+fn parts(action: &ListAction) -> (Does, u32, u32)
     ensures does { result.0 ≡ kind_of action.now }
     ensures place { result.1 ≡ place_in action.now }
     ensures prior { result.2 ≡ prior_in action.now }
@@ -25,7 +25,7 @@ pub(crate) fn parts(action: &ListAction) -> (Does, u32, u32)
 
 /// What is left of the first of two actions in one list after the other, or none where it is dropped. The flag is whether it is
 /// the later one.
-pub(crate) fn action_left(
+pub fn action_left(
     later: bool,
     first: &ListAction,
     second: &ListAction,

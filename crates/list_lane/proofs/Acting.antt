@@ -1,27 +1,20 @@
 -- What one list instruction does, and the same elsewhere.
-use Rattle.std.specs.List.{AllByRecursion}
 use Rattle.std.specs.Option.{option_map}
-use Rattle.std.proofs.Common.{◌≡◌, ℕ, Bool, true, false, List, [], ◌∷◌, Option, Some, None, refl, sym, ap, ◌∙◌, subst}
+use Rattle.std.proofs.Common.{◌≡◌, ℕ, Bool, List, [], ◌∷◌, Option, Some, None, refl, sym, ap, ◌∙◌}
 use Rattle.sync_data.specs.declared.value.Value.TheVariants as values
 use Rattle.sync_data.specs.declared.instr.CellName.{CellName}
 use Rattle.sync_data.specs.declared.instr.Instr.{Instr}
 use Rattle.sync_data.specs.declared.instr.Instr.TheVariants as instrs
 use Rattle.sync_base.specs.Effects.{CellPath, path_of}
-use Rattle.sync_rivals.specs.Codes.{code}
-use Rattle.sync_rivals.specs.Homes.{listed, rivals}
-use Rattle.sync_rivals.specs.Lists.{StaysListed}
-use Rattle.sync_rivals.specs.Marks.{Knows, is_at}
-use Rattle.sync_rivals.specs.Strangers.{place_of}
 use Rattle.sync_transform.specs.Places.{longer, place_after}
 use Rattle.sync_transform.specs.Moves.{instr_at, kind_of, action_at, action_in, kind_in, first_cell, moved, moved_first, shown}
 use Rattle.sync_transform.specs.declared.places.Does.{Does}
 use Rattle.sync_transform.specs.declared.places.Does.TheVariants.{Inserts, Erases, Updates}
 use Rattle.sync_transform.specs.declared.moves.ListAction.{ListAction}
 use Rattle.sync_transform.specs.declared.moves.ListAction.TheVariants.{Insert, Erase, Update}
-use Rattle.sync_transform.proofs.Stands.{same_elsewhere, shown_itself, shown_action, shown_kind, moved_over}
-use Rattle.list_lane.specs.Told.{action, place_in, prior_in, told, IsOne}
-use Rattle.sync_recip.specs.Passing.{action_there, action_after, instrs_left}
-use Rattle.list_lane.specs.declared.op.Op.{Op}
+use Rattle.sync_transform.proofs.Stands.{shown_itself, shown_action, shown_kind, moved_over}
+use Rattle.list_lane.specs.Told.{action, place_in, prior_in, IsOne}
+use Rattle.list_lane.specs.Actions.{action_there, action_after}
 
 -- ---- an action by its parts
 pub kind_action : (d : Does) (p n : ℕ) → kind_of (action d p n) ≡ d
@@ -99,31 +92,6 @@ told_written a None is e = refl
 told_written a (Some b) [] e = refl
 told_written a (Some b) (i ∷ []) e = ap (λ j. j ∷ []) (moved_twice a b i (sym (shown_kind (Some b) (i ∷ [])) ∙ e))
 told_written a (Some b) (i ∷ j ∷ is) e = cc
-
--- ---- where it stands isn't asked
-pub told_listed : (n : ℕ) (s : Option Op) (is : List Instr) → StaysListed is (told n s is)
-told_listed n None is = λ m k h. tt
-told_listed n (Some a) [] = λ m k h. h
-told_listed n (Some a) (i ∷ is) = λ m k h. (
-  subst (λ q. AllByRecursion (λ p. is_at m k p ≡ true) (listed q)) (sym (same_elsewhere place_of (λ c v s t. refl) (λ c s t. refl) (λ c v s t. refl) (action a.does a.place n) i)) h.0,
-  h.1,
-)
-
-pub left_listed : (o : Option ListAction) (is : List Instr) → StaysListed is (instrs_left o is)
-left_listed None is = λ m k h. tt
-left_listed (Some a) [] = λ m k h. h
-left_listed (Some a) (i ∷ is) = λ m k h. (
-  subst (λ q. AllByRecursion (λ p. is_at m k p ≡ true) (listed q)) (sym (same_elsewhere place_of (λ c v s t. refl) (λ c s t. refl) (λ c v s t. refl) a i)) h.0,
-  h.1,
-)
-
-pub left_known : (codes : List ℕ) (o : Option ListAction) (is : List Instr) → Knows codes is → Knows codes (instrs_left o is)
-left_known codes None is h = λ test none. tt
-left_known codes (Some a) [] h = h
-left_known codes (Some a) (i ∷ is) h = λ test none. (
-  subst (λ q. AllByRecursion (λ p. test (code p) ≡ false) (rivals q)) (sym (same_elsewhere place_of (λ c v s t. refl) (λ c s t. refl) (λ c v s t. refl) a i)) (h test none).0,
-  (h test none).1,
-)
 
 -- ---- the cell of a list instruction
 abbrev cell_name : CellPath → CellName
