@@ -1,8 +1,8 @@
 -- When a cell refuses an edit.
-use Rattle.std.specs.Prelude.{◌≡◌, ℕ, ℤ, Bool, true, false, if◌then◌else◌, List, Option, None, Some, Result, Ok, Err}
+use Rattle.std.specs.Prelude.{◌≡◌, Bool, true, false, if◌then◌else◌, Option, None, Some, Result, Ok, Err}
 use Rattle.sync_data.specs.declared.value.Value.{Value}
 use Rattle.sync_data.specs.declared.value.Value.TheVariants as values
-use Rattle.sync_base.specs.States.{Cell, One, Many, Members, Dict, cell_rank}
+use Rattle.sync_base.specs.States.{Cell, One, cell_rank}
 use Rattle.sync_base.specs.Effects as effects
 use Rattle.sync_base.specs.Effects.{Edit}
 use Rattle.sync_base.specs.Checks.{has_shape, is_prior}

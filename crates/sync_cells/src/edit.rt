@@ -35,9 +35,11 @@ pub enum Former {
 }
 
 impl From<WrongShape> for CellRefusal {
-    fn from(_: WrongShape) -> CellRefusal
-        ensures { result ≡ CellRefusal.WrongShape }
-    {
+    ghost use Rattle.sync_cells.specs.declared.refusal.CellRefusal.TheVariants as refusals;
+
+    ghost from_gives = { λ _ e. e ≡ refusals.WrongShape };
+
+    fn from(_: WrongShape) -> CellRefusal {
         CellRefusal::WrongShape
     }
 }
