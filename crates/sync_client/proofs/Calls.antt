@@ -6,9 +6,8 @@ use Rattle.sync_data.specs.declared.instr.Instr.{Instr}
 use Rattle.sync_base.specs.States.{State}
 use Rattle.sync_disk.specs.declared.disk.Disk.{Ghosts}
 use Rattle.sync_journal.specs.Stands.{disk_of}
-use Rattle.sync_journal.specs.declared.journal.Journal.{Journal}
 use Rattle.sync_model.specs.Bytes.{Tables, Uuid}
-use Rattle.sync_model.specs.Clients.{Born, Client as Model, ClientRecord, ClientRefusal, ClientStep, NotBorn, Subscribed, TooLate, after_record, appends, answers, refuse, born, born_once, client_of, commit, commit_born, if_born, is_late, no_client, subscribe, subscribed_once, upgrade}
+use Rattle.sync_model.specs.Clients.{Born, Client as Model, ClientRecord, ClientRefusal, ClientStep, TooLate, after_record, appends, answers, refuse, born, born_once, client_of, commit, commit_born, if_born, is_late, no_client, subscribe, subscribed_once, upgrade}
 use Rattle.sync_model.specs.Files.{client_opens}
 use Rattle.sync_model.specs.Each.{no_more, and_each}
 use Rattle.sync_model.specs.Limits.{IsClientRecord}

@@ -5,7 +5,7 @@ use Rattle.std.specs.Option.{is_some}
 use Rattle.sync_model.proofs.Own.{if_true, if_false}
 use Rattle.std.specs.Prelude.{◌⊎◌, OnOk, IfErr}
 use Rattle.sync_disk.specs.declared.disk.Disk.{Ghosts}
-use Rattle.sync_model.specs.Clients.{Client as Model, ClientRecord, ClientRefusal, IdentDiffers, Named, answers, appends, client_of, entry_refusal, take_born, take_entries, take_ident, took}
+use Rattle.sync_model.specs.Clients.{Client as Model, ClientRecord, ClientRefusal, Named, appends, client_of, entry_refusal, take_born, take_entries, take_ident, took}
 use Rattle.sync_model.specs.Files.{client_opens}
 use Rattle.sync_model.specs.Limits.{ClientLists}
 use Rattle.sync_model.specs.Messages.{Message, Sent}
@@ -26,7 +26,7 @@ use Rattle.sync_client.specs.Keeping.{Keeps}
 use Rattle.sync_client.specs.Refusals.{refusal_seen, IfSeen}
 use Rattle.sync_client.specs.Seen.{seen}
 use Rattle.sync_client.specs.Taking.{SentRefused, SentSays}
-use Rattle.sync_client.proofs.Calls.{did_none, did_refuse, if_seen_both, keeps_next, unseen}
+use Rattle.sync_client.proofs.Calls.{if_seen_both, keeps_next, unseen}
 use Rattle.sync_client.proofs.Refusing.{differ}
 
 -- the lists of a client are small

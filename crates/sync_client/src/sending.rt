@@ -1,4 +1,4 @@
-ghost use Rattle.std.specs.Prelude.{◌≡◌, ◌↔◌, ◌≤◌, ℕ, List, IsErrOf, IfErr, IfOk, OnOk, ◌++◌, ◌∷◌, [], map, true, length, min};
+ghost use Rattle.std.specs.Prelude.{◌≡◌, ◌↔◌, ◌≤◌, List, IsErrOf, IfErr, IfOk, OnOk, ◌++◌, ◌∷◌, [], map, true, length, min};
 ghost use Rattle.sync_journal.specs.Stands.{disk_of};
 ghost use Rattle.sync_model.specs.Clients as model;
 ghost use Rattle.sync_exchange.specs.Profile.{the_profile};

@@ -282,7 +282,7 @@ impl<D: Disk> Server<D> {
     }
 
     /// Takes a message, and answers the reply (docs/GUARANTEES.md, "Nodes"). What it answers is on the disk. `Closed` comes exactly
-    /// after an earlier `DiskFault` or `NoMemory`.
+    /// after an earlier `DiskFault` or `NoMemory`, or a `land` that failed.
     pub fn take(&mut self, message: Message) -> Result<Message, ServerRefusal>
         ensures does { (records : List model.ServerRecord) → IsServerOf records self.old → IfOk result (λ reply. Did (serve_by the_profile (parts (kept_of self.old)) (message_seen message)) reply records self.new) }
         ensures survives { (records : List model.ServerRecord) → IsServerOf records self.old → IsStored records self.old → Survives (serve_by the_profile (parts (kept_of self.old)) (message_seen message)) records self.old self.new result }

@@ -7,7 +7,7 @@ use Rattle.sync_client.proofs.Surviving.{survives_one, survives_refused}
 use Rattle.sync_client.proofs.client.Client.commit.Goals as goal
 
 pub returns-in-Err-clause-closes : goal.returns-in-Err-clause-closes
-returns-in-Err-clause-closes g c = plain_closes ℕ c.args.self.now c.refused.new.self c.refused.result c.in-Err.refusal c.refused.ensures.same c.in-Err.ensures.plain c.if-self.false c.refused.ensures.closes
+returns-in-Err-clause-closes g c = plain_closes ℕ c.args.self.now c.refused.new.self c.refused.result c.in-Err.refusal c.refused.ensures.same c.in-Err.ensures.plain (sym c.is_closed.ensures ∙ c.if-is_closed.false) c.refused.ensures.closes
 
 pub returns-in-Err-clause-disk : goal.returns-in-Err-clause-disk
 returns-in-Err-clause-disk g c = plain_disk ℕ c.args.self.now c.refused.new.self c.refused.result c.in-Err.refusal c.refused.ensures.same c.in-Err.ensures.plain c.refused.ensures.disk
