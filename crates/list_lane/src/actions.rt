@@ -25,11 +25,7 @@ fn parts(action: &ListAction) -> (Does, u32, u32)
 
 /// What is left of the first of two actions in one list after the other, or none where it is dropped. The flag is whether it is
 /// the later one.
-pub fn action_left(
-    later: bool,
-    first: &ListAction,
-    second: &ListAction,
-) -> Option<ListAction>
+pub fn action_left(later: bool, first: &ListAction, second: &ListAction) -> Option<ListAction>
     requires sizes { prior_in first.now ≡ prior_in second.now }
     requires room { prior_in first.now < top }
     ensures { result ≡ action_after later first.now second.now }

@@ -102,7 +102,12 @@ impl Span {
     }
 
     /// An action crosses the lane. Where it would take memory and there is none, nothing changes.
-    pub fn cross(&mut self, action: ListAction, stamp: Stamp, lane_left: bool) -> Result<(), NoMemory>
+    pub fn cross(
+        &mut self,
+        action: ListAction,
+        stamp: Stamp,
+        lane_left: bool,
+    ) -> Result<(), NoMemory>
         requires { Takes self.old action }
         ensures crossed { OnOk result (self.new ≡ record self.old { lane = lane_after (lane_later lane_left) self.old.lane (op_as action stamp) }) }
         ensures within { Within (kind_of action) (place_in action) (prior_in action) }
