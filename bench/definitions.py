@@ -6,9 +6,9 @@ is reached counts whole, by its lines without comments, blank lines and imports;
 that are reached by crate and file, and the sum. Rust's own types, the standard library and lemmas aren't counted.
 
 usage: bench/definitions.py [--names] [--beside OTHER] [--since REVISION] ROOT ..
-A ROOT is CRATE::NAME, of a function, a trait or a type that implements one; CRATE::NAME:CLAUSE,CLAUSE for these clauses alone; or a list
-in this script, `older` or `requests`. --beside leaves out what OTHER, a root or a list, reaches. --since leaves out lines that a
-definition of that name had in a revision of git. --names prints the definitions too.
+A ROOT is CRATE::NAME, of a function, a trait or a type that implements one; CRATE::NAME:CLAUSE,CLAUSE for these clauses alone;
+CRATE.specs.FILE.NAME, of a definition; or a list in this script, `older` or `requests`. --beside leaves out what OTHER, a root or a
+list, reaches. --since leaves out lines that a definition of that name had in a revision of git. --names prints the definitions too.
 """
 import argparse
 import collections
@@ -20,13 +20,23 @@ import subprocess
 TOP = os.path.dirname(os.path.dirname(os.path.abspath(__file__)))
 
 ROOTS = {
-    # the headline, and the laws that say nothing of client reset or trimmed history
+    # what was promised before: the headline, the laws of exchanges and of merging, the calls of nodes, bytes, and the commands
+    # `edit`, `take`, `serve`, `send`, `ask` and `show`
     "older": """
         sync_top::run:words,untouched,replay,world,headline,headline_after_faults,generated,generates,generated_headline
-        sync_top::run:caught_up,equal,refused
-        sync_model::worlds_hold
+        sync_top::run:caught_up,equal,refused,complete,complete_generate
+        sync_model::worlds_hold sync_model::servers_answer_by_parts sync_model::lists_stay_small sync_model::files_read_back
+        sync_model::nodes_write_what_opens:born,commit,upgrade,taken,served,complete
+        sync_model::nodes_stay_within_limits:worlds,clients,binds,uploads,asks,commits,takes,servers,entries,replies
         sync_theory::lists_agree sync_theory::one_crossing sync_theory::prefixes_rebase_alike sync_theory::changesets_agree
         sync_theory::worlds_converge sync_theory::reciprocal_lists_settle
+        sync_client::open sync_client::born sync_client::commit sync_client::upgrade sync_client::take sync_client::bind
+        sync_client::upload sync_client::ask sync_server::open sync_server::take
+        sync_codec::encode sync_codec::decode sync_messages::message_of sync_records::record_of sync_journal::append
+        sync_node.specs.Commands.AnswersItems sync_node.specs.Commands.TellsText sync_node.specs.Runs.runs
+        sync_node.specs.Steps.edit_step sync_node.specs.Steps.take_step sync_node.specs.Steps.serve_step
+        sync_node.specs.Opening.client_file sync_node.specs.Opening.server_file sync_node.specs.Opening.node_file
+        sync_node.specs.Items.lines_of sync_node.specs.Items.frames_of
         """.split(),
     # what is promised of client reset, subscriptions by tables and trimmed history
     "requests": """
@@ -34,10 +44,14 @@ ROOTS = {
         sync_model::retired_counts_are_final sync_model::breaks_are_listed sync_model::heirs_save_once
         sync_model::trimmed_servers_answer_alike sync_model::server_files_give_what_is_kept sync_model::later_worlds_hold
         sync_model::started_clients_have_the_objects snapshot_law::every_state_is_built snapshot_law::nothing_is_built_of_nothing
+        sync_model::worlds_hold sync_model::nodes_write_what_opens sync_model::nodes_stay_within_limits
         sync_theory::restricted_lists_cross_alike sync_exchange::restricted_changes_cross_alike
+        sync_exchange::adapted_instructions_fit sync_exchange::parts_are_lawful
         sync_subset::lists_act_on_parts sync_subset::parts_stay_states sync_subset::instructions_stay_apart
-        sync_client::subscribe sync_heir::heir sync_reset::saved sync_snapshot::build sync_snapshot::grown
+        sync_subset::new sync_subset::admits sync_subset::restrict sync_subset::names
+        sync_client::subscribe sync_client::upload_from sync_heir::heir sync_reset::saved sync_snapshot::build sync_snapshot::grown
         sync_trim::trimmed sync_trim::started sync_trim::trimmed_file sync_trim::started_file
+        sync_node.specs.FileCommands.MakesFile sync_node.specs.Sending.text_of sync_node.specs.Runs.noting_runs
         """.split(),
 }
 
@@ -200,7 +214,10 @@ def traits_and_roots(name, clauses, text):
 
 
 def root_texts(root, all_sources):
-    """The texts from which a root's names are followed."""
+    """The texts from which a root's names are followed, each with its imports."""
+    if "::" not in root:
+        path, _, name = root.rpartition(".")
+        return [({name: (path, name)}, name)]
     crate, _, rest = root.partition("::")
     name, _, clauses = rest.partition(":")
     found = [one for where, text in all_sources if where == crate for one in traits_and_roots(name, clauses.split(",") if clauses else [], text)]
