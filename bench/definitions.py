@@ -73,7 +73,8 @@ def indent_of(line):
 def imports_of(lines):
     """Of each imported name the path of its module and its name there, or none for the module itself."""
     names = {}
-    for path, listed, alias in (found.groups() for found in map(IMPORT.match, map(str.strip, lines)) if found):
+    for found in filter(None, (IMPORT.match(line.strip()) for line in lines)):
+        path, listed, alias = found.groups()
         if listed is None:
             names[alias or path.split(".")[-1]] = (path, None)
             continue
@@ -148,7 +149,8 @@ class Spec:
     def next(self, current, line, heads):
         """The definition to which a line belongs."""
         kinds, name = START.match(line.strip()).group("kinds", "name")
-        if indent_of(line) == 2 * len(heads) and (current is None or name != current.name) and (kinds or re.match(r" *\S+ : ", line)):
+        begins = (kinds or line.lstrip().startswith(name + " : ")) and (current is None or name != current.name)
+        if begins and indent_of(line) == 2 * len(heads):
             current = self.named[name.strip("◌")] = Definition(self, set(kinds.split()), name, heads)
         elif current and "data" in current.kinds and " : " in line and indent_of(line) == indent_of(current.lines[0]) + 2:
             self.named.setdefault(name, current)
@@ -193,8 +195,8 @@ def sources():
             yield path.split(os.sep)[len(TOP.split(os.sep)) + 1], file.read()
 
 
-def traits_and_roots(name, clauses, text):
-    """Of a source: the clauses of the functions of a name, and traits and implementations of it, with the traits that bound them."""
+def texts_of(name, clauses, text):
+    """Of the functions of a name their clauses, or those named, and traits and implementations of it; with the traits that bound them."""
     lines = code_of(text)
     imports = imports_of(lines)
     start = re.compile(rf" *(?:pub (?:fn|trait) {name}\b|impl.* for {name} )")
@@ -209,8 +211,8 @@ def traits_and_roots(name, clauses, text):
             body.append(line)
         signature, *parts = re.split(r"\n *(?=(?:requires|ensures)\b)", "\n".join(body))
         kept = [part for part in parts if not clauses or part.split()[1] in clauses]
-        # of a function its clauses alone, of a trait all
-        yield imports, "\n".join(kept if " fn " in body[0] else body), re.findall(r"\b[A-Z]\w*: ([A-Z]\w*)", signature.split("(")[0])
+        bounds = re.findall(r"\b[A-Z]\w*: ([A-Z]\w*)", signature.split("(")[0])
+        yield imports, "\n".join(kept if " fn " in body[0] else body), bounds
 
 
 def root_texts(root, all_sources):
@@ -218,13 +220,13 @@ def root_texts(root, all_sources):
     if "::" not in root:
         path, _, name = root.rpartition(".")
         return [({name: (path, name)}, name)]
-    crate, _, rest = root.partition("::")
-    name, _, clauses = rest.partition(":")
-    found = [one for where, text in all_sources if where == crate for one in traits_and_roots(name, clauses.split(",") if clauses else [], text)]
+    crate, name, clauses = re.fullmatch(r"(\w+)::(\w+):?(.*)", root).groups()
+    clauses = clauses.split(",") if clauses else []
+    found = [one for where, text in all_sources if where == crate for one in texts_of(name, clauses, text)]
     assert found, f"no {name} in {crate}"
-    bounds = {bound for _, _, traits in found for bound in traits}
-    traits = [one for _, text in all_sources for bound in bounds if f"trait {bound}" in text for one in traits_and_roots(bound, [], text)]
-    return [(imports, text) for imports, text, _ in found + traits]
+    for bound in {bound for _, _, bounds in found for bound in bounds}:
+        found += [one for _, text in all_sources if f"trait {bound}" in text for one in texts_of(bound, [], text)]
+    return [(imports, text) for imports, text, _ in found]
 
 
 def current_specs():
@@ -233,42 +235,46 @@ def current_specs():
 
 
 def lines_before(revision):
-    """The lines that each name's definitions had in a revision."""
-    git = lambda *words: subprocess.run(["git", *words], cwd=TOP, stdout=subprocess.PIPE, text=True, check=True).stdout
-    paths = [path for path in git("ls-tree", "-r", "--name-only", revision).split("\n") if "/specs/" in path and path.endswith(".antt")]
+    """The lines that each name's definitions had in a revision, and those of all heads of modules under `module`."""
+
+    def git(*words):
+        return subprocess.run(["git", *words], cwd=TOP, stdout=subprocess.PIPE, text=True, check=True).stdout
+
     before = collections.defaultdict(set)
-    for spec in Specs((path, git("show", f"{revision}:{path}")) for path in paths).files.values():
-        for definition in spec.named.values():
-            before[definition.name].update(line.strip() for line in definition.lines)
-            before["module"].update(head.strip() for _, head in definition.heads)
+    for path in git("ls-tree", "-r", "--name-only", revision).split("\n"):
+        if "/specs/" in path and path.endswith(".antt"):
+            for definition in Spec(path, git("show", f"{revision}:{path}")).named.values():
+                before[definition.name].update(line.strip() for line in definition.lines)
+                before["module"].update(head.strip() for _, head in definition.heads)
     return before
 
 
 def main():
     words = argparse.ArgumentParser(usage=__doc__.split("usage: ")[1])
     words.add_argument("--names", action="store_true")
-    words.add_argument("--beside", default=None)
-    words.add_argument("--since", default=None)
+    words.add_argument("--beside")
+    words.add_argument("--since")
     words.add_argument("roots", nargs="+")
     asked = words.parse_args()
-
     specs, all_sources = current_specs(), list(sources())
-    reached = lambda roots: specs.reached([text for name in roots for root in ROOTS.get(name, [name]) for text in root_texts(root, all_sources)])
+
+    def reached(names):
+        roots = [root for name in names for root in ROOTS.get(name, [name])]
+        return specs.reached([text for root in roots for text in root_texts(root, all_sources)])
+
     before = lines_before(asked.since) if asked.since else collections.defaultdict(set)
     others = set(reached([asked.beside])) if asked.beside else set()
-    counted = collections.defaultdict(dict)
-    heads = collections.defaultdict(set)
+    counts, heads = collections.defaultdict(dict), collections.defaultdict(set)
     for definition in reached(asked.roots):
         if definition not in others:
-            counted[definition.file.path][definition.name] = sum(line.strip() not in before[definition.name] for line in definition.lines)
-            heads[definition.file.path].update(head for head in definition.heads if head[1].strip() not in before["module"])
-    total = 0
-    for path in sorted(counted):
-        lines = sum(counted[path].values()) + len(heads[path])
-        total += lines
-        if lines:
-            print(f"{lines:5} {path.removeprefix('crates/')}", *(f"{name}:{count}" for name, count in counted[path].items() if asked.names and count))
-    print(f"{total:5} lines of definitions")
+            path = definition.file.path
+            counts[path][definition.name] = sum(line.strip() not in before[definition.name] for line in definition.lines)
+            heads[path].update(head for head in definition.heads if head[1].strip() not in before["module"])
+    sums = {path: sum(counts[path].values()) + len(heads[path]) for path in sorted(counts)}
+    for path in filter(sums.get, sums):
+        names = [f"{name}:{count}" for name, count in counts[path].items() if asked.names and count]
+        print(f"{sums[path]:5} {path.removeprefix('crates/')}", *names)
+    print(f"{sum(sums.values()):5} lines of definitions")
 
 
 if __name__ == "__main__":
