@@ -20,5 +20,3 @@ pub mod Dropping
 pub mod Merging
 pub mod Turned
 pub mod Slots
-pub mod Placed
-pub mod Spans

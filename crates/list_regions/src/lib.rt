@@ -8,11 +8,9 @@ mod pop;
 mod push;
 mod region;
 mod regions;
-mod span;
 mod walk;
 
 pub use regions::Regions;
-pub use span::Span;
 
 #[cfg(test)]
 mod tests;
