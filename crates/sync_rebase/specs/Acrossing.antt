@@ -48,6 +48,15 @@ pub record LeavesAction (s : Stretch) (a : Across) (left : Option ListAction) : 
   pub within : Within (kind_of a.action) (place_in a.action) s.lane.first
   pub law : CrossesLeft s.lane (op_across a) op (lane_after (lane_later true) s.lane (op_across a))
 
+-- it crossed the lane of a stretch, which stands as crossed
+pub record CrossedAt (a : Across) (before after : Option Stretch) : Type 0 where
+  pub stretch : Stretch
+  pub was : before ≡ Some stretch
+  pub takes : TakesAcross stretch a
+  pub chains : Chains stretch.lane.first stretch.lane.slots
+  pub within : Within (kind_of a.action) (place_in a.action) (prior_in a.action)
+  pub is : after ≡ Some (record stretch { lane = lane_after (lane_later true) stretch.lane (op_across a) })
+
 -- one unsent changeset and one of another, each of one instruction of one list, cross and both stay
 pub record BothMove (own : ℕ) (u : Unsent Instr) (origin : ℕ) (c : Changes) (m : Moves) : Type 0 where
   pub crosses : (n : ℕ) → cross_sets meet (changeset_of own u) (made_by origin n c) ≡ Ok (changeset_of own (record u { current = moved_first m.left u.current }), made_by origin n (moved_changes m.right c))

@@ -14,7 +14,7 @@ ghost use Rattle.sync_rebase.specs.Taking.{IsHead};
 use super::carried::{Across, Became};
 use super::original::Original;
 use super::stretch::{
-    Stretch, cross_each, cross_lane, extend_last, first_stretch, left_by, lies_in, step_back,
+    Stretch, cross_at_once, cross_each, extend_last, first_stretch, left_by, lies_in, step_back,
     takes, told_at, write_around, write_head, write_whole,
 };
 use super::unsent::Unsent;
@@ -206,10 +206,8 @@ impl Items {
         requires { CanPass across.own across.stamp across.count (Some across.action) (drop across.start self.old) }
         ensures { self.new ≡ put_across across self.old }
     {
-        if let Some(stretch) = &mut self.stretch {
-            if takes(stretch, &across) && cross_lane(stretch, &across).is_ok() {
-                return;
-            }
+        if cross_at_once(&mut self.stretch, &across) {
+            return;
         }
         write_whole(self.alloc, &mut self.items, &mut self.stretch);
         cross_each(self.alloc, &mut self.items, across);

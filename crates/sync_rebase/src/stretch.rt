@@ -2,7 +2,7 @@ ghost use Rattle.std.specs.Prelude.{◌≡◌, ◌<◌, ◌+◌, None, Some, IfS
 ghost use Rattle.sync_base.specs.Rules.{top};
 ghost use Rattle.sync_rebase.specs.Stretches.{laid, shown_by, lane_with, Follows, Stands, Outside, IsSlotAt, IsToldAt, StepsBack};
 ghost use Rattle.sync_rebase.specs.Settling.{CanPass, put_across};
-ghost use Rattle.sync_rebase.specs.Acrossing.{op_across, LeavesAction, TakesAcross};
+ghost use Rattle.sync_rebase.specs.Acrossing.{op_across, CrossedAt, LeavesAction, TakesAcross};
 ghost use Rattle.list_lane.specs.Ops.{lane_later};
 ghost use Rattle.list_lane.specs.Lanes.{lane_after, length_at_end, Chains, Fits};
 ghost use Rattle.list_lane.specs.Told.{place_in, prior_in};
@@ -75,7 +75,7 @@ pub(crate) fn left_by(stretch: &Stretch, across: &Across) -> Option<ListAction>
 }
 
 /// An action crosses the lane of a stretch. Where it would take memory and there is none, the stretch stays as it is.
-pub(crate) fn cross_lane(stretch: &mut Stretch, across: &Across) -> Result<(), NoMemory>
+fn cross_lane(stretch: &mut Stretch, across: &Across) -> Result<(), NoMemory>
     requires { TakesAcross stretch.old across.now }
     ensures crossed { OnOk result (stretch.new ≡ record stretch.old { lane = lane_after (lane_later true) stretch.old.lane (op_across across.now) }) }
     ensures within { Within (kind_of across.now.action) (place_in across.now.action) (prior_in across.now.action) }
@@ -298,6 +298,19 @@ pub(crate) fn cross_each(alloc: Global, items: &mut VecDeque<Unsent>, across: Ac
     }
 }
 
+/// An action crosses the lane of the stretch, where it comes to that and there is memory. Whether it does.
+pub(crate) fn cross_at_once(stretch: &mut Option<Stretch>, across: &Across) -> bool
+    ensures crossed { IsTrue result → CrossedAt across.now stretch.old stretch.new }
+    ensures unchanged { IsFalse result → stretch.new ≡ stretch.old }
+{
+    if let Some(stretch) = stretch {
+        if takes(stretch, across) {
+            return cross_lane(stretch, across).is_ok();
+        }
+    }
+    false
+}
+
 /// Whether an action that comes to these crosses the lane of a stretch.
 pub(crate) fn takes(stretch: &Stretch, across: &Across) -> bool
     ensures takes { IsTrue result → TakesAcross stretch.now across.now }
@@ -312,7 +325,7 @@ pub(crate) fn takes(stretch: &Stretch, across: &Across) -> bool
 }
 
 /// Whether a list of that length stays short enough for so many more.
-pub(crate) fn has_room(length: u32, count: usize) -> bool
+fn has_room(length: u32, count: usize) -> bool
     ensures { IsTrue result → length + count + 1 < top }
 {
     let most = u32::MAX as usize;

@@ -1,5 +1,6 @@
 -- A stretch grows by the entry behind it.
-use Rattle.std.proofs.Common.{◌≡◌, ℕ, ◌+◌, ◌<◌, ◌≤◌, List, [], ◌∷◌, ◌++◌, Option, Some, None, refl, sym, ap, ◌∙◌, subst, length, drop, get_or, length-drop, arith}
+use Rattle.std.specs.Prelude.{OnOk, OnErr, is_ok}
+use Rattle.std.proofs.Common.{◌≡◌, ℕ, ◌+◌, ◌<◌, ◌≤◌, true, false, List, [], ◌∷◌, ◌++◌, Option, Some, None, Result, Ok, Err, refl, sym, ap, ◌∙◌, subst, length, drop, get_or, length-drop, arith}
 use Rattle.std.proofs.lemmas.List.{get_or-drop, length-append}
 use Rattle.sync_data.specs.declared.entry.Entry.{Entry}
 use Rattle.sync_data.specs.declared.entry.Stamp.{Stamp}
@@ -83,3 +84,12 @@ none_stands us i n l = record { within = omega (arith, l); cell = None; held = t
 
 pub none_shown : (us : List Kept) (i n : ℕ) → laid i (record { first = n; slots = [] }) us ≡ us
 none_shown us i n = laid_none i (record { first = n; slots = [] }) us refl
+
+-- ---- where there is memory, or none
+pub on_ok : {A E P : Type 0} (r : Result A E) → is_ok r ≡ true → OnOk r P → P
+on_ok (Ok x) told h = h
+on_ok (Err x) told h = cc
+
+pub on_err : {A E P : Type 0} (r : Result A E) → is_ok r ≡ false → OnErr r P → P
+on_err (Ok x) told h = cc
+on_err (Err x) told h = h

@@ -57,6 +57,15 @@ pub record LeavesAction (s : Stretch) (a : Across) (left : Option ListAction) : 
   pub within : Within (kind_of a.action) (place_in a.action) s.lane.first
   pub law : CrossesRight s.lane (op_across a) op (lane_after (lane_later false) s.lane (op_across a))
 
+-- it crossed the lane of a stretch, which stands as crossed
+pub record CrossedAt (a : Across) (before after : Option Stretch) : Type 0 where
+  pub stretch : Stretch
+  pub was : before ≡ Some stretch
+  pub takes : TakesAcross stretch a
+  pub chains : Chains stretch.lane.first stretch.lane.slots
+  pub within : Within (kind_of a.action) (place_in a.action) (prior_in a.action)
+  pub is : after ≡ Some (record stretch { lane = lane_after (lane_later false) stretch.lane (op_across a) })
+
 -- a change and one entry, each of one instruction of one list, cross and both stay
 pub record BothMove (own : ℕ) (c : Changes) (k : Kept) (m : Moves) : Type 0 where
   pub crosses : (number : ℕ) → cross_sets meet (made_by own number c) (kept_entry k) ≡ Ok (made_by own number (moved_changes m.left c), kept_entry (with_instrs (moved_first m.right (instrs_in k)) k))

@@ -15,7 +15,7 @@ use super::carried::Became;
 use super::carry::keep;
 use super::kept::{Kept, count_below};
 use super::stretch::{
-    Stretch, cross_each, cross_lane, extend_last, first_stretch, left_by, takes, told_at,
+    Stretch, cross_at_once, cross_each, extend_last, first_stretch, left_by, takes, told_at,
     write_around, write_before, write_whole,
 };
 use std::alloc::Global;
@@ -278,10 +278,8 @@ impl Items {
         ensures versions { versions self.new ≡ versions self.old }
         ensures entries { map kept_entry self.new ≡ put_across across (map kept_entry self.old) }
     {
-        if let Some(stretch) = &mut self.stretch {
-            if takes(stretch, &across) && cross_lane(stretch, &across).is_ok() {
-                return;
-            }
+        if cross_at_once(&mut self.stretch, &across) {
+            return;
         }
         write_whole(&mut self.kept, &mut self.stretch);
         cross_each(&mut self.kept, across);

@@ -1,11 +1,11 @@
-ghost use Rattle.std.specs.Prelude.{◌≡◌, ◌<◌, ◌+◌, None, Some, IfSome, IsTrue, OnOk, OnErr, false, drop, length, map};
+ghost use Rattle.std.specs.Prelude.{◌≡◌, ◌<◌, ◌+◌, None, Some, IfSome, IsFalse, IsTrue, OnOk, OnErr, false, drop, length, map};
 ghost use Rattle.sync_base.specs.Rules.{top};
 ghost use Rattle.sync_transform.specs.Places.{Within};
 ghost use Rattle.sync_transform.specs.Moves.{kind_of};
 ghost use Rattle.list_lane.specs.Lanes.{lane_after, Chains, Fits};
 ghost use Rattle.list_lane.specs.Ops.{lane_later};
 ghost use Rattle.list_lane.specs.Told.{place_in, prior_in};
-ghost use Rattle.sync_recip.specs.Acrossing.{op_across, put_across, CanCross, LeavesAction, TakesAcross};
+ghost use Rattle.sync_recip.specs.Acrossing.{op_across, put_across, CanCross, CrossedAt, LeavesAction, TakesAcross};
 ghost use Rattle.sync_recip.specs.Lists.{kept_entry, versions};
 ghost use Rattle.sync_recip.specs.Stretches.{laid, shown_by, Stands, Outside, IsSlotAt, IsToldAt};
 
@@ -63,7 +63,7 @@ pub(crate) fn left_by(stretch: &Stretch, across: &Across) -> Option<ListAction>
 }
 
 /// An action crosses the lane of a stretch. Where it would take memory and there is none, the stretch stays as it is.
-pub(crate) fn cross_lane(stretch: &mut Stretch, across: &Across) -> Result<(), NoMemory>
+fn cross_lane(stretch: &mut Stretch, across: &Across) -> Result<(), NoMemory>
     requires { TakesAcross stretch.old across.now }
     ensures crossed { OnOk result (stretch.new ≡ record stretch.old { lane = lane_after (lane_later false) stretch.old.lane (op_across across.now) }) }
     ensures within { Within (kind_of across.now.action) (place_in across.now.action) (prior_in across.now.action) }
@@ -252,6 +252,19 @@ pub(crate) fn cross_each(kept: &mut Vec<Kept>, across: Across)
     }
 }
 
+/// An action crosses the lane of the stretch, where it comes to that and there is memory. Whether it does.
+pub(crate) fn cross_at_once(stretch: &mut Option<Stretch>, across: &Across) -> bool
+    ensures crossed { IsTrue result → CrossedAt across.now stretch.old stretch.new }
+    ensures unchanged { IsFalse result → stretch.new ≡ stretch.old }
+{
+    if let Some(stretch) = stretch {
+        if takes(stretch, across) {
+            return cross_lane(stretch, across).is_ok();
+        }
+    }
+    false
+}
+
 /// Whether an action that comes to these crosses the lane of a stretch.
 pub(crate) fn takes(stretch: &Stretch, across: &Across) -> bool
     ensures takes { IsTrue result → TakesAcross stretch.now across.now }
@@ -265,7 +278,7 @@ pub(crate) fn takes(stretch: &Stretch, across: &Across) -> bool
 }
 
 /// Whether a list of that length stays short enough for so many more.
-pub(crate) fn has_room(length: u32, count: usize) -> bool
+fn has_room(length: u32, count: usize) -> bool
     ensures { IsTrue result → length + count + 1 < top }
 {
     let most = u32::MAX as usize;
