@@ -29,6 +29,10 @@ module _ {D : Type 0} {G : Ghosts D} where
   pub appends_none : (old new : Journal D G) → ((disk : D) (c : List ℕ) → G.images_since disk (G.moment disk) c → G.images disk c) → new ≡ old → JournalAppends [] old new None
   appends_none old new only_now e = record { stored = adds_none old new e; any_moment = untouched [] old new only_now (ap disk_of e); asked = λ b told. asks_nothing old new e }
 
+  -- out of memory before anything is appended
+  pub unadded : (next : List ServerRecord) (old new : Journal D G) → ((disk : D) (c : List ℕ) → G.images_since disk (G.moment disk) c → G.images disk c) → disk_of new ≡ disk_of old → JournalAppends next old new (Some causes.NoMemory)
+  unadded next old new only_now same = record { stored = tt; any_moment = untouched next old new only_now same; asked = λ b told. tt }
+
   -- a call behind one that was done
   pub appends_more : (a b : List ServerRecord) (old mid new : Journal D G) (why : Option ServerRefusal) → JournalAppends a old mid None → Told (G.content (disk_of old)) (λ c. (bytes : List ℕ) × (G.content (disk_of mid) ≡ Some bytes)) → JournalAppends b mid new why
       → JournalAppends (a ++ b) old new why
