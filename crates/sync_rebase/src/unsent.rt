@@ -163,11 +163,13 @@ impl Unsent {
         if prior_of(action) != length || !same_first_cell(cell, self.current.written()) {
             return None;
         }
-        let stamp = Stamp {
-            ms: self.current.ms(),
-            ident: own,
-        };
-        Some(op_of(action, stamp))
+        Some(op_of(
+            action,
+            Stamp {
+                ms: self.current.ms(),
+                ident: own,
+            },
+        ))
     }
 
     /// What it and a changeset of another do after they crossed, where each is one instruction of one list, and both stay.
