@@ -10,7 +10,7 @@ use sync_data::Stamp;
 use sync_transform::{Does, ListAction, length_after, place_after};
 
 /// What an action does, where, and on a list of which length.
-fn parts(action: &ListAction) -> (Does, u32, u32)
+pub fn parts_of(action: &ListAction) -> (Does, u32, u32)
     ensures does { result.0 ≡ kind_of action.now }
     ensures place { result.1 ≡ place_in action.now }
     ensures prior { result.2 ≡ prior_in action.now }
@@ -30,8 +30,8 @@ pub fn action_left(later: bool, first: &ListAction, second: &ListAction) -> Opti
     requires room { prior_in first.now < top }
     ensures { result ≡ action_after later first.now second.now }
 {
-    let (does, place, prior) = parts(first);
-    let (other, other_place, _) = parts(second);
+    let (does, place, prior) = parts_of(first);
+    let (other, other_place, _) = parts_of(second);
     let place = place_after(later, does, place, other, other_place)?;
     let stamp = Stamp { ms: 0, ident: 0 };
     let left = Op { does, place, stamp };

@@ -10,7 +10,7 @@ mod lane;
 mod laws;
 mod op;
 
-pub use actions::action_left;
+pub use actions::{action_left, parts_of};
 pub use lane::Lane;
 pub use laws::{elements_part_a_lane, lanes_stay_told};
 pub use op::{Op, action_of, op_of, prior_of};

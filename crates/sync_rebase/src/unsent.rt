@@ -18,7 +18,7 @@ ghost use Rattle.sync_rebase.specs.Taking.{IsEntryOf};
 
 use super::carried::Became;
 use super::original::Original;
-use list_lane::{Op, action_left, action_of, op_of, prior_of};
+use list_lane::{Op, action_left, action_of, parts_of};
 use std::alloc::Global;
 use std::marker::Model;
 use sync_data::{Changeset, Entry, Ident, Instr, NoMemory, Stamp};
@@ -160,16 +160,15 @@ impl Unsent {
         ensures { IfSome result (λ op. IsSlotOf self.now (first_cell cell.now.instrs) own length (Some op)) }
     {
         let action = self.current.action()?;
-        if prior_of(action) != length || !same_first_cell(cell, self.current.written()) {
+        let (does, place, prior) = parts_of(&action);
+        if prior != length || !same_first_cell(cell, self.current.written()) {
             return None;
         }
-        Some(op_of(
-            action,
-            Stamp {
-                ms: self.current.ms(),
-                ident: own,
-            },
-        ))
+        let stamp = Stamp {
+            ms: self.current.ms(),
+            ident: own,
+        };
+        Some(Op { does, place, stamp })
     }
 
     /// What it and a changeset of another do after they crossed, where each is one instruction of one list, and both stay.

@@ -20,13 +20,13 @@ use Rattle.list_lane.proofs.Acting.{action_parts, kind_known, told_itself}
 use Rattle.sync_recip.proofs.Crossings.{first_holds}
 use Rattle.sync_recip.proofs.Laid.{from_same, laid_none}
 
-pub op_is : (n : ℕ) (e : Entry) (a : ListAction) (s : Stamp) (b : Op) → action_in e.changes.instrs ≡ Some a → b ≡ record { does = kind_of a; place = place_in a; stamp = s } → Within b.does b.place (prior_in a) → prior_in a ≡ n
-    → s ≡ record { ms = e.changes.ms; ident = e.origin } → IsOpOn n e b
-op_is n e a s b acts is within size stamp = record {
-  acts = acts ∙ ap Some (sym (action_parts a) ∙ (λ i. action (sym is i).does (sym is i).place (size i)));
-  kind = kind_known e.changes.instrs a acts ∙ ap Some (sym (ap (λ (x : Op). x.does) is));
-  stamp = ap (λ (x : Op). x.stamp) is ∙ stamp;
-  within = subst (Within b.does b.place) size within;
+pub op_is : (n : ℕ) (e : Entry) (a : ListAction) (d : Does) (p m : ℕ) (s : Stamp) → action_in e.changes.instrs ≡ Some a → d ≡ kind_of a → p ≡ place_in a → m ≡ prior_in a → Within d p m → m ≡ n
+    → s ≡ record { ms = e.changes.ms; ident = e.origin } → IsOpOn n e (record { does = d; place = p; stamp = s })
+op_is n e a d p m s acts does place prior within size stamp = record {
+  acts = acts ∙ ap Some (sym (action_parts a) ∙ (λ i. action (sym does i) (sym place i) ((sym prior ∙ size) i)));
+  kind = kind_known e.changes.instrs a acts ∙ ap Some (sym does);
+  stamp = stamp;
+  within = subst (Within d p) size within;
 }
 
 op_tells : (n : ℕ) (k : Kept) (b : Op) → IsOpOn n k.item b → told_kept n (Some b) k ≡ k

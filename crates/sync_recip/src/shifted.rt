@@ -18,7 +18,7 @@ ghost use Rattle.sync_recip.specs.Stretches.{holding, IsOpOn};
 
 use super::carried::Became;
 use super::shared::SharedEntry;
-use list_lane::{Op, action_left, action_of, op_of, prior_of};
+use list_lane::{Op, action_left, action_of, parts_of};
 use std::alloc::Global;
 use std::marker::Model;
 use sync_base::{Changeset, Entry, Ident, Instr, NoMemory, Stamp};
@@ -124,10 +124,12 @@ impl ShiftedEntry {
         ensures { IfSome result (IsOpOn length self.now) }
     {
         let action = self.action()?;
-        if prior_of(action) != length {
+        let (does, place, prior) = parts_of(&action);
+        if prior != length {
             return None;
         }
-        Some(op_of(action, self.stamp()))
+        let stamp = self.stamp();
+        Some(Op { does, place, stamp })
     }
 
     /// Its changes.
