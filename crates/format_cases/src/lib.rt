@@ -1,5 +1,4 @@
-//! Worked cases of the formats of docs/FORMATS.md: each line of a file beside this program is one, with what must come of it.
-//! It prints how many cases of each file hold, and each line that doesn't.
+//! Worked cases of the formats of docs/FORMATS.md: each line of a file of `trials/data/formats` is one, with what must come of it.
 #![tactic(auto)]
 
 mod bytes;
@@ -18,7 +17,6 @@ mod values;
 use failure::Failure;
 use std::alloc::Global;
 use std::fs;
-use std::process::ExitCode;
 
 /// What a file's lines are cases of.
 #[derive(Clone, Copy)]
@@ -35,15 +33,15 @@ enum Topic {
 }
 
 const FILES: [(&str, Topic); 9] = [
-    ("changesets.txt", Topic::Changesets),
-    ("inputs.txt", Topic::Inputs),
-    ("journals.txt", Topic::Journals),
-    ("lines.txt", Topic::Lines),
-    ("messages.txt", Topic::Messages),
-    ("numbers.txt", Topic::Numbers),
-    ("records.txt", Topic::Records),
-    ("strings.txt", Topic::Strings),
-    ("values.txt", Topic::Values),
+    ("formats/changesets.txt", Topic::Changesets),
+    ("formats/inputs.txt", Topic::Inputs),
+    ("formats/journals.txt", Topic::Journals),
+    ("formats/lines.txt", Topic::Lines),
+    ("formats/messages.txt", Topic::Messages),
+    ("formats/numbers.txt", Topic::Numbers),
+    ("formats/records.txt", Topic::Records),
+    ("formats/strings.txt", Topic::Strings),
+    ("formats/values.txt", Topic::Values),
 ];
 
 /// Whether what a line says comes of it. Its columns are parted by tabs, and the first says which case it is.
@@ -80,16 +78,11 @@ fn run(rt: &HostRuntime, name: &str, topic: Topic) -> Result<(), Failure> {
     Ok(())
 }
 
-fn run_all(rt: &HostRuntime) -> Result<(), Failure> {
+/// Prints how many cases of each file hold, and each line that doesn't. Whether all files were read.
+pub fn try_all(rt: &HostRuntime) -> bool {
+    let mut all = true;
     for (name, topic) in FILES {
-        run(rt, name, topic)?;
+        all &= run(rt, name, topic).is_ok();
     }
-    Ok(())
-}
-
-fn main(rt: HostRuntime) -> ExitCode {
-    match run_all(&rt) {
-        Ok(()) => ExitCode::SUCCESS,
-        Err(_) => ExitCode::FAILURE,
-    }
+    all
 }

@@ -1,9 +1,8 @@
 //! Nanoseconds of `Store::apply`, for one kind of instruction on a store that is filled first, and of a snapshot and a recovery.
 //!
-//! `store_bench WORK OBJECTS COUNT` fills a store with OBJECTS objects, and with a list of 100,000 elements where WORK inserts
+//! `trials store WORK OBJECTS COUNT` fills a store with OBJECTS objects, and with a list of 100,000 elements where WORK inserts
 //! into one, applies COUNT instructions, and prints `WORK OBJECTS COUNT NANOSECONDS`: those of COUNT instructions, of `build` or
 //! `grow` once, or of `save` for COUNT changes. Making the instructions and the changes isn't counted.
-//! Without these words it prints how to call it.
 #![tactic(auto)]
 
 mod filled;
@@ -11,8 +10,7 @@ mod snapshots;
 mod work;
 
 use filled::Filled;
-use std::process::ExitCode;
-use std::{env, io};
+use std::io;
 use work::Work;
 
 /// Why a run ends early.
@@ -34,19 +32,14 @@ impl From<io::Error> for Failure {
     }
 }
 
-fn main(rt: HostRuntime) -> ExitCode {
-    match run(&rt) {
-        Ok(()) => ExitCode::SUCCESS,
-        Err(_) => ExitCode::FAILURE,
-    }
+/// Measures what the words ask for, and prints it. Whether they ask for it, and all went well.
+pub fn try_words(rt: &HostRuntime, words: &[String]) -> bool {
+    run(rt, words).is_ok()
 }
 
-fn run(rt: &HostRuntime) -> Result<(), Failure> {
-    let mut words = env::args(rt)?;
-    let _program = words.next();
-    let (Some(word), Some(objects), Some(count)) = (words.next(), words.next(), words.next()) else {
-        println!(rt; "usage: store_bench WORK OBJECTS COUNT")?;
-        return Ok(());
+fn run(rt: &HostRuntime, words: &[String]) -> Result<(), Failure> {
+    let [word, objects, count] = words else {
+        return Err(Failure::Words);
     };
     let work = Work::of(word.as_str()).ok_or(Failure::Words)?;
     let objects = number(objects.as_str())?;

@@ -1,6 +1,6 @@
 //! Drawn changesets that cross whole lists, compared with crossing them one by one.
 //!
-//! `crossing_cases SEED COUNT` draws COUNT entries that a client's unsent changesets take (`PendingList::take_entry`), and COUNT
+//! `trials drawn SEED COUNT` draws COUNT entries that a client's unsent changesets take (`PendingList::take_entry`), and COUNT
 //! changes that are carried over the entries of others (`Recip::carry` and `settle`). The seed settles them. What comes of each, and
 //! where it is refused, is compared with what crossing the changesets of the list one after the other (`cross_sets`) comes to.
 #![tactic(auto)]
@@ -12,25 +12,28 @@ mod pairs;
 mod unsent;
 
 use drawn::Drawn;
-use std::env;
-use std::process::ExitCode;
 
 /// How many entries or changes meet one list.
 pub const ROUNDS: u32 = 20;
 
-fn main(rt: HostRuntime) -> ExitCode {
-    match run(&rt) {
-        Some(()) => ExitCode::SUCCESS,
-        None => ExitCode::FAILURE,
+/// Tries COUNT drawn entries and as many changes. Whether they could be tried.
+pub fn try_drawn(rt: &HostRuntime, seed: u64, count: u32) -> bool {
+    run(rt, seed, count).is_some()
+}
+
+/// Does what the words SEED and COUNT ask for. Whether they are that.
+pub fn try_words(rt: &HostRuntime, words: &[String]) -> bool {
+    let [seed, count] = words else {
+        return false;
+    };
+    match (seed.as_str().parse::<u64>(), count.as_str().parse::<u32>()) {
+        (Ok(seed), Ok(count)) => try_drawn(rt, seed, count),
+        _ => false,
     }
 }
 
-/// Tries what the words ask for. None where they aren't two numbers, and where memory or the output fails.
-fn run(rt: &HostRuntime) -> Option<()> {
-    let mut words = env::args(rt).ok()?;
-    let _program = words.next();
-    let seed = words.next()?.as_str().parse::<u64>().ok()?;
-    let count = words.next()?.as_str().parse::<u32>().ok()?;
+/// None where memory or the output fails.
+fn run(rt: &HostRuntime, seed: u64, count: u32) -> Option<()> {
     let lists = count / ROUNDS;
     let wrong = wrong_lists(rt, seed, lists)?;
     let tried = lists.saturating_mul(ROUNDS);

@@ -1,10 +1,10 @@
 //! Times a server that takes uploads, a client that takes a download, and the opening of both over a file.
 //!
-//! `node_bench upload CHANGES CLIENTS turns|together memory|FILE`: each of CLIENTS clients uploads CHANGES changes at once,
+//! `trials node upload CHANGES CLIENTS turns|together memory|FILE`: each of CLIENTS clients uploads CHANGES changes at once,
 //! after it has taken the changes of those before it (`turns`), or before it has taken any (`together`).
-//! `node_bench download UNSENT ENTRIES`: a client with UNSENT changesets takes ENTRIES entries.
-//! `node_bench make server|client ENTRIES FILE` makes a file, and `node_bench open server|client FILE` times its opening.
-//! Each prints one line. Without these words it prints how to call it.
+//! `trials node download UNSENT ENTRIES`: a client with UNSENT changesets takes ENTRIES entries.
+//! `trials node make server|client ENTRIES FILE` makes a file, and `trials node open server|client FILE` times its opening.
+//! Each prints one line.
 #![tactic(auto)]
 
 mod downloads;
@@ -14,27 +14,19 @@ mod messages;
 mod uploads;
 
 use failure::Failure;
-use std::env;
-use std::process::ExitCode;
 use std::time::Instant;
 
-fn main(rt: HostRuntime) -> ExitCode {
-    match run(&rt) {
-        Ok(()) => ExitCode::SUCCESS,
-        Err(_) => ExitCode::FAILURE,
-    }
+/// Measures what the words ask for, and prints it. Whether they ask for it, and all went well.
+pub fn try_words(rt: &HostRuntime, words: &[String]) -> bool {
+    run(rt, words).is_ok()
 }
 
-fn run(rt: &HostRuntime) -> Result<(), Failure> {
-    let mut words = env::args(rt)?;
-    let _program = words.next();
-    let Some(scenario) = words.next() else {
-        println!(rt; "usage: node_bench upload|download|make|open ..")?;
-        return Ok(());
+fn run(rt: &HostRuntime, words: &[String]) -> Result<(), Failure> {
+    let [scenario, rest @ ..] = words else {
+        return Err(Failure::Words);
     };
-    let (first, second, third, fourth) = (words.next(), words.next(), words.next(), words.next());
-    match (scenario.as_str(), first, second, third, fourth) {
-        ("upload", Some(changes), Some(clients), Some(bases), Some(place)) => {
+    match (scenario.as_str(), rest) {
+        ("upload", [changes, clients, bases, place]) => {
             let plan = uploads::Plan {
                 changes: number(changes.as_str())?,
                 clients: number(clients.as_str())?,
@@ -42,17 +34,13 @@ fn run(rt: &HostRuntime) -> Result<(), Failure> {
             };
             uploads::upload(rt, place.as_str(), plan)
         }
-        ("download", Some(unsent), Some(entries), None, None) => {
+        ("download", [unsent, entries]) => {
             downloads::download(rt, number(unsent.as_str())?, number(entries.as_str())?)
         }
-        ("make", Some(node), Some(entries), Some(path), None) => {
+        ("make", [node, entries, path]) => {
             files::make(rt, node.as_str(), number(entries.as_str())?, path.as_str())
         }
-        ("open", Some(node), Some(path), None, None) => files::open(
-            rt,
-            node.as_str(),
-            path.as_str(),
-        ),
+        ("open", [node, path]) => files::open(rt, node.as_str(), path.as_str()),
         _ => Err(Failure::Words),
     }
 }

@@ -1,17 +1,15 @@
 //! How fast changesets of mixed instructions are encoded and decoded.
 //!
-//! `bytes_bench MILLISECONDS COUNT ..` makes for each COUNT a changeset of so many instructions, encodes and decodes it so
-//! often that each takes at least so many milliseconds, and prints the bytes, the runs and the microseconds of both. Without
-//! these words it prints how to call it.
+//! `trials bytes MILLISECONDS COUNT ..` makes for each COUNT a changeset of so many instructions, encodes and decodes it so
+//! often that each takes at least so many milliseconds, and prints the bytes, the runs and the microseconds of both.
 #![tactic(auto)]
 
 mod made;
 
 use made::changeset;
 use std::alloc::{AllocError, Global};
-use std::process::ExitCode;
+use std::io;
 use std::time::Instant;
-use std::{env, io};
 use sync_base::Changeset;
 use sync_codec::{decode, encode};
 
@@ -46,22 +44,17 @@ impl From<AllocError> for Failure {
     }
 }
 
-fn main(rt: HostRuntime) -> ExitCode {
-    match run(&rt) {
-        Ok(()) => ExitCode::SUCCESS,
-        Err(_) => ExitCode::FAILURE,
-    }
+/// Measures what the words ask for, and prints it. Whether they ask for it, and all went well.
+pub fn try_words(rt: &HostRuntime, words: &[String]) -> bool {
+    run(rt, words).is_ok()
 }
 
-fn run(rt: &HostRuntime) -> Result<(), Failure> {
-    let mut words = env::args(rt)?;
-    let _program = words.next();
-    let Some(millis) = words.next() else {
-        println!(rt; "usage: bytes_bench MILLISECONDS COUNT ..")?;
-        return Ok(());
+fn run(rt: &HostRuntime, words: &[String]) -> Result<(), Failure> {
+    let [millis, counts @ ..] = words else {
+        return Err(Failure::Words);
     };
     let micros = number(millis.as_str())? as u128 * 1000;
-    for count in words {
+    for count in counts {
         measure(rt, micros, number(count.as_str())?)?;
     }
     Ok(())

@@ -1,7 +1,7 @@
 //! How long lists of instructions, unsent changesets and reciprocal lists take to cross.
 //!
-//! `crossing_bench KIND COUNT` runs one of these so often that it takes a hundredth of a second at least, and prints the runs and
-//! the nanoseconds. Without these words it prints how to call it.
+//! `trials crossing KIND COUNT` runs one of these so often that it takes a hundredth of a second at least, and prints the runs and
+//! the nanoseconds.
 //!
 //! - `lists`: COUNT insertions into a list cross as many;
 //! - `unsent-apart`, `unsent-touched`: an entry of one instruction is taken by COUNT unsent changesets of one instruction, of
@@ -23,8 +23,6 @@ mod unsent;
 
 use exchanges::About;
 use failure::Failure;
-use std::env;
-use std::process::ExitCode;
 
 /// The most instructions, changesets or entries.
 const MOST: u64 = 60_000;
@@ -32,33 +30,16 @@ const MOST: u64 = 60_000;
 /// A run takes as many nanoseconds at least.
 const LEAST: u128 = 10_000_000;
 
-fn main(rt: HostRuntime) -> ExitCode {
-    match run(&rt) {
-        Ok(()) => ExitCode::SUCCESS,
-        Err(_) => ExitCode::FAILURE,
-    }
+/// Measures what the words ask for, and prints it. Whether they ask for it, and all went well.
+pub fn try_words(rt: &HostRuntime, words: &[String]) -> bool {
+    run(rt, words).is_ok()
 }
 
-fn run(rt: &HostRuntime) -> Result<(), Failure> {
-    let words = words_of(rt)?;
-    match words.as_slice() {
+fn run(rt: &HostRuntime, words: &[String]) -> Result<(), Failure> {
+    match words {
         [kind, count] => tell(rt, kind.as_str(), number(count.as_str())?),
-        _ => {
-            println!(rt; "usage: crossing_bench KIND COUNT")?;
-            Ok(())
-        }
+        _ => Err(Failure::Words),
     }
-}
-
-// The words behind the program's name.
-fn words_of(rt: &HostRuntime) -> Result<Vec<String>, Failure> {
-    let mut words = Vec::new(rt.alloc());
-    let mut given = env::args(rt)?;
-    let _program = given.next();
-    for word in given {
-        words.push(word)?;
-    }
-    Ok(words)
 }
 
 fn tell(rt: &HostRuntime, kind: &str, count: u32) -> Result<(), Failure> {

@@ -1,4 +1,4 @@
-//! The program on worked cases: `data/` has what it reads and what must come of it, taken from the formats and rules and never
+//! The program on worked cases: `trials/data` has what it reads and what must come of it, taken from the formats and rules and never
 //! from its own answers. Prints each case that comes out otherwise, and how many there are of each kind.
 #![tactic(auto)]
 
@@ -18,10 +18,8 @@ mod words;
 
 use self::failure::Failure;
 use self::tally::tell;
-use std::process::ExitCode;
 
-/// Tries all cases of each kind.
-fn try_all(rt: &HostRuntime) -> Result<(), Failure> {
+fn try_kinds(rt: &HostRuntime) -> Result<(), Failure> {
     tell(rt, "exchanges", exchanges::try_all(rt)?)?;
     tell(rt, "lines", lines::try_all(rt)?)?;
     tell(rt, "steps of commands", commands::try_all(rt)?)?;
@@ -32,9 +30,7 @@ fn try_all(rt: &HostRuntime) -> Result<(), Failure> {
     tell(rt, "turns and edits that are drawn", drawn::try_all(rt)?)
 }
 
-fn main(rt: HostRuntime) -> ExitCode {
-    match try_all(&rt) {
-        Ok(()) => ExitCode::SUCCESS,
-        Err(_) => ExitCode::FAILURE,
-    }
+/// Prints how many cases there are of each kind, and each that comes out otherwise. Whether all could be tried.
+pub fn try_all(rt: &HostRuntime) -> bool {
+    try_kinds(rt).is_ok()
 }

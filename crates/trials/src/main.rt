@@ -1,0 +1,47 @@
+//! Tries all cases of the crates `program_cases`, `format_cases`, `merge_cases` and `crossing_cases`, those of its folder `data/` among
+//! them. It prints how many there are of each kind, each that comes out otherwise, and at the end the words that it knows.
+//!
+//! With words it draws other cases, or measures: `trials drawn SEED COUNT` is described in `crossing_cases`, and `bytes`, `crossing`,
+//! `node` and `store` in the crate of that bench.
+#![tactic(auto)]
+
+use std::process::ExitCode;
+use sync_cli::words;
+
+/// The seed of the drawn cases that are always tried, and how many there are.
+const DRAWN: (u64, u32) = (1, 20_000);
+
+fn main(rt: HostRuntime) -> ExitCode {
+    match words(&rt) {
+        Ok(words) if tries(&rt, &words) => ExitCode::SUCCESS,
+        _ => ExitCode::FAILURE,
+    }
+}
+
+/// Whether what the words ask for is done, and all that was tried holds.
+fn tries(rt: &HostRuntime, words: &[String]) -> bool {
+    match words {
+        [] => try_cases(rt),
+        [first, rest @ ..] => try_words(rt, first.as_str(), rest),
+    }
+}
+
+fn try_cases(rt: &HostRuntime) -> bool {
+    let mut all = program_cases::try_all(rt);
+    all &= format_cases::try_all(rt);
+    all &= merge_cases::try_all(rt);
+    let (seed, count) = DRAWN;
+    all &= crossing_cases::try_drawn(rt, seed, count);
+    all & println!(rt; "words: bytes, crossing, drawn, node, store").is_ok()
+}
+
+fn try_words(rt: &HostRuntime, first: &str, rest: &[String]) -> bool {
+    match first {
+        "bytes" => bytes_bench::try_words(rt, rest),
+        "crossing" => crossing_bench::try_words(rt, rest),
+        "drawn" => crossing_cases::try_words(rt, rest),
+        "node" => node_bench::try_words(rt, rest),
+        "store" => store_bench::try_words(rt, rest),
+        _ => false,
+    }
+}
