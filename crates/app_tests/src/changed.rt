@@ -99,9 +99,8 @@ fn a_message_changes(alloc: Global, unsent: u32, wanted: &[(Kind, &str)]) -> boo
     }
 }
 
-#[test]
-fn each_instruction_has_its_place(rt: HostRuntime) {
-    assert!(rt; edits_change(rt.alloc()));
-    assert!(rt; a_message_changes(rt.alloc(), 0, &DOWNLOADED));
-    assert!(rt; a_message_changes(rt.alloc(), 1, &DOWNLOADED_OVER));
+pub(crate) fn each_instruction_has_its_place(alloc: Global) -> bool {
+    edits_change(alloc)
+        && a_message_changes(alloc, 0, &DOWNLOADED)
+        && a_message_changes(alloc, 1, &DOWNLOADED_OVER)
 }

@@ -1,5 +1,6 @@
 //! Requests of a host and their replies.
 
+use std::alloc::Global;
 use sync_host::Host;
 
 /// Room for the replies of the exchange.
@@ -97,18 +98,21 @@ fn answers(host: &mut Host, request: &[u8], reply: &[u8]) -> bool {
         && room.starts_with(reply)
 }
 
-#[test]
-fn a_client_answers(rt: HostRuntime) {
-    let mut host = Host::new(rt.alloc());
-    for (request, reply) in CLIENT {
-        assert!(rt; answers(&mut host, request, reply), "{request:?}");
+/// Whether a new place answers these requests so, one after the other.
+fn answers_all(alloc: Global, table: &[(&[u8], &[u8])]) -> bool {
+    let mut host = Host::new(alloc);
+    for (request, reply) in table {
+        if !answers(&mut host, request, reply) {
+            return false;
+        }
     }
+    true
 }
 
-#[test]
-fn others_answer(rt: HostRuntime) {
-    let mut host = Host::new(rt.alloc());
-    for (request, reply) in OTHERS {
-        assert!(rt; answers(&mut host, request, reply), "{request:?}");
-    }
+pub(crate) fn a_client_answers(alloc: Global) -> bool {
+    answers_all(alloc, &CLIENT)
+}
+
+pub(crate) fn others_answer(alloc: Global) -> bool {
+    answers_all(alloc, &OTHERS)
 }

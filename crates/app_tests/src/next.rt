@@ -116,14 +116,9 @@ fn client(alloc: Global) -> Option<Client<MemoryDisk>> {
     }
 }
 
-fn sends_what_is_next(alloc: Global) -> bool {
+pub(crate) fn a_client_sends_what_is_next(alloc: Global) -> bool {
     match client(alloc) {
         Some(mut client) => is_told(alloc, &mut client),
         None => false,
     }
-}
-
-#[test]
-fn a_client_sends_what_is_next(rt: HostRuntime) {
-    assert!(rt; sends_what_is_next(rt.alloc()));
 }

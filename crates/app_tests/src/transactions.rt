@@ -236,7 +236,8 @@ fn act(store: &mut Store, instrs: Vec<Instr>) -> bool {
     }
 }
 
-fn is_taken(alloc: Global) -> bool {
+/// Each call sees the calls before it, and the instructions of those that are taken act.
+pub(crate) fn calls_see_the_transaction_so_far(alloc: Global) -> bool {
     let Ok(mut store) = Store::new(alloc) else {
         return false;
     };
@@ -244,11 +245,6 @@ fn is_taken(alloc: Global) -> bool {
         Some(instrs) => act(&mut store, instrs),
         None => false,
     }
-}
-
-#[test]
-fn calls_see_the_transaction_so_far(rt: HostRuntime) {
-    assert!(rt; is_taken(rt.alloc()));
 }
 
 const BROKEN: Refusal = Refusal::Break(Break::NoObject);
@@ -265,15 +261,8 @@ fn is_worded(alloc: Global, refusal: Refusal, want: &str) -> bool {
     }
 }
 
-#[test]
-fn refusals_have_words(rt: HostRuntime) {
-    for (refusal, want) in [
-        (
-            BROKEN,
-            "it doesn't act on the objects with the transaction so far: NoObject",
-        ),
-        (OUTSIDE, "place 3 lies outside the list, whose length is 2"),
-    ] {
-        assert!(rt; is_worded(rt.alloc(), refusal, want), "{want}");
-    }
+pub(crate) fn refusals_have_words(alloc: Global) -> bool {
+    let broken = "it doesn't act on the objects with the transaction so far: NoObject";
+    let outside = "place 3 lies outside the list, whose length is 2";
+    is_worded(alloc, BROKEN, broken) && is_worded(alloc, OUTSIDE, outside)
 }

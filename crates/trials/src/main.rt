@@ -1,5 +1,5 @@
-//! Tries all cases of the crates `program_cases`, `format_cases`, `merge_cases` and `crossing_cases`, those of its folder `data/` among
-//! them. It prints how many there are of each kind, each that comes out otherwise, and at the end the words that it knows.
+//! Tries all cases of the crates `program_cases`, `format_cases`, `merge_cases`, `crossing_cases`, `node_tests` and `app_tests`, those of
+//! its folder `data/` among them. It prints how many there are of each kind, each that comes out otherwise, and at the end the words that it knows.
 //!
 //! With words it draws other cases, or measures: `trials drawn SEED COUNT` is described in `crossing_cases`, and `bytes`, `crossing`,
 //! `node` and `store` in the crate of that bench.
@@ -32,7 +32,23 @@ fn try_cases(rt: &HostRuntime) -> bool {
     all &= merge_cases::try_all(rt);
     let (seed, count) = DRAWN;
     all &= crossing_cases::try_drawn(rt, seed, count);
+    all &= tell(rt, "disks of nodes", &node_tests::cases_of_disks(rt.alloc()));
+    all &= tell(rt, "nodes", &node_tests::cases(rt.alloc()));
+    all &= tell(rt, "applications", &app_tests::cases(rt.alloc()));
     all & println!(rt; "words: bytes, crossing, drawn, node, store").is_ok()
+}
+
+/// Prints how many cases there are about something, and each that came out otherwise. Whether none did.
+fn tell(rt: &HostRuntime, about: &str, cases: &[(&str, bool)]) -> bool {
+    let mut wrong = 0u32;
+    for (name, is_right) in cases {
+        if !*is_right {
+            wrong = wrong.saturating_add(1);
+            let _ = println!(rt; "otherwise: {name}");
+        }
+    }
+    let count = cases.len();
+    println!(rt; "{count} cases of {about}, {wrong} otherwise").is_ok() && wrong == 0
 }
 
 fn try_words(rt: &HostRuntime, first: &str, rest: &[String]) -> bool {
