@@ -1,8 +1,8 @@
-//! Tries all cases of the crates `program_cases`, `format_cases`, `merge_cases`, `crossing_cases`, `node_tests` and `app_tests`, those of
-//! its folder `data/` among them. It prints how many there are of each kind, each that comes out otherwise, and at the end the words that it knows.
+//! Tries all cases of the crates of cases and of tests, those of its folder `data/` among them. It prints how many there are of each
+//! kind, each that comes out otherwise, and at the end the words that it knows.
 //!
-//! With words it draws other cases, or measures: `trials drawn SEED COUNT` is described in `crossing_cases`, and `bytes`, `crossing`,
-//! `node` and `store` in the crate of that bench.
+//! With words it draws other cases, or measures: `trials drawn SEED COUNT` is described in `crossing_cases`, `growth` in `merge_tests`,
+//! and `bytes`, `crossing`, `node` and `store` in the crate of that bench.
 #![tactic(auto)]
 
 use std::process::ExitCode;
@@ -35,7 +35,9 @@ fn try_cases(rt: &HostRuntime) -> bool {
     all &= tell(rt, "disks of nodes", &node_tests::cases_of_disks(rt.alloc()));
     all &= tell(rt, "nodes", &node_tests::cases(rt.alloc()));
     all &= tell(rt, "applications", &app_tests::cases(rt.alloc()));
-    all & println!(rt; "words: bytes, crossing, drawn, node, store").is_ok()
+    all &= tell(rt, "devices", &device_tests::cases(rt));
+    all &= tell(rt, "parts", &merge_tests::cases(rt.alloc()));
+    all & println!(rt; "words: bytes, crossing, drawn, growth, node, store").is_ok()
 }
 
 /// Prints how many cases there are about something, and each that came out otherwise. Whether none did.
@@ -56,6 +58,7 @@ fn try_words(rt: &HostRuntime, first: &str, rest: &[String]) -> bool {
         "bytes" => bytes_bench::try_words(rt, rest),
         "crossing" => crossing_bench::try_words(rt, rest),
         "drawn" => crossing_cases::try_words(rt, rest),
+        "growth" => merge_tests::a_refused_growth_or_copy_changes_nothing(rt.alloc()),
         "node" => node_bench::try_words(rt, rest),
         "store" => store_bench::try_words(rt, rest),
         _ => false,

@@ -1,6 +1,6 @@
 //! The lock on a file of the host.
 
-use super::files::path_of;
+use crate::files::path_of;
 use file_lock::{LockRefusal, hold};
 use std::fs;
 
@@ -23,8 +23,6 @@ fn holds_once(rt: &HostRuntime) -> bool {
     fs::remove_file(rt, path).is_ok() && is_held_once
 }
 
-#[test]
-fn one_opening_holds_a_file_at_a_time(rt: HostRuntime) {
-    assert!(rt; holds_once(&rt));
-    assert!(rt; hold(&rt, "no/such/folder/file").err() == Some(LockRefusal::Failed));
+pub(crate) fn one_opening_holds_a_file_at_a_time(rt: &HostRuntime) -> bool {
+    holds_once(rt) && hold(rt, "no/such/folder/file").err() == Some(LockRefusal::Failed)
 }

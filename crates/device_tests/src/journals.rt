@@ -1,4 +1,4 @@
-use super::disks::{disk_with, holds};
+use crate::disks::{disk_with, holds};
 use gathered_disk::GatheredDisk;
 use std::alloc::Global;
 use sync_disk::{Disk, DiskRefusal, Leaves, MemoryDisk};
@@ -63,13 +63,12 @@ fn is_too_long(alloc: Global, journal: &mut Journal<MemoryDisk>) -> bool {
     }
 }
 
-#[test]
-fn a_record_of_67_108_865_bytes_is_too_long(rt: HostRuntime) {
-    if let Some(mut journal) = new_journal(rt.alloc()) {
-        assert!(rt; is_too_long(rt.alloc(), &mut journal));
-        assert!(rt; append(&mut journal, &[7]).is_ok());
-    } else {
-        assert!(rt; false);
+pub(crate) fn a_record_of_67_108_865_bytes_is_too_long(alloc: Global) -> bool {
+    match new_journal(alloc) {
+        Some(mut journal) => {
+            is_too_long(alloc, &mut journal) && append(&mut journal, &[7]).is_ok()
+        }
+        None => false,
     }
 }
 
@@ -79,17 +78,12 @@ const BORN: &[u8] = b"\x01\x00\x00\x00\x00\x00\x00\x40\x00\x80\x00\x00\x00\x00\x
 const FILE: &[u8; 31] =
     b"RSYNCJ01\x01\x00\x00\x00\x11\x01\x00\x00\x00\x00\x00\x00\x40\x00\x80\x00\x00\x00\x00\x00\x00\x01\x00";
 
-fn stands_in_the_file(alloc: Global) -> bool {
+pub(crate) fn an_append_stands_in_the_file(alloc: Global) -> bool {
     let Some(mut journal) = new_journal(alloc) else {
         return false;
     };
     let is_added = append(&mut journal, BORN).is_ok();
     is_added && holds(alloc, &mut journal.into_disk(), FILE)
-}
-
-#[test]
-fn an_append_stands_in_the_file(rt: HostRuntime) {
-    assert!(rt; stands_in_the_file(rt.alloc()));
 }
 
 /// A journal with the record `a` over a disk that is armed.
@@ -147,14 +141,15 @@ fn passes(alloc: Global, leaves: Leaves) -> bool {
     }
 }
 
-#[test]
-fn a_stop_at_each_stroke_of_an_append(rt: HostRuntime) {
+pub(crate) fn a_stop_at_each_stroke_of_an_append(alloc: Global) -> bool {
+    let mut all = true;
     for leaves in [Leaves::Drop, Leaves::Keep, Leaves::Torn] {
         for at in 1..=4 {
-            assert!(rt; stops(rt.alloc(), at, leaves), "at {at}, {leaves:?}");
+            all &= stops(alloc, at, leaves);
         }
-        assert!(rt; passes(rt.alloc(), leaves), "{leaves:?}");
+        all &= passes(alloc, leaves);
     }
+    all
 }
 
 /// Three records that a journal gathers.
@@ -194,21 +189,19 @@ fn passes_landing(alloc: Global, leaves: Leaves) -> bool {
     is_done && stands(alloc, disk, &[b"a", b"bc", b"", b"d"])
 }
 
-#[test]
-fn a_stop_at_each_stroke_of_a_landing(rt: HostRuntime) {
+pub(crate) fn a_stop_at_each_stroke_of_a_landing(alloc: Global) -> bool {
+    let mut all = true;
     for leaves in [Leaves::Drop, Leaves::Keep, Leaves::Torn] {
         for at in 1..=4 {
-            assert!(rt;
-                stops_landing(rt.alloc(), at, leaves),
-                "at {at}, {leaves:?}"
-            );
+            all &= stops_landing(alloc, at, leaves);
         }
-        assert!(rt; passes_landing(rt.alloc(), leaves), "{leaves:?}");
+        all &= passes_landing(alloc, leaves);
     }
+    all
 }
 
 /// Whether a landing makes the file that an append makes, and nothing is there before.
-fn lands_in_the_file(alloc: Global) -> bool {
+pub(crate) fn a_landing_stands_in_the_file(alloc: Global) -> bool {
     let Some(journal) = new_journal(alloc) else {
         return false;
     };
@@ -217,11 +210,6 @@ fn lands_in_the_file(alloc: Global) -> bool {
     // what isn't landed is lost
     let is_landed = is_landed && append(&mut journal, b"a").is_ok();
     is_landed && holds(alloc, &mut journal.into_disk().into_disk(), FILE)
-}
-
-#[test]
-fn a_landing_stands_in_the_file(rt: HostRuntime) {
-    assert!(rt; lands_in_the_file(rt.alloc()));
 }
 
 /// Whether an opening in which the call of that number fails is refused, or else isn't.
@@ -269,14 +257,15 @@ fn append_fails(alloc: Global, stroke: u64) -> bool {
 /// A journal with the record of no bytes.
 const OTHER: &[u8] = b"RSYNCJ01\x01\x00\x00\x00\x00\x00";
 
-#[test]
-fn a_fault_at_each_disk_call(rt: HostRuntime) {
+pub(crate) fn a_fault_at_each_disk_call(alloc: Global) -> bool {
+    let mut all = true;
     // A small file is synced, measured, read, written and synced, and any other one isn't written.
     for call in 1..=6 {
-        assert!(rt; open_fails(rt.alloc(), b"", call, call <= 5), "at {call}");
-        assert!(rt; open_fails(rt.alloc(), OTHER, call, call <= 3), "at {call}");
+        all &= open_fails(alloc, b"", call, call <= 5);
+        all &= open_fails(alloc, OTHER, call, call <= 3);
     }
     for stroke in 1..=4 {
-        assert!(rt; append_fails(rt.alloc(), stroke), "at {stroke}");
+        all &= append_fails(alloc, stroke);
     }
+    all
 }

@@ -138,13 +138,14 @@ fn frames_come(alloc: Global, place: usize, most: usize) -> bool {
     reads(alloc, &mut source_of(front, most, 0), Reader::Frames, want)
 }
 
-#[test]
-fn frames_come_whole_however_the_bytes_are_cut(rt: HostRuntime) {
+pub(crate) fn frames_come_whole_however_the_bytes_are_cut(alloc: Global) -> bool {
+    let mut all = true;
     for place in 0..=33 {
         for most in [1, 2, 3, 7] {
-            assert!(rt; frames_come(rt.alloc(), place, most), "{place}, {most}");
+            all &= frames_come(alloc, place, most);
         }
     }
+    all
 }
 
 /// The read that fails, and how much is read before.
@@ -176,15 +177,12 @@ fn fails_and_ends<S: Source>(source: &mut S) -> bool {
     source.read(&mut [0]) == Err(SourceFailed) && source.read(&mut [0]) == Ok(0)
 }
 
-#[test]
-fn a_reader_that_fails_is_no_end_of_the_input(rt: HostRuntime) {
+pub(crate) fn a_reader_that_fails_is_no_end_of_the_input(alloc: Global) -> bool {
+    let mut all = fails_and_ends(&mut source_of(b"", 1, 1));
     for (reader, failing, length) in FAILING {
-        assert!(rt;
-            fails(rt.alloc(), reader, failing, length),
-            "{failing}, {length}"
-        );
+        all &= fails(alloc, reader, failing, length);
     }
-    assert!(rt; fails_and_ends(&mut source_of(b"", 1, 1)));
+    all
 }
 
 fn is_a(next: Next) -> bool {
@@ -232,8 +230,7 @@ fn second_fails_again(alloc: Global, reader: Reader, bytes: &[u8]) -> bool {
     fails_again(alloc, reader, &mut MemorySource::new(bytes, failing))
 }
 
-#[test]
-fn a_failed_read_is_answered_again(rt: HostRuntime) {
-    assert!(rt; second_fails_again(rt.alloc(), Reader::Lines, b"a\nb"));
-    assert!(rt; second_fails_again(rt.alloc(), Reader::Frames, b"\x00\x00\x00\x01a\x00"));
+pub(crate) fn a_failed_read_is_answered_again(alloc: Global) -> bool {
+    second_fails_again(alloc, Reader::Lines, b"a\nb")
+        && second_fails_again(alloc, Reader::Frames, b"\x00\x00\x00\x01a\x00")
 }

@@ -76,11 +76,12 @@ fn takes(alloc: Global, failing: u64, want: usize) -> bool {
     ended && b"abc".starts_with(&taken) && taken.len() == want && flushes == !fails as u64
 }
 
-#[test]
-fn a_writer_that_fails_is_a_sink_that_fails(rt: HostRuntime) {
+pub(crate) fn a_writer_that_fails_is_a_sink_that_fails(alloc: Global) -> bool {
+    let mut all = true;
     for (failing, want) in [(0, 3), (1, 0), (2, 2), (3, 3), (4, 3)] {
-        assert!(rt; takes(rt.alloc(), failing, want), "{failing}");
+        all &= takes(alloc, failing, want);
     }
+    all
 }
 
 fn fails_where_nothing_is_taken<K: Sink>(sink: &mut K) -> bool {
@@ -89,12 +90,11 @@ fn fails_where_nothing_is_taken<K: Sink>(sink: &mut K) -> bool {
         && write_all(sink, b"abc") == Err(SinkRefusal::Failed)
 }
 
-#[test]
-fn a_writer_that_takes_nothing_is_a_sink_that_fails(rt: HostRuntime) {
-    let mut taken = Vec::new(rt.alloc());
+pub(crate) fn a_writer_that_takes_nothing_is_a_sink_that_fails(alloc: Global) -> bool {
+    let mut taken = Vec::new(alloc);
     let mut flushes = 0;
     let mut sink = hose_into(&mut taken, &mut flushes, 0, 0);
-    assert!(rt; fails_where_nothing_is_taken(&mut sink));
+    fails_where_nothing_is_taken(&mut sink)
 }
 
 /// Whether the second write and the second flush of a sink fail, which are its calls 2 and 4.
@@ -107,11 +107,9 @@ fn fails_in_turn(sink: &mut MemorySink) -> bool {
         && sink.bytes() == b"ab".as_slice()
 }
 
-#[test]
-fn each_call_of_a_sink_fails_in_turn(rt: HostRuntime) {
-    if let Ok(failing) = Vec::from_slice(rt.alloc(), &[2, 4]) {
-        assert!(rt; fails_in_turn(&mut MemorySink::new(rt.alloc(), failing)));
-    } else {
-        assert!(rt; false);
+pub(crate) fn each_call_of_a_sink_fails_in_turn(alloc: Global) -> bool {
+    match Vec::from_slice(alloc, &[2, 4]) {
+        Ok(failing) => fails_in_turn(&mut MemorySink::new(alloc, failing)),
+        Err(_) => false,
     }
 }

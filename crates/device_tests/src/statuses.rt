@@ -1,7 +1,6 @@
 use sync_io::Status;
 
-#[test]
-fn exit_numbers(rt: HostRuntime) {
+pub(crate) fn exit_numbers() -> bool {
     let table = [
         (Status::Done, 0),
         (Status::BadWords, 1),
@@ -13,7 +12,9 @@ fn exit_numbers(rt: HostRuntime) {
         (Status::NoMemory, 7),
         (Status::InputTooLong, 8),
     ];
+    let mut all = true;
     for (status, exit) in table {
-        assert_eq!(rt; status.exit(), exit);
+        all &= status.exit() == exit;
     }
+    all
 }

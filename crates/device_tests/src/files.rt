@@ -1,7 +1,7 @@
 //! Disks and journals over files of the host.
-use super::disks::holds;
-use super::hosts::{Calls, CountedHost};
-use super::journals::has_records;
+use crate::disks::holds;
+use crate::hosts::{Calls, CountedHost};
+use crate::journals::has_records;
 use std::alloc::Global;
 use std::path::PathBuf;
 use std::rt::Files;
@@ -211,14 +211,15 @@ fn is_well(rt: &HostRuntime, name: &str) -> bool {
     fs::remove_file(rt, path).is_ok() && is_well
 }
 
-#[test]
-fn disks_and_journals_over_files(rt: HostRuntime) {
+pub(crate) fn disks_and_journals_over_files(rt: &HostRuntime) -> bool {
+    let mut all = true;
     for name in [
         "disk_over_a_file",
         "host_that_fails",
         "host_that_counts",
         "journal_over_a_file",
     ] {
-        assert!(rt; is_well(&rt, name), "{name}");
+        all &= is_well(rt, name);
     }
+    all
 }

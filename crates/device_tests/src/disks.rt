@@ -113,14 +113,12 @@ const CRASHES: [(u32, Leaves, &[u8]); 11] = [
     (4, Leaves::Torn, &[1, 7, 9, 10]),
 ];
 
-#[test]
-fn a_crash_leaves_what_the_disk_was_armed_with(rt: HostRuntime) {
+pub(crate) fn a_crash_leaves_what_the_disk_was_armed_with(alloc: Global) -> bool {
+    let mut all = true;
     for (at, leaves, want) in CRASHES {
-        assert!(rt;
-            stops_and_crashes(rt.alloc(), at, leaves, want),
-            "at {at}, {want:?}"
-        );
+        all &= stops_and_crashes(alloc, at, leaves, want);
     }
+    all
 }
 
 /// Whether of five calls of a disk that one alone fails.
@@ -140,14 +138,15 @@ fn calls_fail_at(alloc: Global, set: u64) -> bool {
     disk.fail_at(set).is_ok() && fails_at(&mut disk, set) && holds(alloc, &mut disk, left)
 }
 
-#[test]
-fn calls_fail_where_they_are_set_to(rt: HostRuntime) {
+pub(crate) fn calls_fail_where_they_are_set_to(alloc: Global) -> bool {
+    let mut all = true;
     for set in 1..=5 {
-        assert!(rt; calls_fail_at(rt.alloc(), set), "at {set}");
+        all &= calls_fail_at(alloc, set);
     }
+    all
 }
 
-fn goes_on(alloc: Global) -> bool {
+pub(crate) fn a_disk_that_is_disarmed_goes_on(alloc: Global) -> bool {
     let Some(mut disk) = disk_with(alloc, &[1, 2, 3]) else {
         return false;
     };
@@ -155,9 +154,4 @@ fn goes_on(alloc: Global) -> bool {
     disk.disarm();
     let done = three_strokes(&mut disk).is_ok();
     done && !disk.stopped() && holds(alloc, &mut disk, &[1, 7, 9, 10])
-}
-
-#[test]
-fn a_disk_that_is_disarmed_goes_on(rt: HostRuntime) {
-    assert!(rt; goes_on(rt.alloc()));
 }

@@ -1,5 +1,6 @@
 //! A disk whose host does its strokes.
 
+use crate::disks::holds;
 use outbox_disk::OutboxDisk;
 use std::alloc::Global;
 use sync_disk::{BeginsAnew, Disk, DiskRefusal};
@@ -23,19 +24,8 @@ fn stroke<D: Disk>(disk: &mut D) -> Result<(), DiskRefusal> {
     write(disk, 1, &[9, 10])
 }
 
-/// Whether the disk holds these bytes.
-fn holds<D: Disk>(alloc: Global, disk: &mut D, want: &[u8]) -> bool {
-    let Ok(len) = disk.len() else {
-        return false;
-    };
-    let Ok(mut bytes) = vec![in alloc; 0u8; len as usize] else {
-        return false;
-    };
-    disk.read_at(0, &mut bytes).is_ok() && bytes.as_slice() == want
-}
-
 /// Whether the outbox has each stroke since it was emptied, in order.
-fn hands_out_each_stroke(alloc: Global) -> bool {
+pub(crate) fn an_outbox_has_each_stroke_since_it_was_emptied(alloc: Global) -> bool {
     let Ok(mut disk) = OutboxDisk::over(alloc, &[1, 2, 3, 4]) else {
         return false;
     };
@@ -44,9 +34,4 @@ fn hands_out_each_stroke(alloc: Global) -> bool {
     }
     disk.begin_anew();
     disk.outbox().is_empty() && holds(alloc, &mut disk, &[1, 9, 10, 7, 8])
-}
-
-#[test]
-fn an_outbox_has_each_stroke_since_it_was_emptied(rt: HostRuntime) {
-    assert!(rt; hands_out_each_stroke(rt.alloc()));
 }
