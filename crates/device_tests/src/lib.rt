@@ -87,9 +87,6 @@ pub fn cases(rt: &HostRuntime) -> [(&'static str, bool); 19] {
             "a failed read is answered again",
             sources::a_failed_read_is_answered_again(alloc),
         ),
-        (
-            "exit numbers",
-            statuses::exit_numbers(),
-        ),
+        ("exit numbers", statuses::exit_numbers()),
     ]
 }

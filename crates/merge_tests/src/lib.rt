@@ -21,14 +21,8 @@ use std::alloc::Global;
 /// Each case by its name, and whether it comes out as it must.
 pub fn cases(alloc: Global) -> [(&'static str, bool); 18] {
     [
-        (
-            "a cell is copied",
-            copies::a_cell_is_copied(alloc),
-        ),
-        (
-            "a schema is copied",
-            copies::a_schema_is_copied(alloc),
-        ),
+        ("a cell is copied", copies::a_cell_is_copied(alloc)),
+        ("a schema is copied", copies::a_schema_is_copied(alloc)),
         (
             "a changeset has at most 65,536 instructions",
             data::a_changeset_has_at_most_65_536_instructions(alloc),
@@ -45,10 +39,7 @@ pub fn cases(alloc: Global) -> [(&'static str, bool); 18] {
             "instructions and columns are copied",
             data::instructions_and_columns_are_copied(alloc),
         ),
-        (
-            "entries are copied",
-            data::entries_are_copied(alloc),
-        ),
+        ("entries are copied", data::entries_are_copied(alloc)),
         (
             "orders are of kinds and then of parts",
             data::orders_are_of_kinds_and_then_of_parts(alloc),

@@ -166,11 +166,6 @@ pub fn a_file_that_begins_with_a_state(alloc: Global) -> bool {
     // Without its version: the gate behind the part is closed.
     let without = is_bad_with(alloc, FLOOR_AT, &[0], STARTED.len());
     // With a part of which the state has another list: the object comes before the column.
-    let other = is_bad_with(
-        alloc,
-        INSTRS_AT,
-        &[3, 0, 0, 2, 2, 0, 1, 1, 0, 0],
-        FLOOR_AT,
-    );
+    let other = is_bad_with(alloc, INSTRS_AT, &[3, 0, 0, 2, 2, 0, 1, 1, 0, 0], FLOOR_AT);
     without && other && started_holds(alloc) == Some(true)
 }

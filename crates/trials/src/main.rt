@@ -32,7 +32,11 @@ fn try_cases(rt: &HostRuntime) -> bool {
     all &= merge_cases::try_all(rt);
     let (seed, count) = DRAWN;
     all &= crossing_cases::try_drawn(rt, seed, count);
-    all &= tell(rt, "disks of nodes", &node_tests::cases_of_disks(rt.alloc()));
+    all &= tell(
+        rt,
+        "disks of nodes",
+        &node_tests::cases_of_disks(rt.alloc()),
+    );
     all &= tell(rt, "nodes", &node_tests::cases(rt.alloc()));
     all &= tell(rt, "applications", &app_tests::cases(rt.alloc()));
     all &= tell(rt, "devices", &device_tests::cases(rt));
