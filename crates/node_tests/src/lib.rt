@@ -1,16 +1,20 @@
-//! Clients and servers over disks in memory, those that fail at a call or stop at a stroke among them, and what is made of their
-//! objects and files. What nodes answer to messages is tried in `program_cases`.
+//! Clients and servers over disks in memory, those that fail at a call or stop at a stroke among them, what is made of their
+//! objects and files, and what an application and a host in another language call. What nodes answer to messages is tried in `program_cases`.
 #![tactic(auto)]
 
+mod changed;
 mod client;
 mod clients;
 mod disks;
 mod heirs;
+mod hosts;
 mod laws;
+mod next;
 mod resets;
 mod servers;
 mod snapshots;
 mod spelled;
+mod transactions;
 mod trims;
 
 pub use laws::the_instructions_can_be_exchanged;
@@ -77,5 +81,29 @@ pub fn cases(alloc: Global) -> [(&'static str, bool); 9] {
             "a part that is no part is named",
             snapshots::a_part_that_is_no_part_is_named(alloc),
         ),
+    ]
+}
+
+/// The same of what an application and a host in another language call.
+pub fn cases_of_applications(alloc: Global) -> [(&'static str, bool); 6] {
+    [
+        (
+            "calls see the transaction so far",
+            transactions::calls_see_the_transaction_so_far(alloc),
+        ),
+        (
+            "refusals have words",
+            transactions::refusals_have_words(alloc),
+        ),
+        (
+            "each instruction has its place",
+            changed::each_instruction_has_its_place(alloc),
+        ),
+        (
+            "a client sends what is next",
+            next::a_client_sends_what_is_next(alloc),
+        ),
+        ("a client of a host answers", hosts::a_client_answers(alloc)),
+        ("other places of a host answer", hosts::others_answer(alloc)),
     ]
 }

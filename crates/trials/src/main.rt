@@ -38,7 +38,11 @@ fn try_cases(rt: &HostRuntime) -> bool {
         &node_tests::cases_of_disks(rt.alloc()),
     );
     all &= tell(rt, "nodes", &node_tests::cases(rt.alloc()));
-    all &= tell(rt, "applications", &app_tests::cases(rt.alloc()));
+    all &= tell(
+        rt,
+        "applications",
+        &node_tests::cases_of_applications(rt.alloc()),
+    );
     all &= tell(rt, "devices", &device_tests::cases(rt));
     all &= tell(rt, "parts", &merge_tests::cases(rt.alloc()));
     all & println!(rt; "words: bytes, crossing, drawn, growth, node, store").is_ok()
