@@ -1,5 +1,5 @@
 #!/usr/bin/env python3
-"""Times servers that take uploads, clients that take downloads, and the opening of files, by `trials node` (crates/node_bench).
+"""Times servers that take uploads, clients that take downloads, and the opening of files, by `trials node`.
 
 Prints seconds, microseconds a change, the growth exponent against the row before (1 where the time grows with the
 number of changes), and the most memory that the run held. Rows of which one run would hold several gigabytes are left

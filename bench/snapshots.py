@@ -1,5 +1,5 @@
 #!/usr/bin/env python3
-"""Measures a snapshot and a recovery by `trials store` (`crates/store_bench`), which it builds where needed.
+"""Measures a snapshot and a recovery by `trials store`, which it builds where needed.
 
 `build` makes the changesets of a store's state, `grow` the store of them again, each once; `save` tries 1,000 changes of a client
 that was given up on the objects of its heir and applies what is kept. For each number of objects: seconds, nanoseconds an object

@@ -1,5 +1,5 @@
 #!/usr/bin/env python3
-"""Measures `Store::apply` by `trials store` (`crates/store_bench`), which it builds where needed.
+"""Measures `Store::apply` by `trials store`, which it builds where needed.
 
 For each work and each number of objects in the store: `apply` calls per second, nanoseconds a call, the growth exponent,
 and the peak memory for each object. The exponent is that of as many calls as there are objects: 1 where a call costs the

@@ -2,7 +2,7 @@
 //! kind, each that comes out otherwise, and at the end the words that it knows.
 //!
 //! With words it draws other cases, or measures: `trials drawn SEED COUNT` is described in `crossing_cases`, `growth` in `merge_tests`,
-//! and `bytes`, `crossing`, `node` and `store` in the crate of that bench.
+//! and `bytes`, `crossing`, `node` and `store` in the files of `benches`.
 #![tactic(auto)]
 
 use std::process::ExitCode;
@@ -63,12 +63,8 @@ fn tell(rt: &HostRuntime, about: &str, cases: &[(&str, bool)]) -> bool {
 
 fn try_words(rt: &HostRuntime, first: &str, rest: &[String]) -> bool {
     match first {
-        "bytes" => bytes_bench::try_words(rt, rest),
-        "crossing" => crossing_bench::try_words(rt, rest),
         "drawn" => crossing_cases::try_words(rt, rest),
         "growth" => merge_tests::a_refused_growth_or_copy_changes_nothing(rt.alloc()),
-        "node" => node_bench::try_words(rt, rest),
-        "store" => store_bench::try_words(rt, rest),
-        _ => false,
+        _ => benches::measure(rt, first, rest),
     }
 }
