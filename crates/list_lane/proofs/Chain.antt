@@ -1,5 +1,5 @@
 -- A lane that chains from the length on which an instruction was made chains as that crossed it.
-use Rattle.std.proofs.Common.{◌≡◌, ℕ, Bool, true, false, not, List, [], ◌∷◌, Option, Some, None, refl, sym, ap, ◌∙◌, subst}
+use Rattle.std.proofs.Common.{◌≡◌, ℕ, suc, Bool, true, false, not, List, [], ◌∷◌, Option, Some, None, refl, sym, ap, ◌∙◌, subst, length}
 use Rattle.std.specs.Prelude.{IfSome}
 use Rattle.sync_data.specs.declared.entry.Stamp.{Stamp}
 use Rattle.sync_transform.specs.Places.{longer, Within, place_after}
@@ -14,6 +14,12 @@ use Rattle.list_lane.proofs.Lengths.{Lengths, lengths}
 pub crossed_none : (l : Stamp → Stamp → Bool) (ss : List (Option Op)) → crossed l ss None ≡ record { slots = ss; left = None }
 crossed_none l [] = refl
 crossed_none l (s ∷ ss) = refl
+
+pub length_crossed : (l : Stamp → Stamp → Bool) (ss : List (Option Op)) (b : Option Op) → length (crossed l ss b).slots ≡ length ss
+length_crossed l [] b = refl
+length_crossed l (s ∷ ss) None = refl
+length_crossed l (None ∷ ss) (Some b) = ap suc (length_crossed l ss (Some b))
+length_crossed l (Some a ∷ ss) (Some b) = ap suc (length_crossed l ss _)
 
 pub if_some : (d : Does) (m : ℕ) (Q : ℕ → Type 0) (x : Option ℕ) → WithinIf d m x → ((q : ℕ) → Within d q m → Q q) → IfSome x Q
 if_some d m Q None w f = tt

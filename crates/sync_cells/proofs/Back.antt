@@ -1,5 +1,5 @@
 -- Each edit is taken back by its inverse.
-use Rattle.std.specs.Prelude.{◌≡◌, ℕ, ◌+◌, ◌-◌, ◌<◌, ◌≤◌, ◌==◌, Bool, true, false, not, if◌then◌else◌, List, [], ◌∷◌, length, Option, None, Some, slice_get, slice_set, refl}
+use Rattle.std.specs.Prelude.{◌≡◌, ℕ, ◌+◌, ◌-◌, ◌≤◌, ◌==◌, Bool, true, false, not, if◌then◌else◌, List, [], ◌∷◌, length, Option, None, Some, slice_get, slice_set, refl}
 use Rattle.std.specs.List.{insert, remove}
 use Rattle.std.specs.FinMap as map
 use Rattle.std.specs.FinSet as set
@@ -21,7 +21,7 @@ use Rattle.sync_cells.specs.declared.edit.Edit.TheVariants as edits
 use Rattle.sync_cells.specs.declared.edit.Former.TheVariants as formers
 use Rattle.sync_cells.specs.Lists.{HoldsAt, has_member, binding_at}
 use Rattle.sync_cells.specs.Refusals.{list_refusal}
-use Rattle.sync_cells.specs.Undoing.{done, done_if, undone, inverse}
+use Rattle.sync_cells.specs.Undoing.{done_if, undone, inverse}
 
 module _ {X : Type 0} where
   removed_inserted : (xs : List X) (p : ℕ) (v : X) → p ≤ length xs → remove (insert xs p v) p ≡ xs

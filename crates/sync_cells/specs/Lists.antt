@@ -6,7 +6,7 @@ use Rattle.std.specs.FinMap as map
 use Rattle.std.specs.FinSet as set
 use Rattle.sync_data.specs.Orders.{name_cmp, value_cmp}
 use Rattle.sync_data.specs.declared.value.Value.{Value}
-use Rattle.sync_base.specs.States.{Cell, One, Many, Members, Dict}
+use Rattle.sync_base.specs.States.{Cell, Many, Members, Dict}
 
 abbrev pub HoldsAt : Cell → ℕ → Value → Type 0
 HoldsAt (Many xs) place v = slice_get xs place ≡ Some v

@@ -1,5 +1,5 @@
 -- What an edit of the code does to a cell, and what brings the cell back.
-use Rattle.std.specs.Prelude.{ℕ, ◌+◌, ◌-◌, Bool, true, false, Option, None, Some}
+use Rattle.std.specs.Prelude.{◌+◌, ◌-◌, Bool, true, Option, None, Some}
 use Rattle.std.specs.Option.{option_and_then}
 use Rattle.sync_data.specs.declared.instr.Instr.{Instr}
 use Rattle.sync_data.specs.declared.instr.Instr.TheVariants as instrs

@@ -14,7 +14,7 @@ use std::alloc::Global;
 use std::collections::{BTreeMap, BTreeSet};
 use std::marker::Model;
 use std::mem;
-use sync_base::{Blob, Column, KeyText, Kind, NoMemory, Shape, Text, Time, Value as Held};
+use sync_base::{Blob, Column, Kind, NoMemory, Shape, Text, Time, Value as Held};
 
 /// A cell: one value, a list of values, a set of values, or a dictionary from text keys to values.
 #[derive(Drop)]

@@ -1,4 +1,5 @@
 ghost use Rattle.std.specs.Prelude.{◌≡◌, true, IfOk, OnOk, OnErr};
+ghost use Rattle.sync_cells.specs.Refusals.{edit_refusal, IsRefusedBy};
 ghost use Rattle.sync_cells.specs.Undoing.{done, undone, has_place};
 
 use super::cell::Cell;
@@ -34,18 +35,23 @@ pub enum Former {
 }
 
 impl From<WrongShape> for CellRefusal {
+    ghost use Rattle.sync_cells.specs.declared.refusal.CellRefusal.TheVariants as refusals;
+
+    ghost from_gives = { λ _ e. e ≡ refusals.WrongShape };
+
     fn from(_: WrongShape) -> CellRefusal {
         CellRefusal::WrongShape
     }
 }
 
 impl Cell {
-    /// Does an edit, and hands back what brings the cell back.
+    /// Does an edit, and hands back what brings the cell back. Refusals as of the call for that edit; a restore has none.
     pub fn edit(&mut self, edit: Edit) -> Result<Former, CellRefusal>
         ensures done { OnOk result (self.new ≡ done edit self.old) }
         ensures former { IfOk result (λ former. undone edit former self.new ≡ self.old) }
         ensures placed { OnOk result (has_place edit ≡ true) }
         ensures unchanged { OnErr result (self.new ≡ self.old) }
+        ensures refused { IsRefusedBy (edit_refusal edit self.old) result }
     {
         match edit {
             Edit::Set(value) => Ok(Former::Value(self.replace(value)?)),

@@ -1,5 +1,4 @@
-ghost use Rattle.std.specs.Prelude.{◌≡◌, ◌<◌, ◌≤◌, length, slice_get, Some, None, IfOk, IfErr, OnOk, OnErr};
-ghost use Rattle.sync_base.specs.States.{Many};
+ghost use Rattle.std.specs.Prelude.{◌≡◌, ◌<◌, ◌≤◌, Some, None, IfOk, IfErr, OnOk, OnErr};
 ghost use Rattle.sync_base.specs.Effects.{Replace, Insert, Remove};
 ghost use Rattle.sync_base.specs.After.{edited};
 ghost use Rattle.sync_cells.specs.Refusals.{list_refusal, answer_of, IsRefusedBy};

@@ -1,5 +1,6 @@
 -- A server that gave up its history before a floor answers as before, up to the first message that it refuses by 71.
 use Rattle.std.proofs.Common.{◌≡◌, ◌≢◌, ◌⊎◌, inl, inr, ⊎_elim, ℕ, zero, suc, ◌+◌, ◌-◌, ◌<◌, ◌≤◌, Bool, true, false, ◌&&◌, ◌||◌, not, List, [], ◌∷◌, ◌++◌, Option, Some, None, Result, Ok, Err, refl, sym, ap, ap₂, ◌∙◌, subst, subst₂, arith, if◌then◌else◌, ◌==◌, length, drop, take, map, nat_le, nat_lt, length-append, min, max, le_refl}
+use Rattle.std.specs.List.{list_any}
 use Rattle.std.proofs.lemmas.Bool.Decides.{nat_tests}
 use Rattle.std.proofs.lemmas.Bool.{ltb-false, ltb-true}
 use Rattle.sync_theory.specs.Grid.{carry, tail}
@@ -12,7 +13,7 @@ use Rattle.sync_model.specs.Messages.{Change, Message, Bind, Ident, Upload, Ask,
 use Rattle.sync_model.specs.Servers.{ServerRecord, Client, Entry, Form, Settled, is_retired, ServerRefusal, IdentRetired, SelfRetire, RetiredBy, NumberGap, BaseBack, AheadOfHistory, HistoryFull, NoSuchIdent, IdentsFull, NotForServer, Trimmed, ServerStep, code_of, refuses, replies, place_of, entry_of, download, download_first, download_tables, marks_new}
 use Rattle.sync_model.specs.Worlds.{at}
 use Rattle.sync_model.specs.Parts.{Given, Parts, Served, Merged, at_ident, as_before, with_versions, settled, longer_list, extended, idents_retired, given_up, retired_for, retire_as, retire_by, idents_after, integrated, merged_by, bound, marked, marking_by, ask_by, merge_applied_by, merge_carried_by, merge_read_by, merge_by, upload_by, serve_by, after_change, after_entry, after_part, after_parts}
-use Rattle.sync_model.specs.Trims.{pairs_from, replies_by, kept_after, is_trimmed, any_trimmed, SameGiven, SameIdents, no_idents, an_ident, KeptLess}
+use Rattle.sync_model.specs.Trims.{pairs_from, replies_by, kept_after, is_trimmed, SameGiven, SameIdents, no_idents, an_ident, KeptLess}
 
 -- a number isn't below a smaller one
 pub not_below : (n m : ℕ) → m ≤ n → nat_lt n m ≡ false
@@ -490,10 +491,10 @@ module _ {I S : Type 0} (p : Profile I S) where
 
   -- ---- a list of messages
 
-  pub all_same : (ms : List Message) (a b : Parts I S) → KeptLess a b → any_trimmed (replies_by p b ms) ≡ false → (replies_by p b ms ≡ replies_by p a ms) × KeptLess (kept_after p a ms) (kept_after p b ms)
+  pub all_same : (ms : List Message) (a b : Parts I S) → KeptLess a b → list_any is_trimmed (replies_by p b ms) ≡ false → (replies_by p b ms ≡ replies_by p a ms) × KeptLess (kept_after p a ms) (kept_after p b ms)
   all_same [] a b k e = (refl, k)
   all_same (m ∷ ms) a b k e =
-      let none = neither (is_trimmed (serve_by p b m).answer) (any_trimmed (replies_by p (serve_by p b m).parts ms)) e in
+      let none = neither (is_trimmed (serve_by p b m).answer) (list_any is_trimmed (replies_by p (serve_by p b m).parts ms)) e in
       let one = served_same a b k m none.0 in
       let rest = all_same ms (serve_by p a m).parts (serve_by p b m).parts one.2 none.1 in
       (ap₂ (λ x l. x ∷ l) one.1 rest.0, rest.1)

@@ -283,7 +283,7 @@ module _ {I S : Type 0} (p : Profile I S) where
       Rattle.sync_model.proofs.Trimmed.front_back p law built (trimmed p kept) (whole_trimmed law built kept a) t.based.fits t.based.bounded t.based.old more e
 
   -- its replies, lengths and objects
-  pub trims_alike : {Fits Bounded Old : S → Type 0} → Lawful p Fits → Buildable p Fits Bounded Old → (kept : Parts I S) → KeptBy p kept → (ms : List Rattle.sync_model.specs.Messages.Message) → Rattle.sync_model.specs.Trims.any_trimmed (Rattle.sync_model.specs.Trims.replies_by p (trimmed p kept) ms) ≡ false → TrimsAlike p kept ms
+  pub trims_alike : {Fits Bounded Old : S → Type 0} → Lawful p Fits → Buildable p Fits Bounded Old → (kept : Parts I S) → KeptBy p kept → (ms : List Rattle.sync_model.specs.Messages.Message) → Rattle.std.specs.List.list_any Rattle.sync_model.specs.Trims.is_trimmed (Rattle.sync_model.specs.Trims.replies_by p (trimmed p kept) ms) ≡ false → TrimsAlike p kept ms
   trims_alike law built kept k ms e =
       let a = all_kept law built k in
       let r = Rattle.sync_model.proofs.Alike.all_same p ms kept (trimmed p kept) (Rattle.sync_model.proofs.Trims.trims_less p kept a.sound.spans) e in

@@ -39,14 +39,14 @@ module _ {I S : Type 0} (p : Profile I S) where
     old_needs no_more = refl
     old_needs (and_each {xs = is} h f) = ap (λ b. b || needs p is) h ∙ old_needs f
 
-    pub lefts : (o : Option I) → Rattle.sync_model.specs.Snapshots.IsOld p o → Rattle.sync_model.proofs.Olds.Left p (λ i. p.needs_second i ≡ false) o
+    pub lefts : (o : Option I) → Rattle.std.specs.Prelude.IfSome o (λ i. p.needs_second i ≡ false) → Rattle.sync_model.proofs.Olds.Left p (λ i. p.needs_second i ≡ false) o
     lefts None h = tt
     lefts (Some i) h = h
 
     pub meets : (later : Bool) (a b : I) → p.needs_second a ≡ false → p.needs_second b ≡ false → Rattle.std.specs.Prelude.IfOk (p.meet a b later) (λ o. Rattle.sync_model.proofs.Olds.Left p (λ i. p.needs_second i ≡ false) o.0 × Rattle.sync_model.proofs.Olds.Left p (λ i. p.needs_second i ≡ false) o.1)
     meets later a b e f = on (p.meet a b later) (built.meets_old later a b e f)
       where
-        on : (r : Result (Option I × Option I) ℕ) → Rattle.std.specs.Prelude.IfOk r (λ o. Rattle.sync_model.specs.Snapshots.IsOld p o.0 × Rattle.sync_model.specs.Snapshots.IsOld p o.1) → Rattle.std.specs.Prelude.IfOk r (λ o. Rattle.sync_model.proofs.Olds.Left p (λ i. p.needs_second i ≡ false) o.0 × Rattle.sync_model.proofs.Olds.Left p (λ i. p.needs_second i ≡ false) o.1)
+        on : (r : Result (Option I × Option I) ℕ) → Rattle.std.specs.Prelude.IfOk r (λ o. Rattle.std.specs.Prelude.IfSome o.0 (λ i. p.needs_second i ≡ false) × Rattle.std.specs.Prelude.IfSome o.1 (λ i. p.needs_second i ≡ false)) → Rattle.std.specs.Prelude.IfOk r (λ o. Rattle.sync_model.proofs.Olds.Left p (λ i. p.needs_second i ≡ false) o.0 × Rattle.sync_model.proofs.Olds.Left p (λ i. p.needs_second i ≡ false) o.1)
         on (Ok o) h = (lefts o.0 h.0, lefts o.1 h.1)
         on (Err k) h = tt
 

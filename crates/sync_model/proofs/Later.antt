@@ -1,6 +1,7 @@
 -- What holds of every exchange in which the server may give up history.
 use Rattle.std.proofs.Common.{◌≡◌, ◌⊎◌, inl, inr, ⊎_elim, ℕ, zero, suc, Bool, true, false, ◌||◌, List, [], ◌∷◌, ◌++◌, Option, Some, None, Result, Ok, Err, refl, sym, ap, ap₂, ◌∙◌, subst, subst₂, if◌then◌else◌, ◌==◌, length, take}
 use Rattle.std.specs.Prelude.{⊤, bytes_eq}
+use Rattle.std.specs.Option.{option_map_or}
 use Rattle.sync_model.specs.Bytes.{Name, Uuid}
 use Rattle.sync_model.specs.Profile.{Profile, Lawful}
 use Rattle.sync_model.specs.Snapshots.{Buildable}
@@ -12,7 +13,7 @@ use Rattle.sync_model.specs.Trims.{trimmed, is_trimmed, KeptLess, Spans, no_iden
 use Rattle.sync_model.specs.Worlds.{Node, World, Event, Joins, Starts, Edits, Binds, Uploads, Asks, Upgrades, Subscribes, Delivers, Restarts, Stops, Injects, Outcome, says, at, seek, is_there, stopped, has_name, has_id, server_name, server_moved, server_ends, server_called, client_ends, client_called, client_calls, message_words, made_words, took_words, upgrade_words, subscribe_words, reply_words, is_node, joins, starts_at, delivers, message_at, named_by, names_own, happens, empty_world}
 use Rattle.sync_model.specs.Files.{FilesOpen, server_opens}
 use Rattle.sync_model.specs.Log.{IsFair}
-use Rattle.sync_model.specs.Later.{Later, LaterEvent, Happens, Trims, first_later, later_ends, later_served, later_message, later_injected, beside, later_after, later, all_later, IsLater, LaterFacts}
+use Rattle.sync_model.specs.Later.{Later, LaterEvent, Happens, Trims, first_later, later_ends, later_served, later_injected, beside, later_after, later, all_later, IsLater, LaterFacts}
 use Rattle.sync_model.proofs.Alone.{Opened, opened_first, opened_more}
 use Rattle.sync_model.proofs.Facts.{world_facts}
 use Rattle.sync_model.proofs.Folding.{records_after, parts_span}
@@ -208,7 +209,7 @@ module _ {I S : Type 0} (p : Profile I S) where
 
     -- ---- events
 
-    some_held : (l : Later I S) (h : Held l) (o : Option Message) → ((m : Message) → o ≡ Some m → Tells p h.holds.n (server_of p l.world.server).ids l.world.clients m) → Held (later_message p l o)
+    some_held : (l : Later I S) (h : Held l) (o : Option Message) → ((m : Message) → o ≡ Some m → Tells p h.holds.n (server_of p l.world.server).ids l.world.clients m) → Held (option_map_or (later_served p l.world l.kept) o l)
     some_held l h None t = h
     some_held l h (Some m) t = served_held l.world l.kept h.holds h.opens h.less m (comes_told p law built l.world h.holds m (t m refl))
 
@@ -228,7 +229,7 @@ module _ {I S : Type 0} (p : Profile I S) where
     named_open w (Retired c by number) f = f
     named_open w (AskTables c cursor settled second tables) f = f
 
-    injected_held : (l : Later I S) → Held l → (m : Option Message) → Held (later_injected p l m)
+    injected_held : (l : Later I S) → Held l → (m : Option Message) → Held (option_map_or (later_injected p l) m l)
     injected_held l h None = h
     injected_held l h (Some m) = on (names_own p l.world m) refl
       where
@@ -266,7 +267,7 @@ module _ {I S : Type 0} (p : Profile I S) where
     event_held l h (Subscribes name tables) = beside_held l h (Subscribes name tables) (calls_leave l.world name (λ c. subscribe c tables) subscribe_words subscribe_leave)
     event_held l h (Delivers k to) = on (bytes_eq to server_name) refl k
       where
-        on : (b : Bool) → bytes_eq to server_name ≡ b → (k : ℕ) → Held (if b then later_message p l (message_at l.world k) else beside p l (Delivers k to))
+        on : (b : Bool) → bytes_eq to server_name ≡ b → (k : ℕ) → Held (if b then option_map_or (later_served p l.world l.kept) (message_at l.world k) l else beside p l (Delivers k to))
         on true is zero = some_held l h None (λ m e. absurd (none_some e))
         on true is (suc k) = some_held l h (at l.world.messages k) (λ m e. h.holds.tells k m e)
         on false is k = beside_held l h (Delivers k to) (delivers_leave l.world to k is)

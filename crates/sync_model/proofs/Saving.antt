@@ -1,11 +1,13 @@
 -- What can be saved of a list of instructions: what is kept acts, and each break is listed once.
 use Rattle.std.proofs.Common.{◌≡◌, ℕ, zero, suc, ◌+◌, ◌<◌, Bool, true, false, ◌||◌, ◌&&◌, List, [], ◌∷◌, ◌++◌, Option, Some, None, Result, Ok, Err, refl, sym, ap, ap₂, ◌∙◌, arith, append_assoc, append-nil, ◌==◌, take}
+use Rattle.std.specs.Prelude.{option_to_list}
+use Rattle.std.specs.Result.{result_err}
 use Rattle.sync_theory.proofs.Server.{test_true, test_false}
 use Rattle.sync_model.specs.Profile.{Profile, Lawful, apply_all, apply_then, one_more, is_small, needs, admits_by, all_admitted}
 use Rattle.sync_model.specs.Bytes.{Tables}
 use Rattle.sync_model.specs.Worlds.{at}
 use Rattle.sync_model.specs.Resets.{Saved, tried, saved_from, saved}
-use Rattle.sync_model.specs.Recovery.{drops, codes_at, ListsDrops}
+use Rattle.sync_model.specs.Recovery.{codes_at, ListsDrops}
 use Rattle.sync_model.proofs.Own.{if_true, if_false}
 use Rattle.sync_model.proofs.Small.{NoLarger, same_size, beside_less, Light, small_light, first_light, rest_light, small_less}
 
@@ -32,14 +34,14 @@ module _ {I S : Type 0} (p : Profile I S) where
       on (Ok t) ih = ih t
       on (Err code) ih = if_false (k == j) (code ∷ codes_at p j (saved_from p (suc k) s is).dropped) _ (test_false k j (λ z. omega arith)) ∙ ih s
 
-  listed_from : (is : List I) (j k : ℕ) (s : S) (x : I) → at is k ≡ Some x → codes_at p (j + k) (saved_from p j s is).dropped ≡ drops p (p.apply (p.adapt (saved_from p j s (take k is)).state x) (saved_from p j s (take k is)).state)
+  listed_from : (is : List I) (j k : ℕ) (s : S) (x : I) → at is k ≡ Some x → codes_at p (j + k) (saved_from p j s is).dropped ≡ option_to_list (result_err (p.apply (p.adapt (saved_from p j s (take k is)).state x) (saved_from p j s (take k is)).state))
   listed_from [] j k s x e = cc
   listed_from (i ∷ is) j zero s x e =
       let same : i ≡ x = cc in
       let here : j + 0 ≡ j = omega arith in
-      ap (λ n. codes_at p n (saved_from p j s (i ∷ is)).dropped) here ∙ on (p.apply (p.adapt s i) s) ∙ ap (λ y. drops p (p.apply (p.adapt s y) s)) same
+      ap (λ n. codes_at p n (saved_from p j s (i ∷ is)).dropped) here ∙ on (p.apply (p.adapt s i) s) ∙ ap (λ y. option_to_list (result_err (p.apply (p.adapt s y) s))) same
     where
-      on : (r : Result S ℕ) → codes_at p j (one j s i is r).dropped ≡ drops p r
+      on : (r : Result S ℕ) → codes_at p j (one j s i is r).dropped ≡ option_to_list (result_err r)
       on (Ok t) = none_before is j (suc j) t (omega arith)
       on (Err code) = if_true (j == j) (code ∷ codes_at p j (saved_from p (suc j) s is).dropped) _ (test_true j j refl) ∙ ap (λ l. code ∷ l) (none_before is j (suc j) s (omega arith))
   listed_from (i ∷ is) j (suc k) s x e = on (p.apply (p.adapt s i) s) (λ t. listed_from is (suc j) k t x e)
@@ -47,8 +49,8 @@ module _ {I S : Type 0} (p : Profile I S) where
       next : j + suc k ≡ suc j + k
       next = omega arith
 
-      on : (r : Result S ℕ) → ((t : S) → codes_at p (suc j + k) (saved_from p (suc j) t is).dropped ≡ drops p (p.apply (p.adapt (saved_from p (suc j) t (take k is)).state x) (saved_from p (suc j) t (take k is)).state))
-          → codes_at p (j + suc k) (one j s i is r).dropped ≡ drops p (p.apply (p.adapt (one j s i (take k is) r).state x) (one j s i (take k is) r).state)
+      on : (r : Result S ℕ) → ((t : S) → codes_at p (suc j + k) (saved_from p (suc j) t is).dropped ≡ option_to_list (result_err (p.apply (p.adapt (saved_from p (suc j) t (take k is)).state x) (saved_from p (suc j) t (take k is)).state)))
+          → codes_at p (j + suc k) (one j s i is r).dropped ≡ option_to_list (result_err (p.apply (p.adapt (one j s i (take k is) r).state x) (one j s i (take k is) r).state))
       on (Ok t) ih = ap (λ n. codes_at p n (saved_from p (suc j) t is).dropped) next ∙ ih t
       on (Err code) ih = if_false (j == (j + suc k)) (code ∷ codes_at p (j + suc k) (saved_from p (suc j) s is).dropped) _ (test_false j (j + suc k) (λ z. omega arith)) ∙ ap (λ n. codes_at p n (saved_from p (suc j) s is).dropped) next ∙ ih s
 

@@ -10,11 +10,11 @@ use Rattle.sync_theory.specs.Logs.{Nodes, world_of}
 use Rattle.sync_theory.proofs.Agree.{then_gives, run_append}
 use Rattle.sync_model.specs.Bytes.{Uuid}
 use Rattle.sync_model.specs.Profile.{Profile, Lawful, act, act_changeset, cross_changesets, is_small, needs}
-use Rattle.sync_model.specs.Snapshots.{Buildable, run_parts, part_differs, grown_as, grown_to, grown}
+use Rattle.sync_model.specs.Snapshots.{Buildable, part_differs, grown_as, grown_to, grown}
 use Rattle.sync_model.specs.Each.{Each, no_more, and_each}
 use Rattle.sync_model.specs.Clients.{Client, ClientRecord, Part, Floor, client_of, no_client, after_record, after_records, ok_list, state_or, grown_or, tooks_of}
 use Rattle.sync_model.specs.Servers.{Server, ServerRecord, Entry, after_server, after_all, state_of, server_objects}
-use Rattle.sync_model.specs.Starts.{part_records, started}
+use Rattle.sync_model.specs.Starts.{started}
 use Rattle.sync_model.specs.Worlds.{Node}
 use Rattle.sync_model.specs.Each.{Each, no_more, and_each}
 use Rattle.sync_model.specs.Files.{is_fine, is_empty, is_place, readable, read_parts, part_and, parts_grow, part_fits, bodies_ahead, client_opens, is_second, server_admits, server_opens}
@@ -70,10 +70,10 @@ module _ {I S : Type 0} (p : Profile I S) where
 
     -- ---- the records of a file that begins with a state
 
-    parts_read : (ps : List (List I)) → Each (λ is. is_small p is ≡ true) ps → (c : Client I S) (rest : List ClientRecord) → after_records p c (part_records p ps ++ rest) ≡ after_records p (record c { parts = c.parts ++ ps }) rest
+    parts_read : (ps : List (List I)) → Each (λ is. is_small p is ≡ true) ps → (c : Client I S) (rest : List ClientRecord) → after_records p c (map (λ is. ClientRecord.Part (p.spell is)) ps ++ rest) ≡ after_records p (record c { parts = c.parts ++ ps }) rest
     parts_read [] no_more c rest = ap (λ l. after_records p (record c { parts = l }) rest) (sym (append-nil c.parts))
     parts_read (x ∷ ps) (and_each h f) c rest =
-        ap (λ is. after_records p (record c { parts = c.parts ++ is ∷ [] }) (part_records p ps ++ rest)) (ap ok_list (law.spelled x h))
+        ap (λ is. after_records p (record c { parts = c.parts ++ is ∷ [] }) (map (λ is. ClientRecord.Part (p.spell is)) ps ++ rest)) (ap ok_list (law.spelled x h))
         ∙ parts_read ps f (record c { parts = c.parts ++ x ∷ [] }) rest
         ∙ ap (λ l. after_records p (record c { parts = l }) rest) (append_assoc c.parts (x ∷ []) ps)
 
@@ -84,7 +84,7 @@ module _ {I S : Type 0} (p : Profile I S) where
         on true = parts_read (p.build s) (built.small s fit bounded) (record (no_client p) { id = Some id; second = true }) (Floor version ∷ [])
         on false = parts_read (p.build s) (built.small s fit bounded) (record (no_client p) { id = Some id }) (Floor version ∷ [])
 
-    no_tooks : (ps : List (List I)) (version : ℕ) → tooks_of (part_records p ps ++ Floor version ∷ []) ≡ []
+    no_tooks : (ps : List (List I)) (version : ℕ) → tooks_of (map (λ is. ClientRecord.Part (p.spell is)) ps ++ Floor version ∷ []) ≡ []
     no_tooks [] version = refl
     no_tooks (x ∷ ps) version = no_tooks ps version
 
@@ -123,7 +123,7 @@ module _ {I S : Type 0} (p : Profile I S) where
     each_old second no_more = no_more
     each_old second (and_each {x = x} h f) = and_each (part_allowed second x h) (each_old second f)
 
-    bodies_are : (ps : List (List I)) (version : ℕ) → bodies_ahead p (map (λ q. Some q) (part_records p ps ++ Floor version ∷ [])) ≡ map (λ is. p.spell is) ps
+    bodies_are : (ps : List (List I)) (version : ℕ) → bodies_ahead p (map (λ q. Some q) (map (λ is. ClientRecord.Part (p.spell is)) ps ++ Floor version ∷ [])) ≡ map (λ is. p.spell is) ps
     bodies_are [] version = refl
     bodies_are (x ∷ ps) version = ap (λ l. p.spell x ∷ l) (bodies_are ps version)
 
@@ -135,21 +135,21 @@ module _ {I S : Type 0} (p : Profile I S) where
     abbrev begun : Uuid → Bool → List (List I) → Client I S
     begun id second before = record (no_client p) { id = Some id; second = second; parts = before }
 
-    parts_open : (id : Uuid) (second : Bool) (version : ℕ) (s : S) → Fits s → Bounded s → (ps before : List (List I)) → before ++ ps ≡ p.build s → Each (λ is. is_small p is ≡ true) ps → Allowed second ps → client_opens p (begun id second before) (part_records p ps ++ Floor version ∷ []) ≡ true
+    parts_open : (id : Uuid) (second : Bool) (version : ℕ) (s : S) → Fits s → Bounded s → (ps before : List (List I)) → before ++ ps ≡ p.build s → Each (λ is. is_small p is ≡ true) ps → Allowed second ps → client_opens p (begun id second before) (map (λ is. ClientRecord.Part (p.spell is)) ps ++ Floor version ∷ []) ≡ true
     parts_open id second version s fit bounded [] before e no_more no_more =
         join (is_fine (grown p before)) true (ap is_fine (ap (grown p) (sym (append-nil before) ∙ e) ∙ grown_build s fit bounded)) refl
     parts_open id second version s fit bounded (x ∷ ps) before e (and_each h f) (and_each g k) =
         let rest = parts_open id second version s fit bounded ps (before ++ x ∷ []) (append_assoc before (x ∷ []) ps ∙ e) f k in
         let whole : parts_grow p before x (Some ps) ≡ true = ap (λ r. not (is_place (length before) r)) (ap (grown p) e ∙ grown_build s fit bounded) in
         let bodies = bodies_are ps version in
-        let fits_ : part_fits p (begun id second before) (map (λ q. Some q) (part_records p ps ++ Floor version ∷ [])) (readable p second (p.unspell (p.spell x))) ≡ true =
-        ap (part_fits p (begun id second before) (map (λ q. Some q) (part_records p ps ++ Floor version ∷ []))) (ap (readable p second) (law.spelled x h) ∙ g)
+        let fits_ : part_fits p (begun id second before) (map (λ q. Some q) (map (λ is. ClientRecord.Part (p.spell is)) ps ++ Floor version ∷ [])) (readable p second (p.unspell (p.spell x))) ≡ true =
+        ap (part_fits p (begun id second before) (map (λ q. Some q) (map (λ is. ClientRecord.Part (p.spell is)) ps ++ Floor version ∷ []))) (ap (readable p second) (law.spelled x h) ∙ g)
         ∙ ap (λ l. parts_grow p before x (read_parts p second l)) bodies ∙ ap (parts_grow p before x) (parts_are second f k) ∙ whole in
-        join (not (is_empty (map (λ q. Some q) (part_records p ps ++ Floor version ∷ []))) && part_fits p (begun id second before) (map (λ q. Some q) (part_records p ps ++ Floor version ∷ [])) (readable p second (p.unspell (p.spell x)))) (client_opens p (after_record p (begun id second before) (Part (p.spell x))) (part_records p ps ++ Floor version ∷ []))
-        (join (not (is_empty (map (λ q. Some q) (part_records p ps ++ Floor version ∷ [])))) _ (some_more ps) fits_)
-        (ap (λ is. client_opens p (begun id second (before ++ is ∷ [])) (part_records p ps ++ Floor version ∷ [])) (ap ok_list (law.spelled x h)) ∙ rest)
+        join (not (is_empty (map (λ q. Some q) (map (λ is. ClientRecord.Part (p.spell is)) ps ++ Floor version ∷ []))) && part_fits p (begun id second before) (map (λ q. Some q) (map (λ is. ClientRecord.Part (p.spell is)) ps ++ Floor version ∷ [])) (readable p second (p.unspell (p.spell x)))) (client_opens p (after_record p (begun id second before) (Part (p.spell x))) (map (λ is. ClientRecord.Part (p.spell is)) ps ++ Floor version ∷ []))
+        (join (not (is_empty (map (λ q. Some q) (map (λ is. ClientRecord.Part (p.spell is)) ps ++ Floor version ∷ [])))) _ (some_more ps) fits_)
+        (ap (λ is. client_opens p (begun id second (before ++ is ∷ [])) (map (λ is. ClientRecord.Part (p.spell is)) ps ++ Floor version ∷ [])) (ap ok_list (law.spelled x h)) ∙ rest)
       where
-        some_more : (ps : List (List I)) → not (is_empty (map (λ q. Some q) (part_records p ps ++ Floor version ∷ []))) ≡ true
+        some_more : (ps : List (List I)) → not (is_empty (map (λ q. Some q) (map (λ is. ClientRecord.Part (p.spell is)) ps ++ Floor version ∷ []))) ≡ true
         some_more [] = refl
         some_more (y ∷ ps) = refl
 
@@ -203,14 +203,14 @@ module _ {I S : Type 0} (p : Profile I S) where
       pub objects_old : OldLog p (λ i. p.needs_second i ≡ false) s.log → Old (server_objects p s)
       objects_old old = subst Old (sym objects_are) (listed_stays Old (λ i. p.needs_second i ≡ false) built.keeps_old n.entries (length n.log) 0 (λ j l. history_keeps p (λ i. p.needs_second i ≡ false) meets n.log (subst (OldLog p (λ i. p.needs_second i ≡ false)) (sym sim.log_is) old) j (n.entries j) (good.whole j (omega arith))) p.empty n.objects built.first_old objects_listed)
         where
-          lefts : (o : Option I) → Rattle.sync_model.specs.Snapshots.IsOld p o → Left p (λ i. p.needs_second i ≡ false) o
+          lefts : (o : Option I) → Rattle.std.specs.Prelude.IfSome o (λ i. p.needs_second i ≡ false) → Left p (λ i. p.needs_second i ≡ false) o
           lefts None h = tt
           lefts (Some i) h = h
 
           meets : (later : Bool) (a b : I) → p.needs_second a ≡ false → p.needs_second b ≡ false → Rattle.std.specs.Prelude.IfOk (p.meet a b later) (λ o. Left p (λ i. p.needs_second i ≡ false) o.0 × Left p (λ i. p.needs_second i ≡ false) o.1)
           meets later a b e f = on (p.meet a b later) (built.meets_old later a b e f)
             where
-              on : (r : Result (Option I × Option I) ℕ) → Rattle.std.specs.Prelude.IfOk r (λ o. Rattle.sync_model.specs.Snapshots.IsOld p o.0 × Rattle.sync_model.specs.Snapshots.IsOld p o.1) → Rattle.std.specs.Prelude.IfOk r (λ o. Left p (λ i. p.needs_second i ≡ false) o.0 × Left p (λ i. p.needs_second i ≡ false) o.1)
+              on : (r : Result (Option I × Option I) ℕ) → Rattle.std.specs.Prelude.IfOk r (λ o. Rattle.std.specs.Prelude.IfSome o.0 (λ i. p.needs_second i ≡ false) × Rattle.std.specs.Prelude.IfSome o.1 (λ i. p.needs_second i ≡ false)) → Rattle.std.specs.Prelude.IfOk r (λ o. Left p (λ i. p.needs_second i ≡ false) o.0 × Left p (λ i. p.needs_second i ≡ false) o.1)
               on (Ok o) h = (lefts o.0 h.0, lefts o.1 h.1)
               on (Err k) h = tt
 

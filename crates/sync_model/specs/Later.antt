@@ -1,5 +1,6 @@
 -- An exchange in which the server may give up history, as often as it may.
 use Rattle.std.specs.Prelude.{bytes_eq, ◌≡◌, ◌⊎◌, ℕ, true, List, [], ◌∷◌, Option, Some, None, if◌then◌else◌}
+use Rattle.std.specs.Option.{option_map_or}
 use Rattle.sync_model.specs.Profile.{Profile}
 use Rattle.sync_model.specs.Messages.{Message}
 use Rattle.sync_model.specs.Servers.{ServerRecord, server_of}
@@ -35,15 +36,9 @@ module _ {I S : Type 0} (p : Profile I S) where
   abbrev pub later_served : World → Parts I S → Message → Later I S
   later_served w kept m = later_ends w kept (serve_by p kept m) (stopped (w.stops server_name) (serve_by p kept m).records)
 
-  -- one of those that were made, if it is there
-  abbrev pub later_message : Later I S → Option Message → Later I S
-  later_message l None = l
-  later_message l (Some m) = later_served l.world l.kept m
-
   -- any bytes come to the server
-  abbrev pub later_injected : Later I S → Option Message → Later I S
-  later_injected l None = l
-  later_injected l (Some m) = if names_own p l.world m then l else later_served (named_by l.world m) l.kept m
+  abbrev pub later_injected : Later I S → Message → Later I S
+  later_injected l m = if names_own p l.world m then l else later_served (named_by l.world m) l.kept m
 
   -- what doesn't come to the server
   abbrev pub beside : Later I S → Event I → Later I S
@@ -52,8 +47,8 @@ module _ {I S : Type 0} (p : Profile I S) where
   -- after one event
   abbrev pub later_after : Later I S → Event I → Later I S
   later_after l (Starts name id) = record l { world = (starts_at p l.world name id l.kept.second l.kept.len l.kept.objects).world }
-  later_after l (Delivers message to) = if bytes_eq to server_name then later_message l (message_at l.world message) else beside l (Delivers message to)
-  later_after l (Injects m) = later_injected l m
+  later_after l (Delivers message to) = if bytes_eq to server_name then option_map_or (later_served l.world l.kept) (message_at l.world message) l else beside l (Delivers message to)
+  later_after l (Injects m) = option_map_or (later_injected l) m l
   later_after l e = beside l e
 
   -- or after the file was replaced

@@ -1,6 +1,7 @@
 -- What client reset promises: a retired ident's count is final, and each change of the old client takes effect as
 -- itself or as one transaction of the heir, never both.
-use Rattle.std.specs.Prelude.{◌≡◌, ℕ, zero, suc, ◌+◌, ◌<◌, true, false, List, [], ◌∷◌, ◌++◌, Option, Some, None, Result, Ok, Err, length, take, if◌then◌else◌, ◌==◌}
+use Rattle.std.specs.Prelude.{◌≡◌, ℕ, zero, suc, ◌+◌, ◌<◌, true, false, List, [], ◌∷◌, ◌++◌, Option, Some, None, Ok, Err, length, take, if◌then◌else◌, ◌==◌, option_to_list}
+use Rattle.std.specs.Result.{result_err}
 use Rattle.sync_theory.specs.Changesets.{Changeset}
 use Rattle.sync_model.specs.Bytes.{Uuid, Tables}
 use Rattle.sync_model.specs.Profile.{Profile, apply_all, is_small, needs, all_admitted}
@@ -73,11 +74,6 @@ module _ {I S : Type 0} (p : Profile I S) where
 
   -- ---- what is saved of a list of instructions
 
-  -- what is dropped at a place
-  abbrev pub drops : {E : Type 0} → Result S E → List E
-  drops (Ok s) = []
-  drops (Err code) = code ∷ []
-
   -- the codes that are listed for a place
   abbrev pub codes_at : ℕ → List (ℕ × ℕ) → List ℕ
   codes_at k [] = []
@@ -87,7 +83,7 @@ module _ {I S : Type 0} (p : Profile I S) where
   pub record ListsDrops (s : S) (is : List I) : Type 0 where
     -- what is kept acts
     pub acts : apply_all p (saved p s is).kept s ≡ Ok (saved p s is).state
-    pub listed : (k : ℕ) (i : I) → at is k ≡ Some i → codes_at k (saved p s is).dropped ≡ drops (p.apply (p.adapt (saved p s (take k is)).state i) (saved p s (take k is)).state)
+    pub listed : (k : ℕ) (i : I) → at is k ≡ Some i → codes_at k (saved p s is).dropped ≡ option_to_list (result_err (p.apply (p.adapt (saved p s (take k is)).state i) (saved p s (take k is)).state))
     pub no_others : (k : ℕ) → at is k ≡ None → codes_at k (saved p s is).dropped ≡ []
     -- within the limits of a changeset it stays within them, and it needs form 2 only where the list does
     pub small : is_small p is ≡ true → is_small p (saved p s is).kept ≡ true

@@ -12,10 +12,6 @@ pub record Saved (I S : Type 0) : Type 0 where
   pub dropped : List (ℕ × ℕ)
   pub state : S
 
--- nothing was tried
-abbrev pub none_saved : {I S : Type 0} → S → Saved I S
-none_saved s = record { kept = []; dropped = []; state = s }
-
 -- the instruction at a place acts and is kept, or meets a break and is dropped; then the rest is tried
 abbrev pub tried : {I S : Type 0} → ℕ → I → S → Result S ℕ → (S → Saved I S) → Saved I S
 tried k i s (Ok t) go = record { kept = i ∷ (go t).kept; dropped = (go t).dropped; state = (go t).state }
@@ -24,7 +20,7 @@ tried k i s (Err code) go = record { kept = (go s).kept; dropped = (k, code) ∷
 module _ {I S : Type 0} (p : Profile I S) where
   -- these instructions, the first of which has place k, are tried in order on the state so far, each as adapted to it
   abbrev pub saved_from : ℕ → S → List I → Saved I S
-  saved_from k s [] = none_saved s
+  saved_from k s [] = record { kept = []; dropped = []; state = s }
   saved_from k s (i ∷ is) = tried k (p.adapt s i) s (p.apply (p.adapt s i) s) (λ t. saved_from (suc k) t is)
 
   -- what can be saved of a list of instructions on a state
@@ -100,9 +96,8 @@ pub record Recovered : Type 0 where
   pub known : List (ℕ × ℕ)
 
 -- the records of a run, and what is said of each frame
-pub record RecoveryRun : Type 0 where
-  pub records : List ClientRecord
-  pub answers : List (List RecoveryLine)
+abbrev pub RecoveryRun : Type 0
+RecoveryRun = Step ClientRecord (List (List RecoveryLine))
 
 -- the count of an ident, as far as the run knows it
 abbrev pub count_known : ℕ → List (ℕ × ℕ) → Option ℕ
@@ -137,10 +132,10 @@ module _ {I S : Type 0} (p : Profile I S) where
 
   -- and all of them
   abbrev pub recover_frames : Client I S → List (ℕ × ℕ) → List Message → RecoveryRun
-  recover_frames c known [] = record { records = []; answers = [] }
+  recover_frames c known [] = record { records = []; answer = [] }
   recover_frames c known (m ∷ ms) = record {
     records = (recover_frame c known m).records ++ (recover_frames (after_records p c (recover_frame c known m).records) (recover_frame c known m).known ms).records;
-    answers = (recover_frame c known m).lines ∷ (recover_frames (after_records p c (recover_frame c known m).records) (recover_frame c known m).known ms).answers;
+    answer = (recover_frame c known m).lines ∷ (recover_frames (after_records p c (recover_frame c known m).records) (recover_frame c known m).known ms).answer;
   }
 
   -- a run begins with no count known

@@ -1,5 +1,5 @@
 -- A state as lists of instructions, and back.
-use Rattle.std.specs.Prelude.{◌≡◌, ◌≤◌, bytes_eq, ℕ, suc, ◌-◌, Bool, true, false, List, [], ◌∷◌, Option, Some, None, Result, Ok, Err, IfOk, if◌then◌else◌}
+use Rattle.std.specs.Prelude.{◌≡◌, ◌≤◌, bytes_eq, ℕ, suc, ◌-◌, Bool, true, false, List, [], ◌∷◌, Option, Some, None, Result, Ok, Err, IfOk, IfSome, if◌then◌else◌}
 use Rattle.sync_model.specs.Each.{Each}
 use Rattle.sync_model.specs.Profile.{Profile, act, apply_all, is_small, needs}
 
@@ -35,11 +35,6 @@ module _ {I S : Type 0} (p : Profile I S) where
   abbrev pub grown : List (List I) → Result S ℕ
   grown parts = grown_to parts (run_parts 0 parts p.empty)
 
-  -- version 1 of the bytes has a form for what is left
-  abbrev pub IsOld : Option I → Type 0
-  IsOld None = Unit {0}
-  IsOld (Some i) = p.needs_second i ≡ false
-
   -- what the theorems ask of it: on the states that fit, and whose values are no larger than can be spelled; an old one
   -- came of instructions that version 1 of the bytes can spell
   pub record Buildable (Fits Bounded Old : S → Type 0) : Type 0 where
@@ -48,7 +43,7 @@ module _ {I S : Type 0} (p : Profile I S) where
     pub first_old : Old p.empty
     pub keeps_old : (i : I) (s t : S) → p.needs_second i ≡ false → Old s → act p i s ≡ Some t → Old t
     -- what is left of two such instructions is such a one
-    pub meets_old : (later : Bool) (a b : I) → p.needs_second a ≡ false → p.needs_second b ≡ false → IfOk (p.meet a b later) (λ o. IsOld o.0 × IsOld o.1)
+    pub meets_old : (later : Bool) (a b : I) → p.needs_second a ≡ false → p.needs_second b ≡ false → IfOk (p.meet a b later) (λ o. IfSome o.0 (λ i. p.needs_second i ≡ false) × IfSome o.1 (λ i. p.needs_second i ≡ false))
     pub nothing : p.build p.empty ≡ []
     pub small : (s : S) → Fits s → Bounded s → Each (λ is. is_small p is ≡ true) (p.build s)
     pub old : (s : S) → Fits s → Old s → Each (λ is. needs p is ≡ false) (p.build s)

@@ -1,5 +1,5 @@
 -- A server's file without the history before its next floor, and what such a server answers.
-use Rattle.std.specs.Prelude.{◌≡◌, ◌≤◌, ◌<◌, ◌+◌, ℕ, suc, ◌-◌, Bool, true, false, ◌||◌, not, List, [], ◌∷◌, nat_lt, ◌==◌, if◌then◌else◌, map, length, drop, take, min, max}
+use Rattle.std.specs.Prelude.{◌≡◌, ◌≤◌, ◌<◌, ◌+◌, ℕ, suc, ◌-◌, Bool, true, false, not, List, [], ◌∷◌, nat_lt, ◌==◌, if◌then◌else◌, map, length, drop, take, min, max}
 use Rattle.sync_theory.specs.Lists.{run}
 use Rattle.sync_model.specs.Profile.{Profile, act_changeset}
 use Rattle.sync_model.specs.Messages.{Change, Message, Refused}
@@ -65,11 +65,6 @@ module _ {I S : Type 0} (p : Profile I S) where
 abbrev pub is_trimmed : Message → Bool
 is_trimmed (Refused ident number code place) = code == 71
 is_trimmed m = false
-
--- one of them does
-abbrev pub any_trimmed : List Message → Bool
-any_trimmed [] = false
-any_trimmed (m ∷ ms) = is_trimmed m || any_trimmed ms
 
 -- ---- two servers of which one kept less
 

@@ -1,4 +1,5 @@
 ghost use Rattle.std.specs.Prelude.{Bool, Err, IfOk, List, None, Ok, Option, Some, [], drop, false, length, map, take, true, ◌++◌, ◌+◌, ◌-◌, ◌*◌, ◌<◌, ◌≤◌, ◌≢◌, ◌⊎◌, ℕ, ◌≡◌};
+ghost use Rattle.std.specs.List.{list_any};
 ghost use Rattle.sync_theory.specs.Changesets.{Changeset};
 ghost use Rattle.sync_model.specs.Bytes.{Bytes, Name, Tables, Uuid};
 ghost use Rattle.sync_model.specs.Clients.{ClientRecord, ClientRefusal, ask, bind, born, client_of, commit, last, no_client, subscribe, take as take_message, upgrade, upload, upload_from};
@@ -21,7 +22,7 @@ ghost use Rattle.sync_model.specs.Snapshots.{grown};
 ghost use Rattle.sync_model.specs.Starts.{started, started_client};
 ghost use Rattle.sync_model.specs.Trimmed.{KeptBy, TrimsAlike, trim_records};
 ghost use Rattle.sync_model.specs.Fronts.{file_gives};
-ghost use Rattle.sync_model.specs.Trims.{BelowFloor, KeptLess, Spans, any_trimmed, is_trimmed, kept_after, next_floor, replies_by, trimmed};
+ghost use Rattle.sync_model.specs.Trims.{BelowFloor, KeptLess, Spans, is_trimmed, kept_after, next_floor, replies_by, trimmed};
 ghost use Rattle.sync_model.specs.Worlds.{ClientsGrow, Delivers, Edits, Event, IsReached, Made, Node, World, at, empty_world, happens, outcomes, server_name, world_after};
 
 use super::exchange::Exchange;
@@ -70,7 +71,7 @@ pub fn trimmed_servers_answer_alike<E: Exchange>()
     ensures trims { (kept : Parts E.Instr E.State) → Spans kept → KeptLess kept (trimmed E.profile kept) × Spans (trimmed E.profile kept) }
     ensures floor { (kept : Parts E.Instr E.State) → Spans kept → (kept.floor ≤ next_floor kept) × (next_floor kept ≤ kept.len) }
     ensures goes_on { (kept : Parts E.Instr E.State) (m : Message) → Spans kept → Spans (serve_by E.profile kept m).parts }
-    ensures alike { (whole less : Parts E.Instr E.State) (ms : List Message) → KeptLess whole less → any_trimmed (replies_by E.profile less ms) ≡ false
+    ensures alike { (whole less : Parts E.Instr E.State) (ms : List Message) → KeptLess whole less → list_any is_trimmed (replies_by E.profile less ms) ≡ false
         → (replies_by E.profile less ms ≡ replies_by E.profile whole ms) × KeptLess (kept_after E.profile whole ms) (kept_after E.profile less ms) }
     ensures records { (whole less : Parts E.Instr E.State) (m : Message) → KeptLess whole less → is_trimmed (serve_by E.profile less m).answer ≡ false
         → (serve_by E.profile less m).records ≡ (serve_by E.profile whole m).records }
@@ -96,7 +97,7 @@ pub fn server_files_give_what_is_kept<E: Exchange>()
     ensures back { (read : Bytes → Option ServerRecord) (bytes : ServerRecord → Bytes) (kept : Parts E.Instr E.State) (more : List ServerRecord)
         → KeptBy E.profile kept → parts_open E.profile (trimmed E.profile kept) more ≡ true → Each (λ r. read (bytes r) ≡ Some r) (trim_records E.profile kept ++ more)
         → file_gives E.profile (map read (map bytes (trim_records E.profile kept ++ more))) ≡ Ok (after_parts E.profile (trimmed E.profile kept) more) }
-    ensures alike { (kept : Parts E.Instr E.State) (ms : List Message) → KeptBy E.profile kept → any_trimmed (replies_by E.profile (trimmed E.profile kept) ms) ≡ false
+    ensures alike { (kept : Parts E.Instr E.State) (ms : List Message) → KeptBy E.profile kept → list_any is_trimmed (replies_by E.profile (trimmed E.profile kept) ms) ≡ false
         → TrimsAlike E.profile kept ms }
 {}
 

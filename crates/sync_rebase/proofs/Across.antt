@@ -22,14 +22,12 @@ use Rattle.list_lane.specs.Told.{action, prior_in, told, told_set, told_sets, Is
 use Rattle.list_lane.specs.Laws.{CrossesLeft}
 use Rattle.sync_rebase.specs.Acrossing.{left_action}
 use Rattle.sync_rebase.specs.Stretches.{told_unsent, overlaid, Holds, AllHold}
-use Rattle.sync_rebase.specs.Settling.{action_there, own_left, other_left, instrs_left, passed, CanPass}
+use Rattle.list_lane.specs.Actions.{action_there, own_left, other_left, instrs_left}
+use Rattle.sync_rebase.specs.Settling.{passed, CanPass}
 use Rattle.list_lane.specs.declared.op.Op.{Op}
-use Rattle.sync_rebase.proofs.Acting.{prior_action, after_is, told_action, told_over, one_of}
+use Rattle.list_lane.proofs.Chain.{crossed_none}
+use Rattle.list_lane.proofs.Acting.{prior_action, after_is, told_action, told_over, one_of}
 use Rattle.list_lane.proofs.Lengths.{Lengths, lengths}
-
-crossed_none : (l : Stamp → Stamp → Bool) (ss : List (Option Op)) → (crossed l ss None).slots ≡ ss
-crossed_none l [] = refl
-crossed_none l (s ∷ ss) = refl
 
 -- ---- the lane stands as what it shows
 abbrev Passes : ℕ → ℕ → List (Option Op) → ℕ → Op → List (Unsent Instr) → Type 0
@@ -50,9 +48,9 @@ after_one own k n a b ss u us kind None (Some q) e w ih =
     (λ i. record u { current = [] } ∷ overlaid (sym e i) (crossed (lane_later true) ss (Some (record b { place = q }))).slots us)
     ∙ ap (λ t. record u { current = [] } ∷ t) (ih q w)
 after_one own k n a b ss u us kind (Some p) None e w ih =
-    λ i. record u { current = sym (told_over u.current a.does a.place n p (longer b.does n) kind) i } ∷ overlaid (e i) (crossed_none (lane_later true) ss i) us
+    λ i. record u { current = sym (told_over u.current a.does a.place n p (longer b.does n) kind) i } ∷ overlaid (e i) (crossed_none (lane_later true) ss i).slots us
 after_one own k n a b ss u us kind None None e w ih =
-    λ i. record u { current = [] } ∷ overlaid (sym e i) (crossed_none (lane_later true) ss i) us
+    λ i. record u { current = [] } ∷ overlaid (sym e i) (crossed_none (lane_later true) ss i).slots us
 
 pub lane_passes : (cell : Option CellPath) (own : ℕ) (ss : List (Option Op)) (k n : ℕ) (b : Op) (us : List (Unsent Instr)) → k ≡ length ss → AllHold cell own ss us → Chains n ss → Within b.does b.place n → Passes own k ss n b us
 lane_passes cell own [] zero n b us c h ch w = refl

@@ -6,7 +6,8 @@ use Rattle.sync_theory.specs.Changesets.{later_stamp}
 use Rattle.sync_model.specs.Clients.{Unsent}
 use Rattle.sync_transform.specs.Moves.{action_in}
 use Rattle.sync_transform.specs.declared.moves.ListAction.{ListAction}
-use Rattle.sync_rebase.specs.Settling.{own_left, other_left, passed, Meets, CanPass}
+use Rattle.list_lane.specs.Actions.{own_left, other_left}
+use Rattle.sync_rebase.specs.Settling.{passed, Meets, CanPass}
 use Rattle.sync_rebase.specs.Stretches.{from_place}
 
 abbrev pub met : ℕ → Stamp → ListAction → Unsent Instr → Unsent Instr

@@ -9,10 +9,11 @@ use Rattle.sync_rivals.specs.Lists.{Indexed, AreListed, Lists, StaysListed}
 use Rattle.sync_rivals.specs.Marks.{Marks}
 use Rattle.sync_transform.specs.Moves.{action_in}
 use Rattle.sync_transform.specs.declared.moves.ListAction.{ListAction}
-use Rattle.sync_rebase.specs.Settling.{currents, own_left, other_left, passed, put_across}
+use Rattle.list_lane.specs.Actions.{own_left, other_left}
+use Rattle.sync_rebase.specs.Settling.{currents, passed, put_across}
 use Rattle.sync_rebase.specs.Stretches.{from_place}
 use Rattle.sync_rebase.specs.declared.carried.Across.{Across}
-use Rattle.sync_rebase.proofs.Acting.{left_listed}
+use Rattle.sync_rebase.proofs.Listed.{left_listed}
 
 own_listed : (l : Bool) (a : Option ListAction) (b : ListAction) (is : List Instr) → StaysListed is (own_left l a b is)
 own_listed l None b is = λ m n h. h

@@ -14,7 +14,7 @@ use Rattle.list_lane.specs.Told.{action, place_in, prior_in}
 use Rattle.sync_rebase.specs.Stretches.{told_unsent, overlaid, laid, lane_with, shown_by, stamp_by, Follows, Holds, AllHold, IsSlotOf, Stands}
 use Rattle.list_lane.specs.declared.op.Op.{Op}
 use Rattle.sync_rebase.specs.declared.stretch.Stretch.{Stretch}
-use Rattle.sync_rebase.proofs.Acting.{action_parts, kind_known, told_itself}
+use Rattle.list_lane.proofs.Acting.{action_parts, kind_known, told_itself}
 use Rattle.sync_rebase.proofs.Laid.{from_same, laid_none}
 
 -- ---- what a changeset is in a lane
@@ -98,3 +98,12 @@ new_stands us s n is there =
 pub none_shown : (o : Option Stretch) (us : List (Unsent Instr)) → is_some o ≡ false → shown_by o us ≡ us
 none_shown None us h = refl
 none_shown (Some s) us h = cc
+
+-- ---- where there is memory, or none
+pub on_ok : {A E P : Type 0} (r : Result A E) → is_ok r ≡ true → OnOk r P → P
+on_ok (Ok x) told h = h
+on_ok (Err x) told h = cc
+
+pub on_err : {A E P : Type 0} (r : Result A E) → is_ok r ≡ false → OnErr r P → P
+on_err (Ok x) told h = cc
+on_err (Err x) told h = h

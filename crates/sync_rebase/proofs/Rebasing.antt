@@ -19,9 +19,10 @@ use Rattle.sync_rebase.specs.declared.carried.Crossed.{Crossed}
 use Rattle.sync_rebase.specs.declared.carried.Crossed.TheVariants.{Stretch}
 use Rattle.sync_rebase.specs.declared.items.Passing.{Passing}
 use Rattle.sync_rebase.specs.Acrossing.{CrossesStretch, changes_left}
-use Rattle.sync_rebase.specs.Settling.{CanPass, currents, instrs_left, passed, settled}
+use Rattle.list_lane.specs.Actions.{instrs_left}
+use Rattle.sync_rebase.specs.Settling.{CanPass, currents, passed, settled}
 use Rattle.sync_rebase.specs.Stretches.{from_place}
-use Rattle.sync_rebase.proofs.Acting.{left_known}
+use Rattle.sync_rebase.proofs.Listed.{left_known}
 use Rattle.sync_rebase.proofs.Across.{passed_split}
 use Rattle.sync_rebase.proofs.Places.{settled_push, fits_push, length_settled}
 use Rattle.sync_rebase.proofs.Walk.{Walked, in_grid, nothing_before, walk_on}

@@ -23,7 +23,8 @@ use Rattle.sync_rebase.specs.Stretches.{told_unsent, overlaid, laid, shown_by, H
 use Rattle.sync_rebase.specs.Taking.{IsEntryOf, IsHead}
 use Rattle.list_lane.specs.declared.op.Op.{Op}
 use Rattle.sync_rebase.specs.declared.stretch.Stretch.{Stretch}
-use Rattle.sync_rebase.proofs.Acting.{kind_action, told_listed}
+use Rattle.list_lane.proofs.Acting.{kind_action}
+use Rattle.sync_rebase.proofs.Listed.{told_listed}
 use Rattle.sync_rebase.proofs.Laid.{originals_of, laid_originals, length_laid, get_before, get_behind, get_at, set_before, set_behind, holds_before, holds_behind, holds_push, laid_push, drop_push}
 
 pub length_shown : (o : Option Stretch) (us : List (Unsent Instr)) → length (shown_by o us) ≡ length us

@@ -17,7 +17,8 @@ use Rattle.list_lane.specs.Ops.{lane_later}
 use Rattle.list_lane.specs.Lanes.{lane_after, length_at_end, Chains}
 use Rattle.list_lane.specs.Laws.{CrossesLeft}
 use Rattle.list_lane.specs.declared.op.Op.{Op}
-use Rattle.sync_rebase.specs.Settling.{CanPass, instrs_left, passed}
+use Rattle.list_lane.specs.Actions.{instrs_left}
+use Rattle.sync_rebase.specs.Settling.{CanPass, passed}
 use Rattle.sync_rebase.specs.declared.carried.Across.{Across}
 use Rattle.sync_rebase.specs.declared.items.Passing.{Passing}
 use Rattle.sync_rebase.specs.declared.stretch.Stretch.{Stretch}
@@ -46,6 +47,15 @@ pub record LeavesAction (s : Stretch) (a : Across) (left : Option ListAction) : 
   pub chains : Chains s.lane.first s.lane.slots
   pub within : Within (kind_of a.action) (place_in a.action) s.lane.first
   pub law : CrossesLeft s.lane (op_across a) op (lane_after (lane_later true) s.lane (op_across a))
+
+-- it crossed the lane of a stretch, which stands as crossed
+pub record CrossedAt (a : Across) (before after : Option Stretch) : Type 0 where
+  pub stretch : Stretch
+  pub was : before ≡ Some stretch
+  pub takes : TakesAcross stretch a
+  pub chains : Chains stretch.lane.first stretch.lane.slots
+  pub within : Within (kind_of a.action) (place_in a.action) (prior_in a.action)
+  pub is : after ≡ Some (record stretch { lane = lane_after (lane_later true) stretch.lane (op_across a) })
 
 -- one unsent changeset and one of another, each of one instruction of one list, cross and both stay
 pub record BothMove (own : ℕ) (u : Unsent Instr) (origin : ℕ) (c : Changes) (m : Moves) : Type 0 where

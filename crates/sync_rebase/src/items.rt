@@ -14,7 +14,7 @@ ghost use Rattle.sync_rebase.specs.Taking.{IsHead};
 use super::carried::{Across, Became};
 use super::original::Original;
 use super::stretch::{
-    Stretch, cross_each, cross_lane, extend_last, first_stretch, left_by, lies_in, step_back,
+    Stretch, cross_at_once, cross_each, extend_last, first_stretch, left_by, lies_in, step_back,
     takes, told_at, write_around, write_head, write_whole,
 };
 use super::unsent::Unsent;
@@ -201,22 +201,19 @@ impl Items {
         unsent.stand_as(became);
     }
 
-    /// Those of a stretch meet an action of another. It takes no memory.
+    /// Those of a stretch meet an action of another: at once, or one by one where the lane would take memory and there is none.
     pub(crate) fn cross(&mut self, across: Across)
         requires { CanPass across.own across.stamp across.count (Some across.action) (drop across.start self.old) }
         ensures { self.new ≡ put_across across self.old }
     {
-        if let Some(stretch) = &mut self.stretch {
-            if takes(stretch, &across) {
-                cross_lane(stretch, &across);
-                return;
-            }
+        if cross_at_once(&mut self.stretch, &across) {
+            return;
         }
         write_whole(self.alloc, &mut self.items, &mut self.stretch);
         cross_each(self.alloc, &mut self.items, across);
     }
 
-    /// Whether the entry is the oldest changeset. It takes no memory.
+    /// Whether the entry is the oldest changeset. It needs no memory.
     pub(crate) fn is_head(&mut self, entry: &Entry) -> bool
         ensures same { self.new ≡ self.old }
         ensures told { IsTrue result ↔ IsHead entry.now self.old }
@@ -229,7 +226,7 @@ impl Items {
         head.is_of(self.alloc, entry)
     }
 
-    /// Takes the oldest changeset out, where there is one. It takes no memory.
+    /// Takes the oldest changeset out, where there is one. It needs no memory.
     pub(crate) fn drop_first(&mut self)
         ensures { self.new ≡ tail self.old }
     {

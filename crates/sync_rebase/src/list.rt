@@ -115,7 +115,7 @@ impl PendingList {
         }
     }
 
-    /// Whether the entry is the oldest changeset: its number, its time and its instructions as rebased. It takes no memory.
+    /// Whether the entry is the oldest changeset: its number, its time and its instructions as rebased. It needs no memory.
     pub fn is_head(&mut self, entry: &Entry) -> bool
         ensures same { self.new ≡ self.old }
         ensures told { IsTrue result ↔ IsHead entry.now self.old }
@@ -123,7 +123,7 @@ impl PendingList {
         self.items.is_head(entry)
     }
 
-    /// Takes the oldest changeset out, where there is one. It takes no memory.
+    /// Takes the oldest changeset out, where there is one. It needs no memory.
     pub fn drop_head(&mut self)
         ensures { self.new ≡ tail self.old }
     {

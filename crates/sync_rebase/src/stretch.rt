@@ -2,7 +2,7 @@ ghost use Rattle.std.specs.Prelude.{◌≡◌, ◌<◌, ◌+◌, None, Some, IfS
 ghost use Rattle.sync_base.specs.Rules.{top};
 ghost use Rattle.sync_rebase.specs.Stretches.{laid, shown_by, lane_with, Follows, Stands, Outside, IsSlotAt, IsToldAt, StepsBack};
 ghost use Rattle.sync_rebase.specs.Settling.{CanPass, put_across};
-ghost use Rattle.sync_rebase.specs.Acrossing.{op_across, LeavesAction, TakesAcross};
+ghost use Rattle.sync_rebase.specs.Acrossing.{op_across, CrossedAt, LeavesAction, TakesAcross};
 ghost use Rattle.list_lane.specs.Ops.{lane_later};
 ghost use Rattle.list_lane.specs.Lanes.{lane_after, length_at_end, Chains, Fits};
 ghost use Rattle.list_lane.specs.Told.{place_in, prior_in};
@@ -11,20 +11,21 @@ ghost use Rattle.sync_transform.specs.Places.{Within};
 
 use super::carried::Across;
 use super::unsent::Unsent;
-use list_lane::{Lane, Op, action_of, op_of, prior_of};
+use list_lane::{Op, action_of, op_of, prior_of};
+use list_regions::Regions;
 use std::alloc::Global;
 use std::collections::VecDeque;
 use sync_data::{Changeset, Ident, NoMemory};
 use sync_transform::ListAction;
 
 /// Unsent changesets next to each other, each of one list instruction of one cell, or of none any more: the place of the
-/// first, the ident of the client, a changeset of that cell, and what the instructions do now, as a lane.
+/// first, the ident of the client, a changeset of that cell, and what the instructions do now, as a lane in regions.
 #[derive(Drop)]
 pub(crate) struct Stretch {
     pub(crate) start: usize,
     pub(crate) own: Ident,
     pub(crate) sample: Changeset,
-    pub(crate) lane: Lane,
+    pub(crate) lane: Regions,
 }
 
 /// What a stretch tells of the changeset at a place, and the length of the list on which that acts; none where it doesn't lie in
@@ -73,13 +74,16 @@ pub(crate) fn left_by(stretch: &Stretch, across: &Across) -> Option<ListAction>
     }
 }
 
-/// An action crosses the lane of a stretch. It takes no memory.
-pub(crate) fn cross_lane(stretch: &mut Stretch, across: &Across)
+/// An action crosses the lane of a stretch. Where it would take memory and there is none, the stretch stays as it is.
+fn cross_lane(stretch: &mut Stretch, across: &Across) -> Result<(), NoMemory>
     requires { TakesAcross stretch.old across.now }
-    ensures crossed { stretch.new ≡ record stretch.old { lane = lane_after (lane_later true) stretch.old.lane (op_across across.now) } }
+    ensures crossed { OnOk result (stretch.new ≡ record stretch.old { lane = lane_after (lane_later true) stretch.old.lane (op_across across.now) }) }
     ensures within { Within (kind_of across.now.action) (place_in across.now.action) (prior_in across.now.action) }
+    ensures unchanged { OnErr result (stretch.new ≡ stretch.old) }
 {
-    stretch.lane.cross(op_of(across.action, across.stamp), true);
+    let op = op_of(across.action, across.stamp);
+    stretch.lane.cross(op, true)?;
+    Ok(())
 }
 
 /// A stretch that doesn't begin with the first of all begins one place sooner, where there is one.
@@ -105,7 +109,7 @@ fn next_slot(items: &VecDeque<Unsent>, stretch: &Stretch) -> Option<Option<Op>>
     items[place].slot_in(&stretch.sample, stretch.own, stretch.lane.last())
 }
 
-fn push_slot(lane: &mut Lane, slot: Option<Op>) -> Result<(), NoMemory>
+fn push_slot(lane: &mut Regions, slot: Option<Op>) -> Result<(), NoMemory>
     requires fits { Fits (length_at_end lane.old.first lane.old.slots) slot }
     requires room { lane.old.first + length lane.old.slots + 1 < top }
     ensures ok { OnOk result (lane.new ≡ lane_with slot lane.old) }
@@ -167,7 +171,7 @@ fn stretch_from(
         start,
         own,
         sample,
-        lane: Lane::new(alloc, first),
+        lane: Regions::new(alloc, first),
     };
     while extend(items, &mut stretch) {}
     Some(stretch)
@@ -197,7 +201,7 @@ pub(crate) fn first_stretch(
     None
 }
 
-/// The first of a stretch is written as it stands, and the stretch begins behind it. It takes no memory.
+/// The first of a stretch is written as it stands, and the stretch begins behind it. It needs no memory.
 pub(crate) fn write_first(alloc: Global, items: &mut VecDeque<Unsent>, stretch: &mut Stretch)
     requires some { 0 < length stretch.old.lane.slots }
     requires stands { Stands items.old.items stretch.old }
@@ -213,7 +217,7 @@ pub(crate) fn write_first(alloc: Global, items: &mut VecDeque<Unsent>, stretch: 
     stretch.start += 1;
 }
 
-/// All of a stretch are written as they stand. It takes no memory.
+/// All of a stretch are written as they stand. It needs no memory.
 pub(crate) fn write_all(alloc: Global, items: &mut VecDeque<Unsent>, stretch: Stretch)
     requires { Stands items.old.items stretch }
     ensures { items.new.items ≡ laid stretch.start stretch.lane items.old.items }
@@ -294,6 +298,19 @@ pub(crate) fn cross_each(alloc: Global, items: &mut VecDeque<Unsent>, across: Ac
     }
 }
 
+/// An action crosses the lane of the stretch, where it comes to that and there is memory. Whether it does.
+pub(crate) fn cross_at_once(stretch: &mut Option<Stretch>, across: &Across) -> bool
+    ensures crossed { IsTrue result → CrossedAt across.now stretch.old stretch.new }
+    ensures unchanged { IsFalse result → stretch.new ≡ stretch.old }
+{
+    if let Some(stretch) = stretch {
+        if takes(stretch, across) {
+            return cross_lane(stretch, across).is_ok();
+        }
+    }
+    false
+}
+
 /// Whether an action that comes to these crosses the lane of a stretch.
 pub(crate) fn takes(stretch: &Stretch, across: &Across) -> bool
     ensures takes { IsTrue result → TakesAcross stretch.now across.now }
@@ -308,7 +325,7 @@ pub(crate) fn takes(stretch: &Stretch, across: &Across) -> bool
 }
 
 /// Whether a list of that length stays short enough for so many more.
-pub(crate) fn has_room(length: u32, count: usize) -> bool
+fn has_room(length: u32, count: usize) -> bool
     ensures { IsTrue result → length + count + 1 < top }
 {
     let most = u32::MAX as usize;

@@ -12,13 +12,13 @@ ghost use Rattle.sync_transform.specs.declared.moves.ListAction.{ListAction as A
 ghost use Rattle.list_lane.specs.Lanes.{Fits};
 ghost use Rattle.list_lane.specs.Told.{told};
 ghost use Rattle.sync_rebase.specs.Stretches.{told_unsent, IsSlotOf};
-ghost use Rattle.sync_rebase.specs.Settling.{instrs_left, left_of, own_left, other_left, Meets, Suits};
+ghost use Rattle.list_lane.specs.Actions.{instrs_left, own_left, other_left};
+ghost use Rattle.sync_rebase.specs.Settling.{left_of, Meets, Suits};
 ghost use Rattle.sync_rebase.specs.Taking.{IsEntryOf};
 
-use super::actions::{action_left, parts};
 use super::carried::Became;
 use super::original::Original;
-use list_lane::{Op, action_of};
+use list_lane::{Op, action_left, action_of, op_of, prior_of};
 use std::alloc::Global;
 use std::marker::Model;
 use sync_data::{Changeset, Entry, Ident, Instr, NoMemory, Stamp};
@@ -160,15 +160,14 @@ impl Unsent {
         ensures { IfSome result (λ op. IsSlotOf self.now (first_cell cell.now.instrs) own length (Some op)) }
     {
         let action = self.current.action()?;
-        let (does, place, prior) = parts(&action);
-        if prior != length || !same_first_cell(cell, self.current.written()) {
+        if prior_of(action) != length || !same_first_cell(cell, self.current.written()) {
             return None;
         }
         let stamp = Stamp {
             ms: self.current.ms(),
             ident: own,
         };
-        Some(Op { does, place, stamp })
+        Some(op_of(action, stamp))
     }
 
     /// What it and a changeset of another do after they crossed, where each is one instruction of one list, and both stay.

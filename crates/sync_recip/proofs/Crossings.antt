@@ -20,13 +20,15 @@ use Rattle.list_lane.specs.Lanes.{LaneOf, crossed, lane_after, length_at_end, Ch
 use Rattle.list_lane.specs.Told.{action, place_in, prior_in, IsTold}
 use Rattle.list_lane.specs.Laws.{CrossesRight}
 use Rattle.sync_recip.specs.Acrossing.{op_across, put_across, LeavesAction, TakesAcross, CrossesStretch}
-use Rattle.sync_recip.specs.Passing.{instrs_left, passed, CanPass}
+use Rattle.list_lane.specs.Actions.{instrs_left}
+use Rattle.sync_recip.specs.Passing.{passed, CanPass}
 use Rattle.sync_recip.specs.Stretches.{from_place, instrs_in, overlaid, laid, Holds, AllHold, Stands}
 use Rattle.sync_recip.specs.declared.across.Across.{Across}
 use Rattle.sync_recip.specs.declared.items.Passing.{Passing}
 use Rattle.list_lane.specs.declared.op.Op.{Op}
 use Rattle.sync_recip.specs.declared.stretch.Stretch.{Stretch}
-use Rattle.sync_recip.proofs.Acting.{action_parts, kind_action, told_itself, kind_known, in_cell, one_of}
+use Rattle.list_lane.proofs.Chain.{length_crossed}
+use Rattle.list_lane.proofs.Acting.{action_parts, kind_action, told_itself, kind_known, in_cell, one_of}
 use Rattle.sync_recip.proofs.Lanes.{lane_passes, lane_can_pass, lane_carries}
 use Rattle.sync_recip.proofs.Laid.{bare_of, drop_from, laid_bare, length_laid}
 
@@ -41,12 +43,6 @@ holds_crossed cell l (s ∷ ss) None us h = h
 holds_crossed cell l (s ∷ ss) (Some b) [] h = absurd h
 holds_crossed cell l (None ∷ ss) (Some b) (u ∷ us) h = (h.0, holds_crossed cell l ss (Some b) us h.1)
 holds_crossed cell l (Some a ∷ ss) (Some b) (u ∷ us) h = (moved_holds cell a _ u h.0, holds_crossed cell l ss _ us h.1)
-
-length_crossed : (l : Stamp → Stamp → Bool) (ss : List (Option Op)) (b : Option Op) → length (crossed l ss b).slots ≡ length ss
-length_crossed l [] b = refl
-length_crossed l (s ∷ ss) None = refl
-length_crossed l (None ∷ ss) (Some b) = ap suc (length_crossed l ss (Some b))
-length_crossed l (Some a ∷ ss) (Some b) = ap suc (length_crossed l ss _)
 
 pub stands_crossed : (us : List Kept) (s : Stretch) (b : Op) → Stands us s → Stands us (record s { lane = lane_after (lane_later false) s.lane b })
 stands_crossed us s b st =

@@ -5,7 +5,8 @@ use Rattle.sync_data.specs.declared.entry.Stamp.{Stamp}
 use Rattle.sync_theory.specs.Changesets.{Changeset}
 use Rattle.sync_transform.specs.Moves.{action_in}
 use Rattle.sync_transform.specs.declared.moves.ListAction.{ListAction}
-use Rattle.sync_recip.specs.Passing.{change_later, own_left, other_left, passed, Meets, CanPass}
+use Rattle.list_lane.specs.Actions.{own_left, other_left}
+use Rattle.sync_recip.specs.Passing.{change_later, passed, Meets, CanPass}
 use Rattle.sync_recip.specs.Stretches.{from_place}
 
 abbrev pub met : Stamp → ListAction → Changeset Instr → Changeset Instr

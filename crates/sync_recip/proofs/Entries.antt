@@ -11,7 +11,8 @@ use Rattle.sync_recip.specs.declared.carried.Crossed.TheVariants.{One, Stretch}
 use Rattle.sync_recip.specs.declared.carried.Became.{Became}
 use Rattle.sync_recip.specs.declared.carried.Became.TheVariants.{Moved, Changed}
 use Rattle.sync_recip.specs.Lists.{lists_in}
-use Rattle.sync_recip.specs.Passing.{change_later, own_left, other_left, passed}
+use Rattle.list_lane.specs.Actions.{own_left, other_left}
+use Rattle.sync_recip.specs.Passing.{change_later, passed}
 use Rattle.sync_recip.specs.Stretches.{from_place}
 use Rattle.sync_recip.specs.Carrying.{became_of, with_crossed, put_crossed, crossed_entries, left_of, Suits, LeftAt, FitsOne, AllFit}
 

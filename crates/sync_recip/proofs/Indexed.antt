@@ -14,11 +14,12 @@ use Rattle.sync_recip.specs.declared.carried.Became.{Became}
 use Rattle.sync_recip.specs.declared.carried.Became.TheVariants.{Changed}
 use Rattle.sync_recip.specs.declared.kept.Kept.{Kept}
 use Rattle.sync_recip.specs.Lists.{kept_entry, lists_in}
-use Rattle.sync_recip.specs.Passing.{change_later, own_left, other_left, passed}
+use Rattle.list_lane.specs.Actions.{own_left, other_left}
+use Rattle.sync_recip.specs.Passing.{change_later, passed}
 use Rattle.sync_recip.specs.Acrossing.{put_across}
 use Rattle.sync_recip.specs.Carrying.{with_crossed, LeftAt}
 use Rattle.sync_recip.specs.Stretches.{from_place}
-use Rattle.sync_recip.proofs.Acting.{left_listed}
+use Rattle.sync_recip.proofs.Listed.{left_listed}
 use Rattle.sync_recip.proofs.Entries.{left_is}
 
 -- ---- one of them

@@ -11,7 +11,7 @@ use Rattle.sync_theory.specs.Grid.{carry}
 use Rattle.sync_law.specs.Instrs.{meet}
 use Rattle.sync_recip.specs.declared.kept.Kept.{Kept}
 use Rattle.sync_recip.specs.Lists.{kept_entry}
-use Rattle.list_lane.proofs.Chain.{not_not}
+use Rattle.list_lane.proofs.Chain.{crossed_none, not_not}
 use Rattle.sync_transform.specs.Places.{longer, Within, place_after}
 use Rattle.sync_transform.specs.Moves.{action_in, kind_in, moved_first}
 use Rattle.sync_transform.specs.declared.places.Does.{Does}
@@ -24,14 +24,11 @@ use Rattle.list_lane.specs.Told.{action, prior_in, told, told_set, told_sets, Is
 use Rattle.list_lane.specs.Laws.{CrossesRight}
 use Rattle.sync_recip.specs.Acrossing.{left_action}
 use Rattle.sync_recip.specs.Stretches.{instrs_in, told_kept, overlaid, Holds, AllHold}
-use Rattle.sync_recip.specs.Passing.{action_there, change_later, own_left, other_left, instrs_left, passed, CanPass}
+use Rattle.list_lane.specs.Actions.{action_there, own_left, other_left, instrs_left}
+use Rattle.sync_recip.specs.Passing.{change_later, passed, CanPass}
 use Rattle.list_lane.specs.declared.op.Op.{Op}
-use Rattle.sync_recip.proofs.Acting.{prior_action, after_is, told_action, told_over, one_of}
+use Rattle.list_lane.proofs.Acting.{prior_action, after_is, told_action, told_over, one_of}
 use Rattle.list_lane.proofs.Lengths.{Lengths, lengths}
-
-crossed_none : (l : Stamp → Stamp → Bool) (ss : List (Option Op)) → (crossed l ss None).slots ≡ ss
-crossed_none l [] = refl
-crossed_none l (s ∷ ss) = refl
 
 -- ---- the lane stands as what it shows
 abbrev Passes : ℕ → List (Option Op) → ℕ → Op → List Kept → Type 0
@@ -56,9 +53,9 @@ after_one k n a b ss u us kind None (Some q) e w ih =
     (λ i. with_set u [] ∷ map kept_entry (overlaid (sym e i) (crossed (lane_later false) ss (Some (record b { place = q }))).slots us))
     ∙ ap (λ t. with_set u [] ∷ t) (ih q w)
 after_one k n a b ss u us kind (Some p) None e w ih =
-    λ i. with_set u (sym (told_over (instrs_in u) a.does a.place n p (longer b.does n) kind) i) ∷ map kept_entry (overlaid (e i) (crossed_none (lane_later false) ss i) us)
+    λ i. with_set u (sym (told_over (instrs_in u) a.does a.place n p (longer b.does n) kind) i) ∷ map kept_entry (overlaid (e i) (crossed_none (lane_later false) ss i).slots us)
 after_one k n a b ss u us kind None None e w ih =
-    λ i. with_set u [] ∷ map kept_entry (overlaid (sym e i) (crossed_none (lane_later false) ss i) us)
+    λ i. with_set u [] ∷ map kept_entry (overlaid (sym e i) (crossed_none (lane_later false) ss i).slots us)
 
 pub lane_passes : (cell : Option CellPath) (ss : List (Option Op)) (k n : ℕ) (b : Op) (us : List Kept) → k ≡ length ss → AllHold cell ss us → Chains n ss → Within b.does b.place n → Passes k ss n b us
 lane_passes cell [] zero n b us c h ch w = refl

@@ -1,4 +1,4 @@
-pub mod Acting
+pub mod Listed
 pub mod Standing
 pub mod Laid
 pub mod Each

@@ -1,5 +1,6 @@
 -- A stretch grows by the entry behind it.
-use Rattle.std.proofs.Common.{◌≡◌, ℕ, ◌+◌, ◌<◌, ◌≤◌, List, [], ◌∷◌, ◌++◌, Option, Some, None, refl, sym, ap, ◌∙◌, subst, length, drop, get_or, length-drop, arith}
+use Rattle.std.specs.Prelude.{OnOk, OnErr, is_ok}
+use Rattle.std.proofs.Common.{◌≡◌, ℕ, ◌+◌, ◌<◌, ◌≤◌, true, false, List, [], ◌∷◌, ◌++◌, Option, Some, None, Result, Ok, Err, refl, sym, ap, ◌∙◌, subst, length, drop, get_or, length-drop, arith}
 use Rattle.std.proofs.lemmas.List.{get_or-drop, length-append}
 use Rattle.sync_data.specs.declared.entry.Entry.{Entry}
 use Rattle.sync_data.specs.declared.entry.Stamp.{Stamp}
@@ -15,17 +16,17 @@ use Rattle.list_lane.specs.declared.op.Op.{Op}
 use Rattle.sync_recip.specs.declared.kept.Kept.{Kept}
 use Rattle.sync_recip.specs.declared.stretch.Stretch.{Stretch}
 use Rattle.sync_recip.specs.Stretches.{instrs_in, with_instrs, told_kept, overlaid, laid, Holds, AllHold, Stands, IsOpOn}
-use Rattle.sync_recip.proofs.Acting.{action_parts, kind_known, told_itself}
+use Rattle.list_lane.proofs.Acting.{action_parts, kind_known, told_itself}
 use Rattle.sync_recip.proofs.Crossings.{first_holds}
 use Rattle.sync_recip.proofs.Laid.{from_same, laid_none}
 
-pub op_is : (n : ℕ) (e : Entry) (a : ListAction) (d : Does) (p m : ℕ) (s : Stamp) → action_in e.changes.instrs ≡ Some a → d ≡ kind_of a → p ≡ place_in a → m ≡ prior_in a → Within d p m → m ≡ n
-    → s ≡ record { ms = e.changes.ms; ident = e.origin } → IsOpOn n e (record { does = d; place = p; stamp = s })
-op_is n e a d p m s acts does place prior within size stamp = record {
-  acts = acts ∙ ap Some (sym (action_parts a) ∙ (λ i. action (sym does i) (sym place i) ((sym prior ∙ size) i)));
-  kind = kind_known e.changes.instrs a acts ∙ ap Some (sym does);
-  stamp = stamp;
-  within = subst (Within d p) size within;
+pub op_is : (n : ℕ) (e : Entry) (a : ListAction) (s : Stamp) (b : Op) → action_in e.changes.instrs ≡ Some a → b ≡ record { does = kind_of a; place = place_in a; stamp = s } → Within b.does b.place (prior_in a) → prior_in a ≡ n
+    → s ≡ record { ms = e.changes.ms; ident = e.origin } → IsOpOn n e b
+op_is n e a s b acts is within size stamp = record {
+  acts = acts ∙ ap Some (sym (action_parts a) ∙ (λ i. action (sym is i).does (sym is i).place (size i)));
+  kind = kind_known e.changes.instrs a acts ∙ ap Some (sym (ap (λ (x : Op). x.does) is));
+  stamp = ap (λ (x : Op). x.stamp) is ∙ stamp;
+  within = subst (Within b.does b.place) size within;
 }
 
 op_tells : (n : ℕ) (k : Kept) (b : Op) → IsOpOn n k.item b → told_kept n (Some b) k ≡ k
@@ -83,3 +84,12 @@ none_stands us i n l = record { within = omega (arith, l); cell = None; held = t
 
 pub none_shown : (us : List Kept) (i n : ℕ) → laid i (record { first = n; slots = [] }) us ≡ us
 none_shown us i n = laid_none i (record { first = n; slots = [] }) us refl
+
+-- ---- where there is memory, or none
+pub on_ok : {A E P : Type 0} (r : Result A E) → is_ok r ≡ true → OnOk r P → P
+on_ok (Ok x) told h = h
+on_ok (Err x) told h = cc
+
+pub on_err : {A E P : Type 0} (r : Result A E) → is_ok r ≡ false → OnErr r P → P
+on_err (Ok x) told h = cc
+on_err (Err x) told h = h

@@ -23,7 +23,8 @@ use Rattle.list_lane.specs.declared.op.Op.{Op}
 use Rattle.sync_recip.specs.declared.stretch.Stretch.{Stretch}
 use Rattle.sync_recip.specs.Carrying.{moved_entry}
 use Rattle.sync_recip.proofs.Crossings.{versions_laid}
-use Rattle.sync_recip.proofs.Acting.{kind_action, told_listed}
+use Rattle.list_lane.proofs.Acting.{kind_action}
+use Rattle.sync_recip.proofs.Listed.{told_listed}
 use Rattle.sync_recip.proofs.Laid.{bare, bare_of, laid_bare, length_laid, get_before, get_behind, get_at, set_before, set_behind, holds_before, holds_behind, holds_push, laid_push, drop_push}
 
 abbrev pub currents : List Kept → List (List Instr)

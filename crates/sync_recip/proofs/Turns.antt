@@ -24,7 +24,7 @@ use Rattle.sync_recip.specs.Passing.{passed, CanPass}
 use Rattle.sync_recip.specs.Acrossing.{changes_left, put_across, CanCross}
 use Rattle.sync_recip.specs.declared.carried.Became.{Became}
 use Rattle.sync_recip.specs.Carrying.{became_of, crossed_entry, crossed_entries, AllFit, SuitsIf, noted, IsStuckBy}
-use Rattle.sync_recip.proofs.Acting.{left_known}
+use Rattle.sync_recip.proofs.Listed.{left_known}
 use Rattle.sync_recip.proofs.Carries.{carry_after, carry_none, carry_step, carry_several, carry_stop}
 use Rattle.sync_recip.proofs.Covered.{left_covered}
 use Rattle.sync_recip.proofs.Entries.{length_crossed, crossed_push, fit_push, take_with, drop_with, take_next, drop_next, take_passed, drop_passed, left_there, left_is}

@@ -22,7 +22,8 @@ use Rattle.sync_recip.specs.declared.items.Passing.{Passing}
 use Rattle.sync_recip.specs.declared.kept.Kept.{Kept}
 use Rattle.sync_recip.specs.declared.refusal.RecipRefusal.{RecipRefusal}
 use Rattle.sync_recip.specs.Lists.{kept_entry, lists_in}
-use Rattle.sync_recip.specs.Passing.{instrs_left, passed, CanPass}
+use Rattle.list_lane.specs.Actions.{instrs_left}
+use Rattle.sync_recip.specs.Passing.{passed, CanPass}
 use Rattle.sync_recip.specs.Acrossing.{changes_left, BothMove, CrossesStretch}
 use Rattle.sync_recip.specs.Carrying.{crossed_entry, crossed_entries, noted, IsStuckBy, SuitsIf}
 use Rattle.sync_recip.specs.Stretches.{instrs_in}

@@ -17,7 +17,8 @@ use Rattle.list_lane.specs.Lanes.{lane_after, length_at_end, Chains}
 use Rattle.list_lane.specs.Laws.{CrossesRight}
 use Rattle.list_lane.specs.declared.op.Op.{Op}
 use Rattle.sync_recip.specs.Lists.{kept_entry}
-use Rattle.sync_recip.specs.Passing.{instrs_left, passed, CanPass}
+use Rattle.list_lane.specs.Actions.{instrs_left}
+use Rattle.sync_recip.specs.Passing.{passed, CanPass}
 use Rattle.sync_recip.specs.Stretches.{from_place, instrs_in, with_instrs}
 use Rattle.sync_recip.specs.declared.across.Across.{Across}
 use Rattle.sync_recip.specs.declared.items.Passing.{Passing}
@@ -55,6 +56,15 @@ pub record LeavesAction (s : Stretch) (a : Across) (left : Option ListAction) : 
   pub chains : Chains s.lane.first s.lane.slots
   pub within : Within (kind_of a.action) (place_in a.action) s.lane.first
   pub law : CrossesRight s.lane (op_across a) op (lane_after (lane_later false) s.lane (op_across a))
+
+-- it crossed the lane of a stretch, which stands as crossed
+pub record CrossedAt (a : Across) (before after : Option Stretch) : Type 0 where
+  pub stretch : Stretch
+  pub was : before ≡ Some stretch
+  pub takes : TakesAcross stretch a
+  pub chains : Chains stretch.lane.first stretch.lane.slots
+  pub within : Within (kind_of a.action) (place_in a.action) (prior_in a.action)
+  pub is : after ≡ Some (record stretch { lane = lane_after (lane_later false) stretch.lane (op_across a) })
 
 -- a change and one entry, each of one instruction of one list, cross and both stay
 pub record BothMove (own : ℕ) (c : Changes) (k : Kept) (m : Moves) : Type 0 where

@@ -15,7 +15,7 @@ use super::carried::Became;
 use super::carry::keep;
 use super::kept::{Kept, count_below};
 use super::stretch::{
-    Stretch, cross_each, cross_lane, extend_last, first_stretch, left_by, takes, told_at,
+    Stretch, cross_at_once, cross_each, extend_last, first_stretch, left_by, takes, told_at,
     write_around, write_before, write_whole,
 };
 use std::alloc::Global;
@@ -245,7 +245,7 @@ impl Items {
         Some(Passing { across, left })
     }
 
-    /// The entries before a place leave the stretch. It takes no memory.
+    /// The entries before a place leave the stretch. It needs no memory.
     pub(crate) fn leave_before(&mut self, place: usize)
         ensures { self.new ≡ self.old }
     {
@@ -272,17 +272,14 @@ impl Items {
         one.item.stand_as(became);
     }
 
-    /// Those of a stretch meet an action of a change. It takes no memory.
+    /// Those of a stretch meet an action of a change: at once, or one by one where the lane would take memory and there is none.
     pub(crate) fn cross(&mut self, across: Across)
         requires { CanCross across (map kept_entry self.old) }
         ensures versions { versions self.new ≡ versions self.old }
         ensures entries { map kept_entry self.new ≡ put_across across (map kept_entry self.old) }
     {
-        if let Some(stretch) = &mut self.stretch {
-            if takes(stretch, &across) {
-                cross_lane(stretch, &across);
-                return;
-            }
+        if cross_at_once(&mut self.stretch, &across) {
+            return;
         }
         write_whole(&mut self.kept, &mut self.stretch);
         cross_each(&mut self.kept, across);

@@ -3,7 +3,6 @@
 #![tactic(auto)]
 
 mod across;
-mod actions;
 mod carried;
 mod carry;
 mod items;

@@ -12,13 +12,13 @@ ghost use Rattle.list_lane.specs.Lanes.{Fits};
 ghost use Rattle.list_lane.specs.Told.{told};
 ghost use Rattle.sync_recip.specs.Lists.{entry_of};
 ghost use Rattle.sync_recip.specs.Carrying.{became_of, moved_entry, Suits};
-ghost use Rattle.sync_recip.specs.Passing.{change_later, own_left, other_left, Meets};
+ghost use Rattle.list_lane.specs.Actions.{own_left, other_left};
+ghost use Rattle.sync_recip.specs.Passing.{change_later, Meets};
 ghost use Rattle.sync_recip.specs.Stretches.{holding, IsOpOn};
 
-use super::actions::{action_left, parts};
 use super::carried::Became;
 use super::shared::SharedEntry;
-use list_lane::{Op, action_of};
+use list_lane::{Op, action_left, action_of, op_of, prior_of};
 use std::alloc::Global;
 use std::marker::Model;
 use sync_base::{Changeset, Entry, Ident, Instr, NoMemory, Stamp};
@@ -124,12 +124,10 @@ impl ShiftedEntry {
         ensures { IfSome result (IsOpOn length self.now) }
     {
         let action = self.action()?;
-        let (does, place, prior) = parts(&action);
-        if prior != length {
+        if prior_of(action) != length {
             return None;
         }
-        let stamp = self.stamp();
-        Some(Op { does, place, stamp })
+        Some(op_of(action, self.stamp()))
     }
 
     /// Its changes.

@@ -1,28 +1,29 @@
-ghost use Rattle.std.specs.Prelude.{◌≡◌, ◌<◌, ◌+◌, None, Some, IfSome, IsTrue, false, drop, length, map};
+ghost use Rattle.std.specs.Prelude.{◌≡◌, ◌<◌, ◌+◌, None, Some, IfSome, IsFalse, IsTrue, OnOk, OnErr, false, drop, length, map};
 ghost use Rattle.sync_base.specs.Rules.{top};
 ghost use Rattle.sync_transform.specs.Places.{Within};
 ghost use Rattle.sync_transform.specs.Moves.{kind_of};
 ghost use Rattle.list_lane.specs.Lanes.{lane_after, Chains, Fits};
 ghost use Rattle.list_lane.specs.Ops.{lane_later};
 ghost use Rattle.list_lane.specs.Told.{place_in, prior_in};
-ghost use Rattle.sync_recip.specs.Acrossing.{op_across, put_across, CanCross, LeavesAction, TakesAcross};
+ghost use Rattle.sync_recip.specs.Acrossing.{op_across, put_across, CanCross, CrossedAt, LeavesAction, TakesAcross};
 ghost use Rattle.sync_recip.specs.Lists.{kept_entry, versions};
 ghost use Rattle.sync_recip.specs.Stretches.{laid, shown_by, Stands, Outside, IsSlotAt, IsToldAt};
 
 use super::across::Across;
 use super::kept::Kept;
 use super::shifted::ShiftedEntry;
-use list_lane::{Lane, Op, action_of, op_of, prior_of};
+use list_lane::{Op, action_of, op_of, prior_of};
+use list_regions::Regions;
 use std::alloc::Global;
 use sync_base::NoMemory;
 use sync_transform::ListAction;
 
 /// Entries next to each other, each of one list instruction of one cell, or of none any more: the place of the first, and what
-/// the instructions do now, as a lane.
+/// the instructions do now, as a lane in regions.
 #[derive(Drop)]
 pub(crate) struct Stretch {
     pub(crate) start: usize,
-    pub(crate) lane: Lane,
+    pub(crate) lane: Regions,
 }
 
 /// What a stretch tells of the entry at a place, and the length of the list on which that acts; none where it doesn't lie in the
@@ -61,15 +62,16 @@ pub(crate) fn left_by(stretch: &Stretch, across: &Across) -> Option<ListAction>
     }
 }
 
-/// An action crosses the lane of a stretch. It takes no memory.
-pub(crate) fn cross_lane(stretch: &mut Stretch, across: &Across)
+/// An action crosses the lane of a stretch. Where it would take memory and there is none, the stretch stays as it is.
+fn cross_lane(stretch: &mut Stretch, across: &Across) -> Result<(), NoMemory>
     requires { TakesAcross stretch.old across.now }
-    ensures crossed { stretch.new ≡ record stretch.old { lane = lane_after (lane_later false) stretch.old.lane (op_across across.now) } }
+    ensures crossed { OnOk result (stretch.new ≡ record stretch.old { lane = lane_after (lane_later false) stretch.old.lane (op_across across.now) }) }
     ensures within { Within (kind_of across.now.action) (place_in across.now.action) (prior_in across.now.action) }
+    ensures unchanged { OnErr result (stretch.new ≡ stretch.old) }
 {
-    stretch
-        .lane
-        .cross(op_of(across.action, across.stamp), false);
+    let op = op_of(across.action, across.stamp);
+    stretch.lane.cross(op, false)?;
+    Ok(())
 }
 
 /// The entry behind a stretch joins it, where it is one list instruction of that cell, and acts on the list behind the lane.
@@ -133,7 +135,7 @@ fn stretch_from(alloc: Global, kept: &[Kept], start: usize) -> Stretch
     ensures start { result.start ≡ start }
 {
     let one = &kept[start];
-    let lane = Lane::new(alloc, length_before(&one.item));
+    let lane = Regions::new(alloc, length_before(&one.item));
     let mut stretch = Stretch { start, lane };
     for _ in start..kept.len() {
         if !extend(kept, &mut stretch) {
@@ -165,7 +167,7 @@ pub(crate) fn first_stretch(
     None
 }
 
-/// The first of a stretch is written as it stands, and the stretch begins behind it. It takes no memory.
+/// The first of a stretch is written as it stands, and the stretch begins behind it. It needs no memory.
 pub(crate) fn write_first(kept: &mut Vec<Kept>, stretch: &mut Stretch)
     requires some { 0 < length stretch.old.lane.slots }
     requires stands { Stands kept.old.items stretch.old }
@@ -181,7 +183,7 @@ pub(crate) fn write_first(kept: &mut Vec<Kept>, stretch: &mut Stretch)
     stretch.start += 1;
 }
 
-/// All of a stretch are written as they stand. It takes no memory.
+/// All of a stretch are written as they stand. It needs no memory.
 pub(crate) fn write_all(kept: &mut Vec<Kept>, stretch: Stretch)
     requires { Stands kept.old.items stretch }
     ensures { kept.new.items ≡ laid stretch.start stretch.lane kept.old.items }
@@ -215,7 +217,7 @@ pub(crate) fn write_whole(kept: &mut Vec<Kept>, stretch: &mut Option<Stretch>)
     }
 }
 
-/// Those of a stretch that lie before a place are written, and the stretch begins there or behind it. It takes no memory.
+/// Those of a stretch that lie before a place are written, and the stretch begins there or behind it. It needs no memory.
 pub(crate) fn write_before(kept: &mut Vec<Kept>, stretch: &mut Option<Stretch>, place: usize)
     requires { IfSome stretch.old (Stands kept.old.items) }
     ensures shown { shown_by stretch.new kept.new.items ≡ shown_by stretch.old kept.old.items }
@@ -250,6 +252,19 @@ pub(crate) fn cross_each(kept: &mut Vec<Kept>, across: Across)
     }
 }
 
+/// An action crosses the lane of the stretch, where it comes to that and there is memory. Whether it does.
+pub(crate) fn cross_at_once(stretch: &mut Option<Stretch>, across: &Across) -> bool
+    ensures crossed { IsTrue result → CrossedAt across.now stretch.old stretch.new }
+    ensures unchanged { IsFalse result → stretch.new ≡ stretch.old }
+{
+    if let Some(stretch) = stretch {
+        if takes(stretch, across) {
+            return cross_lane(stretch, across).is_ok();
+        }
+    }
+    false
+}
+
 /// Whether an action that comes to these crosses the lane of a stretch.
 pub(crate) fn takes(stretch: &Stretch, across: &Across) -> bool
     ensures takes { IsTrue result → TakesAcross stretch.now across.now }
@@ -263,7 +278,7 @@ pub(crate) fn takes(stretch: &Stretch, across: &Across) -> bool
 }
 
 /// Whether a list of that length stays short enough for so many more.
-pub(crate) fn has_room(length: u32, count: usize) -> bool
+fn has_room(length: u32, count: usize) -> bool
     ensures { IsTrue result → length + count + 1 < top }
 {
     let most = u32::MAX as usize;

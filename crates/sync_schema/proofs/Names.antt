@@ -10,7 +10,7 @@ use Rattle.sync_base.specs.After.{tables_after, with_column}
 use Rattle.sync_base.specs.Effects.{NewColumn}
 use Rattle.sync_base.specs.Lemmas.Looks.{name_total, name_exact}
 use Rattle.sync_base.specs.States.{Table, Tables}
-use Rattle.sync_maps.specs.Seen.{got, seen_at, inserted, removed, written, insert_same}
+use Rattle.sync_maps.specs.Seen.{seen_at, inserted, removed, written, insert_same}
 use Rattle.sync_schema.specs.Steps.{without_column, tables_without_column}
 
 module _ {X : Type 0} where

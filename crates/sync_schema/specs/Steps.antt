@@ -1,9 +1,6 @@
 -- What is taken back, which name comes next, and what the refusals of a schema say.
-use Rattle.std.specs.Prelude.{◌≡◌, ℕ, Bool, true, false, ◌&&◌, List, Option, None, Some, Result, Ok, Err, is_some}
-use Rattle.std.specs.declared.cmp.Ordering.{Ordering}
-use Rattle.std.specs.Ordering.{is_lt}
+use Rattle.std.specs.Prelude.{◌≡◌, ℕ, List, Option, None, Some, Result, Ok, Err}
 use Rattle.std.specs.FinMap as map
-use Rattle.sync_data.specs.declared.column.Column.{Column}
 use Rattle.sync_base.specs.declared.answers.Break.{Break}
 use Rattle.sync_base.specs.declared.answers.Break.TheVariants as breaks
 use Rattle.sync_base.specs.States.{Table, Tables, State}

@@ -1,6 +1,7 @@
 -- A server that gave up history does for clients above its floor what one with the whole history does.
 use Rattle.std.proofs.Common.{append-nil, ◌≡◌, ◌≢◌, ◌⊎◌, inl, inr, ⊎_elim, ℕ, zero, suc, ◌<◌, ◌≤◌, Bool, true, false, ◌||◌, List, [], ◌∷◌, ◌++◌, Option, Some, None, Result, Ok, Err, refl, sym, ap, ap₂, ◌∙◌, subst, arith, if◌then◌else◌, ◌==◌}
 use Rattle.std.specs.Prelude.{bytes_eq}
+use Rattle.std.specs.Option.{option_map_or}
 use Rattle.sync_theory.proofs.World.{same_or_not}
 use Rattle.sync_model.specs.Bytes.{Name, Uuid}
 use Rattle.sync_model.proofs.Bytes.{bytes_same}
@@ -11,7 +12,7 @@ use Rattle.sync_model.specs.Clients.{Client, ClientRecord, ClientRefusal, Client
 use Rattle.sync_model.specs.Servers.{ServerRecord, server_of, serve}
 use Rattle.sync_model.specs.Parts.{Served, served_of, serve_by}
 use Rattle.sync_model.specs.Trims.{is_trimmed}
-use Rattle.sync_model.specs.Later.{Later, later_ends, later_served, later_message, beside, later_after}
+use Rattle.sync_model.specs.Later.{Later, later_ends, later_served, beside, later_after}
 use Rattle.sync_model.specs.Worlds.{Node, World, Event, Binds, Uploads, Asks, Delivers, Outcome, Words, says, Replied, Stopped, NoNode, NoMessage, at, put, seek, is_there, stopped, has_name, server_name, arm, message_words, took_words, reply_words, client_moved, client_ends, client_called, client_calls, server_moved, server_ends, server_called, is_node, delivers, message_at, happens, world_after, outcomes}
 use Rattle.sync_model.specs.Progress.{Comes, comes_now, comes_later, IsBelowFloor, answered_words, delivered_words, later_words, later_outcomes, after_events}
 use Rattle.sync_model.specs.Each.{Each, no_more}
@@ -229,7 +230,7 @@ module _ {I S : Type 0} (p : Profile I S) where
     to_server : (l : Later I S) → Along l → (k : ℕ) (to : Name) → first < k → bytes_eq to server_name ≡ true → (o : Option Message) → message_at l.world k ≡ o → Follows l (Delivers k to)
     to_server l a k to lt is None o_is =
         let words : later_words p l (Delivers k to) ≡ NoMessage = yes (bytes_eq to server_name) (delivered_words p l (message_at l.world k)) _ is ∙ ap (delivered_words p l) o_is in
-        let same : later_after p l (Delivers k to) ≡ l = yes (bytes_eq to server_name) (later_message p l (message_at l.world k)) (beside p l (Delivers k to)) is ∙ ap (later_message p l) o_is in
+        let same : later_after p l (Delivers k to) ≡ l = yes (bytes_eq to server_name) (option_map_or (later_served p l.world l.kept) (message_at l.world k) l) (beside p l (Delivers k to)) is ∙ ap (λ o. option_map_or (later_served p l.world l.kept) o l) o_is in
         let plain = brought_is l.world k to is None o_is in
         inr (words ∙ sym (ap (λ o. o.words) plain), ap (λ z. z.world) same ∙ sym (ap (λ o. o.world) plain), subst Along (sym same) a)
     to_server l a k to lt is (Some m) o_is = on (stopped (l.world.stops server_name) (serve_by p l.kept m).records) refl
@@ -238,7 +239,7 @@ module _ {I S : Type 0} (p : Profile I S) where
         did = serve_by p l.kept m
 
         by_parts : later_after p l (Delivers k to) ≡ later_served p l.world l.kept m
-        by_parts = yes (bytes_eq to server_name) (later_message p l (message_at l.world k)) (beside p l (Delivers k to)) is ∙ ap (later_message p l) o_is
+        by_parts = yes (bytes_eq to server_name) (option_map_or (later_served p l.world l.kept) (message_at l.world k) l) (beside p l (Delivers k to)) is ∙ ap (λ o. option_map_or (later_served p l.world l.kept) o l) o_is
 
         words : later_words p l (Delivers k to) ≡ answered_words l.world (serve_by p l.kept m) (stopped (l.world.stops server_name) (serve_by p l.kept m).records)
         words = yes (bytes_eq to server_name) (delivered_words p l (message_at l.world k)) _ is ∙ ap (delivered_words p l) o_is
@@ -316,7 +317,7 @@ module _ {I S : Type 0} (p : Profile I S) where
         on true is = to_server l a k to lt is (message_at l.world k) refl
         on false is =
             let words : later_words p l (Delivers k to) ≡ (happens p l.world (Delivers k to)).words = no (bytes_eq to server_name) (delivered_words p l (message_at l.world k)) _ is in
-            let after : later_after p l (Delivers k to) ≡ beside p l (Delivers k to) = no (bytes_eq to server_name) (later_message p l (message_at l.world k)) (beside p l (Delivers k to)) is in
+            let after : later_after p l (Delivers k to) ≡ beside p l (Delivers k to) = no (bytes_eq to server_name) (option_map_or (later_served p l.world l.kept) (message_at l.world k) l) (beside p l (Delivers k to)) is in
             inr (words, ap (λ z. z.world) after, onward l (later_after p l (Delivers k to)) (λ x. ⊥) a (event_held p law built l a.held (Delivers k to)) (ap (λ z. z.kept.floor) after ∙ a.at_floor) (subst (λ z. Moves (λ x. ⊥) l.world z.world) (sym after) (hears_one l.world k to is)) (λ m s. absurd s))
     follows l a e part = absurd part
 

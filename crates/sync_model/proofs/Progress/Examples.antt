@@ -80,7 +80,7 @@ heir = Born (uuid 3) ∷ Named 3 ∷ Took 1 1 1 (2 ∷ 1 ∷ []) ∷ []
 saved : after_runs toy (client_of toy held) 0 1 heir ≡ heir ++ Made 1 2 [] ∷ []
 saved = refl
 
-dropped : (recover toy (client_of toy heir) (rescue_frames toy (client_of toy held) 3 0 0)).answers ≡ (IsHeir 2 0 ∷ []) ∷ (Handled 1 (SavedAs 1 ((0, 12) ∷ [])) ∷ []) ∷ []
+dropped : (recover toy (client_of toy heir) (rescue_frames toy (client_of toy held) 3 0 0)).answer ≡ (IsHeir 2 0 ∷ []) ∷ (Handled 1 (SavedAs 1 ((0, 12) ∷ [])) ∷ []) ∷ []
 dropped = refl
 
 -- a client of form 1 is kept from an entry of form 2, by neither a mismatch nor a full history

@@ -1,7 +1,7 @@
 -- Where all that clients make is harmless, all that it becomes is, and nothing of it is stuck.
-use Rattle.std.proofs.Common.{eqb-true, ◌≡◌, ◌≢◌, ℕ, zero, suc, ◌+◌, ◌-◌, ◌<◌, ◌≤◌, Bool, true, false, List, [], ◌∷◌, ◌++◌, Option, Some, None, Result, Ok, Err, IfOk, IfErr, refl, sym, ap, ◌∙◌, subst, arith, if◌then◌else◌, ◌==◌, length, length-append}
+use Rattle.std.proofs.Common.{eqb-true, ◌≡◌, ◌≢◌, ℕ, zero, suc, ◌+◌, ◌-◌, ◌<◌, ◌≤◌, Bool, true, false, List, [], ◌∷◌, ◌++◌, Option, Some, None, Result, Ok, Err, IfOk, IfErr, refl, sym, subst, arith, if◌then◌else◌, ◌==◌, length, length-append}
 use Rattle.sync_theory.specs.Changesets.{Changeset, is_later, with_lists}
-use Rattle.sync_theory.specs.Grid.{rebase, rebase_one, rebase_put, rebased, rebased_one, head, tail, pending, past_entry, history, past, ok_entry, reciprocal, reciprocal_entry, carry, carry_one, carry_put}
+use Rattle.sync_theory.specs.Grid.{rebase, rebase_one, rebase_put, rebased, rebased_one, head, tail, pending, past_entry, history, past, ok_entry, reciprocal, carry, carry_one, carry_put}
 use Rattle.sync_theory.specs.Lists.{cross, kept, and_then}
 use Rattle.sync_theory.specs.Logs.{Made as LogMade, Entry as LogEntry, made_at, of_origin, origin_at}
 use Rattle.sync_theory.proofs.Recip.{ok_first, ok_second}

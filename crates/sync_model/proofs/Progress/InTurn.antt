@@ -8,17 +8,17 @@ use Rattle.sync_model.specs.Profile.{Profile, Lawful}
 use Rattle.sync_model.specs.Snapshots.{Buildable}
 use Rattle.sync_model.specs.Clients.{Client, Unsent, client_of}
 use Rattle.sync_model.specs.Servers.{Server, server_of, count}
-use Rattle.sync_model.specs.Worlds.{Node, World, Event, Words, at, ident_is, seek, has_name, server_name, outcomes, world_after}
-use Rattle.sync_model.specs.Log.{ident_by, ident_of}
+use Rattle.sync_model.specs.Worlds.{Node, World, Words, at, ident_is, server_name, outcomes, world_after}
+use Rattle.sync_model.specs.Log.{ident_by}
 use Rattle.sync_model.specs.Harmless.{AreHarmless, IsHarmless, once, after_once, in_turn}
-use Rattle.sync_model.specs.Progress.{Comes, comes_now, comes_later, IsCurrent, AllCurrent, uploads_at, asks_at}
+use Rattle.sync_model.specs.Progress.{Comes, comes_now, comes_later, AllCurrent, uploads_at, asks_at}
 use Rattle.sync_model.proofs.Lists.{at_of_map, seek_map, take_all}
 use Rattle.sync_model.proofs.Sim.{uuid_of}
 use Rattle.sync_model.proofs.Progress.Serves.{SameClient, same_refl}
-use Rattle.sync_model.proofs.Progress.Catching.{Goes, Here, at_node, holds, Facts, facts}
-use Rattle.sync_model.proofs.Progress.Names.{names_of, Apart}
+use Rattle.sync_model.proofs.Progress.Catching.{Goes, Here, at_node, facts}
+use Rattle.sync_model.proofs.Progress.Names.{names_of}
 use Rattle.sync_model.proofs.Progress.Sweeps.{goes_append}
-use Rattle.sync_model.proofs.Progress.Turns.{Undisturbed, Plain, Onto, Gains, log_within, undisturbed, round}
+use Rattle.sync_model.proofs.Progress.Turns.{Undisturbed, Onto, Gains, log_within, undisturbed, round}
 use Rattle.sync_model.proofs.Progress.Valid.{Valid}
 
 at_mid : {A : Type 0} (xs ys : List A) (y : A) → at (xs ++ y ∷ ys) (length xs) ≡ Some y

@@ -1,10 +1,10 @@
 -- A world whose clients make harmless changes stays one, whatever they send, get or open anew.
-use Rattle.std.proofs.Common.{append-nil, ◌≡◌, ◌≢◌, ⊎_elim, ℕ, zero, suc, ◌+◌, ◌-◌, ◌≤◌, Bool, true, false, not, List, [], ◌∷◌, ◌++◌, Option, Some, None, Result, Ok, Err, refl, sym, ap, ap₂, ◌∙◌, subst, subst₂, arith, if◌then◌else◌, ◌==◌, length, drop, map, nat_lt, ◌&&◌}
+use Rattle.std.proofs.Common.{◌≡◌, ◌≢◌, ⊎_elim, ℕ, zero, suc, ◌+◌, ◌-◌, ◌≤◌, Bool, true, false, not, List, [], ◌∷◌, ◌++◌, Option, Some, None, Result, Ok, Err, refl, sym, ap, ◌∙◌, subst, arith, if◌then◌else◌, ◌==◌, length, drop, nat_lt, ◌&&◌}
 use Rattle.std.specs.Prelude.{bytes_eq}
 use Rattle.sync_theory.proofs.Logs.{length_snoc}
 use Rattle.sync_theory.proofs.Server.{test_false}
 use Rattle.sync_theory.proofs.World.{same_or_not}
-use Rattle.sync_model.specs.Bytes.{Name, Uuid, Tables}
+use Rattle.sync_model.specs.Bytes.{Name, Uuid}
 use Rattle.sync_model.specs.Profile.{Profile, Lawful, apply_all, is_small, needs, first_need, all_admitted, first_outside}
 use Rattle.sync_model.specs.Snapshots.{Buildable}
 use Rattle.sync_model.specs.Messages.{Message, Bind, Ident, Upload, Ask, Download, Refused, Stored, Ask2, Retire, Retired, AskTables}

@@ -1,6 +1,7 @@
 -- The laws of progress where the server may give up history.
 use Rattle.std.proofs.Common.{◌≡◌, ◌≢◌, ◌⊎◌, inl, inr, ⊎_elim, ℕ, zero, suc, ◌≤◌, Bool, true, false, List, [], ◌∷◌, ◌++◌, Option, Some, None, refl, sym, ap, ◌∙◌, subst, arith, if◌then◌else◌, length, map}
 use Rattle.std.specs.Prelude.{bytes_eq}
+use Rattle.std.specs.Option.{option_map_or}
 use Rattle.sync_theory.specs.Logs.{Made as LogMade}
 use Rattle.sync_theory.proofs.Logs.{Rising, one_rises, AtLeast, and_more, AtMost, one_within}
 use Rattle.sync_theory.proofs.World.{le_or_lt}
@@ -11,7 +12,7 @@ use Rattle.sync_model.specs.Messages.{Message}
 use Rattle.sync_model.specs.Clients.{Client, Original, Unsent, as_made, client_of, settled_from, start_of}
 use Rattle.sync_model.specs.Servers.{ServerRecord, server_of, server_objects}
 use Rattle.sync_model.specs.Parts.{serve_by}
-use Rattle.sync_model.specs.Later.{Later, LaterEvent, Happens, Trims, later, all_later, first_later, later_after, later_ends, later_served, later_message, later_injected, IsLater}
+use Rattle.sync_model.specs.Later.{Later, LaterEvent, Happens, Trims, later, all_later, first_later, later_after, later_ends, later_served, later_injected, IsLater}
 use Rattle.sync_model.specs.Log.{as_log, ident_of, subset_of}
 use Rattle.sync_model.specs.Starts.{started}
 use Rattle.sync_model.specs.Worlds.{Node, World, Event, Joins, Starts, Edits, Binds, Uploads, Asks, Upgrades, Subscribes, Delivers, Restarts, Stops, Injects, Words, at, seek, has_name, stopped, server_name, named_by, names_own, message_at, happens, outcomes, world_after}
@@ -97,7 +98,7 @@ module _ {I S : Type 0} (p : Profile I S) where
   later_apart l (Happens (Subscribes name tables)) a = happens_apart p l.world (Subscribes name tables) a
   later_apart l (Happens (Delivers k to)) a = on (bytes_eq to server_name) (message_at l.world k)
     where
-      on : (b : Bool) (o : Option Message) → Apart (if b then later_message p l o else Rattle.sync_model.specs.Later.beside p l (Delivers k to)).world.clients
+      on : (b : Bool) (o : Option Message) → Apart (if b then option_map_or (later_served p l.world l.kept) o l else Rattle.sync_model.specs.Later.beside p l (Delivers k to)).world.clients
       on true None = a
       on true (Some m) = subst Apart (sym (served_same l.world l.kept m)) a
       on false o = happens_apart p l.world (Delivers k to) a

@@ -1,6 +1,7 @@
 -- A client that the server knows and that stands above the floor stays above it.
 use Rattle.std.proofs.Common.{◌≡◌, ◌≢◌, ◌⊎◌, inl, inr, ⊎_elim, ℕ, zero, suc, ◌<◌, ◌≤◌, Bool, true, false, ◌&&◌, ◌||◌, not, List, [], ◌∷◌, ◌++◌, Option, Some, None, Result, Ok, Err, refl, sym, ap, ap₂, ◌∙◌, subst, arith, if◌then◌else◌, ◌==◌, length, map, take}
 use Rattle.std.specs.Prelude.{⊤, bytes_eq, min, max}
+use Rattle.std.specs.Option.{option_map_or}
 use Rattle.sync_theory.proofs.Server.{test_true, test_false}
 use Rattle.sync_theory.proofs.World.{same_or_not}
 use Rattle.sync_model.specs.Bytes.{Name, Uuid, Tables}
@@ -16,7 +17,7 @@ use Rattle.sync_model.specs.Starts.{started}
 use Rattle.sync_model.specs.Worlds.{Node, World, Event, Joins, Starts, Edits, Binds, Uploads, Asks, Upgrades, Subscribes, Delivers, Restarts, Stops, Injects, says, NameTaken, UuidTaken, Joined, NoNode, Armed, at, seek, is_there, stopped, has_id, id_is, ident_is, is_own, arm, server_name, message_words, made_words, upgrade_words, subscribe_words, is_node, message_at, named_by, names_own, starts_at, happens}
 use Rattle.sync_model.specs.Files.{FilesOpen}
 use Rattle.sync_model.specs.Log.{ident_by, ident_of}
-use Rattle.sync_model.specs.Later.{Later, LaterEvent, Happens, Trims, first_later, later_ends, later_served, later_message, beside, later_after, later, all_later, IsLater}
+use Rattle.sync_model.specs.Later.{Later, LaterEvent, Happens, Trims, first_later, later_ends, later_served, beside, later_after, later, all_later, IsLater}
 use Rattle.sync_model.specs.Progress.{IsAbove}
 use Rattle.sync_model.specs.Each.{Each, no_more, and_each}
 use Rattle.sync_model.proofs.Lists.{at_snoc, at_below, at_map, at_of_map, seek_there, place_old, place_one, place_within}
@@ -424,14 +425,14 @@ module _ {I S : Type 0} (p : Profile I S) where
         fair : (k : ℕ) (m : Message) → at l.world.messages k ≡ Some m → Fair l.world m
         fair k m there i nd n here ne asks = a.asked i nd here ne k m n there asks
 
-        some : (o : Option Message) → ((m : Message) → o ≡ Some m → Fair l.world m) → Comes_ l (later_message p l o)
+        some : (o : Option Message) → ((m : Message) → o ≡ Some m → Fair l.world m) → Comes_ l (option_map_or (later_served p l.world l.kept) o l)
         some None f = inl (unchanged l.world, refl)
         some (Some m) f = inr (served_past l.world l.kept h.holds h.opens h.less a m (f m refl))
 
         none_some : {m : Message} → None ≡ Some m → ⊥
         none_some e = cc
 
-        on : (b : Bool) → bytes_eq to server_name ≡ b → (k : ℕ) → Comes_ l (if b then later_message p l (message_at l.world k) else beside p l (Delivers k to))
+        on : (b : Bool) → bytes_eq to server_name ≡ b → (k : ℕ) → Comes_ l (if b then option_map_or (later_served p l.world l.kept) (message_at l.world k) l else beside p l (Delivers k to))
         on true is zero = some None (λ m e. absurd (none_some e))
         on true is (suc j) = some (at l.world.messages j) (λ m e. fair j m e)
         on false is k = inl (by_moves (λ x. ⊥) (hears_one p l.world k to is) (delivers_leave p l.world to k is) (grown l.world (Delivers k to)) (λ m n. absurd n), refl)

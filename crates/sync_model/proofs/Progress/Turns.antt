@@ -1,20 +1,19 @@
 -- A round of a client where all that clients make is harmless: nothing is refused, and it takes as many entries as a message
 -- bears, or it has uploaded all.
-use Rattle.std.proofs.Common.{eqb-true, ◌≡◌, ◌≢◌, ◌⊎◌, inl, inr, ⊎_elim, ℕ, zero, suc, ◌+◌, ◌-◌, ◌*◌, ◌<◌, ◌≤◌, Bool, true, false, ◌&&◌, not, List, [], ◌∷◌, ◌++◌, Option, Some, None, Result, Ok, Err, refl, sym, ap, ap₂, ◌∙◌, subst, subst₂, arith, if◌then◌else◌, ◌==◌, length, length-append, drop, map, take, nat_lt, nat_le}
+use Rattle.std.proofs.Common.{◌≡◌, ◌≢◌, ◌⊎◌, inl, inr, ⊎_elim, ℕ, zero, suc, ◌+◌, ◌-◌, ◌*◌, ◌<◌, ◌≤◌, Bool, true, false, not, List, [], ◌∷◌, ◌++◌, Some, None, Result, Ok, Err, refl, sym, ap, ap₂, ◌∙◌, subst, subst₂, arith, if◌then◌else◌, ◌==◌, length, length-append, drop, map, take, nat_lt}
 use Rattle.std.specs.Prelude.{bytes_eq}
-use Rattle.std.proofs.lemmas.Bool.{le-leb}
 use Rattle.std.proofs.lemmas.Bool.Decides.{nat_tests}
 use Rattle.sync_theory.specs.Changesets.{Changeset}
-use Rattle.sync_theory.specs.Logs.{Made as LogMade, Entry as LogEntry, made_at, of_origin, origin_at, Nodes}
+use Rattle.sync_theory.specs.Logs.{Made as LogMade, Entry as LogEntry, made_at, of_origin, origin_at}
 use Rattle.sync_theory.proofs.Server.{test_true}
 use Rattle.sync_theory.proofs.World.{same_or_not, le_or_lt}
 use Rattle.sync_model.specs.Bytes.{Name, Uuid}
-use Rattle.sync_model.specs.Profile.{Profile, Lawful, needs, fitting, restricted, is_small}
+use Rattle.sync_model.specs.Profile.{Profile, Lawful, needs, restricted, is_small}
 use Rattle.sync_model.specs.Snapshots.{Buildable}
 use Rattle.sync_model.specs.Messages.{Change, Sent, Message, Upload, Ask, Ask2, Download, Stored}
-use Rattle.sync_model.specs.Clients.{Client, ClientRefusal, NotMine, Original, Unsent, changeset_of, answers, refuse, if_born, change_of, to_upload, upload, ask, question, settled_from, Gap, client_of, after_records, take_entries, take_born, take as take_message}
+use Rattle.sync_model.specs.Clients.{Client, ClientRefusal, NotMine, Unsent, changeset_of, answers, refuse, if_born, change_of, to_upload, upload, ask, question, settled_from, Gap, client_of, after_records, take_entries, take_born, take as take_message}
 use Rattle.sync_model.specs.Servers.{Server, ServerStep, NoSuchIdent, AheadOfHistory, Settled, NeedsForm2, server_of, after_all, place_of, count, is_given, marks_new, marking, serve, serve_changes, sent_of, download, download_first, first_form, if_there, entries_from, history_of, refuses}
-use Rattle.sync_model.specs.Worlds.{Node, World, Event, Uploads, Asks, Delivers, Words, at, seek, has_name, server_name, message_at}
+use Rattle.sync_model.specs.Worlds.{Node, World, Event, Uploads, Asks, Delivers, Words, at, server_name, message_at}
 use Rattle.sync_model.specs.Log.{ident_by, ident_of, made, order, NamedFacts}
 use Rattle.sync_model.proofs.Facts.{made_same}
 use Rattle.sync_model.proofs.Progress.Valid.{valid_facts}
@@ -22,22 +21,22 @@ use Rattle.sync_model.specs.Each.{Each, no_more, and_each}
 use Rattle.sync_model.specs.Harmless.{AreHarmless}
 use Rattle.sync_model.specs.Progress.{load, made_by_all, uploads_at, asks_at}
 use Rattle.sync_model.proofs.Lists.{class, own_class, at_of_map, at_map, listed, take_within}
-use Rattle.sync_model.proofs.Limits.{each_at, each_map, each_append, each_take, each_weaker}
+use Rattle.sync_model.proofs.Limits.{each_at, each_map, each_weaker}
 use Rattle.sync_model.proofs.Small.{SmallSets, entries_small}
 use Rattle.sync_model.proofs.Folding.{length_listed}
 use Rattle.sync_model.proofs.Keeping.{entries_listed}
-use Rattle.sync_model.proofs.Sim.{Sim, as_log, uuids, uuid_of}
+use Rattle.sync_model.proofs.Sim.{as_log, uuids, uuid_of}
 use Rattle.sync_model.proofs.Own.{good_of}
-use Rattle.sync_model.proofs.Calling.{NamedAs, named_as}
+use Rattle.sync_model.proofs.Calling.{named_as}
 use Rattle.sync_model.proofs.Serving.{numbered_at}
 use Rattle.sync_model.proofs.Holding.{Holds}
 use Rattle.sync_model.proofs.Fair.{Answers, answers_by}
 use Rattle.sync_model.proofs.Progress.Serves.{SameClient, HasServed, has_served, has_taken, IsOfTake}
 use Rattle.sync_model.proofs.Progress.Catching.{Goes, Here, messages, takes, serves, holds, at_node, declined, Facts, facts, named_calls}
 use Rattle.sync_model.proofs.Progress.Rounds.{stops_it}
-use Rattle.sync_model.proofs.Progress.Sweeps.{dues, dues_made}
+use Rattle.sync_model.proofs.Progress.Sweeps.{dues_made}
 use Rattle.sync_model.proofs.Progress.Batches.{first_fit, first_each, at_take, length_take, all_taken, there, ext, own_behind, dues_but, owned_log, at_behind, option_map, at_map_is, fitting_each, fitting_few}
-use Rattle.sync_model.proofs.Progress.Harmless.{LogOf, history_harmless, pending_of, made_sets}
+use Rattle.sync_model.proofs.Progress.Harmless.{history_harmless, pending_of, made_sets}
 use Rattle.sync_model.proofs.Progress.Unhindered.{MadesOf, log_of, Fewer, lasts, never_refused, SentOf, takes_all}
 
 yes : {A : Type 0} (b : Bool) (x y : A) → b ≡ true → (if b then x else y) ≡ x

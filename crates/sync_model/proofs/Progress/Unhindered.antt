@@ -1,14 +1,14 @@
 -- The server takes each change of an upload, and a client each entry, where all that clients make is harmless.
-use Rattle.std.proofs.Common.{eqb-true, ◌≡◌, ◌≢◌, ⊎_elim, ℕ, zero, suc, ◌+◌, ◌-◌, ◌<◌, ◌≤◌, Bool, true, false, ◌&&◌, not, List, [], ◌∷◌, ◌++◌, Option, Some, None, Result, Ok, Err, IfOk, IfErr, refl, sym, ap, ◌∙◌, subst, arith, if◌then◌else◌, ◌==◌, length, length-append, map, nat_lt}
+use Rattle.std.proofs.Common.{eqb-true, ◌≡◌, ◌≢◌, ℕ, suc, ◌+◌, ◌<◌, ◌≤◌, Bool, true, false, ◌&&◌, not, List, [], ◌∷◌, ◌++◌, Option, Some, None, Result, Ok, Err, IfOk, IfErr, refl, sym, ap, ◌∙◌, subst, arith, if◌then◌else◌, ◌==◌, length, length-append, map, nat_lt}
 use Rattle.std.proofs.lemmas.Bool.Decides.{nat_tests}
 use Rattle.sync_theory.specs.Changesets.{Changeset}
-use Rattle.sync_theory.specs.Grid.{rebase, tail, carry, reciprocal}
-use Rattle.sync_theory.specs.Logs.{Made as LogMade, Entry as LogEntry, of_origin, origin_at, Nodes, nodes_integrate}
+use Rattle.sync_theory.specs.Grid.{rebase, tail}
+use Rattle.sync_theory.specs.Logs.{Made as LogMade, Entry as LogEntry, of_origin, Nodes}
 use Rattle.sync_theory.proofs.Logs.{length_snoc}
 use Rattle.sync_model.specs.Bytes.{Uuid}
 use Rattle.sync_model.specs.Profile.{Profile, Stuck, Lawful, IsNamedKind, apply_all, cross_changesets, is_small, needs}
 use Rattle.sync_model.specs.Messages.{Change, Sent}
-use Rattle.sync_model.specs.Clients.{Client, ClientRefusal, NotBorn, AlreadyBorn, NotNamed, TooLarge, NumbersFull, OldForm, NotSubscribed, Break, NotMine, IdentDiffers, Gap, BadBody, OldEntry, Mismatch, Forked, NotApplicable, WasRefused, Subscribed, TooLate, Unsent, changeset_of, carried_to, change_of, ok_list, after_record, takes_entry, crossed, applied_refusal, own_refusal, crossed_refusal, read_refusal, entry_refusal, sent_changeset, take_one, took, take_entries}
+use Rattle.sync_model.specs.Clients.{Client, ClientRefusal, OldEntry, Forked, Unsent, changeset_of, carried_to, ok_list, after_record, takes_entry, crossed, applied_refusal, own_refusal, crossed_refusal, read_refusal, entry_refusal, sent_changeset, take_one, took, take_entries}
 use Rattle.sync_model.specs.Servers.{Server, ServerRecord, ServerRefusal, NumberGap, BaseBack, AheadOfHistory, HistoryFull, BadBytes, NoSuchIdent, IdentsFull, NotForServer, NeedsForm2, IdentRetired, SelfRetire, RetiredBy, Trimmed, heir_of, is_retired, last_base, made_in, server_objects, count, new_records, merge_applied, merge_carried, carried_change, merge_read, merge}
 use Rattle.sync_model.specs.Worlds.{Node, at}
 use Rattle.sync_model.specs.Log.{MayRefuse}
@@ -16,12 +16,11 @@ use Rattle.sync_model.specs.Progress.{MayStop}
 use Rattle.sync_model.specs.Each.{Each, no_more, and_each}
 use Rattle.sync_model.specs.Harmless.{AreHarmless}
 use Rattle.sync_model.proofs.Limits.{each_at, each_tail, each_weaker}
-use Rattle.sync_model.proofs.Lists.{class}
 use Rattle.sync_model.proofs.Moves.{origin_here}
-use Rattle.sync_model.proofs.Sim.{Sim, uuids}
-use Rattle.sync_model.proofs.Serving.{made_of, made_small}
+use Rattle.sync_model.proofs.Sim.{Sim}
+use Rattle.sync_model.proofs.Serving.{made_small}
 use Rattle.sync_model.proofs.Fair.{IsOfMerge, Refuses, Lasts, own_fair, of_merge}
-use Rattle.sync_model.proofs.Progress.Harmless.{Sets, Crossed, LogOf, after_more, rebase_of, carried_harmless}
+use Rattle.sync_model.proofs.Progress.Harmless.{Sets, Crossed, LogOf, rebase_of, carried_harmless}
 
 module _ {I S : Type 0} (p : Profile I S) where
   -- ---- what a refusal says of the server that made it

@@ -3,7 +3,6 @@ use Rattle.std.proofs.lemmas.Bool.Decides.{nat_tests}
 use Rattle.std.specs.declared.cmp.Ordering.{Ordering}
 use Rattle.std.specs.declared.cmp.Ordering.TheVariants.{Less, Equal, Greater}
 use Rattle.std.specs.Ordering.{nat_cmp, is_gt, ordering_then}
-use Rattle.sync_theory.specs.Changesets.{later_stamp}
 use Rattle.sync_law.proofs.stamps.stamps_tell.Goals as goal
 
 -- of below, equal and above just one holds

@@ -1,4 +1,5 @@
-use Rattle.std.proofs.Common.{◌∙◌, ap, ◌+◌, ◌-◌}
+use Rattle.std.proofs.Common.{refl, ◌∙◌, ap, ◌+◌, ◌-◌}
+use Rattle.std.proofs.lemmas.Result.{err_from_is_err_and}
 use Rattle.sync_base.specs.Effects as effects
 use Rattle.sync_base.specs.After.{edited}
 use Rattle.sync_cells.specs.declared.edit.Edit.TheVariants as edits
@@ -30,3 +31,11 @@ returns-in_ok-set_remove-in-Exclude-clause-former c =
 pub returns-in_ok-dict_bind-in-Bind-clause-former : goal.returns-in_ok-dict_bind-in-Bind-clause-former
 returns-in_ok-dict_bind-in-Bind-clause-former c =
     let h = c.in_ok-dict_bind-in-Bind.ensures.ok in rw c.in-Bind.is (ap (edited (effects.Bind _ _)) h.1 ∙ bound_back _ _ _ c.args.self.now h.0)
+
+pub returns-in_err-replace-in-Set-clause-refused : goal.returns-in_err-replace-in-Set-clause-refused
+returns-in_err-replace-in-Set-clause-refused c =
+    let e = err_from_is_err_and c.from_residual.result c.from_residual.ensures.1 in rw (c.in-Set.is, e.1, e.2, c.in_err-replace-in-Set.ensures.refused) refl
+
+pub returns-in_err-take_content-in-Empty-clause-refused : goal.returns-in_err-take_content-in-Empty-clause-refused
+returns-in_err-take_content-in-Empty-clause-refused c =
+    let e = err_from_is_err_and c.from_residual-in_err-take_content-in-Empty.result c.from_residual-in_err-take_content-in-Empty.ensures.1 in rw (c.in-Empty.is, e.1, e.2, c.in_err-take_content-in-Empty.ensures.refused) refl

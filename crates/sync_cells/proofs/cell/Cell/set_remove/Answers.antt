@@ -1,6 +1,6 @@
 use Rattle.std.proofs.Common.{refl, sym, ◌∙◌, ap, ◌≡◌}
 use Rattle.sync_data.specs.Orders.{value_cmp_total, value_cmp_exact}
-use Rattle.sync_base.specs.States.{Cell, Members}
+use Rattle.sync_base.specs.States.{Members}
 use Rattle.sync_maps.specs.Seen.{had, excluded}
 use Rattle.sync_cells.specs.Contents.{content_seen}
 use Rattle.sync_cells.specs.Lists.{members}

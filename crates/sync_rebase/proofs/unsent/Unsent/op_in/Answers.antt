@@ -16,4 +16,4 @@ returns c =
     let acts = ap action_in (sym current) ∙ sym c.in_ok-action.ensures in
     let cells = ap first_cell (sym current) ∙ sym (ap first_cell c.written.ensures.stands) ∙ shown_cell c.written.ensures.action c.written.result.now.instrs ∙ sym (c.if-not-same_first_cell.ensures refl) in
     let stamp : Stamp = record { ms = c.ms.result; ident = c.args.own } in
-    op_slot now _ c.args.own c.args.length c.in_ok-action.action stamp (record { does = c.parts-does.result.0; place = c.parts-does.result.1; stamp = stamp }) acts (λ i. record { does = c.parts-does.ensures.does i; place = c.parts-does.ensures.place i; stamp = stamp }) (λ i. record { ms = ms i; ident = c.args.own }) (sym c.parts-does.ensures.prior ∙ c.if-prior-length.false) (subst (Within c.parts-does.result.0 c.parts-does.result.1) c.parts-does.ensures.prior c.parts-does.ensures.within) cells
+    op_slot now _ c.args.own c.args.length c.in_ok-action.action stamp c.op_of.result acts c.op_of.ensures.is (λ i. record { ms = ms i; ident = c.args.own }) (sym c.prior_of.ensures ∙ c.if-prior_of-length.false) c.op_of.ensures.within cells

@@ -1,9 +1,7 @@
-use Rattle.std.proofs.Common.{sym}
+use Rattle.std.proofs.Common.{sym, ◌∙◌}
 use Rattle.sync_recip.proofs.Making.{op_is}
 use Rattle.sync_recip.proofs.shifted.ShiftedEntry.op_on.Goals as goal
 
 pub returns : goal.returns
 returns c =
-    let parts = c.parts-does.result in
-    let told = c.parts-does.ensures in
-    op_is c.args.length c.args.self.now c.in_ok-action.action parts.0 parts.1 parts.2 c.stamp-stamp.result (sym c.in_ok-action.ensures) told.does told.place told.prior told.within c.if-prior-length.false c.stamp-stamp.ensures
+    op_is c.args.length c.args.self.now c.in_ok-action.action c.stamp.result c.op_of.result (sym c.in_ok-action.ensures) c.op_of.ensures.is c.op_of.ensures.within (sym c.prior_of.ensures ∙ c.if-prior_of-length.false) c.stamp.ensures

@@ -1,4 +1,4 @@
-use Rattle.std.proofs.Common.{◌≡◌, Bool, true, false, not, None, Some, is_some, refl, sym, ◌∙◌, ap, if◌then◌else◌}
+use Rattle.std.proofs.Common.{not, None, Some, is_some, refl, sym, ◌∙◌, ap, if◌then◌else◌}
 use Rattle.std.specs.FinMap as map
 use Rattle.sync_base.specs.declared.answers.Break.TheVariants as breaks
 use Rattle.sync_maps.specs.Answers.{was_ok}

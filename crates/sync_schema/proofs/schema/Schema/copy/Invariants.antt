@@ -1,7 +1,5 @@
 use Rattle.std.proofs.Common.{◌≡◌}
 use Rattle.std.specs.FinMap as map
-use Rattle.std.specs.List.Sorted.{IsStrictlySortedBy}
-use Rattle.std.specs.Map.{keys_of}
 use Rattle.sync_data.specs.Orders.{name_cmp}
 use Rattle.sync_maps.specs.Filled.{filled}
 use Rattle.sync_schema.proofs.schema.Schema.copy.Given as goal

@@ -1,6 +1,5 @@
 use Rattle.std.proofs.Common.{◌∙◌, ap}
 use Rattle.sync_base.specs.After.{with_column}
-use Rattle.sync_base.specs.States.{Table}
 use Rattle.sync_maps.specs.Answers.{was_ok}
 use Rattle.sync_schema.proofs.Names.{inserted_name}
 use Rattle.sync_schema.proofs.table.TableDef.add.Goals as goal

@@ -1,6 +1,5 @@
 use Rattle.std.proofs.Common.{◌∙◌, ap}
 use Rattle.sync_schema.specs.Steps.{without_column}
-use Rattle.sync_base.specs.States.{Table}
 use Rattle.sync_schema.proofs.Names.{removed_name}
 use Rattle.sync_schema.proofs.table.TableDef.remove.Goals as goal
 

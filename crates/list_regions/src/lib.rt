@@ -1,0 +1,16 @@
+//! Lanes whose slots lie in regions, in order of places. An instruction that crosses such a lane meets the slots of one region
+//! alone, or none.
+#![tactic(auto)]
+
+mod crossing;
+mod merge;
+mod pop;
+mod push;
+mod region;
+mod regions;
+mod walk;
+
+pub use regions::Regions;
+
+#[cfg(test)]
+mod tests;
