@@ -265,7 +265,7 @@ fn changes_nothing(alloc: Global, counted: &Rc<i32>) -> bool {
     copies_or_not(&list, counted) && is_whole(&list, counted)
 }
 
-/// Holds whichever allocation fails: in `trials` `rt try --fail-alloc N -- growth` for N from 1 to 40.
+/// Holds whichever allocation fails: in `trials` `rt try --fail-alloc N -- growth`.
 pub fn a_refused_growth_or_copy_changes_nothing(alloc: Global) -> bool {
     match Rc::new(alloc, 0) {
         Ok(counted) => changes_nothing(alloc, &counted) && Rc::strong_count(&counted) == 1,
