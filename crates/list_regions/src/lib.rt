@@ -11,6 +11,3 @@ mod regions;
 mod walk;
 
 pub use regions::Regions;
-
-#[cfg(test)]
-mod tests;

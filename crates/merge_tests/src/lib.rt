@@ -10,6 +10,7 @@ mod gap_lists;
 mod indexes;
 mod merged_toys;
 mod next_keys;
+mod regions;
 mod rivals;
 mod subsets;
 
@@ -19,7 +20,7 @@ pub use merged_toys::a_toy_can_be_merged;
 use std::alloc::Global;
 
 /// Each case by its name, and whether it comes out as it must.
-pub fn cases(alloc: Global) -> [(&'static str, bool); 18] {
+pub fn cases(alloc: Global) -> [(&'static str, bool); 19] {
     [
         ("a cell is copied", copies::a_cell_is_copied(alloc)),
         ("a schema is copied", copies::a_schema_is_copied(alloc)),
@@ -76,6 +77,7 @@ pub fn cases(alloc: Global) -> [(&'static str, bool); 18] {
             "next keys rise from the least to the greatest",
             next_keys::next_keys_rise_from_the_least_to_the_greatest(alloc),
         ),
+        ("regions do as a lane", regions::regions_do_as_a_lane(alloc)),
         (
             "each entry meets its rival",
             rivals::each_entry_meets_its_rival(alloc),

@@ -1,10 +1,11 @@
-//! That calls succeed, and agree with a lane's, where there is memory.
+//! That calls of a lane in regions succeed, and agree with a lane's, where there is memory.
+
 ghost use Rattle.std.specs.Prelude.{◌+◌, ◌<◌, IsTrue, length};
 ghost use Rattle.sync_base.specs.Rules.{top};
 ghost use Rattle.sync_transform.specs.Places.{Within};
 
-use crate::Regions;
 use list_lane::{Lane, Op};
+use list_regions::Regions;
 use std::alloc::Global;
 use sync_data::Stamp;
 use sync_transform::Does;
@@ -116,7 +117,7 @@ fn agree(alloc: Global) -> Option<bool> {
     Some(agreed && regions.len() == 0)
 }
 
-#[test]
-fn regions_do_as_a_lane(rt: HostRuntime) {
-    assert!(rt; agree(rt.alloc()) == Some(true));
+/// Whether they agree, and no call fails.
+pub(crate) fn regions_do_as_a_lane(alloc: Global) -> bool {
+    agree(alloc) == Some(true)
 }
