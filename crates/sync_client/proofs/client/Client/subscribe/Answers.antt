@@ -19,7 +19,7 @@ returns-clause-does g c = λ records before.
 pub returns-then-is_late-clause-survives : goal.returns-then-is_late-clause-survives
 returns-then-is_late-clause-survives g c = λ records before stored.
     let late = late_is records c.args.self.now.replica c.args.tables before.kept (c.is_none.ensures ∙ ap not c.if-is_none.false) (sym c.is_some.ensures ∙ c.if-is_some.false) (sym (c.is_late.ensures before.kept.past before.kept.count) ∙ c.if-is_late.true) in
-    survives_refused (subscribe (client_of the_profile records) c.args.tables) codes.TooLate records c.args.self.now _ g.met.D.Disk.only_now tt (ap (λ d. d.records) late) refl refl stored
+    survives_refused (subscribe (client_of the_profile records) c.args.tables) codes.TooLate records c.args.self.now _ g.met.D.Disk.only_now tt (ap (λ d. d.records) late) refl stored
 
 pub returns-in-Err-clause-survives : goal.returns-in-Err-clause-survives
 returns-in-Err-clause-survives g c = λ records before stored.
