@@ -27,11 +27,16 @@ fn is_seven(copy: Result<Cell, NoMemory>) -> bool {
     }
 }
 
-pub(crate) fn a_cell_is_copied(alloc: Global) -> bool {
+fn copies_a_cell(alloc: Global) -> bool {
     match cell_of(alloc, 7) {
         Some(cell) => is_seven(cell.copy()),
         None => false,
     }
+}
+
+#[test]
+fn a_cell_is_copied(rt: HostRuntime) {
+    assert!(rt; copies_a_cell(rt.alloc()));
 }
 
 fn name(text: &str) -> Option<Name> {
@@ -68,6 +73,7 @@ fn copies_a_schema(alloc: Global) -> Option<bool> {
     Some(is_made && takes_numbers(&copy)?)
 }
 
-pub(crate) fn a_schema_is_copied(alloc: Global) -> bool {
-    copies_a_schema(alloc) == Some(true)
+#[test]
+fn a_schema_is_copied(rt: HostRuntime) {
+    assert!(rt; copies_a_schema(rt.alloc()) == Some(true));
 }

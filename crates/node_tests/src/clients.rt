@@ -146,8 +146,9 @@ fn started_holds(alloc: Global) -> Option<bool> {
     Some(late && kind == Some(KeyKind::Int) && client.cursor() == 1 && made == Ok(1))
 }
 
-pub fn a_client_of_some_tables(alloc: Global) -> bool {
-    subscribed_holds(alloc) == Some(true)
+#[test]
+fn a_client_of_some_tables(rt: HostRuntime) {
+    assert!(rt; subscribed_holds(rt.alloc()) == Some(true));
 }
 
 /// Whether the file is refused in which these bytes stand behind so much of it, and then its rest from another place on.
@@ -162,10 +163,13 @@ fn is_bad_with(alloc: Global, until: usize, bytes: &[u8], from: usize) -> bool {
         && is_bad(alloc, file.as_slice(), PART_AT)
 }
 
-pub fn a_file_that_begins_with_a_state(alloc: Global) -> bool {
+#[test]
+fn a_file_that_begins_with_a_state(rt: HostRuntime) {
+    let alloc = rt.alloc();
+    assert!(rt; started_holds(alloc) == Some(true));
     // Without its version: the gate behind the part is closed.
-    let without = is_bad_with(alloc, FLOOR_AT, &[0], STARTED.len());
+    assert!(rt; is_bad_with(alloc, FLOOR_AT, &[0], STARTED.len()));
     // With a part of which the state has another list: the object comes before the column.
-    let other = is_bad_with(alloc, INSTRS_AT, &[3, 0, 0, 2, 2, 0, 1, 1, 0, 0], FLOOR_AT);
-    without && other && started_holds(alloc) == Some(true)
+    let other = &[3, 0, 0, 2, 2, 0, 1, 1, 0, 0];
+    assert!(rt; is_bad_with(alloc, INSTRS_AT, other, FLOOR_AT));
 }

@@ -108,9 +108,14 @@ fn gives_files(alloc: Global, disk: MemoryDisk) -> bool {
     spells_server(alloc, &trimmed) && spells_client(alloc, &started)
 }
 
-pub fn files_begin_with_the_objects(alloc: Global) -> bool {
+fn gives_its_files(alloc: Global) -> bool {
     match file_of(alloc) {
         Some(disk) => gives_files(alloc, disk),
         None => false,
     }
+}
+
+#[test]
+fn files_begin_with_the_objects(rt: HostRuntime) {
+    assert!(rt; gives_its_files(rt.alloc()));
 }
