@@ -42,10 +42,14 @@ told_acted n None i = refl
 told_acted n (Some a) i = refl
 
 -- what is told of changesets of one stamp has that stamp
+as_singles : (t : Stamp) (is : List Instr) → Stamped t.ms t.ident (singles t is)
+as_singles t [] = tt
+as_singles t (i ∷ is) = (refl, refl, as_singles t is)
+
 stamped : (t : Stamp) (n : ℕ) (ss : List (Option Op)) (is : List Instr) → Stamped t.ms t.ident (told_sets n ss (singles t is))
 stamped t n [] [] = tt
 stamped t n (s ∷ ss) [] = tt
-stamped t n [] (i ∷ is) = (refl, refl, stamped t n [] is)
+stamped t n [] (i ∷ is) = (refl, refl, as_singles t is)
 stamped t n (s ∷ ss) (i ∷ is) = (refl, refl, stamped t (length_after s n) ss is)
 
 -- ---- it comes to the block
@@ -93,9 +97,9 @@ none_crosses c own a = record { told = λ t rs h. h; crosses = λ t rs h. no_lef
 
 one_crosses : (c : CellName) (own : Stamp) (i : Instr) (b : Op) (a after : LaneOf) (left : Option Op) → b.stamp ≡ own → ActsAs c a.first i b → CrossesRight a b left after → (t : Stamp) (rs : List Instr) → AreTold c a.slots (singles t rs)
     → Crossing (λ x y. meet x y (later_stamp own.ms own.ident t.ms t.ident)) (i ∷ []) (block a t rs) (acted (slot_action (length_at_end a.first a.slots) left ∷ []) (i ∷ [])) (block after t rs)
-one_crosses c own i b a after left e k h t rs told =
+one_crosses c own i b a after left e k h t rs g =
     let n = length_at_end a.first a.slots in
-    let all = all_cross meet t.ms t.ident (told_sets a.first a.slots (singles t rs)) (stamped t a.first a.slots rs) (told_set a.first (Some b) (single own i)) (told_set n left (single own i)) (told_sets after.first after.slots (singles t rs)) (h c (singles t rs) (single own i) told (can_tell c a.first own i b e k)) in
+    let all = all_cross meet t.ms t.ident (told_sets a.first a.slots (singles t rs)) (stamped t a.first a.slots rs) (told_set a.first (Some b) (single own i)) (told_set n left (single own i)) (told_sets after.first after.slots (singles t rs)) (h c (singles t rs) (single own i) g (can_tell c a.first own i b e k)) in
     subst (λ (l : List Instr). Crossing (λ x y. meet x y (later_stamp own.ms own.ident t.ms t.ident)) (i ∷ []) (block a t rs) l (block after t rs)) (told_acted n left i)
     (subst (λ (j : Instr). Crossing (λ x y. meet x y (later_stamp own.ms own.ident t.ms t.ident)) (j ∷ []) (block a t rs) (told n left (i ∷ [])) (block after t rs)) (stays c a.first i b k) all)
 
@@ -106,10 +110,10 @@ pub next_crosses : (c : CellName) (own : Stamp) (is : List Instr) (xs : List (Op
     → b.stamp ≡ own → ActsAs c a.first i b → CrossesRight a b left after → after ≡ lane_after (lane_later false) a b
     → CrossesBlock c own (is ++ i ∷ []) (xs ++ slot_action (length_at_end a.first a.slots) left ∷ []) first after
 next_crosses c own is xs first a after i b left same h e k right lane = record {
-  told = λ t rs told. still_told c a after b lane t rs (h.told t rs told);
-  crosses = λ t rs told.
+  told = λ t rs g. still_told c a after b lane t rs (h.told t rs g);
+  crosses = λ t rs g.
       subst (λ (l : List Instr). Crossing (λ x y. meet x y (later_stamp own.ms own.ident t.ms t.ident)) (is ++ i ∷ []) (block first t rs) l (block after t rs)) (sym (acted_more xs is (slot_action (length_at_end a.first a.slots) left) i same))
-      (below (h.crosses t rs told) (one_crosses c own i b a after left e k right t rs (h.told t rs told)));
+      (below (h.crosses t rs g) (one_crosses c own i b a after left e k right t rs (h.told t rs g)));
 }
 
 -- ---- and the block is written

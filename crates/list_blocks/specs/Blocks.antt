@@ -7,19 +7,14 @@ use Rattle.sync_data.specs.declared.instr.Instr.{Instr}
 use Rattle.sync_theory.specs.Lists.{Crossing}
 use Rattle.sync_theory.specs.Changesets.{Changeset, later_stamp}
 use Rattle.sync_law.specs.Instrs.{meet}
-use Rattle.sync_transform.specs.Moves.{acting, instr_at, moved}
+use Rattle.sync_transform.specs.Moves.{instr_at, moved}
 use Rattle.sync_transform.specs.declared.moves.ListAction.{ListAction}
 use Rattle.list_lane.specs.Lanes.{LaneOf, length_after}
 use Rattle.list_lane.specs.Told.{action, told_sets, AreTold}
 use Rattle.list_lane.specs.declared.op.Op.{Op}
 
 -- ---- one instruction
--- it does that in the cell
-pub record IsAction (c : CellName) (i : Instr) (a : ListAction) : Type 0 where
-  pub value : Value
-  pub is : i ≡ acting c value a
-
--- the same by what it does and where, on a list of that length
+-- it does that there, in the list of the cell, which has that length
 pub record ActsAs (c : CellName) (n : ℕ) (i : Instr) (b : Op) : Type 0 where
   pub value : Value
   pub is : i ≡ instr_at c value b.does b.place n

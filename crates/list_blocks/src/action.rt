@@ -1,38 +1,44 @@
 ghost use Rattle.std.specs.Prelude.{◌≡◌, IfSome};
+ghost use Rattle.sync_data.specs.declared.value.Value.{Value};
 ghost use Rattle.sync_transform.specs.Places.{Within};
+ghost use Rattle.sync_transform.specs.Moves.{instr_at};
 ghost use Rattle.list_lane.specs.Lanes.{Fits};
-ghost use Rattle.list_blocks.specs.Blocks.{slot_action, ActsAs, IsAction};
+ghost use Rattle.list_blocks.specs.Blocks.{slot_action, ActsAs};
 
-use list_lane::{Op, action_of, op_of, prior_of};
+use list_lane::{Op, action_of};
 use sync_base::{CellName, Instr, Stamp, same_cell};
-use sync_transform::ListAction;
+use sync_transform::{Does, ListAction};
 
-/// What an instruction does, where it is one of the list in that cell, and its list has that length.
+/// What an instruction is in a lane, where it is one of the list in that cell, and its list has that length.
 pub(crate) fn op_in(instr: &Instr, cell: &CellName, length: u32, stamp: Stamp) -> Option<Op>
     ensures acts { IfSome result (ActsAs cell.now length instr.now) }
     ensures within { IfSome result (λ op. Within op.does op.place length) }
     ensures stamp { IfSome result (λ op. op.stamp ≡ stamp) }
 {
-    let action = action_in(instr, cell)?;
-    if prior_of(action) == length {
-        Some(op_of(action, stamp))
-    } else {
-        None
+    let (own, does, place, prior) = parts(instr)?;
+    if prior != length || !same_cell(own, cell) {
+        return None;
     }
+    Some(Op { does, place, stamp })
 }
 
-fn action_in(instr: &Instr, cell: &CellName) -> Option<ListAction>
-    ensures { IfSome result (IsAction cell.now instr.now) }
+/// The cell of a list instruction, what it does, where, and on a list of which length.
+fn parts(instr: &Instr) -> Option<(&CellName, Does, u32, u32)>
+    ensures is { IfSome result (λ p. (v : Value) × (instr.now ≡ instr_at p.0.now v p.1 p.2 p.3)) }
+    ensures within { IfSome result (λ p. Within p.1 p.2 p.3) }
 {
     match instr {
-        Instr::ListInsert(insert) if same_cell(&insert.cell, cell) => {
-            Some(ListAction::Insert(insert.spot))
+        Instr::ListInsert(insert) => {
+            let gap = insert.spot;
+            Some((&insert.cell, Does::Inserts, gap.place(), gap.prior()))
         }
-        Instr::ListErase(erase) if same_cell(&erase.cell, cell) => {
-            Some(ListAction::Erase(erase.spot))
+        Instr::ListErase(erase) => {
+            let element = erase.spot;
+            Some((&erase.cell, Does::Erases, element.place(), element.prior()))
         }
-        Instr::ListUpdate(update) if same_cell(&update.cell, cell) => {
-            Some(ListAction::Update(update.spot))
+        Instr::ListUpdate(update) => {
+            let element = update.spot;
+            Some((&update.cell, Does::Updates, element.place(), element.prior()))
         }
         _ => None,
     }
@@ -49,12 +55,13 @@ pub(crate) fn action_told(slot: Option<Op>, length: u32) -> Option<ListAction>
     }
 }
 
-/// The cell of a list of instructions, and how long the list in it is before them, where the first is a list instruction.
+/// The cell of a block, and the length of the list before it, by its first instruction.
 pub(crate) fn start_of(instrs: &[Instr]) -> Option<(&CellName, u32)> {
     match instrs {
-        [Instr::ListInsert(insert), ..] => Some((&insert.cell, insert.spot.prior())),
-        [Instr::ListErase(erase), ..] => Some((&erase.cell, erase.spot.prior())),
-        [Instr::ListUpdate(update), ..] => Some((&update.cell, update.spot.prior())),
-        _ => None,
+        [] => None,
+        [first, ..] => {
+            let (cell, _, _, prior) = parts(first)?;
+            Some((cell, prior))
+        }
     }
 }

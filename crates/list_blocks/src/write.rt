@@ -1,5 +1,4 @@
 ghost use Rattle.std.specs.Prelude.{◌≡◌, ◌+◌, ◌<◌, ◌≤◌, ◌∷◌, ◌++◌, [], length, take, drop};
-ghost use Rattle.sync_data.specs.Payload.{IsSmall};
 ghost use Rattle.sync_data.specs.declared.instr.Instr.{Instr};
 ghost use Rattle.sync_transform.specs.Moves.{moved};
 ghost use Rattle.list_blocks.specs.Blocks.{acted};
@@ -9,7 +8,6 @@ use sync_transform::ListAction;
 
 /// A changeset of list instructions as each does what is told beside it, without those that fell. It takes no memory.
 pub(crate) fn written(changes: Changeset, actions: &[Option<ListAction>]) -> Changeset
-    requires { IsSmall (acted actions.now changes.instrs) }
     ensures { result ≡ record { ms = changes.ms; instrs = acted actions.now changes.instrs } }
 {
     let ms = changes.ms();
