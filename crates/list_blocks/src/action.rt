@@ -38,7 +38,12 @@ fn parts(instr: &Instr) -> Option<(&CellName, Does, u32, u32)>
         }
         Instr::ListUpdate(update) => {
             let element = update.spot;
-            Some((&update.cell, Does::Updates, element.place(), element.prior()))
+            Some((
+                &update.cell,
+                Does::Updates,
+                element.place(),
+                element.prior(),
+            ))
         }
         _ => None,
     }

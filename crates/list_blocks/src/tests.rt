@@ -25,7 +25,10 @@ fn drawn(number: u32, length: u32) -> Option<(Instr, u32)> {
     match (number >> 4) % 4 {
         0 => {
             let spot = Inside::new(place, length).ok()?;
-            Some((Instr::ListErase(ListErase { cell, spot }), length.saturating_sub(1)))
+            Some((
+                Instr::ListErase(ListErase { cell, spot }),
+                length.saturating_sub(1),
+            ))
         }
         1 => {
             let spot = Inside::new(place, length).ok()?;
@@ -33,7 +36,10 @@ fn drawn(number: u32, length: u32) -> Option<(Instr, u32)> {
         }
         _ => {
             let spot = Between::new(place, length).ok()?;
-            Some((Instr::ListInsert(ListInsert { cell, spot, value }), length.saturating_add(1)))
+            Some((
+                Instr::ListInsert(ListInsert { cell, spot, value }),
+                length.saturating_add(1),
+            ))
         }
     }
 }
@@ -60,15 +66,24 @@ fn blocks_cross_as_their_instructions_meet(rt: HostRuntime) -> Result<(), Fail> 
         let right = block(alloc, seed + 100, 5, 80).ok_or("a right block")?;
         let plan = planned(alloc, &left, 1, &right, 2);
         assert!(rt; plan.is_some(), "a lane crosses them");
-        let (left_copy, right_copy) = (left.copy().ok().ok_or("memory")?, right.copy().ok().ok_or("memory")?);
+        let (left_copy, right_copy) = (
+            left.copy().ok().ok_or("memory")?,
+            right.copy().ok().ok_or("memory")?,
+        );
         let Ok((left_at_once, right_at_once)) = cross_blocks(alloc, left, 1, right, 2) else {
             return Err(Fail::from("they cross"));
         };
         let Ok((left_by_pairs, right_by_pairs)) = cross_sets(left_copy, 1, right_copy, 2) else {
             return Err(Fail::from("they cross"));
         };
-        assert!(rt; left_at_once == left_by_pairs, "the same is left of the left block");
-        assert!(rt; right_at_once == right_by_pairs, "the same is left of the right block");
+        assert!(rt;
+            left_at_once == left_by_pairs,
+            "the same is left of the left block"
+        );
+        assert!(rt;
+            right_at_once == right_by_pairs,
+            "the same is left of the right block"
+        );
     }
     Ok(())
 }

@@ -21,8 +21,7 @@ loop-instr-preserved c =
     let acts = subst (λ n. ActsAs c.args.cell.now n i op) c.first.ensures.is c.in_ok-op.ensures.acts in
     let same : length xs ≡ length (take k is) = omega (arith, length-take k is, c.loop-instr.invariant.1, c.loop-instr-test.true) in
     let next = next_crosses c.args.cell.now c.args.stamp (take k is) xs c.args.lane.now a c.cross.new.self i op c.in-Ok.rest same c.loop-instr.invariant.0 c.in_ok-op.ensures.stamp acts (c.in-Ok.ensures.on_right refl) c.in-Ok.ensures.lane in
-    let items = c.in-Ok-push.ensures.items ∙ (λ j. xs ++ (c.action_told.ensures ∙ ap (λ n. slot_action n c.in-Ok.rest) c.last-end.ensures) j ∷ []) in
-    (
+    let items = c.in-Ok-push.ensures.items ∙ (λ j. xs ++ (c.action_told.ensures ∙ ap (λ n. slot_action n c.in-Ok.rest) c.last-end.ensures) j ∷ []) in (
       subst (λ ys. CrossesBlock c.args.cell.now c.args.stamp (take (k + 1) is) ys c.args.lane.now c.cross.new.self) (sym items) (subst (λ l. CrossesBlock c.args.cell.now c.args.stamp l (xs ++ slot_action (length_at_end a.first a.slots) c.in-Ok.rest ∷ []) c.args.lane.now c.cross.new.self) (sym more) next),
       omega (arith, ap length c.in-Ok-push.ensures.items, length-append xs (c.action_told.result ∷ []), c.loop-instr.invariant.1),
     )

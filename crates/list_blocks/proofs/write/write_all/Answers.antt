@@ -14,21 +14,19 @@ loop-read-preserved c =
     let whole = acted xs c.args.instrs.now in
     let next = next_of is r c.loop-read-test.true in
     elim c.match-actions-read.branch [
-      in-Some w ↦ (
-        let at = drop_more xs r _ c.if-read-actions.true ∙ ap (λ y. y ∷ drop (r + 1) xs) w.in-Some.is in
-        let front = ap (λ n. take n w.write_at.new.instrs) w.count-is ∙ w.write_at.ensures.front next.0 next.1 in
-        (
-          (λ j. take c.match-actions-read.count (w.instrs-is j) ++ acted (drop (r + 1) xs) (drop (r + 1) (w.instrs-is j)))
-          ∙ next_written (take k is) whole (drop r xs) (drop (r + 1) xs) (drop r is) (drop (r + 1) is) next.0 w.in-Some.action (take c.match-actions-read.count w.write_at.new.instrs) (drop (r + 1) w.write_at.new.instrs) at next.1 front w.write_at.ensures.rest c.loop-read.invariant.0,
-          omega arith,
-        ))
+      | in-Some w ↦ (
+          let at = drop_more xs r _ c.if-read-actions.true ∙ ap (λ y. y ∷ drop (r + 1) xs) w.in-Some.is in
+          let front = ap (λ n. take n w.write_at.new.instrs) w.count-is ∙ w.write_at.ensures.front next.0 next.1 in (
+            (λ j. take c.match-actions-read.count (w.instrs-is j) ++ acted (drop (r + 1) xs) (drop (r + 1) (w.instrs-is j)))
+                ∙ next_written (take k is) whole (drop r xs) (drop (r + 1) xs) (drop r is) (drop (r + 1) is) next.0 w.in-Some.action (take c.match-actions-read.count w.write_at.new.instrs) (drop (r + 1) w.write_at.new.instrs) at next.1 front w.write_at.ensures.rest c.loop-read.invariant.0,
+            omega arith,
+          ))
       | in_default w ↦ (
-        let at = drop_more xs r _ c.if-read-actions.true ∙ ap (λ y. y ∷ drop (r + 1) xs) w.in_default.is in
-        (
-          (λ j. take (w.count-is j) (w.instrs-is j) ++ acted (drop (r + 1) xs) (drop (r + 1) (w.instrs-is j)))
-          ∙ next_fell (take k is) whole (drop r xs) (drop (r + 1) xs) (drop r is) (drop (r + 1) is) next.0 at next.1 c.loop-read.invariant.0,
-          omega arith,
-        ))
+          let at = drop_more xs r _ c.if-read-actions.true ∙ ap (λ y. y ∷ drop (r + 1) xs) w.in_default.is in (
+            (λ j. take (w.count-is j) (w.instrs-is j) ++ acted (drop (r + 1) xs) (drop (r + 1) (w.instrs-is j)))
+                ∙ next_fell (take k is) whole (drop r xs) (drop (r + 1) xs) (drop r is) (drop (r + 1) is) next.0 at next.1 c.loop-read.invariant.0,
+            omega arith,
+          ))
     ]
 
 pub returns-after-loop-read : goal.returns-after-loop-read
