@@ -42,7 +42,7 @@ returns-clause-appends g c =
     let journal = c.args.self.now.journal in
     record {
       stored = tt;
-      any_moment = λ rs s. subst (λ d. LeavesOnly D.moment D.images_since (disk_of journal) d (StandsForPrefix rs (server_bytes (server_seen c.args.added.now) ∷ []))) (sym c.close-2.ensures.disk)
+      any_moment = λ rs s. subst (λ d. LeavesOnly D.moment D.images_since (disk_of journal) d (StandsForPrefix rs (server_bytes (server_seen c.args.added.now) ∷ []))) (sym c.close-in-Err.ensures.disk)
           (subst (λ b. LeavesOnly D.moment D.images_since (disk_of journal) (disk_of c.append.new.self) (StandsForPrefix rs (b ∷ []))) e (c.append.ensures.any_moment rs s));
       asked = λ b told. tt;
     }
