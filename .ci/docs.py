@@ -231,12 +231,12 @@ def check_commands(path, blocks, program):
 
 def check_examples():
     """Each exchange of examples/, and what it prints, is a case that the gate runs, byte for byte."""
-    cases = os.path.join(TOP, "crates", "program_cases", "data")
+    cases = os.path.join(TOP, "crates", "trials", "data")
     for name in sorted(os.listdir(os.path.join(TOP, "examples"))):
         if name.endswith((".jsonl", ".out")):
             path, case = os.path.join(TOP, "examples", name), os.path.join(cases, name)
             if not os.path.isfile(case) or read(path) != read(case):
-                problem(path, 1, f"crates/program_cases/data/{name} isn't the same, so the gate doesn't run this example")
+                problem(path, 1, f"crates/trials/data/{name} isn't the same, so the gate doesn't run this example")
 
 
 def main():

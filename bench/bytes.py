@@ -8,25 +8,19 @@ missing.
 usage: bench/bytes.py [COUNT ..]        (1, 100, 1000 and 10000 where they are left out)
 """
 import math
-import os
 import re
 import subprocess
 import sys
 
-CRATE = os.path.join(os.path.dirname(os.path.dirname(os.path.abspath(__file__))), "crates", "bytes_bench")
-PROGRAM = os.path.join(CRATE, "out", "bytes_bench")
+from trials import PROGRAM, build
+
 LINE = re.compile(r"(\w+): (\d+) instructions, (\d+) bytes, (\d+) runs in (\d+) microseconds")
 MILLISECONDS = "20"
 
 
-def build():
-    if not os.path.exists(PROGRAM):
-        subprocess.run(["rt", "run"], cwd=CRATE, stdin=subprocess.DEVNULL, stdout=sys.stderr, check=True)
-
-
 def once(counts):
     """For each call the rows of count, bytes and seconds of one run."""
-    words = [PROGRAM, MILLISECONDS, *map(str, counts)]
+    words = [PROGRAM, "bytes", MILLISECONDS, *map(str, counts)]
     printed = subprocess.run(words, stdout=subprocess.PIPE, check=True, text=True).stdout
     rows = {}
     for what, count, size, runs, micros in LINE.findall(printed):

@@ -9,14 +9,13 @@ where it is missing.
 usage: bench/crossing.py [KIND ..]      (all where they are left out)
 """
 import math
-import os
 import re
 import subprocess
 import sys
 import time
 
-CRATE = os.path.join(os.path.dirname(os.path.dirname(os.path.abspath(__file__))), "crates", "crossing_bench")
-PROGRAM = os.path.join(CRATE, "out", "crossing_bench")
+from trials import PROGRAM, build
+
 LINE = re.compile(r": (\d+) runs in (\d+) nanoseconds")
 KINDS = ["lists", "unsent-apart", "unsent-touched", "entries-apart", "entries-touched", "entries-list", "disjoint", "counter", "update", "ends"]
 SQUARE = ["lists", "disjoint", "counter", "update", "ends"]
@@ -24,11 +23,6 @@ COUNTS = [250, 500, 1000, 2000, 4000, 8000]
 MOST_SECONDS = 10
 ENOUGH_SECONDS = 10
 TRIES = 20
-
-
-def build():
-    if not os.path.exists(PROGRAM):
-        subprocess.run(["rt", "run"], cwd=CRATE, stdin=subprocess.DEVNULL, stdout=sys.stderr, check=True)
 
 
 def peak_of(process):
@@ -43,7 +37,7 @@ def peak_of(process):
 
 def once(kind, count):
     """The seconds of one run, and the megabytes that the process had at its peak."""
-    process = subprocess.Popen([PROGRAM, kind, str(count)], stdout=subprocess.PIPE, text=True)
+    process = subprocess.Popen([PROGRAM, "crossing", kind, str(count)], stdout=subprocess.PIPE, text=True)
     peak = 0
     while process.poll() is None:
         peak = max(peak, peak_of(process))

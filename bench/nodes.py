@@ -1,5 +1,5 @@
 #!/usr/bin/env python3
-"""Times servers that take uploads, clients that take downloads, and the opening of files, by the program node_bench.
+"""Times servers that take uploads, clients that take downloads, and the opening of files, by `trials node`.
 
 Prints seconds, microseconds a change, the growth exponent against the row before (1 where the time grows with the
 number of changes), and the most memory that the run held. Rows of which one run would hold several gigabytes are left
@@ -13,16 +13,16 @@ import subprocess
 import sys
 import tempfile
 
+from trials import PROGRAM, build
+
 TOP = os.path.dirname(os.path.dirname(os.path.abspath(__file__)))
-CRATE = os.path.join(TOP, "crates", "node_bench")
-PROGRAM = os.path.join(CRATE, "out", "node_bench")
 
 WORDS = sys.argv[1:]
 
 
 def run(*words):
     """Runs one scenario: its line, and the most memory that it held, in bytes."""
-    child = subprocess.Popen([PROGRAM, *map(str, words)], stdout=subprocess.PIPE, text=True)
+    child = subprocess.Popen([PROGRAM, "node", *map(str, words)], stdout=subprocess.PIPE, text=True)
     line = child.stdout.read()
     _, status, usage = os.wait4(child.pid, 0)
     assert status == 0, (words, status)
@@ -95,8 +95,7 @@ def openings(folder):
 
 
 def main():
-    if not os.path.exists(PROGRAM):
-        subprocess.run(["rt", "run"], cwd=CRATE, stdout=subprocess.DEVNULL, check=True)
+    build()
     chosen = [word for word in WORDS if word != "all"] or ["uploads", "downloads", "openings"]
     with tempfile.TemporaryDirectory(dir=TOP) as folder:
         for name in chosen:

@@ -1,5 +1,5 @@
 #!/usr/bin/env python3
-"""Measures a snapshot and a recovery by the program `store_bench`, which it builds where needed.
+"""Measures a snapshot and a recovery by `trials store`, which it builds where needed.
 
 `build` makes the changesets of a store's state, `grow` the store of them again, each once; `save` tries 1,000 changes of a client
 that was given up on the objects of its heir and applies what is kept. For each number of objects: seconds, nanoseconds an object
@@ -8,27 +8,20 @@ or a change, the growth exponent in the number of objects, and the peak memory. 
 usage: bench/snapshots.py [WORK ..]
 """
 import math
-import os
 import subprocess
 import sys
 
-TOP = os.path.dirname(os.path.dirname(os.path.abspath(__file__)))
-CRATE = os.path.join(TOP, "crates", "store_bench")
-PROGRAM = os.path.join(CRATE, "out", "store_bench")
+from trials import PROGRAM, build
+
 OBJECTS = [12_500, 25_000, 50_000, 100_000]
 CHANGES = 1_000
 WORKS = ["build", "grow", "save"]
 
 
-def build():
-    """The program without words prints how to call it."""
-    subprocess.run(["rt", "run"], cwd=CRATE, stdin=subprocess.DEVNULL, stdout=sys.stderr, check=True)
-
-
 def measured(work, objects):
     """Nanoseconds, and the peak of memory in bytes, which `time` tells: a child of Python would begin with Python's own."""
     words = [work, str(objects), str(CHANGES)]
-    done = subprocess.run(["/usr/bin/time", "-f", "%M", PROGRAM, *words], stdout=subprocess.PIPE, stderr=subprocess.PIPE, text=True)
+    done = subprocess.run(["/usr/bin/time", "-f", "%M", PROGRAM, "store", *words], stdout=subprocess.PIPE, stderr=subprocess.PIPE, text=True)
     told = done.stdout.split()
     assert done.returncode == 0 and told[:3] == words, (done.returncode, told)
     return int(told[3]), int(done.stderr) * 1024
@@ -38,8 +31,7 @@ def main():
     works = sys.argv[1:] or WORKS
     if not all(work in WORKS for work in works):
         raise SystemExit(__doc__.strip())
-    if not os.path.exists(PROGRAM):
-        build()
+    build()
     print("work   objects  seconds  nanoseconds  exponent     peak")
     for work in works:
         before = None

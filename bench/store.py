@@ -1,5 +1,5 @@
 #!/usr/bin/env python3
-"""Measures `Store::apply` by the program `store_bench`, which it builds where needed.
+"""Measures `Store::apply` by `trials store`, which it builds where needed.
 
 For each work and each number of objects in the store: `apply` calls per second, nanoseconds a call, the growth exponent,
 and the peak memory for each object. The exponent is that of as many calls as there are objects: 1 where a call costs the
@@ -9,13 +9,11 @@ dictionary have no other objects, and tell the growth in its elements. Each time
 usage: bench/store.py [WORK ..]
 """
 import math
-import os
 import subprocess
 import sys
 
-TOP = os.path.dirname(os.path.dirname(os.path.abspath(__file__)))
-CRATE = os.path.join(TOP, "crates", "store_bench")
-PROGRAM = os.path.join(CRATE, "out", "store_bench")
+from trials import PROGRAM, build
+
 OBJECTS = [25_000, 50_000, 100_000, 200_000]
 EACH = 8  # elements that each object's set or dictionary gets
 INSERTIONS = 25_000  # as many as a list of 100,000 takes before its block grows
@@ -37,15 +35,10 @@ WORKS = {
 }
 
 
-def build():
-    """The program without words prints how to call it."""
-    subprocess.run(["rt", "run"], cwd=CRATE, stdin=subprocess.DEVNULL, stdout=sys.stderr, check=True)
-
-
 def measured(work, objects, count):
     """Nanoseconds, and the peak of memory in bytes, which `time` tells: a child of Python would begin with Python's own."""
     words = [work, str(objects), str(count)]
-    done = subprocess.run(["/usr/bin/time", "-f", "%M", PROGRAM, *words], stdout=subprocess.PIPE, stderr=subprocess.PIPE, text=True)
+    done = subprocess.run(["/usr/bin/time", "-f", "%M", PROGRAM, "store", *words], stdout=subprocess.PIPE, stderr=subprocess.PIPE, text=True)
     told = done.stdout.split()
     assert done.returncode == 0 and told[:3] == words, (done.returncode, told)
     return int(told[3]), int(done.stderr) * 1024
@@ -60,8 +53,7 @@ def main():
     works = sys.argv[1:] or list(WORKS)
     if not all(work in WORKS for work in works):
         raise SystemExit(__doc__.strip())
-    if not os.path.exists(PROGRAM):
-        build()
+    build()
     empty = measured("create", 0, 0)[1]
     print("work       objects    calls  apply/second  nanoseconds  exponent  bytes/object")
     cost = {}

@@ -1,5 +1,5 @@
 // A disk that gathers: what is written at and behind one place waits in memory until it is landed.
-ghost use Rattle.std.specs.Prelude.{◌≡◌, ◌+◌, ◌++◌, ◌∷◌, ◌^◌, ◌<◌, ◌≤◌, [], ℕ, List, length, vec_capacity, Err, OnOk, OnErr, Some, false};
+ghost use Rattle.std.specs.Prelude.{◌≡◌, ◌+◌, ◌++◌, ◌∷◌, ◌^◌, ◌<◌, ◌≤◌, [], ℕ, List, length, vec_capacity, Err, OnOk, OnErr, Some, false, true};
 ghost use Rattle.sync_disk.specs.Disk.{Told, Only, LeavesOnly, HasCause, put};
 ghost use Rattle.sync_disk.specs.Images.{state};
 ghost use Rattle.sync_disk.specs.Strokes.{done};
@@ -82,6 +82,7 @@ impl<D: Disk> GatheredDisk<D> {
         ensures idle { OnOk result (pending self.new ≡ []) }
         ensures gate { OnOk result (gate_of self.new ≡ end) }
         ensures open { OnOk result (is_closed self.new ≡ false) }
+        ensures closes { OnErr result (is_closed self.new ≡ true) }
 
         // A crash at any moment leaves none of it or all.
         ensures any_moment { (b : List ℕ) → D.content (below self.old) ≡ Some b → Told (told_by self.old) (λ all.

@@ -27,16 +27,11 @@ fn is_seven(copy: Result<Cell, NoMemory>) -> bool {
     }
 }
 
-fn copies_a_cell(alloc: Global) -> bool {
+pub(crate) fn a_cell_is_copied(alloc: Global) -> bool {
     match cell_of(alloc, 7) {
         Some(cell) => is_seven(cell.copy()),
         None => false,
     }
-}
-
-#[test]
-fn a_cell_is_copied(rt: HostRuntime) {
-    assert!(rt; copies_a_cell(rt.alloc()));
 }
 
 fn name(text: &str) -> Option<Name> {
@@ -73,7 +68,6 @@ fn copies_a_schema(alloc: Global) -> Option<bool> {
     Some(is_made && takes_numbers(&copy)?)
 }
 
-#[test]
-fn a_schema_is_copied(rt: HostRuntime) {
-    assert!(rt; copies_a_schema(rt.alloc()) == Some(true));
+pub(crate) fn a_schema_is_copied(alloc: Global) -> bool {
+    copies_a_schema(alloc) == Some(true)
 }

@@ -53,9 +53,8 @@ fn has_most_instructions(alloc: Global) -> Option<bool> {
     Some(are_too_large(more, want))
 }
 
-#[test]
-fn a_changeset_has_at_most_65_536_instructions(rt: HostRuntime) {
-    assert!(rt; has_most_instructions(rt.alloc()) == Some(true));
+pub(crate) fn a_changeset_has_at_most_65_536_instructions(alloc: Global) -> bool {
+    has_most_instructions(alloc) == Some(true)
 }
 
 /// An update of table `t`, key 1, column `s` to a text of that many bytes.
@@ -80,9 +79,8 @@ fn carries_most_bytes(alloc: Global) -> Option<bool> {
     Some(Changeset::checked(7, most).is_ok() && are_too_large(more, want))
 }
 
-#[test]
-fn a_changeset_carries_at_most_4_194_304_bytes(rt: HostRuntime) {
-    assert!(rt; carries_most_bytes(rt.alloc()) == Some(true));
+pub(crate) fn a_changeset_carries_at_most_4_194_304_bytes(alloc: Global) -> bool {
+    carries_most_bytes(alloc) == Some(true)
 }
 
 fn copies_key_texts(alloc: Global) -> Option<bool> {
@@ -103,11 +101,10 @@ fn lists_numbers(alloc: Global) -> Option<bool> {
     Some(listed.as_slice().len() == 2 && listed.into_vec().len() == 2)
 }
 
-#[test]
-fn texts_are_made_and_copied(rt: HostRuntime) {
-    assert!(rt; copies_key_texts(rt.alloc()) == Some(true));
-    assert!(rt; copies_texts(rt.alloc()) == Some(true));
-    assert!(rt; lists_numbers(rt.alloc()) == Some(true));
+pub(crate) fn texts_are_made_and_copied(alloc: Global) -> bool {
+    copies_key_texts(alloc) == Some(true)
+        && copies_texts(alloc) == Some(true)
+        && lists_numbers(alloc) == Some(true)
 }
 
 fn cell(alloc: Global) -> Option<CellName> {
@@ -154,10 +151,8 @@ fn copies_columns() -> Option<bool> {
     Some(column.copy().ok()? == column)
 }
 
-#[test]
-fn instructions_and_columns_are_copied(rt: HostRuntime) {
-    assert!(rt; copies_instructions(rt.alloc()) == Some(true));
-    assert!(rt; copies_columns() == Some(true));
+pub(crate) fn instructions_and_columns_are_copied(alloc: Global) -> bool {
+    copies_instructions(alloc) == Some(true) && copies_columns() == Some(true)
 }
 
 fn entry(alloc: Global) -> Option<Entry> {
@@ -176,9 +171,8 @@ fn copies_entries(alloc: Global) -> Option<bool> {
     Some(is_stamped && copy.changes == entry.changes)
 }
 
-#[test]
-fn entries_are_copied(rt: HostRuntime) {
-    assert!(rt; copies_entries(rt.alloc()) == Some(true));
+pub(crate) fn entries_are_copied(alloc: Global) -> bool {
+    copies_entries(alloc) == Some(true)
 }
 
 fn text(alloc: Global, text: &str) -> Option<Value> {
@@ -217,9 +211,11 @@ fn rises(alloc: Global, place: usize) -> Option<bool> {
     Some(lower < upper)
 }
 
-#[test]
-fn orders_are_of_kinds_and_then_of_parts(rt: HostRuntime) {
+pub(crate) fn orders_are_of_kinds_and_then_of_parts(alloc: Global) -> bool {
     for place in 0..14 {
-        assert!(rt; rises(rt.alloc(), place) == Some(true), "{place}");
+        if rises(alloc, place) != Some(true) {
+            return false;
+        }
     }
+    true
 }

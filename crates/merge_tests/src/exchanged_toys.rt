@@ -32,8 +32,8 @@ impl Exchange for Toys {
     ghost buildable = { toy_buildable };
 }
 
-#[test]
-fn a_toy_can_be_exchanged() {
+/// All laws of nodes and worlds are called.
+pub fn a_toy_can_be_exchanged() {
     worlds_hold::<Toys>();
     servers_answer_by_parts::<Toys>();
     nodes_write_what_opens::<Toys>();

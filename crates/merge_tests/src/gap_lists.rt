@@ -30,18 +30,13 @@ fn is_handed_back(list: &mut GapList<&str>) -> bool {
 }
 
 /// Whether a list without a spare place hands the item back, and takes it once it has one.
-fn hands_back(alloc: Global) -> bool {
+pub(crate) fn a_full_list_hands_the_item_back(alloc: Global) -> bool {
     let mut list = GapList::new(alloc);
     is_handed_back(&mut list)
         && has_words(&list, &[])
         && list.reserve(1).is_ok()
         && put(&mut list, 0, "x")
         && has_words(&list, &["x"])
-}
-
-#[test]
-fn a_full_list_hands_the_item_back(rt: HostRuntime) {
-    assert!(rt; hands_back(rt.alloc()));
 }
 
 fn list_of_three(alloc: Global) -> Option<GapList<&'static str>> {
@@ -76,9 +71,8 @@ fn is_edited(alloc: Global) -> Option<bool> {
     Some(is_moved && is_replaced && are_so)
 }
 
-#[test]
-fn edits_of_a_list_of_three(rt: HostRuntime) {
-    assert!(rt; is_edited(rt.alloc()) == Some(true));
+pub(crate) fn edits_of_a_list_of_three(alloc: Global) -> bool {
+    is_edited(alloc) == Some(true)
 }
 
 /// Whether the shared count of the elements is one more for each place that holds one.
@@ -153,9 +147,8 @@ fn drops_once(alloc: Global) -> Option<bool> {
     Some(is_kept && Rc::strong_count(&counted) == 1)
 }
 
-#[test]
-fn drops_each_element_once(rt: HostRuntime) {
-    assert!(rt; drops_once(rt.alloc()) == Some(true));
+pub(crate) fn drops_each_element_once(alloc: Global) -> bool {
+    drops_once(alloc) == Some(true)
 }
 
 /// Whether the list has these elements, in order.
@@ -186,7 +179,7 @@ fn goes_on(list: &mut GapList<u64>, want: &mut Vec<u64>, place: usize, item: u64
         && has(list, want)
 }
 
-fn stays_at_each_length(alloc: Global) -> bool {
+pub(crate) fn each_growth_that_is_refused_leaves_the_list(alloc: Global) -> bool {
     let mut list = GapList::new(alloc);
     let mut want = Vec::new(alloc);
     for item in 0..40usize {
@@ -196,11 +189,6 @@ fn stays_at_each_length(alloc: Global) -> bool {
         }
     }
     true
-}
-
-#[test]
-fn each_growth_that_is_refused_leaves_the_list(rt: HostRuntime) {
-    assert!(rt; stays_at_each_length(rt.alloc()));
 }
 
 /// An element that counts how many of it live, and whose clone can fail. A clause sees each as 0.
@@ -277,11 +265,10 @@ fn changes_nothing(alloc: Global, counted: &Rc<i32>) -> bool {
     copies_or_not(&list, counted) && is_whole(&list, counted)
 }
 
-/// Passes whichever allocation fails: `rt try --test --fail-alloc N` for N from 1 to 40.
-#[test]
-fn a_refused_growth_or_copy_changes_nothing(rt: HostRuntime) {
-    if let Ok(counted) = Rc::new(rt.alloc(), 0) {
-        assert!(rt; changes_nothing(rt.alloc(), &counted));
-        assert!(rt; Rc::strong_count(&counted) == 1);
+/// Holds whichever allocation fails: in `trials` `rt try --fail-alloc N -- growth`.
+pub fn a_refused_growth_or_copy_changes_nothing(alloc: Global) -> bool {
+    match Rc::new(alloc, 0) {
+        Ok(counted) => changes_nothing(alloc, &counted) && Rc::strong_count(&counted) == 1,
+        Err(_) => true,
     }
 }

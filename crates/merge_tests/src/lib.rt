@@ -3,23 +3,93 @@
 //! index passes over, and that a toy meets the bounds of the theory and of the model.
 #![tactic(auto)]
 
-#[cfg(test)]
+mod blocks;
 mod copies;
-#[cfg(test)]
 mod data;
-#[cfg(test)]
 mod exchanged_toys;
-#[cfg(test)]
 mod gap_lists;
-#[cfg(test)]
 mod indexes;
-#[cfg(test)]
 mod merged_toys;
-#[cfg(test)]
 mod next_keys;
-#[cfg(test)]
 mod regions;
-#[cfg(test)]
 mod rivals;
-#[cfg(test)]
 mod subsets;
+
+pub use exchanged_toys::a_toy_can_be_exchanged;
+pub use gap_lists::a_refused_growth_or_copy_changes_nothing;
+pub use merged_toys::a_toy_can_be_merged;
+use std::alloc::Global;
+
+/// Each case by its name, and whether it comes out as it must.
+pub fn cases(alloc: Global) -> [(&'static str, bool); 20] {
+    [
+        (
+            "blocks cross as their instructions meet",
+            blocks::blocks_cross_as_their_instructions_meet(alloc),
+        ),
+        ("a cell is copied", copies::a_cell_is_copied(alloc)),
+        ("a schema is copied", copies::a_schema_is_copied(alloc)),
+        (
+            "a changeset has at most 65,536 instructions",
+            data::a_changeset_has_at_most_65_536_instructions(alloc),
+        ),
+        (
+            "a changeset carries at most 4,194,304 bytes",
+            data::a_changeset_carries_at_most_4_194_304_bytes(alloc),
+        ),
+        (
+            "texts are made and copied",
+            data::texts_are_made_and_copied(alloc),
+        ),
+        (
+            "instructions and columns are copied",
+            data::instructions_and_columns_are_copied(alloc),
+        ),
+        ("entries are copied", data::entries_are_copied(alloc)),
+        (
+            "orders are of kinds and then of parts",
+            data::orders_are_of_kinds_and_then_of_parts(alloc),
+        ),
+        (
+            "a full list hands the item back",
+            gap_lists::a_full_list_hands_the_item_back(alloc),
+        ),
+        (
+            "edits of a list of three",
+            gap_lists::edits_of_a_list_of_three(alloc),
+        ),
+        (
+            "drops each element once",
+            gap_lists::drops_each_element_once(alloc),
+        ),
+        (
+            "each growth that is refused leaves the list",
+            gap_lists::each_growth_that_is_refused_leaves_the_list(alloc),
+        ),
+        (
+            "a refused growth or copy changes nothing",
+            gap_lists::a_refused_growth_or_copy_changes_nothing(alloc),
+        ),
+        (
+            "an index says what may touch its list",
+            indexes::an_index_says_what_may_touch_its_list(alloc),
+        ),
+        (
+            "lists at unmarked spots are passed over",
+            indexes::lists_at_unmarked_spots_are_passed_over(alloc),
+        ),
+        (
+            "next keys rise from the least to the greatest",
+            next_keys::next_keys_rise_from_the_least_to_the_greatest(alloc),
+        ),
+        ("regions do as a lane", regions::regions_do_as_a_lane(alloc)),
+        (
+            "each entry meets its rival",
+            rivals::each_entry_meets_its_rival(alloc),
+        ),
+        (
+            "a changeset is restricted",
+            subsets::a_changeset_is_restricted(alloc),
+        ),
+    ]
+}

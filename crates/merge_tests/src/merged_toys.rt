@@ -42,8 +42,8 @@ fn toy_lists_agree()
     lists_agree::<Toys>()
 }
 
-#[test]
-fn a_toy_can_be_merged() {
+/// All laws of merging are called.
+pub fn a_toy_can_be_merged() {
     toy_lists_agree();
     one_crossing::<Toys>();
     prefixes_rebase_alike::<Toys>();

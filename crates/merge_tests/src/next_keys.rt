@@ -39,8 +39,6 @@ fn has_none(alloc: Global) -> bool {
     next_key(&empty, None).is_none() && next_key(&empty, Some(&0)).is_none()
 }
 
-#[test]
-fn next_keys_rise_from_the_least_to_the_greatest(rt: HostRuntime) {
-    assert!(rt; has_none(rt.alloc()));
-    assert!(rt; are_next(rt.alloc()) == Some(true));
+pub(crate) fn next_keys_rise_from_the_least_to_the_greatest(alloc: Global) -> bool {
+    has_none(alloc) && are_next(alloc) == Some(true)
 }

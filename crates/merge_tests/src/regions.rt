@@ -117,7 +117,7 @@ fn agree(alloc: Global) -> Option<bool> {
     Some(agreed && regions.len() == 0)
 }
 
-#[test]
-fn regions_do_as_a_lane(rt: HostRuntime) {
-    assert!(rt; agree(rt.alloc()) == Some(true));
+/// Whether they agree, and no call fails.
+pub(crate) fn regions_do_as_a_lane(alloc: Global) -> bool {
+    agree(alloc) == Some(true)
 }

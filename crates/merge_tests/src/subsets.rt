@@ -59,7 +59,6 @@ fn is_restricted(alloc: Global) -> Option<bool> {
     Some(part.ms() == 7 && part.instrs().len() == 3 && subset.names().len() == 2)
 }
 
-#[test]
-fn a_changeset_is_restricted(rt: HostRuntime) {
-    assert!(rt; is_restricted(rt.alloc()) == Some(true));
+pub(crate) fn a_changeset_is_restricted(alloc: Global) -> bool {
+    is_restricted(alloc) == Some(true)
 }

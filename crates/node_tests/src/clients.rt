@@ -146,9 +146,8 @@ fn started_holds(alloc: Global) -> Option<bool> {
     Some(late && kind == Some(KeyKind::Int) && client.cursor() == 1 && made == Ok(1))
 }
 
-#[test]
-fn a_client_of_some_tables(rt: HostRuntime) {
-    assert!(rt; subscribed_holds(rt.alloc()) == Some(true));
+pub fn a_client_of_some_tables(alloc: Global) -> bool {
+    subscribed_holds(alloc) == Some(true)
 }
 
 /// Whether the file is refused in which these bytes stand behind so much of it, and then its rest from another place on.
@@ -163,13 +162,10 @@ fn is_bad_with(alloc: Global, until: usize, bytes: &[u8], from: usize) -> bool {
         && is_bad(alloc, file.as_slice(), PART_AT)
 }
 
-#[test]
-fn a_file_that_begins_with_a_state(rt: HostRuntime) {
-    let alloc = rt.alloc();
-    assert!(rt; started_holds(alloc) == Some(true));
+pub fn a_file_that_begins_with_a_state(alloc: Global) -> bool {
     // Without its version: the gate behind the part is closed.
-    assert!(rt; is_bad_with(alloc, FLOOR_AT, &[0], STARTED.len()));
+    let without = is_bad_with(alloc, FLOOR_AT, &[0], STARTED.len());
     // With a part of which the state has another list: the object comes before the column.
-    let other = &[3, 0, 0, 2, 2, 0, 1, 1, 0, 0];
-    assert!(rt; is_bad_with(alloc, INSTRS_AT, other, FLOOR_AT));
+    let other = is_bad_with(alloc, INSTRS_AT, &[3, 0, 0, 2, 2, 0, 1, 1, 0, 0], FLOOR_AT);
+    without && other && started_holds(alloc) == Some(true)
 }

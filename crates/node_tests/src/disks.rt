@@ -3,7 +3,6 @@
 use crate::client::{Call, ID, Sends, answer, sent};
 use crate::spelled::{disk_of, is_spelled, message};
 use std::alloc::Global;
-use std::process::Abort;
 use sync_client::{Client, ClientRefusal};
 use sync_disk::{Leaves, MemoryDisk};
 use sync_journal::{Journal, OpenCause, OpenRefusal};
@@ -419,18 +418,23 @@ fn stops_all<N: Node>(alloc: Global, tried: &Tried, leaves: Leaves) -> bool {
     passes::<N>(alloc, tried, strokes, leaves)
 }
 
-fn all_stop<N: Node>(rt: &impl Abort, alloc: Global, table: &[Tried]) {
-    for (place, tried) in table.iter().enumerate() {
+fn all_stop<N: Node>(alloc: Global, table: &[Tried]) -> bool {
+    for tried in table {
         for leaves in [Leaves::Drop, Leaves::Keep, Leaves::Torn] {
-            assert!(rt; stops_all::<N>(alloc, tried, leaves), "{place}");
+            if !stops_all::<N>(alloc, tried, leaves) {
+                return false;
+            }
         }
     }
+    true
 }
 
-#[test]
-fn a_stop_at_each_stroke_of_a_call(rt: HostRuntime) {
-    all_stop::<Client<MemoryDisk>>(&rt, rt.alloc(), &CLIENTS);
-    all_stop::<Server<MemoryDisk>>(&rt, rt.alloc(), &SERVERS);
+pub fn a_stop_at_each_stroke_of_a_clients_call(alloc: Global) -> bool {
+    all_stop::<Client<MemoryDisk>>(alloc, &CLIENTS)
+}
+
+pub fn a_stop_at_each_stroke_of_a_servers_call(alloc: Global) -> bool {
+    all_stop::<Server<MemoryDisk>>(alloc, &SERVERS)
 }
 
 /// Where the disk's call that fails belongs.
@@ -494,14 +498,19 @@ fn fails_in_turn<N: Node>(alloc: Global, tried: &Tried) -> bool {
     openings > 0 && strokes == strokes_of(tried) as usize
 }
 
-fn all_fail<N: Node>(rt: &impl Abort, alloc: Global, table: &[Tried]) {
-    for (place, tried) in table.iter().enumerate() {
-        assert!(rt; fails_in_turn::<N>(alloc, tried), "{place}");
+fn all_fail<N: Node>(alloc: Global, table: &[Tried]) -> bool {
+    for tried in table {
+        if !fails_in_turn::<N>(alloc, tried) {
+            return false;
+        }
     }
+    true
 }
 
-#[test]
-fn each_call_of_the_disk_fails_in_turn(rt: HostRuntime) {
-    all_fail::<Client<MemoryDisk>>(&rt, rt.alloc(), &CLIENTS);
-    all_fail::<Server<MemoryDisk>>(&rt, rt.alloc(), &SERVERS);
+pub fn each_call_of_a_clients_disk_fails_in_turn(alloc: Global) -> bool {
+    all_fail::<Client<MemoryDisk>>(alloc, &CLIENTS)
+}
+
+pub fn each_call_of_a_servers_disk_fails_in_turn(alloc: Global) -> bool {
+    all_fail::<Server<MemoryDisk>>(alloc, &SERVERS)
 }

@@ -157,14 +157,9 @@ fn all_are_told(alloc: Global, client: &mut Client<MemoryDisk>) -> bool {
     client.last() == 1
 }
 
-fn client_saves(alloc: Global) -> bool {
+pub fn each_change_is_integrated_known_or_saved(alloc: Global) -> bool {
     match client_three(alloc) {
         Some(mut client) => all_are_told(alloc, &mut client),
         None => false,
     }
-}
-
-#[test]
-fn each_change_is_integrated_known_or_saved(rt: HostRuntime) {
-    assert!(rt; client_saves(rt.alloc()));
 }

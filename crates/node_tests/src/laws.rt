@@ -9,8 +9,8 @@ use sync_model::{
     worlds_hold, worlds_make_progress,
 };
 
-#[test]
-fn the_instructions_can_be_exchanged() {
+/// All laws are called.
+pub fn the_instructions_can_be_exchanged() {
     worlds_hold::<Instrs>();
     servers_answer_by_parts::<Instrs>();
     nodes_write_what_opens::<Instrs>();

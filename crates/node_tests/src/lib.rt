@@ -1,24 +1,109 @@
-//! Clients and servers over disks in memory, those that fail at a call or stop at a stroke among them, and what is made of their
-//! objects and files. The crate has tests alone: what nodes answer to messages is tried in `program_cases`.
+//! Clients and servers over disks in memory, those that fail at a call or stop at a stroke among them, what is made of their
+//! objects and files, and what an application and a host in another language call. What nodes answer to messages is tried in `program_cases`.
 #![tactic(auto)]
 
-#[cfg(test)]
+mod changed;
 mod client;
-#[cfg(test)]
 mod clients;
-#[cfg(test)]
 mod disks;
-#[cfg(test)]
 mod heirs;
-#[cfg(test)]
+mod hosts;
 mod laws;
-#[cfg(test)]
+mod next;
 mod resets;
-#[cfg(test)]
 mod servers;
-#[cfg(test)]
 mod snapshots;
-#[cfg(test)]
 mod spelled;
-#[cfg(test)]
+mod transactions;
 mod trims;
+
+pub use laws::the_instructions_can_be_exchanged;
+use std::alloc::Global;
+
+/// Each case of disks that stop or fail by its name, and whether it comes out as it must.
+pub fn cases_of_disks(alloc: Global) -> [(&'static str, bool); 4] {
+    [
+        (
+            "a stop at each stroke of a client's call",
+            disks::a_stop_at_each_stroke_of_a_clients_call(alloc),
+        ),
+        (
+            "a stop at each stroke of a server's call",
+            disks::a_stop_at_each_stroke_of_a_servers_call(alloc),
+        ),
+        (
+            "each call of a client's disk fails in turn",
+            disks::each_call_of_a_clients_disk_fails_in_turn(alloc),
+        ),
+        (
+            "each call of a server's disk fails in turn",
+            disks::each_call_of_a_servers_disk_fails_in_turn(alloc),
+        ),
+    ]
+}
+
+/// The same of the other cases.
+pub fn cases(alloc: Global) -> [(&'static str, bool); 9] {
+    [
+        (
+            "a client of some tables",
+            clients::a_client_of_some_tables(alloc),
+        ),
+        (
+            "a file that begins with a state",
+            clients::a_file_that_begins_with_a_state(alloc),
+        ),
+        (
+            "an exchange is answered and kept",
+            servers::an_exchange_is_answered_and_kept(alloc),
+        ),
+        (
+            "a trimmed file answers from its floor on",
+            servers::a_trimmed_file_answers_from_its_floor_on(alloc),
+        ),
+        (
+            "each change is integrated, known or saved",
+            heirs::each_change_is_integrated_known_or_saved(alloc),
+        ),
+        (
+            "files begin with the objects",
+            trims::files_begin_with_the_objects(alloc),
+        ),
+        (
+            "what breaks is dropped and the rest is made to fit",
+            resets::what_breaks_is_dropped_and_the_rest_is_made_to_fit(alloc),
+        ),
+        (
+            "a state is built in order of names",
+            snapshots::a_state_is_built_in_order_of_names(alloc),
+        ),
+        (
+            "a part that is no part is named",
+            snapshots::a_part_that_is_no_part_is_named(alloc),
+        ),
+    ]
+}
+
+/// The same of what an application and a host in another language call.
+pub fn cases_of_applications(alloc: Global) -> [(&'static str, bool); 6] {
+    [
+        (
+            "calls see the transaction so far",
+            transactions::calls_see_the_transaction_so_far(alloc),
+        ),
+        (
+            "refusals have words",
+            transactions::refusals_have_words(alloc),
+        ),
+        (
+            "each instruction has its place",
+            changed::each_instruction_has_its_place(alloc),
+        ),
+        (
+            "a client sends what is next",
+            next::a_client_sends_what_is_next(alloc),
+        ),
+        ("a client of a host answers", hosts::a_client_answers(alloc)),
+        ("other places of a host answer", hosts::others_answer(alloc)),
+    ]
+}

@@ -134,16 +134,11 @@ fn is_answered_and_kept(alloc: Global, server: Server<MemoryDisk>) -> bool {
     }
 }
 
-fn answers_the_exchange(alloc: Global) -> bool {
+pub fn an_exchange_is_answered_and_kept(alloc: Global) -> bool {
     match server_of(alloc, &[]) {
         Some(server) => is_answered_and_kept(alloc, server),
         None => false,
     }
-}
-
-#[test]
-fn an_exchange_is_answered_and_kept(rt: HostRuntime) {
-    assert!(rt; answers_the_exchange(rt.alloc()));
 }
 
 /// The records of a file of which the first entry was left out: the tables q and t and object 1 of t as they were after it, its
@@ -156,7 +151,7 @@ const TRIMMED: [&[u8]; 4] = [
 ];
 
 /// Whether a question from below the floor is refused, and one from the floor on is answered.
-fn answers_from_its_floor(alloc: Global) -> bool {
+pub fn a_trimmed_file_answers_from_its_floor_on(alloc: Global) -> bool {
     match server_of(alloc, &TRIMMED) {
         Some(mut server) => {
             answers(alloc, &mut server, b"\x04\x01\0\0", b"\x06\x01\0\x47\x01")
@@ -164,9 +159,4 @@ fn answers_from_its_floor(alloc: Global) -> bool {
         }
         None => false,
     }
-}
-
-#[test]
-fn a_trimmed_file_answers_from_its_floor_on(rt: HostRuntime) {
-    assert!(rt; answers_from_its_floor(rt.alloc()));
 }

@@ -35,7 +35,7 @@ fn grows(alloc: Global, parts: &[Changeset]) -> bool {
     }
 }
 
-fn is_built(alloc: Global) -> bool {
+pub fn a_state_is_built_in_order_of_names(alloc: Global) -> bool {
     let Some(store) = store_of(alloc, &[&PRELUDE]) else {
         return false;
     };
@@ -43,11 +43,6 @@ fn is_built(alloc: Global) -> bool {
         Ok(parts) => is_one(alloc, parts.as_slice(), &BUILT) && grows(alloc, parts.as_slice()),
         Err(_) => false,
     }
-}
-
-#[test]
-fn a_state_is_built_in_order_of_names(rt: HostRuntime) {
-    assert!(rt; is_built(rt.alloc()));
 }
 
 /// The changesets that are spelled so.
@@ -74,11 +69,9 @@ fn is_told(alloc: Global, spelled: &[&[u8]], bad: Option<u32>) -> bool {
     }
 }
 
-#[test]
-fn a_part_that_is_no_part_is_named(rt: HostRuntime) {
-    let alloc = rt.alloc();
-    assert!(rt; is_told(alloc, &[], None));
-    assert!(rt; is_told(alloc, &[&PRELUDE], Some(0)));
-    assert!(rt; is_told(alloc, &[&BUILT], None));
-    assert!(rt; is_told(alloc, &[&BUILT, &BUILT], Some(1)));
+pub fn a_part_that_is_no_part_is_named(alloc: Global) -> bool {
+    is_told(alloc, &[], None)
+        && is_told(alloc, &[&PRELUDE], Some(0))
+        && is_told(alloc, &[&BUILT], None)
+        && is_told(alloc, &[&BUILT, &BUILT], Some(1))
 }

@@ -108,14 +108,9 @@ fn gives_files(alloc: Global, disk: MemoryDisk) -> bool {
     spells_server(alloc, &trimmed) && spells_client(alloc, &started)
 }
 
-fn gives_its_files(alloc: Global) -> bool {
+pub fn files_begin_with_the_objects(alloc: Global) -> bool {
     match file_of(alloc) {
         Some(disk) => gives_files(alloc, disk),
         None => false,
     }
-}
-
-#[test]
-fn files_begin_with_the_objects(rt: HostRuntime) {
-    assert!(rt; gives_its_files(rt.alloc()));
 }

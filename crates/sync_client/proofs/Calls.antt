@@ -6,9 +6,8 @@ use Rattle.sync_data.specs.declared.instr.Instr.{Instr}
 use Rattle.sync_base.specs.States.{State}
 use Rattle.sync_disk.specs.declared.disk.Disk.{Ghosts}
 use Rattle.sync_journal.specs.Stands.{disk_of}
-use Rattle.sync_journal.specs.declared.journal.Journal.{Journal}
 use Rattle.sync_model.specs.Bytes.{Tables, Uuid}
-use Rattle.sync_model.specs.Clients.{Born, Client as Model, ClientRecord, ClientRefusal, ClientStep, NotBorn, Subscribed, TooLate, after_record, appends, answers, refuse, born, born_once, client_of, commit, commit_born, if_born, is_late, no_client, subscribe, subscribed_once, upgrade}
+use Rattle.sync_model.specs.Clients.{Born, Client as Model, ClientRecord, ClientRefusal, ClientStep, TooLate, after_record, appends, answers, refuse, born, born_once, client_of, commit, commit_born, if_born, is_late, no_client, subscribe, subscribed_once, upgrade}
 use Rattle.sync_model.specs.Files.{client_opens}
 use Rattle.sync_model.specs.Each.{no_more, and_each}
 use Rattle.sync_model.specs.Limits.{IsClientRecord}
@@ -19,7 +18,7 @@ use Rattle.sync_exchange.specs.Profile.{the_profile}
 use Rattle.sync_exchange.specs.Lemmas.Lawful.{real_lawful}
 use Rattle.sync_client.specs.declared.client.Client.{Client}
 use Rattle.sync_client.specs.declared.replica.Replica.{Replica}
-use Rattle.sync_client.specs.Clients.{Closes, Did, IsClientOf, Says, UsesDisk}
+use Rattle.sync_client.specs.Clients.{Closes, Did, IsClientOf, Says, UsesDisk, is_closed}
 use Rattle.sync_client.specs.Keeping.{Keeps}
 use Rattle.sync_client.specs.Seen.{Past, and_made, seen}
 use Rattle.sync_client.specs.Transactions.{Commits, Uncommitted, next_original}
@@ -45,7 +44,7 @@ no_uuid None e = refl
 no_uuid (Some id) e = cc
 
 module _ {D : Type 0} {G : Ghosts D} where
-  pub did_append : {A : Type 0} (did : ClientStep A) (next : ClientRecord) (a : A) (records : List ClientRecord) (c : Client D G) → did ≡ appends next a → Keeps (records ++ next ∷ []) c.replica → c.closed ≡ false → Did did (Ok a) records c
+  pub did_append : {A : Type 0} (did : ClientStep A) (next : ClientRecord) (a : A) (records : List ClientRecord) (c : Client D G) → did ≡ appends next a → Keeps (records ++ next ∷ []) c.replica → is_closed c ≡ false → Did did (Ok a) records c
   did_append did next a records c is k open_ = record {
     answer_is = ap (λ d. d.answer) is;
     client = record { kept = subst (λ rs. Keeps (records ++ rs) c.replica) (sym (ap (λ d. d.records) is)) k; open_ = open_ };
@@ -74,13 +73,6 @@ if_seen_both (Some w) P Q R f h g = f w h g
 has_uuid : (o : Option Uuid) → is_some o ≡ true → (id : Uuid) × (o ≡ Some id)
 has_uuid None e = cc
 has_uuid (Some id) e = (id, refl)
-
-missing : (o : Option Uuid) → is_some o ≡ false → o ≡ None
-missing None e = refl
-missing (Some id) e = cc
-
-pub not_born : {A : Type 0} (records : List ClientRecord) (r : Replica) (go : Uuid → ClientStep A) → Keeps records r → is_some r.id ≡ false → if_born (client_of the_profile records).id go ≡ refuse NotBorn
-not_born records r go k none = ap (λ o. if_born o go) (ap (λ (c : Model Instr State). c.id) k.stands_for ∙ missing r.id none)
 
 pub is_born : {A : Type 0} (records : List ClientRecord) (r : Replica) (go : Uuid → ClientStep A) → Keeps records r → is_some r.id ≡ true → (id : Uuid) × (if_born (client_of the_profile records).id go ≡ go id)
 is_born records r go k some = let h = has_uuid r.id some in (h.0, ap (λ o. if_born o go) (ap (λ (c : Model Instr State). c.id) k.stands_for ∙ h.1))
@@ -122,12 +114,6 @@ upgrade_is records r k some first =
     ∙ ap (λ (c : Model Instr State). if c.second then answers false else appends ClientRecord.Form true) k.stands_for
     ∙ ap (λ b. if b then answers false else appends ClientRecord.Form true) first
 
-pub upgraded_is : (records : List ClientRecord) (r : Replica) → Keeps records r → is_some r.id ≡ true → r.second ≡ true → upgrade (client_of the_profile records) ≡ answers false
-upgraded_is records r k some second =
-    (is_born records r (λ id. if (client_of the_profile records).second then answers false else appends ClientRecord.Form true) k some).1
-    ∙ ap (λ (c : Model Instr State). if c.second then answers false else appends ClientRecord.Form true) k.stands_for
-    ∙ ap (λ b. if b then answers false else appends ClientRecord.Form true) second
-
 pub upgrade_keeps : (records : List ClientRecord) (r : Replica) → Keeps records r → is_some r.id ≡ true → r.second ≡ false → Keeps (records ++ ClientRecord.Form ∷ []) (record r { second = true })
 upgrade_keeps records r k some first =
     keeps_next records ClientRecord.Form r (record r { second = true }) k.past k (subst (λ d. client_opens the_profile (client_of the_profile records) d.records ≡ true) (upgrade_is records r k some first) (upgrade_opens the_profile real_lawful (client_of the_profile records) (calm the_profile records k.opens)).0) tt refl k.count
@@ -142,13 +128,6 @@ subscribing records r tables k some = (is_born {A = ⊤} records r (λ id. behin
 no_tables : (o : Option Tables) → is_some o ≡ false → o ≡ None
 no_tables None e = refl
 no_tables (Some t) e = cc
-
-has_tables : (o : Option Tables) (did : ClientStep ⊤) → is_some o ≡ true → subscribed_once {A = ⊤} o did ≡ refuse Subscribed
-has_tables None did e = cc
-has_tables (Some t) did e = refl
-
-pub subscribed_is : (records : List ClientRecord) (r : Replica) (tables : Tables) → Keeps records r → is_some r.id ≡ true → is_some r.subset ≡ true → subscribe (client_of the_profile records) tables ≡ refuse Subscribed
-subscribed_is records r tables k some again = subscribing records r tables k some ∙ has_tables r.subset _ again
 
 unless_late : (records : List ClientRecord) (r : Replica) (tables : Tables) (k : Keeps records r) (late : Bool) → is_some r.id ≡ true → is_some r.subset ≡ false → is_late (seen k.past r) ≡ late
     → subscribe (client_of the_profile records) tables ≡ (if late then refuse TooLate else appends (ClientRecord.Subset tables) tt)
@@ -176,18 +155,18 @@ same_told : (A : Type 0) (why other : CodeRefusal) → Told A why other → why 
 same_told A why other e = cc
 
 module _ {D : Type 0} {G : Ghosts D} (A : Type 0) (old new : Client D G) (why refusal : CodeRefusal) (same : why ≡ refusal) (plain : IsPlain refusal) where
-  pub plain_closes : old.closed ≡ false → (refusal ≡ codes.NoMemory → new.closed ≡ true) → Closes {B = A} old new (Err why)
+  pub plain_closes : is_closed old ≡ false → (refusal ≡ codes.NoMemory → is_closed new ≡ true) → Closes {B = A} old new (Err why)
   plain_closes open_ closes = record {
     closed = (λ e. absurd (subst IsPlain (sym same ∙ same_told A why codes.Closed e) plain), λ e. let both : false ≡ true = sym open_ ∙ e in cc);
     unchanged = λ e. absurd (subst IsPlain (sym same ∙ same_told A why codes.Closed e) plain);
     closes = λ e. elim e [ inl fault ↦ absurd (subst IsPlain (sym same ∙ same_told A why codes.DiskFault fault) plain) | inr none ↦ closes (sym same ∙ same_told A why codes.NoMemory none) ];
   }
 
-  pub plain_disk : new.journal ≡ old.journal → UsesDisk (Told A why codes.DiskFault) old new
+  pub plain_disk : disk_of new.journal ≡ disk_of old.journal → UsesDisk (Told A why codes.DiskFault) old new
   plain_disk still = record {
-    same_origin = ap (λ (j : Journal D G). G.origin (disk_of j)) still;
-    told = λ b told. (b, ap (λ (j : Journal D G). G.content (disk_of j)) still ∙ told);
-    later = subst (λ (j : Journal D G). G.faults (disk_of old.journal) ≤ G.faults (disk_of j)) (sym still) (le_refl (G.faults (disk_of old.journal)));
+    same_origin = ap G.origin still;
+    told = λ b told. (b, ap G.content still ∙ told);
+    later = subst (λ (d : D). G.faults (disk_of old.journal) ≤ G.faults d) (sym still) (le_refl (G.faults (disk_of old.journal)));
     fault = λ e. absurd (subst IsPlain (sym same ∙ same_told A why codes.DiskFault e) plain);
   }
 
@@ -198,7 +177,7 @@ unseen why P (inr e) = subst (λ w. IfSeen (refusal_seen w) P) (sym e) tt
 
 module _ {D : Type 0} {G : Ghosts D} where
   pub commit_says : (records : List ClientRecord) (r s : Replica) (n : Client D G) (ms : ℕ) (edits : List Instr) (m : Made) (a : Result ℕ CodeRefusal) (k : Keeps records r) → is_some r.id ≡ true → Commits k.past r s ms edits (Ok m)
-      → m.number ≤ 4294967295 → IfOk a (λ number. number ≡ m.number) → n.replica ≡ s → OnOk a (n.closed ≡ false) → IfErr a (λ why. (why ≡ codes.DiskFault) ⊎ (why ≡ codes.NoMemory))
+      → m.number ≤ 4294967295 → IfOk a (λ number. number ≡ m.number) → n.replica ≡ s → OnOk a (is_closed n ≡ false) → IfErr a (λ why. (why ≡ codes.DiskFault) ⊎ (why ≡ codes.NoMemory))
       → Says (commit the_profile (client_of the_profile records) ms edits) records n a
   commit_says records r s n ms edits m (Ok number) k some did small is same open_ refused =
       did_append (commit the_profile (client_of the_profile records) ms edits) (ClientRecord.Made m.number ms m.body.items) number records n

@@ -15,7 +15,7 @@ use Rattle.sync_exchange.specs.Profile.{the_profile}
 use Rattle.sync_exchange.specs.Seen.{client_bytes, sent_seen}
 use Rattle.sync_client.specs.declared.client.Client.{Client}
 use Rattle.sync_client.specs.declared.refusal.ClientRefusal.{ClientRefusal as CodeRefusal}
-use Rattle.sync_client.specs.Clients.{AskedFor, Did, IsClientOf, IsStored, Leaves, Survives}
+use Rattle.sync_client.specs.Clients.{AskedFor, Did, IsClientOf, IsStored, Leaves, Survives, is_closed}
 use Rattle.sync_client.specs.Refusals.{refusal_seen, IfSeen}
 use Rattle.sync_client.specs.Taking.{SentRefused, SentTaken}
 use Rattle.sync_client.specs.declared.replica.Replica.{Replica}
@@ -48,14 +48,14 @@ module _ {D : Type 0} {G : Ghosts D} where
     pub written_is : written ≡ records ++ added
     pub whole : (take_entries the_profile (client_of the_profile records) all).records ≡ added ++ (take_entries the_profile (client_of the_profile written) rest).records
     pub leaves : IsStored records old → Leaves records added old.journal now.journal
-    pub asks : IsStored records old → Asks G.strokes (map client_bytes added) old.journal now.journal
+    pub asks : IsStored records old → Asks (map client_bytes added) old.journal now.journal
 
   -- what an entry leaves and asks
   abbrev pub SurvivesSent : Client D G → Client D G → Sent → Result (Unit {0}) CodeRefusal → Type 0
   SurvivesSent now next e result = (records : List ClientRecord) → IsClientOf records now → IsStored records now → Survives (take_entries the_profile (client_of the_profile records) (e ∷ [])) records now next result
 
   pub record LoopSoFar (old now : Client D G) (all rest : List Sent) : Type 0 where
-    pub open_ : now.closed ≡ false
+    pub open_ : is_closed now ≡ false
     pub named : 1 ≤ now.replica.ident
     pub room : now.replica.cursor + length rest ≤ 4294967295
     pub later : G.faults old.journal.disk ≤ G.faults now.journal.disk
@@ -63,7 +63,7 @@ module _ {D : Type 0} {G : Ghosts D} where
     pub told : Told (G.content old.journal.disk) (λ b. (c : List ℕ) × (G.content now.journal.disk ≡ Some c))
     pub so_far : (records : List ClientRecord) → IsClientOf records old → SoFar old now records all rest
 
-  pub at_first : (c : Client D G) (all : List Sent) → ((disk : D) (b : List ℕ) → G.images_since disk (G.moment disk) b → G.images disk b) → c.closed ≡ false → 1 ≤ c.replica.ident → c.replica.cursor + length all ≤ 4294967295 → LoopSoFar c c all all
+  pub at_first : (c : Client D G) (all : List Sent) → ((disk : D) (b : List ℕ) → G.images_since disk (G.moment disk) b → G.images disk b) → is_closed c ≡ false → 1 ≤ c.replica.ident → c.replica.cursor + length all ≤ 4294967295 → LoopSoFar c c all all
   at_first c all only_now open_ named room = record {
     open_ = open_;
     named = named;
@@ -85,7 +85,7 @@ module _ {D : Type 0} {G : Ghosts D} where
   }
 
   pub goes_on : (old now next : Client D G) (all rest left : List Sent) (e : Sent) → LoopSoFar old now all left → left ≡ e ∷ rest
-      → next.closed ≡ false → next.replica.ident ≡ now.replica.ident → next.replica.cursor ≡ now.replica.cursor + 1 → G.faults now.journal.disk ≤ G.faults next.journal.disk
+      → is_closed next ≡ false → next.replica.ident ≡ now.replica.ident → next.replica.cursor ≡ now.replica.cursor + 1 → G.faults now.journal.disk ≤ G.faults next.journal.disk
       → ((records : List ClientRecord) → IsClientOf records now → SentTaken records next e) → SurvivesSent now next e (Ok tt)
       → G.origin next.journal.disk ≡ G.origin now.journal.disk → Told (G.content now.journal.disk) (λ b. (c : List ℕ) × (G.content next.journal.disk ≡ Some c))
       → LoopSoFar old next all rest
@@ -120,7 +120,7 @@ module _ {D : Type 0} {G : Ghosts D} where
               leaves = λ h. both records s.added (took e ∷ []) old.journal now.journal next.journal (s.leaves h)
                   (subst (λ ws. Leaves ws (took e ∷ []) now.journal next.journal) s.written_is (subst (λ rs. Leaves s.written rs now.journal next.journal) one (survives s.written s.client (s.stored h)).any_moment));
               asks = λ h. both_asked s.added (took e ∷ []) old.journal now.journal next.journal (s.asks h)
-                  (subst (λ rs. Asks G.strokes (map client_bytes rs) now.journal next.journal) one (survives s.written s.client (s.stored h)).asked);
+                  (subst (λ rs. Asks (map client_bytes rs) now.journal next.journal) one (survives s.written s.client (s.stored h)).asked);
             };
       }
 
@@ -195,7 +195,7 @@ module _ {D : Type 0} {G : Ghosts D} where
       record {
         stored = subst (λ rs. IsStored rs now) t.1 (s.stored h);
         any_moment = subst (λ rs. Leaves records rs old.journal now.journal) whole (s.leaves h);
-        asked = subst (λ rs. Asks G.strokes (map client_bytes rs) old.journal now.journal) whole (s.asks h);
+        asked = subst (λ rs. Asks (map client_bytes rs) old.journal now.journal) whole (s.asks h);
       }
 
 pub map_drop : (n : ℕ) (es : List SentParts) → drop n (map sent_seen es) ≡ map sent_seen (drop n es)

@@ -1,7 +1,8 @@
 -- What a crash leaves of records that are added one after the other.
-use Rattle.std.proofs.Common.{◌≡◌, ℕ, suc, ◌+◌, List, [], ◌∷◌, ◌++◌, length, map, take, sym, ap, ◌∙◌, subst, arith, append_assoc, length-append}
+use Rattle.std.proofs.Common.{◌≡◌, ℕ, suc, ◌+◌, List, [], ◌∷◌, ◌++◌, length, map, take, Some, sym, ap, ◌∙◌, subst, arith, append_assoc, length-append}
 use Rattle.std.proofs.lemmas.List.{map-append, take-append-le}
 use Rattle.sync_disk.specs.declared.disk.Disk.{Ghosts}
+use Rattle.sync_disk.specs.Disk.{LeavesOnly}
 use Rattle.sync_disk.proofs.Moments.{and_then, weaker}
 use Rattle.sync_journal.specs.Records.{StandsForPrefix}
 use Rattle.sync_journal.specs.Records.Reading.{Good}
@@ -10,7 +11,8 @@ use Rattle.sync_journal.specs.declared.journal.Journal.{Journal}
 use Rattle.sync_journal.proofs.Steps.{at_rest}
 use Rattle.sync_model.specs.Clients.{ClientRecord}
 use Rattle.sync_exchange.specs.Seen.{client_bytes}
-use Rattle.sync_client.specs.Clients.{Leaves}
+use Rattle.sync_client.specs.Clients.{JournalAppends, Leaves}
+use Rattle.sync_client.specs.declared.refusal.ClientRefusal.TheVariants as codes
 
 take_part : {A : Type 0} (xs ys : List A) (k : ℕ) → take (length xs + k) (xs ++ ys) ≡ xs ++ take k ys
 take_part [] ys k = let e : 0 + k ≡ k = omega arith in ap (λ n. take n ys) e
@@ -37,7 +39,15 @@ module _ {D : Type 0} {G : Ghosts D} where
       (λ c p. subst (λ l. StandsForPrefix (map client_bytes records) l c) (sym (map-append client_bytes a b))
       (later (map client_bytes records) (map client_bytes a) (map client_bytes b) c (subst (λ l. StandsForPrefix l (map client_bytes b) c) (map-append client_bytes records a) p))))
 
-  -- a call that appends nothing
-  pub leaves_none : (records next : List ClientRecord) (old new : Journal D G) → ((disk : D) (c : List ℕ) → G.images_since disk (G.moment disk) c → G.images disk c) → new ≡ old → Stands G.content G.images (map client_bytes records) old → Leaves records next old new
+  -- a call that leaves the disk as it is
+  pub leaves_none : (records next : List ClientRecord) (old new : Journal D G) → ((disk : D) (c : List ℕ) → G.images_since disk (G.moment disk) c → G.images disk c) → disk_of new ≡ disk_of old → Stands (map client_bytes records) old → Leaves records next old new
   leaves_none records next old new only_now e s =
-      subst (λ j. Leaves records next old j) (sym e) (at_rest G.content G.images G.moment G.images_since only_now (map client_bytes records) (map client_bytes next) old.end old.disk s.settled)
+      subst (λ d. LeavesOnly G.moment G.images_since (disk_of old) d (StandsForPrefix (map client_bytes records) (map client_bytes next))) (sym e) (at_rest G.content G.images G.moment G.images_since only_now (map client_bytes records) (map client_bytes next) old.end old.disk s.settled)
+
+  -- and so one that ends before it appends, for want of memory
+  pub unadded : (next : List ClientRecord) (old new : Journal D G) → ((disk : D) (c : List ℕ) → G.images_since disk (G.moment disk) c → G.images disk c) → disk_of new ≡ disk_of old → JournalAppends next old new (Some codes.NoMemory)
+  unadded next old new only_now e = record {
+    stored = λ records s. tt;
+    any_moment = λ rs s. subst (λ d. LeavesOnly G.moment G.images_since (disk_of old) d (StandsForPrefix rs (map client_bytes next))) (sym e) (at_rest G.content G.images G.moment G.images_since only_now rs (map client_bytes next) old.end old.disk s.settled);
+    asked = λ b told. tt;
+  }

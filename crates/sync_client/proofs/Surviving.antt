@@ -3,7 +3,7 @@ use Rattle.std.proofs.Common.{◌≡◌, ℕ, List, [], ◌∷◌, ◌++◌, map
 use Rattle.std.specs.Prelude.{◌⊎◌, IfErr, IfNone}
 use Rattle.std.specs.Result.{result_err}
 use Rattle.sync_disk.specs.declared.disk.Disk.{Ghosts}
-use Rattle.sync_journal.specs.Stands.{Stands}
+use Rattle.sync_journal.specs.Stands.{Stands, disk_of}
 use Rattle.sync_journal.specs.declared.journal.Journal.{Journal}
 use Rattle.sync_model.specs.Clients.{ClientRecord, ClientStep, appends}
 use Rattle.sync_exchange.specs.Seen.{client_bytes}
@@ -12,9 +12,8 @@ use Rattle.sync_client.specs.Refusals.{refusal_seen, IfSeen, IsPlain}
 use Rattle.sync_client.specs.declared.client.Client.{Client}
 use Rattle.sync_client.specs.declared.refusal.ClientRefusal.{ClientRefusal as CodeRefusal}
 use Rattle.sync_client.specs.declared.refusal.ClientRefusal.TheVariants as codes
-use Rattle.sync_client.proofs.Calls.{unseen}
+use Rattle.sync_client.proofs.Calls.{if_seen_both, unseen}
 use Rattle.sync_client.proofs.Leaving.{leaves_none}
-use Rattle.sync_client.proofs.OneEntry.{if_seen_on}
 use Rattle.sync_client.proofs.Strokes.{none_asked, refused_asked}
 
 module _ {D : Type 0} {G : Ghosts D} where
@@ -37,22 +36,23 @@ module _ {D : Type 0} {G : Ghosts D} where
   -- ---- none
   none_stored : {A : Type 0} (did : ClientStep A) (records : List ClientRecord) (old new : Client D G) → did.records ≡ [] → new.journal ≡ old.journal → IsStored records old → IsStored (records ++ did.records) new
   none_stored did records old new none same stored =
-      subst (λ (j : Journal D G). Stands G.content G.images (map client_bytes (records ++ did.records)) j) (sym same)
+      subst (λ (j : Journal D G). Stands (map client_bytes (records ++ did.records)) j) (sym same)
       (subst (λ rs. IsStored (records ++ rs) old) (sym none) (subst (λ rs. IsStored rs old) (sym (append-nil records)) stored))
 
   pub survives_none : {A B : Type 0} (did : ClientStep A) (b : B) (records : List ClientRecord) (old new : Client D G) → ((disk : D) (c : List ℕ) → G.images_since disk (G.moment disk) c → G.images disk c)
       → did.records ≡ [] → new.journal ≡ old.journal → IsStored records old → Survives did records old new (Ok b)
   survives_none did b records old new only_now none same stored = record {
     stored = none_stored did records old new none same stored;
-    any_moment = leaves_none records did.records old.journal new.journal only_now same stored;
+    any_moment = leaves_none records did.records old.journal new.journal only_now (ap disk_of same) stored;
     asked = none_asked did.records old.journal new.journal none same;
   }
 
   -- it is refused before it appends anything
   pub survives_refused : {A B : Type 0} (did : ClientStep A) (why : CodeRefusal) (records : List ClientRecord) (old new : Client D G) → ((disk : D) (c : List ℕ) → G.images_since disk (G.moment disk) c → G.images disk c)
-      → IsPlain why → IfSeen (refusal_seen why) (λ w. did.records ≡ []) → new.journal ≡ old.journal → IsStored records old → Survives {B = B} did records old new (Err why)
-  survives_refused did why records old new only_now plain none same stored = record {
-    stored = if_seen_on (refusal_seen why) (λ w. did.records ≡ []) (λ w. IsStored (records ++ did.records) new) (λ w e. none_stored did records old new e same stored) none;
-    any_moment = leaves_none records did.records old.journal new.journal only_now same stored;
+      → IsPlain why → IfSeen (refusal_seen why) (λ w. did.records ≡ []) → disk_of new.journal ≡ disk_of old.journal → IfSeen (refusal_seen why) (λ w. new.journal ≡ old.journal) → IsStored records old
+      → Survives {B = B} did records old new (Err why)
+  survives_refused did why records old new only_now plain none rest same stored = record {
+    stored = if_seen_both (refusal_seen why) (λ w. did.records ≡ []) (λ w. new.journal ≡ old.journal) (λ w. IsStored (records ++ did.records) new) (λ w e f. none_stored did records old new e f stored) none same;
+    any_moment = leaves_none records did.records old.journal new.journal only_now rest stored;
     asked = refused_asked why did.records old.journal new.journal plain none same;
   }

@@ -5,7 +5,7 @@ use Rattle.std.specs.Option.{is_some}
 use Rattle.sync_model.proofs.Own.{if_true, if_false}
 use Rattle.std.specs.Prelude.{◌⊎◌, OnOk, IfErr}
 use Rattle.sync_disk.specs.declared.disk.Disk.{Ghosts}
-use Rattle.sync_model.specs.Clients.{Client as Model, ClientRecord, ClientRefusal, IdentDiffers, Named, answers, appends, client_of, entry_refusal, take_born, take_entries, take_ident, took}
+use Rattle.sync_model.specs.Clients.{Client as Model, ClientRecord, ClientRefusal, Named, appends, client_of, entry_refusal, take_born, take_entries, take_ident, took}
 use Rattle.sync_model.specs.Files.{client_opens}
 use Rattle.sync_model.specs.Limits.{ClientLists}
 use Rattle.sync_model.specs.Messages.{Message, Sent}
@@ -20,13 +20,13 @@ use Rattle.sync_client.specs.declared.client.Client.{Client}
 use Rattle.sync_client.specs.declared.refusal.ClientRefusal.{ClientRefusal as CodeRefusal}
 use Rattle.sync_client.specs.declared.refusal.ClientRefusal.TheVariants as codes
 use Rattle.sync_client.specs.declared.replica.Replica.{Replica}
-use Rattle.sync_client.specs.Clients.{Did, IsClientOf}
+use Rattle.sync_client.specs.Clients.{IsClientOf, is_closed}
 use Rattle.sync_client.specs.Entries.{Declines, TakesIt}
 use Rattle.sync_client.specs.Keeping.{Keeps}
 use Rattle.sync_client.specs.Refusals.{refusal_seen, IfSeen}
 use Rattle.sync_client.specs.Seen.{seen}
 use Rattle.sync_client.specs.Taking.{SentRefused, SentSays}
-use Rattle.sync_client.proofs.Calls.{did_none, did_refuse, if_seen_both, keeps_next, unseen}
+use Rattle.sync_client.proofs.Calls.{if_seen_both, keeps_next, unseen}
 use Rattle.sync_client.proofs.Refusing.{differ}
 
 -- the lists of a client are small
@@ -85,7 +85,7 @@ module _ {D : Type 0} {G : Ghosts D} where
       did same
 
   pub sent_says : (records : List ClientRecord) (r s : Replica) (n : Client D G) (e : Sent) (a : Result (Unit {0}) CodeRefusal) (k : Keeps records r) → MayBeTaken r e → TakesIt (seen k.past r) (seen k.past s) e → s.count ≡ r.count
-      → n.replica ≡ s → OnOk a (n.closed ≡ false) → IfErr a (λ why. (why ≡ codes.DiskFault) ⊎ (why ≡ codes.NoMemory)) → SentSays records n e a
+      → n.replica ≡ s → OnOk a (is_closed n ≡ false) → IfErr a (λ why. (why ≡ codes.DiskFault) ⊎ (why ≡ codes.NoMemory)) → SentSays records n e a
   sent_says records r s n e (Ok u) k m t count same open_ refused = record {
     fine = fine_of records r e None k t.fine;
     client = record { kept = subst (Keeps (records ++ took e ∷ [])) (sym same) (took_keeps records r s e k m t count); open_ = open_ };
@@ -111,18 +111,6 @@ named_keeps records r ident k born none named small =
 
     none_positive : (n : ℕ) → 1 ≤ n → n ≡ 0 → ⊥
     none_positive n h e = absurd (omega (arith, h, e))
-
-module _ {D : Type 0} {G : Ghosts D} where
-  -- an ident that the client keeps already
-  pub same_ident : (records : List ClientRecord) (c : Client D G) (ident : ℕ) → IsClientOf records c → 1 ≤ ident → c.replica.ident ≡ ident → Did (take_ident (client_of the_profile records) ident) (Ok c.replica.cursor) records c
-  same_ident records c ident k named same =
-      let is : take_ident (client_of the_profile records) ident ≡ answers c.replica.cursor = ap (λ m. take_ident m ident) k.kept.stands_for ∙ if_false (c.replica.ident == 0) _ _ (differ c.replica.ident 0 (λ e. absurd (omega (arith, named, same, e)))) ∙ if_true (c.replica.ident == ident) _ _ (eq-eqb _ _ same) in
-      did_none (take_ident (client_of the_profile records) ident) (Ok c.replica.cursor) records c (ap (λ d. d.records) is) (ap (λ d. d.answer) is) k
-
-  pub other_ident : (records : List ClientRecord) (c : Client D G) (ident : ℕ) → IsClientOf records c → ¬ (c.replica.ident ≡ ident) → ¬ (c.replica.ident ≡ 0) → Did (take_ident (client_of the_profile records) ident) (Err (IdentDiffers c.replica.ident ident)) records c
-  other_ident records c ident k other some =
-      did_refuse (take_ident (client_of the_profile records) ident) (IdentDiffers c.replica.ident ident) records c
-      (ap (λ m. take_ident m ident) k.kept.stands_for ∙ if_false (c.replica.ident == 0) _ _ (differ c.replica.ident 0 some) ∙ if_false (c.replica.ident == ident) _ _ (differ c.replica.ident ident other)) k
 
 -- the answer is the cursor that the replica keeps
 pub given_ident : (records : List ClientRecord) (r s : Replica) (ident : ℕ) → Keeps records r → r.ident ≡ 0 → s ≡ r → take_ident (client_of the_profile records) ident ≡ appends (Named ident) s.cursor

@@ -7,6 +7,7 @@ use Rattle.sync_journal.specs.declared.journal.Journal.{Journal}
 use Rattle.sync_journal.specs.Records.{StandsForPrefix}
 use Rattle.sync_journal.specs.Several.{Asks, AsksSome}
 use Rattle.sync_journal.specs.Stands.{Stands, disk_of}
+use Rattle.sync_journal.specs.Stands as stands
 use Rattle.sync_journal.specs.Uses as journals
 use Rattle.sync_model.specs.Clients.{ClientRecord, ClientRefusal, ClientStep}
 use Rattle.sync_exchange.specs.Seen.{client_bytes}
@@ -25,16 +26,16 @@ module _ {D : Type 0} {G : Ghosts D} where
   journal_of c = c.journal
 
   abbrev pub is_closed : Client D G → Bool
-  is_closed c = c.closed
+  is_closed c = stands.is_closed c.journal
 
   -- an open client of these records
   pub record IsClientOf (records : List ClientRecord) (c : Client D G) : Type 0 where
     pub kept : Keeps records c.replica
-    pub open_ : c.closed ≡ false
+    pub open_ : is_closed c ≡ false
 
   -- its disk holds them
   abbrev pub IsStored : List ClientRecord → Client D G → Type 0
-  IsStored records c = Stands G.content G.images (map client_bytes records) c.journal
+  IsStored records c = Stands (map client_bytes records) c.journal
 
   -- a call did so
   pub record Did {A : Type 0} (did : ClientStep A) (answer : Result A ClientRefusal) (records : List ClientRecord) (c : Client D G) : Type 0 where
@@ -57,16 +58,16 @@ module _ {D : Type 0} {G : Ghosts D} where
 
   -- whatever the journal held
   abbrev pub LeavesPrefix : List ClientRecord → Journal D G → Journal D G → Type 0
-  LeavesPrefix next old new = (rs : List (List ℕ)) → Stands G.content G.images rs old → LeavesOnly G.moment G.images_since (disk_of old) (disk_of new) (StandsForPrefix rs (map client_bytes next))
+  LeavesPrefix next old new = (rs : List (List ℕ)) → Stands rs old → LeavesOnly G.moment G.images_since (disk_of old) (disk_of new) (StandsForPrefix rs (map client_bytes next))
 
   -- the disk was asked for the appends of these records: for all of them, or for some up to a fault; after out of memory
   -- nothing is said
   abbrev pub AskedFor : List ClientRecord → Journal D G → Journal D G → Option CodeRefusal → Type 0
-  AskedFor next old new None = Asks G.strokes (map client_bytes next) old new
-  AskedFor next old new (Some codes.DiskFault) = AsksSome G.strokes (map client_bytes next) old new
+  AskedFor next old new None = Asks (map client_bytes next) old new
+  AskedFor next old new (Some codes.DiskFault) = AsksSome (map client_bytes next) old new
   AskedFor next old new (Some codes.NoMemory) = Unit {0}
   AskedFor next old new (Some codes.Closed) = Unit {0}
-  AskedFor next old new (Some why) = Asks G.strokes (map client_bytes next) old new
+  AskedFor next old new (Some why) = Asks (map client_bytes next) old new
 
   -- a call did so for its step's records
   abbrev pub Asked : {A B : Type 0} → ClientStep A → Client D G → Client D G → Result B CodeRefusal → Type 0
@@ -81,7 +82,7 @@ module _ {D : Type 0} {G : Ghosts D} where
 
   -- the same of a call that appends these records, whatever those before them are
   pub record JournalAppends (next : List ClientRecord) (old new : Journal D G) (why : Option CodeRefusal) : Type 0 where
-    pub stored : (records : List ClientRecord) → Stands G.content G.images (map client_bytes records) old → IfNone why (Stands G.content G.images (map client_bytes (records ++ next)) new)
+    pub stored : (records : List ClientRecord) → Stands (map client_bytes records) old → IfNone why (Stands (map client_bytes (records ++ next)) new)
     pub any_moment : LeavesPrefix next old new
     pub asked : Told (G.content (disk_of old)) (λ b. AskedFor next old new why)
 
@@ -90,10 +91,10 @@ module _ {D : Type 0} {G : Ghosts D} where
 
   -- `Closed` comes exactly where the client was closed, and then nothing changes; a fault and out of memory close it
   pub record Closes {B : Type 0} (old new : Client D G) (result : Result B CodeRefusal) : Type 0 where
-    pub closed : IsErrOf result codes.Closed ↔ (old.closed ≡ true)
+    pub closed : IsErrOf result codes.Closed ↔ (is_closed old ≡ true)
     pub unchanged : IsErrOf result codes.Closed → new ≡ old
-    pub closes : IsErrOf result codes.DiskFault ⊎ IsErrOf result codes.NoMemory → new.closed ≡ true
+    pub closes : IsErrOf result codes.DiskFault ⊎ IsErrOf result codes.NoMemory → is_closed new ≡ true
 
   -- how a call uses the disk
   abbrev pub UsesDisk : Type 0 → Client D G → Client D G → Type 0
-  UsesDisk failed old new = journals.UsesDisk G.content G.faults G.origin failed old.journal new.journal
+  UsesDisk failed old new = journals.UsesDisk failed old.journal new.journal

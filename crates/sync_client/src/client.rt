@@ -25,7 +25,6 @@ pub struct Client<D: Disk> {
     pub(crate) alloc: Global,
     pub(crate) journal: Journal<D>,
     pub(crate) replica: Replica,
-    pub(crate) closed: bool,
 }
 
 impl<D: Disk> Client<D> {
@@ -38,7 +37,7 @@ impl<D: Disk> Client<D> {
         ensures closes { Closes self.old self.new result }
         ensures disk { UsesDisk (IsErrOf result ClientRefusal.DiskFault) self.old self.new }
     {
-        if self.closed {
+        if self.journal.is_closed() {
             return Err(ClientRefusal::Closed);
         }
         if self.replica.id.is_some() {
@@ -63,7 +62,7 @@ impl<D: Disk> Client<D> {
         ensures closes { Closes self.old self.new result }
         ensures disk { UsesDisk (IsErrOf result ClientRefusal.DiskFault) self.old self.new }
     {
-        if self.closed {
+        if self.journal.is_closed() {
             return Err(ClientRefusal::Closed);
         }
         if self.replica.id.is_none() {
@@ -88,7 +87,7 @@ impl<D: Disk> Client<D> {
         ensures disk { UsesDisk (IsErrOf result ClientRefusal.DiskFault) self.old self.new }
     {
         let Ok(body) = Blob::new(self.alloc, made.body.as_slice()) else {
-            self.closed = true;
+            self.journal.close();
             return Err(ClientRefusal::NoMemory);
         };
         let number = made.number;
@@ -106,7 +105,7 @@ impl<D: Disk> Client<D> {
         ensures closes { Closes self.old self.new result }
         ensures disk { UsesDisk (IsErrOf result ClientRefusal.DiskFault) self.old self.new }
     {
-        if self.closed {
+        if self.journal.is_closed() {
             return Err(ClientRefusal::Closed);
         }
         if self.replica.id.is_none() {
@@ -131,7 +130,7 @@ impl<D: Disk> Client<D> {
         ensures closes { Closes self.old self.new result }
         ensures disk { UsesDisk (IsErrOf result ClientRefusal.DiskFault) self.old self.new }
     {
-        if self.closed {
+        if self.journal.is_closed() {
             return Err(ClientRefusal::Closed);
         }
         if self.replica.id.is_none() {
@@ -144,7 +143,7 @@ impl<D: Disk> Client<D> {
             return Err(ClientRefusal::TooLate);
         }
         let Ok(copy) = tables.copy() else {
-            self.closed = true;
+            self.journal.close();
             return Err(ClientRefusal::NoMemory);
         };
         match self.append(&ClientRecord::Subset { tables: copy }) {
@@ -166,11 +165,12 @@ impl<D: Disk> Client<D> {
     pub(crate) fn refused(&mut self, refusal: ClientRefusal) -> ClientRefusal
         ensures same { result ≡ refusal }
         ensures unchanged { IfSeen (refusal_seen refusal) (λ _. self.new ≡ self.old) }
-        ensures journal { journal_of self.new ≡ journal_of self.old }
+        ensures journal { IfSeen (refusal_seen result) (λ _. journal_of self.new ≡ journal_of self.old) }
+        ensures disk { disk_of (journal_of self.new) ≡ disk_of (journal_of self.old) }
         ensures closes { refusal ≡ ClientRefusal.NoMemory → is_closed self.new ≡ true }
     {
         if refusal == ClientRefusal::NoMemory {
-            self.closed = true;
+            self.journal.close();
         }
         refusal
     }
@@ -186,17 +186,14 @@ impl<D: Disk> Client<D> {
         ensures disk { UsesDisk (IsErrOf result ClientRefusal.DiskFault) self.old self.new }
     {
         let Ok(bytes) = added.record_bytes(self.alloc) else {
-            self.closed = true;
+            self.journal.close();
             return Err(ClientRefusal::NoMemory);
         };
         match self.journal.append(bytes.as_slice()) {
             Ok(()) => Ok(()),
-            Err(JournalRefusal::DiskFault) => {
-                self.closed = true;
-                Err(ClientRefusal::DiskFault)
-            }
+            Err(JournalRefusal::DiskFault) => Err(ClientRefusal::DiskFault),
             Err(_) => {
-                self.closed = true;
+                self.journal.close();
                 Err(ClientRefusal::NoMemory)
             }
         }
@@ -213,8 +210,7 @@ impl Client<MemoryDisk> {
         ensures same { SameDisk ⟦<MemoryDisk as Disk>⟧.content ⟦<MemoryDisk as Disk>⟧.strokes ⟦<MemoryDisk as Disk>⟧.images ⟦<MemoryDisk as Disk>⟧.faults ⟦<MemoryDisk as Disk>⟧.failing (disk_of (journal_of self.old)) (disk_of (journal_of self.new)) }
         ensures closed { is_closed self.new ≡ is_closed self.old }
         ensures replica { replica_of self.new ≡ replica_of self.old }
-        ensures stands { (records : List (List ℕ)) → Stands ⟦<MemoryDisk as Disk>⟧.content ⟦<MemoryDisk as Disk>⟧.images records (journal_of self.old)
-            → Stands ⟦<MemoryDisk as Disk>⟧.content ⟦<MemoryDisk as Disk>⟧.images records (journal_of self.new) }
+        ensures stands { (records : List (List ℕ)) → Stands records (journal_of self.old) → Stands records (journal_of self.new) }
     {
         self.journal.arm(at, leaves);
     }
@@ -225,8 +221,7 @@ impl Client<MemoryDisk> {
         ensures same { SameDisk ⟦<MemoryDisk as Disk>⟧.content ⟦<MemoryDisk as Disk>⟧.strokes ⟦<MemoryDisk as Disk>⟧.images ⟦<MemoryDisk as Disk>⟧.faults ⟦<MemoryDisk as Disk>⟧.failing (disk_of (journal_of self.old)) (disk_of (journal_of self.new)) }
         ensures closed { is_closed self.new ≡ is_closed self.old }
         ensures replica { replica_of self.new ≡ replica_of self.old }
-        ensures stands { (records : List (List ℕ)) → Stands ⟦<MemoryDisk as Disk>⟧.content ⟦<MemoryDisk as Disk>⟧.images records (journal_of self.old)
-            → Stands ⟦<MemoryDisk as Disk>⟧.content ⟦<MemoryDisk as Disk>⟧.images records (journal_of self.new) }
+        ensures stands { (records : List (List ℕ)) → Stands records (journal_of self.old) → Stands records (journal_of self.new) }
     {
         self.journal.disarm();
     }
@@ -250,8 +245,7 @@ impl<D: BeginsAnew> Client<D> {
             → D.origin (disk_of (journal_of self.new)) ≡ begun c (D.origin (disk_of (journal_of self.old))) }
         ensures closed { is_closed self.new ≡ is_closed self.old }
         ensures replica { replica_of self.new ≡ replica_of self.old }
-        ensures stands { (records : List (List ℕ)) → Stands D.content D.images records (journal_of self.old)
-            → Stands D.content D.images records (journal_of self.new) }
+        ensures stands { (records : List (List ℕ)) → Stands records (journal_of self.old) → Stands records (journal_of self.new) }
     {
         self.journal.begin_anew();
     }

@@ -1,4 +1,4 @@
-ghost use Rattle.std.specs.Prelude.{◌≡◌, ◌≢◌, ◌<◌, ◌+◌, ◌≤◌, ◌&&◌, not, List, [], length, Some, IfOk, IfErr, OnOk, OnErr};
+ghost use Rattle.std.specs.Prelude.{◌≡◌, ◌≢◌, ◌<◌, ◌+◌, ◌≤◌, ◌&&◌, not, [], length, Some, IfOk, IfErr, OnOk, OnErr};
 ghost use Rattle.sync_theory.specs.Grid.{tail};
 ghost use Rattle.sync_base.specs.Checks.{act_all};
 ghost use Rattle.sync_model.specs.Profile.{needs};

@@ -45,7 +45,6 @@ impl<D: Disk> Client<D> {
                 alloc,
                 journal,
                 replica,
-                closed: false,
             }),
             Err(why) => Err(journal.unread(records.as_slice(), why)),
         }

@@ -1,4 +1,4 @@
-ghost use Rattle.std.specs.Prelude.{◌≡◌, ◌≤◌, ◌<◌, ◌+◌, List, drop, length, IfOk, IfErr, Some, None, true, false};
+ghost use Rattle.std.specs.Prelude.{◌<◌, ◌+◌, List, drop, length, IfOk, Some, None, true, false};
 ghost use Rattle.sync_model.specs.Clients as model;
 ghost use Rattle.sync_model.specs.Limits.{ClientLists};
 ghost use Rattle.sync_exchange.specs.Profile.{the_profile};

@@ -1,4 +1,4 @@
-ghost use Rattle.std.specs.Prelude.{◌≡◌, ◌↔◌, ◌≤◌, ℕ, List, IsErrOf, IfErr, IfOk, OnOk, ◌++◌, ◌∷◌, [], map, true, length, min};
+ghost use Rattle.std.specs.Prelude.{◌≡◌, ◌↔◌, ◌≤◌, List, IsErrOf, IfErr, IfOk, OnOk, ◌++◌, ◌∷◌, [], map, true, length, min};
 ghost use Rattle.sync_journal.specs.Stands.{disk_of};
 ghost use Rattle.sync_model.specs.Clients as model;
 ghost use Rattle.sync_exchange.specs.Profile.{the_profile};
@@ -33,7 +33,7 @@ impl<D: Disk> Client<D> {
         ensures step { (records : List model.ClientRecord) → IsClientOf records self.now → Sends (model.bind (model.client_of the_profile records)) result }
         ensures closed { IsErrOf result ClientRefusal.Closed ↔ (is_closed self.now ≡ true) }
     {
-        if self.closed {
+        if self.journal.is_closed() {
             return Err(ClientRefusal::Closed);
         }
         match self.replica.id {
@@ -49,7 +49,7 @@ impl<D: Disk> Client<D> {
         ensures step { (records : List model.ClientRecord) → IsClientOf records self.now → Sends (model.ask (model.client_of the_profile records)) result }
         ensures closed { IsErrOf result ClientRefusal.Closed ↔ (is_closed self.now ≡ true) }
     {
-        if self.closed {
+        if self.journal.is_closed() {
             return Err(ClientRefusal::Closed);
         }
         if self.replica.id.is_none() {
@@ -102,7 +102,7 @@ impl<D: Disk> Client<D> {
         ensures step { (records : List model.ClientRecord) → IsClientOf records self.now → Sends (model.upload_from the_profile (model.client_of the_profile records) after) result }
         ensures closed { IsErrOf result ClientRefusal.Closed ↔ (is_closed self.now ≡ true) }
     {
-        if self.closed {
+        if self.journal.is_closed() {
             return Err(ClientRefusal::Closed);
         }
         if self.replica.id.is_none() {

@@ -26,7 +26,7 @@ impl<D: Disk> Client<D> {
         ensures closes { Closes self.old self.new result }
         ensures disk { UsesDisk (IsErrOf result ClientRefusal.DiskFault) self.old self.new }
     {
-        if self.closed {
+        if self.journal.is_closed() {
             return Err(ClientRefusal::Closed);
         }
         let Some(id) = self.replica.id else {
@@ -188,7 +188,7 @@ impl<D: Disk> Client<D> {
         ensures disk { UsesDisk (IsErrOf result ClientRefusal.DiskFault) self.old self.new }
     {
         let Ok(body) = Blob::new(self.alloc, sent.body()) else {
-            self.closed = true;
+            self.journal.close();
             return Err(ClientRefusal::NoMemory);
         };
         self.append(&ClientRecord::Took {

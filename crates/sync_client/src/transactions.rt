@@ -1,4 +1,4 @@
-ghost use Rattle.std.specs.Prelude.{◌≡◌, ◌≤◌, ◌&&◌, not, List, length, IfSome, IfOk, IfErr, IsErrOf, OnOk, OnErr, Some, None, true, false};
+ghost use Rattle.std.specs.Prelude.{◌≡◌, ◌≤◌, ◌&&◌, not, length, IfSome, IfOk, IfErr, IsErrOf, OnOk, OnErr, Some, None, true, false};
 ghost use Rattle.sync_base.specs.Checks.{act_all};
 ghost use Rattle.sync_data.specs.Payload.{IsSmall};
 ghost use Rattle.sync_model.specs.Profile.{all_admitted, first_need, first_outside, needs};

@@ -8,7 +8,7 @@ use Rattle.sync_model.specs.Clients.{ClientRecord, client_of}
 use Rattle.sync_model.specs.Resets.{ByClient, HeirAnswer, HeirStep, ResetRefusal, heir, heir_read}
 use Rattle.sync_exchange.specs.Profile.{the_profile, unspell}
 use Rattle.sync_exchange.specs.Seen.{change_seen, client_bytes}
-use Rattle.sync_client.specs.Clients.{AskedFor, IsClientOf, IsStored, Leaves}
+use Rattle.sync_client.specs.Clients.{AskedFor, IsClientOf, IsStored, Leaves, is_closed}
 use Rattle.sync_client.specs.Refusals.{refusal_seen}
 use Rattle.sync_client.specs.declared.client.Client.{Client}
 use Rattle.sync_client.specs.declared.refusal.ClientRefusal.TheVariants as codes
@@ -71,7 +71,7 @@ module _ {D : Type 0} {G : Ghosts D} where
   abbrev pub HeirAsked : HeirStep → Client D G → Client D G → Result Heir CodeReset → Type 0
   HeirAsked did old new (Err (resets.Client why)) = AskedFor did.records old.journal new.journal (Some why)
   HeirAsked did old new (Err resets.NoMemory) = Unit {0}
-  HeirAsked did old new result = Asks G.strokes (map client_bytes did.records) old.journal new.journal
+  HeirAsked did old new result = Asks (map client_bytes did.records) old.journal new.journal
 
   -- it survives a crash as a transaction does
   pub record HeirSurvives (did : HeirStep) (records : List ClientRecord) (old new : Client D G) (result : Result Heir CodeReset) : Type 0 where
@@ -82,9 +82,9 @@ module _ {D : Type 0} {G : Ghosts D} where
   -- a closed client does nothing; a fault, and out of memory in the transaction, close it; before that, out of memory changes
   -- nothing
   pub record HeirCloses (old new : Client D G) (result : Result Heir CodeReset) : Type 0 where
-    pub closed : IsErrOf result (resets.Client codes.Closed) ↔ (old.closed ≡ true)
+    pub closed : IsErrOf result (resets.Client codes.Closed) ↔ (is_closed old ≡ true)
     pub shut : IsErrOf result (resets.Client codes.Closed) → new ≡ old
-    pub closes : IsErrOf result (resets.Client codes.DiskFault) ⊎ IsErrOf result (resets.Client codes.NoMemory) → new.closed ≡ true
+    pub closes : IsErrOf result (resets.Client codes.DiskFault) ⊎ IsErrOf result (resets.Client codes.NoMemory) → is_closed new ≡ true
     pub unchanged : IsErrOf result resets.NoMemory → new ≡ old
 
 -- an open heir's transaction is refused by these alone

@@ -42,7 +42,7 @@ not_equal n not = grind (arith, nat_tests)
 
 module _ {D : Type 0} {G : Ghosts D} (next : List ClientRecord) (old new : Journal D G) where
   -- what a refusal that is told asked of the disk
-  pub asked_where : (why : CodeRefusal) → AskedFor next old new (Some why) → IfSeen (refusal_seen why) (λ w. Asks G.strokes (map client_bytes next) old new)
+  pub asked_where : (why : CodeRefusal) → AskedFor next old new (Some why) → IfSeen (refusal_seen why) (λ w. Asks (map client_bytes next) old new)
   asked_where codes.Closed h = tt
   asked_where codes.DiskFault h = tt
   asked_where codes.NoMemory h = tt
@@ -50,7 +50,7 @@ module _ {D : Type 0} {G : Ghosts D} (next : List ClientRecord) (old new : Journ
 
 module _ {D : Type 0} {G : Ghosts D} {A : Type 0} (tell : A → List ℕ) (did : ClientStep A) (records : List ClientRecord) (old new : Client D G) where
   abbrev AsksAll : Type 0
-  AsksAll = Asks G.strokes (map client_bytes did.records) (journal_of old) (journal_of new)
+  AsksAll = Asks (map client_bytes did.records) (journal_of old) (journal_of new)
 
   pub said_ok : (a : A) (reply : Reply) → Did did (Ok a) records new → IsStored (records ++ did.records) new → AsksAll → reply_bytes reply ≡ 0 ∷ tell a → Answers (Some (said tell did)) records reply old new
   said_ok a reply step stored asked is = record { replied = is ∙ ap (answer_bytes tell) (sym step.answer_is); stands = record { client = step.client; stored = stored }; asked = asked }

@@ -148,7 +148,7 @@ module _ {D : Type 0} {G : Ghosts D} where
   pub record Did (answer : Answer) (records : List ClientRecord) (reply : Reply) (old new : Client D G) : Type 0 where
     pub replied : reply_bytes reply ≡ answer.reply
     pub stands : ClientStands (records ++ answer.records) new
-    pub asked : Asks G.strokes (map client_bytes answer.records) (clients_code.journal_of old) (clients_code.journal_of new)
+    pub asked : Asks (map client_bytes answer.records) (clients_code.journal_of old) (clients_code.journal_of new)
 
   -- what is no request of this kind changes nothing
   abbrev pub Answers : Option Answer → List ClientRecord → Reply → Client D G → Client D G → Type 0
@@ -159,7 +159,7 @@ module _ {D : Type 0} {G : Ghosts D} where
   pub record DidServe (did : Served Instr State) (records : List ServerRecord) (reply : Reply) (old new : Server D G) : Type 0 where
     pub replied : (sent : CodeMessage) × (message_seen sent ≡ did.answer) × (reply_bytes reply ≡ 0 ∷ message_spelling sent)
     pub stands : ServerStands (records ++ did.records) new
-    pub asked : Asks G.strokes (map server_bytes did.records) (servers_code.journal_of old) (servers_code.journal_of new)
+    pub asked : Asks (map server_bytes did.records) (servers_code.journal_of old) (servers_code.journal_of new)
 
   abbrev pub Serves : Option (Served Instr State) → List ServerRecord → Reply → Server D G → Server D G → Type 0
   Serves None records reply old new = (reply ≡ replies.BadRequest) × (new ≡ old)

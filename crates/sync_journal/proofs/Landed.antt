@@ -12,11 +12,10 @@ use Rattle.gathered_disk.specs.Below.{below, gate_of, pending, told_by}
 use Rattle.gathered_disk.specs.Below as disks
 use Rattle.gathered_disk.specs.Gathered.{IsLetIn, NoneOrAll, base_of, images_of}
 use Rattle.gathered_disk.proofs.Gathering.{shown_is, is_shown}
-use Rattle.sync_journal.specs.declared.journal.Journal.{Journal}
-use Rattle.sync_journal.specs.Landed.{IsLanded, Shows, StandsForEither, images_by}
+use Rattle.sync_journal.specs.Journal.{IsSettled}
+use Rattle.sync_journal.specs.Landed.{HoldsBelow, StandsForEither}
 use Rattle.sync_journal.specs.Records.{magic, records_of, IsJournal}
 use Rattle.sync_journal.specs.Records.Reading.{Good}
-use Rattle.sync_journal.specs.Stands.{disk_of}
 use Rattle.sync_journal.proofs.Crash.{closed_file, torn_gate}
 
 -- BYTES
@@ -61,6 +60,10 @@ module _ (olds all : List (List ℕ)) (gate : ℕ) (file shown : List ℕ) (j : 
 
 -- NOTHING GATHERED: what is shown is what lies below
 module _ {D : Type 0} {G : Ghosts D} where
+  -- what a crash would leave of what it shows
+  abbrev images_by : GatheredDisk D G → List ℕ → Type 0
+  images_by g = images_of (G.content (below g)) (pending g)
+
   pub told_below : (g : GatheredDisk D G) (b : List ℕ) → pending g ≡ [] → told_by g ≡ Some b → G.content (below g) ≡ Some b
   told_below g b idle told =
       let is = shown_is g.closed (G.content (below g)) (pending g) b told in
@@ -74,19 +77,14 @@ module _ {D : Type 0} {G : Ghosts D} where
   pub shown_below : (g : GatheredDisk D G) (b : List ℕ) → disks.is_closed g ≡ false → pending g ≡ [] → G.content (below g) ≡ Some b → told_by g ≡ Some b
   shown_below g b still idle told = is_shown g.closed (G.content (below g)) (pending g) b still told ∙ ap (λ (l : List Stroke). Some (state b l).content) idle
 
--- what has landed is shown
-module _ {D : Type 0} {G : Ghosts D} {H : Ghosts (GatheredDisk D G)} where
-  pub landed_shows : (records : List (List ℕ)) (journal : Journal (GatheredDisk D G) H) → IsLanded records journal → Shows records journal
-  landed_shows records journal i =
-      let g = disk_of journal in
-      let told = shown_below g i.holds.file i.takes i.idle i.holds.told in
+  -- what has landed is shown
+  pub landed_shows : (records : List (List ℕ)) (end : ℕ) (g : GatheredDisk D G) → disks.is_closed g ≡ false → pending g ≡ [] → gate_of g ≡ end → HoldsBelow records g → IsSettled told_by images_by records end g
+  landed_shows records end g still idle gate holds =
+      let told = shown_below g holds.file still idle holds.told in
       record {
-        is_open = i.is_open;
-        settled = record {
-          file = i.holds.file;
-          told = told;
-          reads = i.holds.reads;
-          journal = subst (λ (n : ℕ). IsJournal records n i.holds.file) i.gate i.holds.journal;
-          durable = only_below g i.holds.file i.idle told;
-        };
+        file = holds.file;
+        told = told;
+        reads = holds.reads;
+        journal = subst (λ (n : ℕ). IsJournal records n holds.file) gate holds.journal;
+        durable = only_below g holds.file idle told;
       }

@@ -22,8 +22,8 @@ pub record AsksPart (next : List (List ℕ)) (end : ℕ) (old new : List Stroke)
 
 -- of journals
 module _ {D : Type 0} {G : Ghosts D} where
-  abbrev pub Asks : (D → List Stroke) → List (List ℕ) → Journal D G → Journal D G → Type 0
-  Asks strokes next old new = AsksAll next (end_of old) (end_of new) (strokes (disk_of old)) (strokes (disk_of new))
+  abbrev pub Asks : List (List ℕ) → Journal D G → Journal D G → Type 0
+  Asks next old new = AsksAll next (end_of old) (end_of new) (G.strokes (disk_of old)) (G.strokes (disk_of new))
 
-  abbrev pub AsksSome : (D → List Stroke) → List (List ℕ) → Journal D G → Journal D G → Type 0
-  AsksSome strokes next old new = AsksPart next (end_of old) (strokes (disk_of old)) (strokes (disk_of new))
+  abbrev pub AsksSome : List (List ℕ) → Journal D G → Journal D G → Type 0
+  AsksSome next old new = AsksPart next (end_of old) (G.strokes (disk_of old)) (G.strokes (disk_of new))

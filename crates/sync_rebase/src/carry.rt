@@ -18,11 +18,12 @@ use super::carried::{Became, Carried, Crossed};
 use super::items::{Items, Passing};
 use super::refusal::RebaseRefusal;
 use super::unsent::nothing;
+use list_blocks::cross_blocks_indexed;
 use std::alloc::Global;
 use sync_data::{Changeset, Entry, Ident};
 use sync_index::Index;
 use sync_rivals::{Pace, RivalIndex};
-use sync_transform::{ListAction, Shifted, cross_sets_indexed};
+use sync_transform::{ListAction, Shifted};
 
 /// Carries an entry of another client over the unsent changesets, from the first on. Those alone that are listed under a
 /// place of its rivals are visited; the others stay. Where there are none no index is made. Of two list instructions that
@@ -98,6 +99,7 @@ fn walk(
             continue;
         }
         match pass(
+            alloc,
             items,
             place,
             own,
@@ -143,6 +145,7 @@ fn codes_of(alloc: Global, rivals: &RivalIndex, entry: &Entry) -> Result<Vec<u64
 
 /// The unsent changeset at a place crosses a changeset of another client: both as crossed.
 fn pass(
+    alloc: Global,
     items: &Items,
     place: usize,
     own: Ident,
@@ -160,7 +163,7 @@ fn pass(
     let Ok(current) = items.current(place) else {
         return Err(RebaseRefusal::NoMemory);
     };
-    match cross_sets_indexed(current, own, changes, origin, index) {
+    match cross_blocks_indexed(alloc, current, own, changes, origin, index) {
         Ok(crossed) => Ok(crossed),
         Err(stop) => Err(RebaseRefusal::Mismatch {
             number: items.number(place),

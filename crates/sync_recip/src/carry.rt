@@ -18,11 +18,12 @@ use super::items::{Items, Passing};
 use super::refusal::RecipRefusal;
 use super::shared::SharedEntry;
 use super::shifted::nothing;
+use list_blocks::cross_blocks;
 use std::alloc::Global;
 use sync_base::{Changeset, Entry, Ident, NoMemory};
 use sync_index::Index;
 use sync_rivals::{Pace, RivalIndex};
-use sync_transform::{ListAction, Shifted, cross_sets};
+use sync_transform::{ListAction, Shifted};
 
 /// A change of a client is carried over the entries of others from the place `first` on. By an index of the change and the
 /// codes of its rivals, what it can't meet is passed over.
@@ -132,7 +133,7 @@ fn cross_one(
     let Ok(right) = items.changes(place) else {
         return Err(RecipRefusal::NoMemory);
     };
-    match cross_sets(changes, own, right, items.origin(place)) {
+    match cross_blocks(alloc, changes, own, right, items.origin(place)) {
         Err(stop) => Err(RecipRefusal::Mismatch {
             place: stop.left_place,
             kind: stop.kind,

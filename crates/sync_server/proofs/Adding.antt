@@ -14,10 +14,10 @@ use Rattle.sync_server.specs.Serving.{Adds}
 module _ {D : Type 0} {G : Ghosts D} where
   pub adds_more : (a b : List ServerRecord) (old mid new : Journal D G) → Adds a old mid → Adds b mid new → Adds (a ++ b) old new
   adds_more a b old mid new first second = λ rs s.
-      subst (λ l. Stands G.content G.images l new) (append_assoc rs (map server_bytes a) (map server_bytes b) ∙ ap (λ l. rs ++ l) (sym (map-append server_bytes a b))) (second (rs ++ map server_bytes a) (first rs s))
+      subst (λ l. Stands l new) (append_assoc rs (map server_bytes a) (map server_bytes b) ∙ ap (λ l. rs ++ l) (sym (map-append server_bytes a b))) (second (rs ++ map server_bytes a) (first rs s))
 
   pub adds_none : (old new : Journal D G) → new ≡ old → Adds [] old new
-  adds_none old new e = λ rs s. subst (λ j. Stands G.content G.images (rs ++ []) j) (sym e) (subst (λ l. Stands G.content G.images l old) (sym (append-nil rs)) s)
+  adds_none old new e = λ rs s. subst (λ j. Stands (rs ++ []) j) (sym e) (subst (λ l. Stands l old) (sym (append-nil rs)) s)
 
 pub idents_length : (c base : ℕ) (es : List (Changeset Instr)) (version : ℕ) (x : Changeset Instr) (k : ℕ) (gs : List (Given Instr)) → length (idents_after c base es version x k gs) ≡ length gs
 idents_length c base es version x k [] = refl

@@ -1,12 +1,13 @@
 -- Records that a call appends, by its parts.
-use Rattle.std.proofs.Common.{◌≡◌, ℕ, List, [], ◌++◌, Option, Some, None, map, Result, Ok, Err, sym, subst}
+use Rattle.std.proofs.Common.{◌≡◌, ℕ, List, [], ◌++◌, Option, Some, None, map, Result, Ok, Err, ap, sym, subst}
 use Rattle.std.specs.Prelude.{IfNone, OnOk}
 use Rattle.std.specs.Result.{result_err}
 use Rattle.std.proofs.lemmas.List.{map-append}
 use Rattle.sync_data.specs.declared.instr.Instr.{Instr}
 use Rattle.sync_base.specs.States.{State}
 use Rattle.sync_disk.specs.declared.disk.Disk.{Ghosts}
-use Rattle.sync_disk.specs.Disk.{Told}
+use Rattle.sync_disk.specs.Disk.{LeavesOnly, Told}
+use Rattle.sync_journal.specs.Records.{StandsForPrefix}
 use Rattle.sync_journal.specs.Stands.{Stands, disk_of}
 use Rattle.sync_journal.specs.declared.journal.Journal.{Journal}
 use Rattle.sync_model.specs.Parts.{Served}
@@ -26,7 +27,11 @@ none_then (Some why) P Q h f = tt
 
 module _ {D : Type 0} {G : Ghosts D} where
   pub appends_none : (old new : Journal D G) → ((disk : D) (c : List ℕ) → G.images_since disk (G.moment disk) c → G.images disk c) → new ≡ old → JournalAppends [] old new None
-  appends_none old new only_now e = record { stored = adds_none old new e; any_moment = untouched [] old new only_now e; asked = λ b told. asks_nothing old new e }
+  appends_none old new only_now e = record { stored = adds_none old new e; any_moment = untouched [] old new only_now (ap disk_of e); asked = λ b told. asks_nothing old new e }
+
+  -- out of memory before anything is appended
+  pub unadded : (next : List ServerRecord) (old new : Journal D G) → ((disk : D) (c : List ℕ) → G.images_since disk (G.moment disk) c → G.images disk c) → disk_of new ≡ disk_of old → JournalAppends next old new (Some causes.NoMemory)
+  unadded next old new only_now same = record { stored = tt; any_moment = untouched next old new only_now same; asked = λ b told. tt }
 
   -- a call behind one that was done
   pub appends_more : (a b : List ServerRecord) (old mid new : Journal D G) (why : Option ServerRefusal) → JournalAppends a old mid None → Told (G.content (disk_of old)) (λ c. (bytes : List ℕ) × (G.content (disk_of mid) ≡ Some bytes)) → JournalAppends b mid new why
@@ -42,11 +47,15 @@ module _ {D : Type 0} {G : Ghosts D} where
   appends_part a b old new why first = record { stored = tt; any_moment = part a b old new first.any_moment; asked = λ c told. asked_part a b old new why (first.asked c told) }
 
   -- out of memory behind what was appended
-  pub appends_lost : (a b : List ServerRecord) (old new : Journal D G) → JournalAppends a old new None → JournalAppends (a ++ b) old new (Some causes.NoMemory)
-  appends_lost a b old new first = record { stored = tt; any_moment = part a b old new first.any_moment; asked = λ c told. tt }
+  pub appends_lost : (a b : List ServerRecord) (old mid new : Journal D G) → disk_of new ≡ disk_of mid → JournalAppends a old mid None → JournalAppends (a ++ b) old new (Some causes.NoMemory)
+  appends_lost a b old mid new same first = record {
+    stored = tt;
+    any_moment = λ rs s. subst (λ d. LeavesOnly G.moment G.images_since (disk_of old) d (StandsForPrefix rs (map server_bytes (a ++ b)))) (sym same) (part a b old mid first.any_moment rs s);
+    asked = λ c told. tt;
+  }
 
   holds : {B : Type 0} (next records : List ServerRecord) (old new : Server D G) (r : Result B ServerRefusal) → IfNone (result_err r) (Adds next old.journal new.journal) → IsStored records old → OnOk r (IsStored (records ++ next) new)
-  holds next records old new (Ok b) added stored = subst (λ l. Stands G.content G.images l new.journal) (sym (map-append server_bytes records next)) (added (map server_bytes records) stored)
+  holds next records old new (Ok b) added stored = subst (λ l. Stands l new.journal) (sym (map-append server_bytes records next)) (added (map server_bytes records) stored)
   holds next records old new (Err why) added stored = tt
 
   -- behind the records that the disk held

@@ -40,10 +40,10 @@ module _ {D : Type 0} {G : Ghosts D} where
       (weaker G.moment G.images_since (disk_of mid) (disk_of new) (StandsForPrefix (rs ++ map server_bytes a) (map server_bytes b)) (StandsForPrefix rs (map server_bytes (a ++ b))) (second (rs ++ map server_bytes a) (added rs s))
       (λ c p. subst (λ l. StandsForPrefix rs l c) (sym (map-append server_bytes a b)) (later rs (map server_bytes a) (map server_bytes b) c p)))
 
-  -- where nothing is added
-  pub untouched : (next : List ServerRecord) (old new : Journal D G) → ((disk : D) (c : List ℕ) → G.images_since disk (G.moment disk) c → G.images disk c) → new ≡ old → LeavesPrefix next old new
+  -- where the disk stays as it is
+  pub untouched : (next : List ServerRecord) (old new : Journal D G) → ((disk : D) (c : List ℕ) → G.images_since disk (G.moment disk) c → G.images disk c) → disk_of new ≡ disk_of old → LeavesPrefix next old new
   untouched next old new only_now e = λ rs s.
-      subst (λ j. LeavesOnly G.moment G.images_since (disk_of old) (disk_of j) (StandsForPrefix rs (map server_bytes next))) (sym e)
+      subst (λ d. LeavesOnly G.moment G.images_since (disk_of old) d (StandsForPrefix rs (map server_bytes next))) (sym e)
       (at_rest G.content G.images G.moment G.images_since only_now rs (map server_bytes next) old.end old.disk s.settled)
 
 pub bytes_back : (r : CodeRecord) → server_spelling r ≡ server_bytes (server_seen r)

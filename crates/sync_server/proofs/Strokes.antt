@@ -29,16 +29,16 @@ is_short r false n failed shut long =
 
 module _ {D : Type 0} {G : Ghosts D} where
   -- ---- several
-  pub asks_nothing : (old new : Journal D G) → new ≡ old → Asks G.strokes [] old new
-  asks_nothing old new e = subst (λ j. Asks G.strokes [] old j) (sym e) (asks_none (end_of old) (G.strokes (disk_of old)))
+  pub asks_nothing : (old new : Journal D G) → new ≡ old → Asks [] old new
+  asks_nothing old new e = subst (λ j. Asks [] old j) (sym e) (asks_none (end_of old) (G.strokes (disk_of old)))
 
   -- a call behind one that was done
-  pub asked_more : (a b : List ServerRecord) (old mid new : Journal D G) (why : Option ServerRefusal) → Asks G.strokes (map server_bytes a) old mid → AskedFor b mid new why → AskedFor (a ++ b) old new why
+  pub asked_more : (a b : List ServerRecord) (old mid new : Journal D G) (why : Option ServerRefusal) → Asks (map server_bytes a) old mid → AskedFor b mid new why → AskedFor (a ++ b) old new why
   asked_more a b old mid new None first second =
-      subst (λ l. Asks G.strokes l old new) (sym (map-append server_bytes a b))
+      subst (λ l. Asks l old new) (sym (map-append server_bytes a b))
       (asks_both (map server_bytes a) (map server_bytes b) (end_of old) (end_of mid) (end_of new) (G.strokes (disk_of old)) (G.strokes (disk_of mid)) (G.strokes (disk_of new)) first second)
   asked_more a b old mid new (Some causes.DiskFault) first second =
-      subst (λ l. AsksSome G.strokes l old new) (sym (map-append server_bytes a b))
+      subst (λ l. AsksSome l old new) (sym (map-append server_bytes a b))
       (part_later (map server_bytes a) (map server_bytes b) (end_of old) (end_of mid) (G.strokes (disk_of old)) (G.strokes (disk_of mid)) (G.strokes (disk_of new)) first second)
   asked_more a b old mid new (Some causes.NoMemory) first second = tt
   asked_more a b old mid new (Some causes.Closed) first second = tt
@@ -46,7 +46,7 @@ module _ {D : Type 0} {G : Ghosts D} where
   -- one that failed, whatever was to come behind it
   pub asked_part : (a b : List ServerRecord) (old new : Journal D G) (why : ServerRefusal) → AskedFor a old new (Some why) → AskedFor (a ++ b) old new (Some why)
   asked_part a b old new causes.DiskFault first =
-      subst (λ l. AsksSome G.strokes l old new) (sym (map-append server_bytes a b))
+      subst (λ l. AsksSome l old new) (sym (map-append server_bytes a b))
       (part_before (map server_bytes a) (map server_bytes b) (end_of old) (G.strokes (disk_of old)) (G.strokes (disk_of new)) first)
   asked_part a b old new causes.NoMemory first = tt
   asked_part a b old new causes.Closed first = tt

@@ -9,6 +9,7 @@ use Rattle.sync_disk.specs.Disk.{LeavesOnly, Told}
 use Rattle.sync_journal.specs.Records.{StandsForPrefix}
 use Rattle.sync_journal.specs.Several.{Asks, AsksSome}
 use Rattle.sync_journal.specs.Stands.{Stands, disk_of}
+use Rattle.sync_journal.specs.Stands as stands
 use Rattle.sync_journal.specs.Uses as journals
 use Rattle.sync_model.specs.Fronts.{file_gives}
 use Rattle.sync_model.specs.Messages.{Change}
@@ -60,21 +61,21 @@ module _ {D : Type 0} {G : Ghosts D} where
   journal_of s = s.journal
 
   abbrev pub is_closed : Server D G → Bool
-  is_closed s = s.closed
+  is_closed s = stands.is_closed s.journal
 
   -- the journal holds these records more
   abbrev pub Adds : List ServerRecord → Journal D G → Journal D G → Type 0
-  Adds next old new = (rs : List (List ℕ)) → Stands G.content G.images rs old → Stands G.content G.images (rs ++ map server_bytes next) new
+  Adds next old new = (rs : List (List ℕ)) → Stands rs old → Stands (rs ++ map server_bytes next) new
 
   -- a crash at any moment left what the journal held and some of these records, from the first on
   abbrev pub LeavesPrefix : List ServerRecord → Journal D G → Journal D G → Type 0
-  LeavesPrefix next old new = (rs : List (List ℕ)) → Stands G.content G.images rs old → LeavesOnly G.moment G.images_since (disk_of old) (disk_of new) (StandsForPrefix rs (map server_bytes next))
+  LeavesPrefix next old new = (rs : List (List ℕ)) → Stands rs old → LeavesOnly G.moment G.images_since (disk_of old) (disk_of new) (StandsForPrefix rs (map server_bytes next))
 
   -- A call that answers asked the disk for the appends of these records and for nothing else; one that ends at a fault, for the first
   -- of them up to the stroke that failed. Out of memory, nothing is said.
   abbrev pub AskedFor : List ServerRecord → Journal D G → Journal D G → Option CodeRefusal → Type 0
-  AskedFor next old new None = Asks G.strokes (map server_bytes next) old new
-  AskedFor next old new (Some causes.DiskFault) = AsksSome G.strokes (map server_bytes next) old new
+  AskedFor next old new None = Asks (map server_bytes next) old new
+  AskedFor next old new (Some causes.DiskFault) = AsksSome (map server_bytes next) old new
   AskedFor next old new (Some causes.NoMemory) = Unit {0}
   AskedFor next old new (Some causes.Closed) = Unit {0}
 
@@ -89,22 +90,22 @@ module _ {D : Type 0} {G : Ghosts D} where
 
   -- how a call uses the disk
   abbrev pub UsesDisk : Type 0 → Server D G → Server D G → Type 0
-  UsesDisk failed old new = journals.UsesDisk G.content G.faults G.origin failed old.journal new.journal
+  UsesDisk failed old new = journals.UsesDisk failed old.journal new.journal
 
   -- an open server stays open at an answer, and closes at any refusal
   pub record StaysOpen {B : Type 0} (result : Result B CodeRefusal) (s : Server D G) : Type 0 where
-    pub stays_open : OnOk result (s.closed ≡ false)
-    pub closes : OnErr result (s.closed ≡ true)
+    pub stays_open : OnOk result (is_closed s ≡ false)
+    pub closes : OnErr result (is_closed s ≡ true)
     pub not_closed : IsErrOf result causes.Closed → ⊥
 
   -- an open server of these records, which may begin with those of a trimmed file
   pub record IsServerOf (records : List ServerRecord) (s : Server D G) : Type 0 where
     pub gives : file_gives the_profile (map (λ r. Some r) records) ≡ Ok (parts s.kept)
-    pub open_ : s.closed ≡ false
+    pub open_ : is_closed s ≡ false
 
   -- its disk holds them
   abbrev pub IsStored : List ServerRecord → Server D G → Type 0
-  IsStored records s = Stands G.content G.images (map server_bytes records) s.journal
+  IsStored records s = Stands (map server_bytes records) s.journal
 
   -- a message is answered by the step's reply, and the server keeps what the step leaves, and is one of the records with
   -- the step's
@@ -122,9 +123,9 @@ module _ {D : Type 0} {G : Ghosts D} where
 
   -- `Closed` comes exactly where the server was closed, and then nothing changes; any refusal leaves it closed
   pub record Closes {B : Type 0} (old new : Server D G) (result : Result B CodeRefusal) : Type 0 where
-    pub closed : IsErrOf result causes.Closed ↔ (old.closed ≡ true)
+    pub closed : IsErrOf result causes.Closed ↔ (is_closed old ≡ true)
     pub unchanged : IsErrOf result causes.Closed → new ≡ old
-    pub closes : OnErr result (new.closed ≡ true)
+    pub closes : OnErr result (is_closed new ≡ true)
 
 -- ---- the loop over the changes of an Upload
 module _ {D : Type 0} {G : Ghosts D} where

@@ -1,5 +1,5 @@
 //! The entries of a trimmed file: the history from its floor on, and the objects after it.
-ghost use Rattle.std.specs.Prelude.{◌≡◌, ◌≤◌, ℕ, List, [], length, map, take, None, true, IfOk};
+ghost use Rattle.std.specs.Prelude.{◌≡◌, ◌≤◌, ℕ, List, length, map, take, None, true, IfOk};
 ghost use Rattle.std.specs.Option.{option_copied};
 ghost use Rattle.sync_exchange.specs.Profile.{fits_changeset, the_profile};
 ghost use Rattle.sync_recip.specs.Lists.{entry_of};

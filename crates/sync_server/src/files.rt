@@ -46,7 +46,6 @@ impl<D: Disk> Server<D> {
                 alloc,
                 journal,
                 kept,
-                closed: false,
             }),
             Err(why) => Err(journal.unread(records.as_slice(), why)),
         }

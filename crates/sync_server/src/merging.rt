@@ -1,6 +1,5 @@
-ghost use Rattle.std.specs.Prelude.{◌≡◌, ◌≤◌, suc, length, true, Some};
-ghost use Rattle.sync_data.specs.declared.instr.Instr.{Instr};
-ghost use Rattle.sync_exchange.specs.Profile.{fits_changeset, the_profile};
+ghost use Rattle.std.specs.Prelude.{◌≡◌, ◌≤◌, length, true};
+ghost use Rattle.sync_exchange.specs.Profile.{fits_changeset};
 ghost use Rattle.sync_server.specs.Merging.{Reads, AppliesBy, change_of, numbers_broken, refused};
 
 use crate::given::Given;

@@ -8,7 +8,7 @@ use sync_codec::BadBytes;
 /// Why a server answers no message.
 #[derive(Clone, Copy, Debug, PartialEq, Eq)]
 pub enum ServerRefusal {
-    /// An earlier message was answered by `DiskFault` or `NoMemory`.
+    /// An earlier message was answered by `DiskFault` or `NoMemory`, or `land` failed.
     Closed,
     /// The disk has failed. The server is closed from then on.
     DiskFault,

@@ -36,7 +36,6 @@ pub struct Server<D: Disk> {
     pub(crate) alloc: Global,
     pub(crate) journal: Journal<D>,
     pub(crate) kept: Kept,
-    pub(crate) closed: bool,
 }
 
 /// The record of a change of an ident.
@@ -66,17 +65,14 @@ impl<D: Disk> Server<D> {
         ensures disk { UsesDisk (IsErrOf result ServerRefusal.DiskFault) self.old self.new }
     {
         let Ok(bytes) = added.record_bytes(self.alloc) else {
-            self.closed = true;
+            self.journal.close();
             return Err(ServerRefusal::NoMemory);
         };
         match self.journal.append(bytes.as_slice()) {
             Ok(()) => Ok(()),
-            Err(JournalRefusal::DiskFault) => {
-                self.closed = true;
-                Err(ServerRefusal::DiskFault)
-            }
+            Err(JournalRefusal::DiskFault) => Err(ServerRefusal::DiskFault),
             Err(_) => {
-                self.closed = true;
+                self.journal.close();
                 Err(ServerRefusal::NoMemory)
             }
         }
@@ -104,7 +100,7 @@ impl<D: Disk> Server<D> {
         match entry_record(self.alloc, ident, change) {
             Ok(record) => self.append(&record),
             Err(NoMemory) => {
-                self.closed = true;
+                self.journal.close();
                 Err(ServerRefusal::NoMemory)
             }
         }
@@ -135,7 +131,7 @@ impl<D: Disk> Server<D> {
             Ok(form) => form,
             Err(ChangeRefusal::Refused(why)) => return Ok(Some(why)),
             Err(ChangeRefusal::NoMemory) => {
-                self.closed = true;
+                self.journal.close();
                 return Err(ServerRefusal::NoMemory);
             }
         };
@@ -189,7 +185,7 @@ impl<D: Disk> Server<D> {
         let ident = match self.kept.history.bind(self.alloc, uuid) {
             Ok(ident) => ident,
             Err(NoMemory) => {
-                self.closed = true;
+                self.journal.close();
                 return Err(ServerRefusal::NoMemory);
             }
         };
@@ -215,7 +211,7 @@ impl<D: Disk> Server<D> {
         let reply = match self.kept.ask(self.alloc, ask, second, tables) {
             Ok(reply) => reply,
             Err(NoMemory) => {
-                self.closed = true;
+                self.journal.close();
                 return Err(ServerRefusal::NoMemory);
             }
         };
@@ -250,7 +246,7 @@ impl<D: Disk> Server<D> {
         match self.kept.history.retire(self.alloc, ident, by) {
             Ok(()) => {}
             Err(NoMemory) => {
-                self.closed = true;
+                self.journal.close();
                 return Err(ServerRefusal::NoMemory);
             }
         }
@@ -286,14 +282,14 @@ impl<D: Disk> Server<D> {
     }
 
     /// Takes a message, and answers the reply (docs/GUARANTEES.md, "Nodes"). What it answers is on the disk. `Closed` comes exactly
-    /// after an earlier `DiskFault` or `NoMemory`.
+    /// after an earlier `DiskFault` or `NoMemory`, or a `land` that failed.
     pub fn take(&mut self, message: Message) -> Result<Message, ServerRefusal>
         ensures does { (records : List model.ServerRecord) → IsServerOf records self.old → IfOk result (λ reply. Did (serve_by the_profile (parts (kept_of self.old)) (message_seen message)) reply records self.new) }
         ensures survives { (records : List model.ServerRecord) → IsServerOf records self.old → IsStored records self.old → Survives (serve_by the_profile (parts (kept_of self.old)) (message_seen message)) records self.old self.new result }
         ensures closes { Closes self.old self.new result }
         ensures disk { UsesDisk (IsErrOf result ServerRefusal.DiskFault) self.old self.new }
     {
-        if self.closed {
+        if self.journal.is_closed() {
             return Err(ServerRefusal::Closed);
         }
         self.serve(&message)
@@ -428,8 +424,7 @@ impl Server<MemoryDisk> {
         ensures same { SameDisk ⟦<MemoryDisk as Disk>⟧.content ⟦<MemoryDisk as Disk>⟧.strokes ⟦<MemoryDisk as Disk>⟧.images ⟦<MemoryDisk as Disk>⟧.faults ⟦<MemoryDisk as Disk>⟧.failing (disk_of (journal_of self.old)) (disk_of (journal_of self.new)) }
         ensures closed { is_closed self.new ≡ is_closed self.old }
         ensures kept { kept_of self.new ≡ kept_of self.old }
-        ensures stands { (records : List (List ℕ)) → Stands ⟦<MemoryDisk as Disk>⟧.content ⟦<MemoryDisk as Disk>⟧.images records (journal_of self.old)
-            → Stands ⟦<MemoryDisk as Disk>⟧.content ⟦<MemoryDisk as Disk>⟧.images records (journal_of self.new) }
+        ensures stands { (records : List (List ℕ)) → Stands records (journal_of self.old) → Stands records (journal_of self.new) }
     {
         self.journal.arm(at, leaves);
     }
@@ -440,8 +435,7 @@ impl Server<MemoryDisk> {
         ensures same { SameDisk ⟦<MemoryDisk as Disk>⟧.content ⟦<MemoryDisk as Disk>⟧.strokes ⟦<MemoryDisk as Disk>⟧.images ⟦<MemoryDisk as Disk>⟧.faults ⟦<MemoryDisk as Disk>⟧.failing (disk_of (journal_of self.old)) (disk_of (journal_of self.new)) }
         ensures closed { is_closed self.new ≡ is_closed self.old }
         ensures kept { kept_of self.new ≡ kept_of self.old }
-        ensures stands { (records : List (List ℕ)) → Stands ⟦<MemoryDisk as Disk>⟧.content ⟦<MemoryDisk as Disk>⟧.images records (journal_of self.old)
-            → Stands ⟦<MemoryDisk as Disk>⟧.content ⟦<MemoryDisk as Disk>⟧.images records (journal_of self.new) }
+        ensures stands { (records : List (List ℕ)) → Stands records (journal_of self.old) → Stands records (journal_of self.new) }
     {
         self.journal.disarm();
     }
@@ -465,8 +459,7 @@ impl<D: BeginsAnew> Server<D> {
             → D.origin (disk_of (journal_of self.new)) ≡ begun c (D.origin (disk_of (journal_of self.old))) }
         ensures closed { is_closed self.new ≡ is_closed self.old }
         ensures kept { kept_of self.new ≡ kept_of self.old }
-        ensures stands { (records : List (List ℕ)) → Stands D.content D.images records (journal_of self.old)
-            → Stands D.content D.images records (journal_of self.new) }
+        ensures stands { (records : List (List ℕ)) → Stands records (journal_of self.old) → Stands records (journal_of self.new) }
     {
         self.journal.begin_anew();
     }

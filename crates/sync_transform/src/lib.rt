@@ -12,7 +12,7 @@ mod shifted;
 mod slots;
 
 pub use crossing::{CrossMismatch, cross, cross_indexed};
-pub use moves::{ListAction, Moves, action_in, both_move, same_first_cell, shown};
+pub use moves::{ListAction, Moves, action_in, both_move, put_action, same_first_cell, shown};
 pub use pairs::meet;
 pub use places::{Does, length_after, place_after};
 pub use sets::{cross_sets, cross_sets_indexed, is_later, stays_apart};

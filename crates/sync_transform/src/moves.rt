@@ -148,11 +148,12 @@ fn move_first(instrs: &mut Vec<Instr>, action: ListAction)
     ensures { instrs.new.items ≡ moved_first action instrs.old.items }
 {
     if !instrs.is_empty() {
-        put_at(&mut instrs[0], action);
+        put_action(&mut instrs[0], action);
     }
 }
 
-fn put_at(instr: &mut Instr, action: ListAction)
+/// Gives a list instruction what it does now, where that is of its kind. Any other stays as it is.
+pub fn put_action(instr: &mut Instr, action: ListAction)
     ensures { instr.new ≡ moved action instr.old }
 {
     match (instr, action) {

@@ -1,5 +1,5 @@
 -- After a call of a client.
-use Rattle.std.proofs.Common.{◌≡◌, ℕ, true, false, List, Option, Some, Result, Ok, Err, map, refl, ◌∙◌, ap, subst}
+use Rattle.std.proofs.Common.{◌≡◌, true, false, List, Option, Some, Result, Ok, Err, map, refl, ◌∙◌, ap, subst}
 use Rattle.sync_disk.specs.Origin.{Origin}
 use Rattle.sync_disk.specs.declared.disk.Disk.{Ghosts}
 use Rattle.sync_journal.specs.Several.{Asks, AsksSome}
@@ -19,7 +19,7 @@ use Rattle.sync_world.proofs.Stops.{StopsTell, goes, cuts}
 
 module _ {D : Type 0} {G : Ghosts D} {A : Type 0} (did : ClientStep A) (old new : Client D G) where
   abbrev Whole : Type 0
-  Whole = Asks G.strokes (map client_bytes did.records) (journal_of old) (journal_of new)
+  Whole = Asks (map client_bytes did.records) (journal_of old) (journal_of new)
 
   refused_whole : (why : CodeRefusal) (w : ClientRefusal) → refusal_seen why ≡ Some w → Asked {A = A} {B = A} did old new (Err why) → Whole
   refused_whole codes.Closed w e asked = absurd (cc e)
@@ -49,7 +49,7 @@ module _ {D : Type 0} {G : Ghosts D} {A : Type 0} (did : ClientStep A) (old new 
   asked_whole (Ok a) is asked = asked
   asked_whole (Err why) is asked = refused_whole why is.0 is.1 asked
 
-  asked_part : (answer : Result A CodeRefusal) → answer ≡ Err codes.DiskFault → Asked {A = A} {B = A} did old new answer → AsksSome G.strokes (map client_bytes did.records) (journal_of old) (journal_of new)
+  asked_part : (answer : Result A CodeRefusal) → answer ≡ Err codes.DiskFault → Asked {A = A} {B = A} did old new answer → AsksSome (map client_bytes did.records) (journal_of old) (journal_of new)
   asked_part answer is asked = subst (λ a. Asked {A = A} {B = A} did old new a) is asked
 
   pub after_call : {P : Type 0} → StopsTell G → (records : List ClientRecord) (s : Option Stop) (kept : Option CodeStop) (answer : Result A CodeRefusal) → HoldsClient records s kept old

@@ -10,11 +10,11 @@ use Rattle.sync_messages.specs.declared.message.Message.{Message as CodeMessage}
 use Rattle.sync_messages.specs.declared.message.Message.TheVariants as messages
 use Rattle.sync_theory.specs.Changesets.{Changeset}
 use Rattle.sync_model.specs.Bytes.{Uuid, Tables}
-use Rattle.sync_model.specs.Profile.{apply_all, first_need, first_outside, needs, restricted, Stuck}
+use Rattle.sync_model.specs.Profile.{apply_all, first_need, first_outside, needs, Stuck}
 use Rattle.sync_model.specs.Messages.{Change, Sent, Message, Bind, Ident, Upload, Ask, Download, Refused, Stored, Ask2, Retire, Retired, AskTables}
 use Rattle.sync_model.specs.Each.{Each, no_more, and_each}
-use Rattle.sync_model.specs.Clients.{Client, ClientRecord, ClientRefusal, ClientStep, Named, Made, Form, Subset, TooLarge, NumbersFull, OldForm, NotSubscribed, Subscribed, TooLate, NotMine, IdentDiffers, Gap, WasRefused, after_record, answers, appends, commit, commit_applied, commit_born, entry_refusal, if_born, refuse, take as take_message, take_born, take_entries, take_ident, take_one, took, upgrade, subscribe, subscribed_once, is_late}
-use Rattle.sync_model.specs.Servers.{Server, ServerRecord, ServerRefusal, ServerStep, IdentRetired, SelfRetire, RetiredBy, NumberGap, BaseBack, AheadOfHistory, HistoryFull, NoSuchIdent, IdentsFull, after_all, carried_change, count, download, download_first, download_tables, first_form, heir_of, is_given, is_retired, last_base, marking, marks_new, merge, retire_for, serve_retire, merge_applied, merge_carried, merge_read, merged, new_records, place_of, refuses, replies, serve, serve_changes, server_objects, NeedsForm2, if_there, entries_from}
+use Rattle.sync_model.specs.Clients.{Client, ClientRecord, ClientRefusal, ClientStep, Named, Made, Form, Subset, TooLarge, NumbersFull, OldForm, NotSubscribed, TooLate, NotMine, IdentDiffers, Gap, WasRefused, after_record, answers, appends, commit, commit_applied, commit_born, entry_refusal, if_born, refuse, take as take_message, take_born, take_entries, take_ident, take_one, took, upgrade, subscribe, subscribed_once, is_late}
+use Rattle.sync_model.specs.Servers.{Server, ServerRecord, ServerRefusal, ServerStep, IdentRetired, SelfRetire, RetiredBy, NumberGap, BaseBack, AheadOfHistory, HistoryFull, NoSuchIdent, IdentsFull, after_all, carried_change, count, download, download_first, download_tables, heir_of, is_given, is_retired, last_base, marking, marks_new, merge, retire_for, serve_retire, merge_applied, merge_carried, merge_read, merged, new_records, place_of, refuses, replies, serve, serve_changes, server_objects, if_there, entries_from}
 use Rattle.sync_theory.specs.Logs.{of_origin}
 use Rattle.sync_model.proofs.Limits.{each_append, each_drop}
 use Rattle.sync_exchange.specs.Profile.{the_profile}

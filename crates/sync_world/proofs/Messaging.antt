@@ -1,5 +1,5 @@
 -- A client makes a message.
-use Rattle.std.proofs.Common.{◌≡◌, ℕ, suc, ◌<◌, ◌≤◌, ◌*◌, Bool, true, false, ◌==◌, if◌then◌else◌, List, [], ◌∷◌, ◌++◌, length, map, slice_set, Option, None, Some, IfSome, Result, Ok, Err, refl, sym, ◌∙◌, ap, subst, arith}
+use Rattle.std.proofs.Common.{◌≡◌, ℕ, suc, ◌≤◌, Bool, true, false, ◌==◌, if◌then◌else◌, List, [], ◌∷◌, ◌++◌, length, Option, None, Some, IfSome, Result, Ok, Err, refl, sym, ◌∙◌, ap, subst, arith}
 use Rattle.std.specs.Prelude.{IfOk, OnOk}
 use Rattle.sync_data.specs.declared.memory.NoMemory.{NoMemory}
 use Rattle.sync_data.specs.declared.instr.Instr.{Instr}
@@ -10,14 +10,14 @@ use Rattle.sync_model.specs.Bytes.{Uuid}
 use Rattle.sync_model.specs.Clients.{Client, ClientRecord, ClientRefusal, ClientStep, NotNamed, answers, ask, bind, if_born, if_named, refuse, upload}
 use Rattle.sync_model.specs.Each.{Each, no_more}
 use Rattle.sync_model.specs.Messages.{Message, Bind}
-use Rattle.sync_model.specs.Worlds.{IsReached, Node, Outcome, Stop, Words, World, at, client_ends, client_moved, message_words, messaged, says, stopped}
+use Rattle.sync_model.specs.Worlds.{IsReached, Node, Stop, Words, World, at, client_ends, client_moved, message_words, messaged, stopped}
 use Rattle.sync_exchange.specs.Profile.{the_profile}
 use Rattle.sync_exchange.specs.Seen.{message_seen}
 use Rattle.sync_client.specs.Refusals.{refusal_seen, IfSeen}
 use Rattle.sync_client.specs.Sending.{Sends}
 use Rattle.sync_client.specs.declared.refusal.ClientRefusal.{ClientRefusal as CodeRefusal}
 use Rattle.sync_words.specs.declared.outcome.Outcome.{Outcome as CodeOutcome}
-use Rattle.sync_world.specs.Holding.{Happens, Holds, ComesTo, Stands}
+use Rattle.sync_world.specs.Holding.{Happens, ComesTo, Stands}
 use Rattle.sync_world.specs.Messages.{AreSpelled}
 use Rattle.sync_world.specs.Nodes.{FitsClient, HoldsClient}
 use Rattle.sync_world.specs.Sending.{IsKept, SentFrom, Tells}

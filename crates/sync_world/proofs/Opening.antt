@@ -1,11 +1,11 @@
 -- A node that is opened over a file of its records.
-use Rattle.std.proofs.Common.{◌≡◌, ℕ, List, [], ◌∷◌, Option, Some, Result, Ok, map, refl, sym, ◌∙◌, ap, subst}
+use Rattle.std.proofs.Common.{◌≡◌, ℕ, List, [], ◌∷◌, Some, Result, Ok, map, refl, sym, ◌∙◌, ap, subst}
 use Rattle.sync_disk.specs.declared.disk.Disk.{Ghosts}
 use Rattle.sync_journal.specs.Records as records
-use Rattle.sync_journal.specs.Records.{Reading, records_of}
+use Rattle.sync_journal.specs.Records.{records_of}
 use Rattle.sync_journal.specs.Records.Reading.{Good}
 use Rattle.sync_model.specs.Clients.{ClientRecord, no_client}
-use Rattle.sync_model.specs.Each.{Each, no_more, and_each}
+use Rattle.sync_model.specs.Each.{Each, and_each}
 use Rattle.sync_model.specs.Files.{client_reads}
 use Rattle.sync_model.specs.Servers.{ServerRecord}
 use Rattle.sync_exchange.specs.Profile.{the_profile}

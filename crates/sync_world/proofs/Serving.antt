@@ -1,5 +1,5 @@
 -- What the server's reply makes of an exchange.
-use Rattle.std.proofs.Common.{◌≡◌, ℕ, suc, List, [], ◌∷◌, ◌++◌, length, Option, None, Some, Result, refl, sym, ◌∙◌, ap, subst}
+use Rattle.std.proofs.Common.{◌≡◌, suc, List, [], ◌∷◌, ◌++◌, length, Option, None, Some, Result, refl, sym, ◌∙◌, ap, subst}
 use Rattle.sync_data.specs.declared.memory.NoMemory.{NoMemory}
 use Rattle.sync_journal.specs.Records.{lists}
 use Rattle.sync_messages.specs.declared.message.Message.{Message as CodeMessage}
@@ -12,7 +12,7 @@ use Rattle.sync_model.proofs.Holding.{cut_by}
 use Rattle.sync_exchange.specs.Profile.{the_profile}
 use Rattle.sync_exchange.specs.Seen.{message_seen}
 use Rattle.sync_words.specs.declared.outcome.Outcome.{Outcome as CodeOutcome}
-use Rattle.sync_world.specs.Holding.{Happens, Holds, ComesTo, Stands}
+use Rattle.sync_world.specs.Holding.{Happens, ComesTo, Stands}
 use Rattle.sync_world.specs.Messages.{AreSpelled}
 use Rattle.sync_world.specs.Nodes.{FitsServer, HoldsServer, ServerReadsBack, ServerStandReads}
 use Rattle.sync_world.specs.Serves.{ServeDone}

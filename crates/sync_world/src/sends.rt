@@ -1,5 +1,3 @@
-ghost use Rattle.std.specs.Prelude.{◌≡◌, ℕ, List};
-ghost use Rattle.sync_model.specs.Clients.{ask as ask_of, bind as bind_of, client_of, upload as upload_of};
 ghost use Rattle.sync_model.specs.Worlds as model;
 ghost use Rattle.sync_exchange.specs.Profile.{the_profile};
 ghost use Rattle.sync_world.specs.Sending.{SentFrom};

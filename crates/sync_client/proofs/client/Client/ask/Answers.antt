@@ -11,12 +11,12 @@ returns-in-Some-clause-step g c = λ records before.
     tables_sends records c.args.self.now.replica c.settled.result c.in-Some.tables c.ask_for.result before.kept (c.is_none.ensures ∙ ap not c.if-is_none.false) c.if-self-eq0.false c.in-Some.is c.settled.ensures.value
     (subst (λ (a : AskParts). IfOk c.ask_for.result (λ m. message_seen m ≡ AskTables a.ident a.cursor a.settled c.args.self.now.replica.second c.in-Some.tables)) c.new-ask.ensures c.ask_for.ensures.asked) c.ask_for.ensures.memory
 
-pub returns-then-self-2-clause-step : goal.returns-then-self-2-clause-step
-returns-then-self-2-clause-step g c = λ records before.
-    ask_answer records c.args.self.now.replica true c.settled.result before.kept (c.is_none.ensures ∙ ap not c.if-is_none.false) c.if-self-eq0.false c.in-None.is c.if-self-2.true c.settled.ensures.value
+pub returns-then-self-clause-step : goal.returns-then-self-clause-step
+returns-then-self-clause-step g c = λ records before.
+    ask_answer records c.args.self.now.replica true c.settled.result before.kept (c.is_none.ensures ∙ ap not c.if-is_none.false) c.if-self-eq0.false c.in-None.is c.if-self.true c.settled.ensures.value
     ∙ ap (λ (a : AskParts). Ok (Ask2 a.ident a.cursor a.settled)) (sym c.new-ask.ensures)
 
-pub returns-else-self-2-clause-step : goal.returns-else-self-2-clause-step
-returns-else-self-2-clause-step g c = λ records before.
-    ask_answer records c.args.self.now.replica false c.settled.result before.kept (c.is_none.ensures ∙ ap not c.if-is_none.false) c.if-self-eq0.false c.in-None.is c.if-self-2.false c.settled.ensures.value
+pub returns-else-self-clause-step : goal.returns-else-self-clause-step
+returns-else-self-clause-step g c = λ records before.
+    ask_answer records c.args.self.now.replica false c.settled.result before.kept (c.is_none.ensures ∙ ap not c.if-is_none.false) c.if-self-eq0.false c.in-None.is c.if-self.false c.settled.ensures.value
     ∙ ap (λ (a : AskParts). Ok (Ask a.ident a.cursor a.settled)) (sym c.new-ask.ensures)

@@ -7,17 +7,17 @@ use Rattle.sync_client.proofs.Surviving.{survives_one, survives_refused}
 use Rattle.sync_client.proofs.client.Client.commit.Goals as goal
 
 pub returns-in-Err-clause-closes : goal.returns-in-Err-clause-closes
-returns-in-Err-clause-closes g c = plain_closes ℕ c.args.self.now c.refused.new.self c.refused.result c.in-Err.refusal c.refused.ensures.same c.in-Err.ensures.plain c.if-self.false c.refused.ensures.closes
+returns-in-Err-clause-closes g c = plain_closes ℕ c.args.self.now c.refused.new.self c.refused.result c.in-Err.refusal c.refused.ensures.same c.in-Err.ensures.plain (sym c.is_closed.ensures ∙ c.if-is_closed.false) c.refused.ensures.closes
 
 pub returns-in-Err-clause-disk : goal.returns-in-Err-clause-disk
-returns-in-Err-clause-disk g c = plain_disk ℕ c.args.self.now c.refused.new.self c.refused.result c.in-Err.refusal c.refused.ensures.same c.in-Err.ensures.plain c.refused.ensures.journal
+returns-in-Err-clause-disk g c = plain_disk ℕ c.args.self.now c.refused.new.self c.refused.result c.in-Err.refusal c.refused.ensures.same c.in-Err.ensures.plain c.refused.ensures.disk
 
 pub returns-in-Err-clause-survives : goal.returns-in-Err-clause-survives
 returns-in-Err-clause-survives g c = λ records before stored.
     let did = commit the_profile (client_of the_profile records) c.args.ms c.args.edits.items in
     let none = uncommitted records c.args.self.now.replica c.make.new.self c.args.ms c.args.edits.items c.in-Err.refusal before.kept (c.is_none.ensures ∙ ap not c.if-is_none.false) (c.in-Err.ensures.step before.kept.past before.kept.count) in
     survives_refused did c.refused.result records c.args.self.now c.refused.new.self g.met.D.Disk.only_now (subst IsPlain (sym c.refused.ensures.same) c.in-Err.ensures.plain)
-    (subst (λ w. IfSeen (refusal_seen w) (λ _. did.records ≡ [])) (sym c.refused.ensures.same) none) c.refused.ensures.journal stored
+    (subst (λ w. IfSeen (refusal_seen w) (λ _. did.records ≡ [])) (sym c.refused.ensures.same) none) c.refused.ensures.disk c.refused.ensures.journal stored
 
 pub returns-clause-does : goal.returns-clause-does
 returns-clause-does g c = λ records before.

@@ -5,7 +5,7 @@ use Rattle.sync_client.specs.declared.replica.Replica.{Replica}
 use Rattle.sync_client.specs.Keeping.{Keeps}
 use Rattle.sync_client.specs.declared.refusal.ClientRefusal.TheVariants as codes
 use Rattle.sync_client.specs.Clients.{JournalAppends}
-use Rattle.sync_client.proofs.Calls.{did_append, late_is, subscribe_is, subscribe_keeps}
+use Rattle.sync_client.proofs.Calls.{did_append, late_is, plain_disk, subscribe_is, subscribe_keeps}
 use Rattle.sync_client.proofs.Surviving.{survives_one, survives_refused}
 use Rattle.sync_client.proofs.client.Client.subscribe.Goals as goal
 
@@ -19,7 +19,7 @@ returns-clause-does g c = λ records before.
 pub returns-then-is_late-clause-survives : goal.returns-then-is_late-clause-survives
 returns-then-is_late-clause-survives g c = λ records before stored.
     let late = late_is records c.args.self.now.replica c.args.tables before.kept (c.is_none.ensures ∙ ap not c.if-is_none.false) (sym c.is_some.ensures ∙ c.if-is_some.false) (sym (c.is_late.ensures before.kept.past before.kept.count) ∙ c.if-is_late.true) in
-    survives_refused (subscribe (client_of the_profile records) c.args.tables) codes.TooLate records c.args.self.now _ g.met.D.Disk.only_now tt (ap (λ d. d.records) late) refl stored
+    survives_refused (subscribe (client_of the_profile records) c.args.tables) codes.TooLate records c.args.self.now _ g.met.D.Disk.only_now tt (ap (λ d. d.records) late) refl refl stored
 
 pub returns-in-Err-clause-survives : goal.returns-in-Err-clause-survives
 returns-in-Err-clause-survives g c = λ records before stored.
@@ -32,3 +32,6 @@ returns-clause-survives g c = λ records before stored.
     survives_one (subscribe (client_of the_profile records) c.args.tables) (ClientRecord.Subset c.args.tables) _ records c.args.self.now _ _
     (subscribe_is records c.args.self.now.replica c.args.tables before.kept (c.is_none.ensures ∙ ap not c.if-is_none.false) (sym c.is_some.ensures ∙ c.if-is_some.false) (sym (c.is_late.ensures before.kept.past before.kept.count) ∙ c.if-is_late.false))
     (subst (λ t. JournalAppends (ClientRecord.Subset t ∷ []) c.args.self.now.journal c.append.new.self.journal None) c.in-Ok.ensures.equal c.in-Ok-append.ensures.appends) tt stored
+
+pub returns-in_default-clause-disk : goal.returns-in_default-clause-disk
+returns-in_default-clause-disk g c = plain_disk (Unit {0}) c.args.self.now (record c.args.self.now { journal = c.close.new.self }) codes.NoMemory codes.NoMemory refl tt c.close.ensures.disk

@@ -34,7 +34,7 @@ returns-in-Err-clause-survives g c = λ records before stored.
     let e : Sent = sent_seen c.args.sent.now in
     let did = take_entries the_profile (client_of the_profile records) (e ∷ []) in
     let none = if_seen_on (refusal_seen c.refused.result) (SentRefused records c.refused.new.self e) (λ w. did.records ≡ []) (λ w h. entry_refused records e w h.cause) (returns-in-Err-clause-does g c records before) in
-    survives_refused did c.refused.result records c.args.self.now c.refused.new.self g.met.D.Disk.only_now (subst IsPlain (sym c.refused.ensures.same) c.in-Err.ensures.plain) none c.refused.ensures.journal stored
+    survives_refused did c.refused.result records c.args.self.now c.refused.new.self g.met.D.Disk.only_now (subst IsPlain (sym c.refused.ensures.same) c.in-Err.ensures.plain) none c.refused.ensures.disk c.refused.ensures.journal stored
 
 pub returns-clause-survives : goal.returns-clause-survives
 returns-clause-survives g c = λ records before stored.

@@ -10,16 +10,16 @@ use Rattle.sync_client.proofs.client.Client.upgrade.Goals as goal
 pub returns-clause-does : goal.returns-clause-does
 returns-clause-does g c = λ records before.
     did_append (upgrade (client_of the_profile records)) ClientRecord.Form true records _
-    (upgrade_is records c.args.self.now.replica before.kept (c.is_none.ensures ∙ ap not c.if-is_none.false) c.if-self-2.false)
-    (subst (λ (r : Replica). Keeps (records ++ ClientRecord.Form ∷ []) (record r { second = true })) (sym c.in-Ok.ensures.replica) (upgrade_keeps records c.args.self.now.replica before.kept (c.is_none.ensures ∙ ap not c.if-is_none.false) c.if-self-2.false))
+    (upgrade_is records c.args.self.now.replica before.kept (c.is_none.ensures ∙ ap not c.if-is_none.false) c.if-self.false)
+    (subst (λ (r : Replica). Keeps (records ++ ClientRecord.Form ∷ []) (record r { second = true })) (sym c.in-Ok.ensures.replica) (upgrade_keeps records c.args.self.now.replica before.kept (c.is_none.ensures ∙ ap not c.if-is_none.false) c.if-self.false))
     c.in-Ok.ensures.stays_open
 
 pub returns-in-Err-clause-survives : goal.returns-in-Err-clause-survives
 returns-in-Err-clause-survives g c = λ records before stored.
     survives_one (upgrade (client_of the_profile records)) ClientRecord.Form true records c.args.self.now c.append.new.self _
-    (upgrade_is records c.args.self.now.replica before.kept (c.is_none.ensures ∙ ap not c.if-is_none.false) c.if-self-2.false) c.in-Err.ensures.appends c.in-Err.ensures.refused stored
+    (upgrade_is records c.args.self.now.replica before.kept (c.is_none.ensures ∙ ap not c.if-is_none.false) c.if-self.false) c.in-Err.ensures.appends c.in-Err.ensures.refused stored
 
 pub returns-clause-survives : goal.returns-clause-survives
 returns-clause-survives g c = λ records before stored.
     survives_one (upgrade (client_of the_profile records)) ClientRecord.Form true records c.args.self.now _ _
-    (upgrade_is records c.args.self.now.replica before.kept (c.is_none.ensures ∙ ap not c.if-is_none.false) c.if-self-2.false) c.in-Ok.ensures.appends tt stored
+    (upgrade_is records c.args.self.now.replica before.kept (c.is_none.ensures ∙ ap not c.if-is_none.false) c.if-self.false) c.in-Ok.ensures.appends tt stored

@@ -2,9 +2,9 @@ use Rattle.std.proofs.Common.{◌≡◌, ◌∙◌, ℕ, false, refl, sym, subst
 use Rattle.sync_disk.proofs.Moments.{weaker}
 use Rattle.gathered_disk.specs.Below.{below, gate_of}
 use Rattle.gathered_disk.specs.Gathered.{NoneOrAll}
-use Rattle.sync_journal.specs.Landed.{StandsForEither}
+use Rattle.sync_journal.specs.Landed.{HoldsBelow, StandsForEither}
 use Rattle.sync_journal.specs.Records.{IsJournal}
-use Rattle.sync_journal.proofs.Landed.{either, only_below}
+use Rattle.sync_journal.proofs.Landed.{either, landed_shows, only_below}
 use Rattle.sync_journal.proofs.gathering.Journal+GatheredDisk+D.land.Goals as goal
 
 pub returns-in_err-land-clause-any_moment : goal.returns-in_err-land-clause-any_moment
@@ -29,18 +29,20 @@ pub returns-clause-landed : goal.returns-clause-landed
 returns-clause-landed g c records shows =
     let s = shows.settled in
     let l = c.in_ok-land.ensures in
+    let g = c.land.new.self in
+    let holds : HoldsBelow records g = record {
+      file = s.file;
+      told = l.landed s.file s.told;
+      reads = s.reads;
+      journal = subst (λ (n : ℕ). IsJournal records n s.file) (sym l.gate) s.journal;
+      durable = l.durable s.file s.told;
+    } in
     record {
-      is_open = refl;
+      stands = record { is_open = refl; settled = landed_shows records _ g l.open l.idle l.gate holds };
       takes = l.open;
       idle = l.idle;
       gate = l.gate;
-      holds = record {
-        file = s.file;
-        told = l.landed s.file s.told;
-        reads = s.reads;
-        journal = subst (λ (n : ℕ). IsJournal records n s.file) (sym l.gate) s.journal;
-        durable = l.durable s.file s.told;
-      };
+      holds = holds;
     }
 
 pub returns-clause-any_moment : goal.returns-clause-any_moment

@@ -1,8 +1,6 @@
-use Rattle.std.proofs.Common.{map, subst, sym, ◌∙◌}
-use Rattle.sync_client.specs.Clients.{journal_of}
+use Rattle.std.proofs.Common.{map, subst, sym}
 use Rattle.sync_client.specs.Keeping.{Keeps}
 use Rattle.sync_exchange.specs.Seen.{client_bytes}
-use Rattle.sync_journal.proofs.Landed.{landed_shows}
 use Rattle.sync_node.specs.Landed.{below_client}
 use Rattle.sync_node.proofs.Landed.{on_ok}
 use Rattle.sync_node.proofs.Ends.{leaves_now}
@@ -14,8 +12,8 @@ returns-clause-landed g c = λ notes records stands. on_ok c.land.result _ _
       (
         stands.0,
         record {
-          client = record { kept = subst (λ r. Keeps records r) (sym c.land.ensures.replica) stands.1.client.kept; open_ = c.land.ensures.closed ∙ stands.1.client.open_ };
-          stored = landed_shows (map client_bytes records) (journal_of c.land.new.self) landed;
+          client = record { kept = subst (λ r. Keeps records r) (sym c.land.ensures.replica) stands.1.client.kept; open_ = landed.stands.is_open };
+          stored = landed.stands;
         },
       ),
       record { takes = landed.takes; holds = landed.holds },

@@ -1,8 +1,6 @@
-use Rattle.std.proofs.Common.{map, subst, sym, ◌∙◌}
-use Rattle.sync_client.specs.Clients.{journal_of}
+use Rattle.std.proofs.Common.{map, subst, sym}
 use Rattle.sync_client.specs.Keeping.{Keeps}
 use Rattle.sync_exchange.specs.Seen.{client_bytes}
-use Rattle.sync_journal.proofs.Landed.{landed_shows}
 use Rattle.sync_node.proofs.client_file.ClientFileGatheredDiskCommand.open_file.Goals as goal
 
 pub returns-in-Ok-clause-opened : goal.returns-in-Ok-clause-opened
@@ -15,8 +13,8 @@ returns-in-Ok-clause-opened g c = λ b told.
       stands = (
         c.begin.ensures o.records,
         record {
-          client = record { kept = subst (λ r. Keeps o.records r) (sym c.gathered.ensures.replica) o.client.kept; open_ = c.gathered.ensures.closed ∙ o.client.open_ };
-          stored = landed_shows (map client_bytes o.records) (journal_of c.gathered.result) landed;
+          client = record { kept = subst (λ r. Keeps o.records r) (sym c.gathered.ensures.replica) o.client.kept; open_ = landed.stands.is_open };
+          stored = landed.stands;
         },
       );
       holds = record { takes = landed.takes; holds = landed.holds };

@@ -1,8 +1,6 @@
-use Rattle.std.proofs.Common.{Ok, ap, map, sym, ◌∙◌}
+use Rattle.std.proofs.Common.{Ok, ap, map, sym}
 use Rattle.sync_server.specs.Kept.{parts}
-use Rattle.sync_server.specs.Serving.{journal_of}
 use Rattle.sync_exchange.specs.Seen.{server_bytes}
-use Rattle.sync_journal.proofs.Landed.{landed_shows}
 use Rattle.sync_node.specs.Landed.{below_server}
 use Rattle.sync_node.proofs.Landed.{on_ok}
 use Rattle.sync_node.proofs.Ends.{leaves_now}
@@ -12,8 +10,8 @@ pub returns-clause-landed : goal.returns-clause-landed
 returns-clause-landed g c = λ notes records stands. on_ok c.land.result _ _
     (λ landed. (
       record {
-        server = record { gives = stands.server.gives ∙ ap (λ k. Ok (parts k)) (sym c.land.ensures.kept); open_ = c.land.ensures.closed ∙ stands.server.open_ };
-        stored = landed_shows (map server_bytes records) (journal_of c.land.new.self) landed;
+        server = record { gives = stands.server.gives ∙ ap (λ k. Ok (parts k)) (sym c.land.ensures.kept); open_ = landed.stands.is_open };
+        stored = landed.stands;
       },
       record { takes = landed.takes; holds = landed.holds },
     ))

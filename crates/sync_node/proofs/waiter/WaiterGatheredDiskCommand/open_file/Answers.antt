@@ -1,8 +1,6 @@
-use Rattle.std.proofs.Common.{Ok, ap, map, sym, ◌∙◌}
+use Rattle.std.proofs.Common.{Ok, ap, map, sym}
 use Rattle.sync_server.specs.Kept.{parts}
-use Rattle.sync_server.specs.Serving.{journal_of}
 use Rattle.sync_exchange.specs.Seen.{server_bytes}
-use Rattle.sync_journal.proofs.Landed.{landed_shows}
 use Rattle.sync_node.proofs.waiter.WaiterGatheredDiskCommand.open_file.Goals as goal
 
 pub returns-in-Ok-clause-opened : goal.returns-in-Ok-clause-opened
@@ -13,8 +11,8 @@ returns-in-Ok-clause-opened g c = λ b told.
       records = o.records;
       file = o.file;
       stands = record {
-        server = record { gives = o.server.gives ∙ ap (λ k. Ok (parts k)) (sym c.gathered.ensures.kept); open_ = c.gathered.ensures.closed ∙ o.server.open_ };
-        stored = landed_shows (map server_bytes o.records) (journal_of c.gathered.result) landed;
+        server = record { gives = o.server.gives ∙ ap (λ k. Ok (parts k)) (sym c.gathered.ensures.kept); open_ = landed.stands.is_open };
+        stored = landed.stands;
       };
       holds = record { takes = landed.takes; holds = landed.holds };
     }

@@ -1,10 +1,11 @@
-use Rattle.std.proofs.Common.{◌∷◌, [], length, Err, ap, ◌∙◌, subst, arith, rules}
+use Rattle.std.proofs.Common.{◌∷◌, [], length, Err, ap, sym, ◌∙◌, subst, arith, rules}
 use Rattle.std.proofs.lemmas.Grind.{common_steps}
 use Rattle.sync_disk.specs.Disk.{LeavesOnly}
 use Rattle.sync_journal.specs.Records.{StandsForPrefix}
 use Rattle.sync_journal.specs.Several.{AsksPart}
 use Rattle.sync_journal.specs.Stands.{disk_of, end_of, is_closed}
 use Rattle.sync_journal.proofs.Stops.{part_one}
+use Rattle.sync_exchange.specs.Seen.{server_bytes, server_seen}
 use Rattle.sync_server.proofs.Leaving.{bytes_back}
 use Rattle.sync_server.proofs.Strokes.{is_short}
 use Rattle.sync_server.proofs.server.Server.append.Goals as goal
@@ -38,8 +39,10 @@ pub returns-clause-appends : goal.returns-clause-appends
 returns-clause-appends g c =
     let D = g.D.Disk in
     let e = c.as_slice.ensures.value ∙ c.in-Ok.ensures.spelled ∙ bytes_back c.args.added.now in
+    let journal = c.args.self.now.journal in
     record {
       stored = tt;
-      any_moment = λ rs s. subst (λ b. LeavesOnly D.moment D.images_since (disk_of c.args.self.now.journal) (disk_of c.append.new.self) (StandsForPrefix rs (b ∷ []))) e (c.append.ensures.any_moment rs s);
+      any_moment = λ rs s. subst (λ d. LeavesOnly D.moment D.images_since (disk_of journal) d (StandsForPrefix rs (server_bytes (server_seen c.args.added.now) ∷ []))) (sym c.close-in-Err.ensures.disk)
+          (subst (λ b. LeavesOnly D.moment D.images_since (disk_of journal) (disk_of c.append.new.self) (StandsForPrefix rs (b ∷ []))) e (c.append.ensures.any_moment rs s));
       asked = λ b told. tt;
     }

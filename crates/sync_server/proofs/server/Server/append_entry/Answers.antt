@@ -1,4 +1,4 @@
-use Rattle.std.proofs.Common.{◌≡◌, ℕ, List, ◌∷◌, [], Some, None, sym, ap, subst, rules}
+use Rattle.std.proofs.Common.{◌≡◌, ℕ, List, ◌∷◌, [], Some, None, ◌∙◌, sym, ap, subst, rules}
 use Rattle.std.specs.Result.{result_err}
 use Rattle.sync_journal.specs.Stands.{disk_of}
 use Rattle.sync_exchange.specs.Seen.{change_seen}
@@ -41,11 +41,12 @@ returns-in-Err-entry_record-clause-appends g c =
     let h = change_seen c.args.change.now in
     let old = c.args.self.now.journal in
     let mid = c.if-form.self.journal in
+    let new = c.close.new.self in
     let last = ServerRecord.Entry c.args.ident h.number h.base h.ms h.body ∷ [] in
     elim c.if-form.branch [
-      | then-form+in-Ok w ↦ subst (λ f. JournalAppends (records_of f c.args.ident h) old mid (Some causes.NoMemory)) (sym w.if-form.true)
-          (appends_lost (ServerRecord.Form ∷ []) last old mid (subst (λ s. JournalAppends (ServerRecord.Form ∷ []) old s.journal None) (sym w.self-is) w.in-Ok.ensures.appends))
-      | else-form w ↦ appends_lost [] (records_of c.args.form c.args.ident h) old mid (appends_none old mid g.met.D.Disk.only_now (ap (λ s. s.journal) w.self-is))
+      | then-form+in-Ok w ↦ subst (λ f. JournalAppends (records_of f c.args.ident h) old new (Some causes.NoMemory)) (sym w.if-form.true)
+          (appends_lost (ServerRecord.Form ∷ []) last old mid new c.close.ensures.disk (subst (λ s. JournalAppends (ServerRecord.Form ∷ []) old s.journal None) (sym w.self-is) w.in-Ok.ensures.appends))
+      | else-form w ↦ appends_lost [] (records_of c.args.form c.args.ident h) old mid new c.close.ensures.disk (appends_none old mid g.met.D.Disk.only_now (ap (λ s. s.journal) w.self-is))
     ]
 
 pub returns-in-Err-entry_record-clause-disk : goal.returns-in-Err-entry_record-clause-disk
@@ -54,8 +55,8 @@ returns-in-Err-entry_record-clause-disk g c =
     record {
       same_origin = search rules;
       told = λ b told. elim c.if-form.branch [
-        | then-form+in-Ok w ↦ subst (λ s. (bytes : List ℕ) × (D.content (disk_of s.journal) ≡ Some bytes)) (sym w.self-is) (w.in-Ok.ensures.disk.told b told)
-        | else-form w ↦ (b, subst (λ s. D.content (disk_of s.journal) ≡ Some b) (sym w.self-is) told)
+        | then-form+in-Ok w ↦ let is = w.in-Ok.ensures.disk.told b told in (is.0, ap D.content c.close.ensures.disk ∙ subst (λ s. D.content (disk_of s.journal) ≡ Some is.0) (sym w.self-is) is.1)
+        | else-form w ↦ (b, ap D.content c.close.ensures.disk ∙ subst (λ s. D.content (disk_of s.journal) ≡ Some b) (sym w.self-is) told)
       ];
       later = search rules;
       fault = search rules;

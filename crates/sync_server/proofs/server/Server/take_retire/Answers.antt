@@ -1,4 +1,5 @@
-use Rattle.std.proofs.Common.{Some, None, sym, ◌∙◌, subst}
+use Rattle.std.proofs.Common.{◌≤◌, Some, None, ap, sym, ◌∙◌, subst, le_refl}
+use Rattle.sync_journal.specs.Stands.{disk_of}
 use Rattle.sync_server.specs.Kept.{parts}
 use Rattle.sync_server.specs.Retiring.{retiring}
 use Rattle.sync_server.specs.Serving.{JournalAppends}
@@ -17,3 +18,14 @@ returns-in-Err-append-clause-appends g c =
     let kept = parts c.args.self.now.kept in
     let one = sym (retired_records kept c.ident-ident.result c.by-by.result c.in-Ok.retirement (not_false c.in-Ok.retirement.is_new c.if-not-retirement.false) c.in-Ok.ensures.says) ∙ (λ i. (retiring kept (c.ident-ident.ensures.value i) (c.by-by.ensures.value i)).records) in
     subst (λ l. JournalAppends l c.args.self.now.journal c.append.new.self.journal (Some c.in-Err-append.refusal)) one c.in-Err-append.ensures.appends
+
+pub returns-in-Err-retire-clause-disk : goal.returns-in-Err-retire-clause-disk
+returns-in-Err-retire-clause-disk g c =
+    let D = g.D.Disk in
+    let old = disk_of c.args.self.now.journal in
+    record {
+      same_origin = ap D.origin c.close.ensures.disk;
+      told = λ b told. (b, ap D.content c.close.ensures.disk ∙ told);
+      later = subst (λ d. D.faults old ≤ D.faults d) (sym c.close.ensures.disk) (le_refl (D.faults old));
+      fault = λ e. cc;
+    }

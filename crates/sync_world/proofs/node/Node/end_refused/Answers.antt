@@ -1,5 +1,4 @@
 use Rattle.std.proofs.Common.{List, Option, Err, ◌++◌, sym, ◌∙◌, subst}
-use Rattle.sync_disk.specs.contracts.memory.MemoryDiskDisk.TheImpl.{ghosts}
 use Rattle.sync_model.specs.Clients.{ClientRecord, ClientRefusal}
 use Rattle.sync_client.specs.Clients.{Did, IsStored}
 use Rattle.sync_client.specs.Refusals.{IfSeen}

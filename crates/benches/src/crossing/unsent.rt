@@ -1,0 +1,47 @@
+use crate::crossing::LEAST;
+use crate::crossing::made::addition;
+use crate::failure::Failure;
+use std::alloc::Global;
+use std::time::Instant;
+use sync_base::Entry;
+use sync_rebase::{PendingList, Unsent};
+
+/// The runs and the nanoseconds of taking an entry about the object with that key, by so many unsent changesets about the
+/// object 1. An addition and an addition both stay, so that each run finds the same list.
+pub(crate) fn measured(rt: &HostRuntime, count: u32, key: u32) -> Result<(u64, u128), Failure> {
+    let mut list = unsent(rt.alloc(), count)?;
+    let entry = Entry {
+        origin: 2,
+        number: 1,
+        changes: addition(rt.alloc(), key, 9)?,
+    };
+    let mut runs = 1u64;
+    for _ in 0..40 {
+        let start = Instant::now(rt)?;
+        for _ in 0..runs {
+            take(rt.alloc(), &mut list, &entry)?;
+        }
+        let nanos = start.elapsed(rt)?.as_nanos();
+        if nanos >= LEAST {
+            return Ok((runs, nanos));
+        }
+        runs = runs.saturating_mul(2);
+    }
+    Err(Failure::System)
+}
+
+fn take(alloc: Global, list: &mut PendingList, entry: &Entry) -> Result<(), Failure> {
+    match list.take_entry(alloc, 1, entry) {
+        Ok(Some(changes)) if changes.instrs().len() == 1 => Ok(()),
+        _ => Err(Failure::Refused),
+    }
+}
+
+fn unsent(alloc: Global, count: u32) -> Result<PendingList, Failure> {
+    let mut list = PendingList::new(alloc);
+    for before in 0..count {
+        let number = before.saturating_add(1);
+        list.push(Unsent::made(number, 0, addition(alloc, 1, 5)?)?)?;
+    }
+    Ok(list)
+}

@@ -1,9 +1,0 @@
-mod disks;
-mod files;
-mod hosts;
-mod journals;
-mod locks;
-mod outboxes;
-mod sinks;
-mod sources;
-mod statuses;

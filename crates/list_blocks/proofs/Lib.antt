@@ -1,0 +1,4 @@
+pub mod Joined
+pub mod Passing
+pub mod Writing
+pub mod Crossed
