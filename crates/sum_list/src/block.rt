@@ -1,12 +1,12 @@
 //! A block of items, with the sums of their lengths and their least number.
-ghost use Rattle.std.specs.Prelude.{◌≡◌, ◌+◌, ◌*◌, ◌^◌, ◌<◌, ◌≤◌, [], ◌∷◌, ◌++◌, length, min, insert, remove, slice_get, slice_set, slice_index_or, Some, IfOk, IfErr, OnOk, vec_capacity};
+ghost use Rattle.std.specs.Prelude.{◌≡◌, ◌+◌, ◌*◌, ◌^◌, ◌<◌, ◌≤◌, [], ◌∷◌, ◌++◌, length, min, insert, remove, drop, slice_get, slice_set, slice_index_or, Some, IfOk, IfErr, OnOk, vec_capacity};
 ghost use Rattle.sum_list.specs.Block.{Keeps, least, items_of};
 ghost use Rattle.sum_list.specs.Counts.{counts};
 ghost use Rattle.sum_list.specs.Places.{IsAt, Reaches};
 
 use crate::At;
 use crate::measured::{Measure, Measured};
-use std::alloc::Global;
+use std::alloc::{AllocError, Global};
 use std::marker::Model;
 use std::mem;
 
@@ -89,6 +89,14 @@ impl<T: Measured> Block<T> {
         &self.items[place]
     }
 
+    /// The items from a place on.
+    pub(crate) fn items_from(&self, place: usize) -> &[T]
+        requires { place ≤ length self.now }
+        ensures { result.now ≡ drop place self.now }
+    {
+        &self.items[place..]
+    }
+
     /// The first place at which the sum is reached.
     pub(crate) fn find(&self, measure: Measure, sum: u64) -> At
         ensures at { IsAt T.before T.after self.now result }
@@ -143,14 +151,14 @@ impl<T: Measured> Block<T> {
         let Ok(mut upper) = Vec::with_capacity(alloc, MOST) else {
             return Err(item);
         };
-        match self.items.insert(place, item) {
-            Err(failed) => Err(failed.value),
-            Ok(()) => {
-                split(&mut self.items, &mut upper);
-                self.measures = measure(self.items.as_slice());
-                Ok(Block::of(upper))
-            }
+        split(&mut self.items, &mut upper);
+        if place <= HALF {
+            put_reserved(&mut self.items, place, item);
+        } else {
+            put_reserved(&mut upper, place - HALF, item);
         }
+        self.measures = measure(self.items.as_slice());
+        Ok(Block::of(upper))
     }
 
     /// Takes out the item at a place, where it isn't the only one.
@@ -205,6 +213,20 @@ impl<T: Measured> Block<T> {
         let old = mem::replace(&mut self.items[place], item);
         self.measures = measure(self.items.as_slice());
         old
+    }
+}
+
+impl<T: Measured + Clone> Block<T> {
+    /// An equal block.
+    pub(crate) fn copy(&self, alloc: Global) -> Result<Block<T>, AllocError>
+        requires { (x y : T) → T.is_clone x y → y ≡ x }
+        ensures { IfOk result (λ copy. copy ≡ self.now) }
+    {
+        let items = Vec::from_clones(alloc, self.items.as_slice())?;
+        Ok(Block {
+            items,
+            measures: self.measures,
+        })
     }
 }
 
@@ -291,9 +313,22 @@ fn split<T>(items: &mut Vec<T>, upper: &mut Vec<T>)
     requires room { length items.old.items ≤ vec_capacity upper.old + 64 }
     ensures whole { items.new.items ++ upper.new.items ≡ items.old.items }
     ensures half { length items.new.items ≡ min 64 (length items.old.items) }
+    ensures capacities { (vec_capacity items.old ≤ vec_capacity items.new) × (vec_capacity upper.old ≤ vec_capacity upper.new) }
 {
     while items.len() > HALF {
         upper.push_reserved(items.take_last());
     }
     upper.reverse();
+}
+
+/// Puts an item at a place of a vector that has room for it.
+fn put_reserved<T: Drop>(items: &mut Vec<T>, place: usize, item: T)
+    requires within { place ≤ length items.old.items }
+    requires room { length items.old.items < vec_capacity items.old }
+    ensures { items.new.items ≡ insert items.old.items place item }
+{
+    match items.insert(place, item) {
+        Ok(()) => {}
+        Err(_) => unreachable!(),
+    }
 }

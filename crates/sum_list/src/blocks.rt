@@ -1,5 +1,5 @@
 //! A list in blocks.
-ghost use Rattle.std.specs.Prelude.{◌≡◌, ◌*◌, ◌^◌, ◌<◌, ◌≤◌, length, sum_by, insert, remove, slice_get, slice_set, Some, IfErr, OnOk, MatchOption};
+ghost use Rattle.std.specs.Prelude.{◌≡◌, ◌*◌, ◌^◌, ◌<◌, ◌≤◌, length, sum_by, insert, remove, slice_get, slice_set, Some, IfOk, IfErr, OnOk, MatchOption};
 ghost use Rattle.sum_list.specs.Blocks.{joined, IsSeat};
 ghost use Rattle.sum_list.specs.Counts.{counts};
 ghost use Rattle.sum_list.specs.Places.{IsAt, Reaches, IsLeast};
@@ -7,7 +7,7 @@ ghost use Rattle.sum_list.specs.Places.{IsAt, Reaches, IsLeast};
 use crate::At;
 use crate::block::{Block, HALF};
 use crate::measured::{Measure, Measured};
-use std::alloc::Global;
+use std::alloc::{AllocError, Global};
 
 /// Where a place lies: in which block, and where in it.
 #[derive(Clone, Copy)]
@@ -188,4 +188,19 @@ pub(crate) fn replace<T: Measured>(blocks: &mut Vec<Block<T>>, place: usize, ite
     let Seat { block, within } = seat_of(blocks.as_slice(), place);
     let one = &mut blocks[block];
     one.replace(within, item)
+}
+
+/// Equal blocks.
+pub(crate) fn copy<T: Measured + Clone>(
+    alloc: Global,
+    blocks: &[Block<T>],
+) -> Result<Vec<Block<T>>, AllocError>
+    requires { (x y : T) → T.is_clone x y → y ≡ x }
+    ensures { IfOk result (λ copy. copy.items ≡ blocks.now) }
+{
+    let mut copy = Vec::with_capacity(alloc, blocks.len())?;
+    for block in blocks {
+        copy.push_reserved(block.copy(alloc)?);
+    }
+    Ok(copy)
 }
