@@ -1,5 +1,5 @@
 //! A block of items, with the sums of their lengths and their least number.
-ghost use Rattle.std.specs.Prelude.{◌≡◌, ◌+◌, ◌*◌, ◌^◌, ◌<◌, ◌≤◌, [], ◌∷◌, ◌++◌, length, min, insert, remove, drop, slice_get, slice_set, slice_index_or, Some, IfOk, IfErr, OnOk, vec_capacity};
+ghost use Rattle.std.specs.Prelude.{◌≡◌, ◌+◌, ◌*◌, ◌^◌, ◌<◌, ◌≤◌, [], ◌∷◌, ◌++◌, length, min, insert, remove, drop, slice_get, slice_set, slice_index_or, Some, IsSome, ◌==◌, IfOk, IfErr, OnOk, vec_capacity};
 ghost use Rattle.sum_list.specs.Block.{Keeps, least, items_of};
 ghost use Rattle.sum_list.specs.Counts.{counts};
 ghost use Rattle.sum_list.specs.Places.{IsAt, Reaches};
@@ -74,6 +74,13 @@ impl<T: Measured> Block<T> {
         self.items.len()
     }
 
+    /// Whether one more item splits it.
+    pub(crate) fn is_full(&self) -> bool
+        ensures { result ≡ (length self.now == 128) }
+    {
+        self.items.len() == MOST
+    }
+
     /// The measures of its items.
     pub(crate) fn measures(&self) -> Measures
         ensures { Keeps T.before T.after T.first self.now result }
@@ -125,9 +132,10 @@ impl<T: Measured> Block<T> {
     ) -> Result<Option<Block<T>>, T>
         requires { place ≤ length self.old }
         ensures ok { IfOk result (λ upper. self.new ++ items_of upper ≡ insert self.old place item) }
+        ensures full { IfOk result (λ upper. IsSome upper → length self.old ≡ 128) }
         ensures err { IfErr result (λ x. (x ≡ item) × (self.new ≡ self.old)) }
     {
-        if self.items.len() == MOST {
+        if self.is_full() {
             return match self.insert_in_full(alloc, place, item) {
                 Err(item) => Err(item),
                 Ok(upper) => Ok(Some(upper)),
