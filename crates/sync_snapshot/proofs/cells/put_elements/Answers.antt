@@ -1,5 +1,5 @@
-use Rattle.std.proofs.Common.{◌+◌, ◌++◌, length, drop, sym, ap, ◌∙◌, append_assoc, append-nil, length-append, arith}
-use Rattle.std.proofs.lemmas.List.{length-drop, drop_all}
+use Rattle.std.proofs.Common.{◌+◌, ◌++◌, length, drop, sym, ap, ◌∙◌, append_assoc, length-append, arith}
+use Rattle.std.proofs.lemmas.List.{length-drop}
 use Rattle.sync_base.specs.Effects.{path_of}
 use Rattle.snapshot_law.specs.Build.{insertions}
 use Rattle.sync_snapshot.specs.Lists.{edit_instrs}
@@ -17,9 +17,3 @@ loop-place-preserved c =
           ∙ ap (λ w. old ++ w) (sym (ap (λ l. edit_instrs p (insertions place l)) cut ∙ runs_append p place run left)) ∙ c.loop-place.invariant.0,
       omega arith,
     )
-
-pub returns : goal.returns
-returns c =
-    let p = path_of c.args.name.now in let vs = c.args.items.now in
-    let written = c.loop-place.list.items in let place = c.loop-place.place in let end = c.loop-place-test.false in
-    sym (append-nil written) ∙ ap (λ l. written ++ edit_instrs p (insertions place l)) (sym (drop_all place vs (omega arith))) ∙ c.loop-place.invariant.0

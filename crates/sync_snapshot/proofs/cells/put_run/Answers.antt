@@ -1,5 +1,4 @@
-use Rattle.std.proofs.Common.{◌+◌, ◌++◌, [], ◌∷◌, drop, sym, ap, ◌∙◌, append_assoc, append-nil, arith}
-use Rattle.std.proofs.lemmas.List.{drop_all}
+use Rattle.std.proofs.Common.{◌+◌, ◌++◌, [], ◌∷◌, drop, sym, ap, ◌∙◌, append_assoc}
 use Rattle.sync_base.specs.Effects.{Insert, path_of}
 use Rattle.snapshot_law.specs.Build.{insertions}
 use Rattle.sync_snapshot.specs.Lists.{edit_instrs}
@@ -15,9 +14,3 @@ loop-i-preserved c =
     ap (λ w. w ++ rest) (c.in_ok-put_element.ensures ∙ ap (λ w. old ++ edit_instrs p (Insert (record { place = first + i; prior = first + i }) w ∷ [])) c.value.ensures)
     ∙ append_assoc old one rest
     ∙ ap (λ w. old ++ w) (sym (next_insertion p first vs i v c.loop-i-test.true c.index-run-i.is)) ∙ c.loop-i.invariant
-
-pub returns : goal.returns
-returns c =
-    let p = path_of c.args.name.now in let vs = c.args.run.now in let first = c.args.first in
-    let written = c.loop-i.list.items in let i = c.loop-i.i in let end = c.loop-i-test.false in
-    sym (append-nil written) ∙ ap (λ l. written ++ edit_instrs p (insertions (first + i) l)) (sym (drop_all i vs (omega arith))) ∙ c.loop-i.invariant
