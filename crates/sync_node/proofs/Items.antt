@@ -1,5 +1,5 @@
 -- A line that is read, blank or not.
-use Rattle.std.proofs.Common.{◌≡◌, ℕ, ◌+◌, ◌-◌, ◌<◌, Bool, true, false, cond, nat_le, nat_lt, List, [], ◌∷◌, length, take, Option, None, Some, sym, subst, ap, ◌∙◌, arith}
+use Rattle.std.proofs.Common.{◌≡◌, ℕ, ◌+◌, ◌-◌, ◌<◌, Bool, true, false, not, IsTrue, cond, nat_le, nat_lt, List, [], ◌∷◌, length, take, Option, None, Some, refl, sym, subst, ap, ◌∙◌, arith}
 use Rattle.std.proofs.lemmas.List.{length-take-le}
 use Rattle.std.specs.Option.{option_map}
 use Rattle.sync_io.specs.Input.{max_input}
@@ -22,6 +22,10 @@ filled [] e = cc
 filled (b ∷ bs) e = omega arith
 
 -- ---- a line that is ahead
+pub not_so : (b : Bool) → IsTrue (not b) → b ≡ false
+not_so true h = sym h
+not_so false h = refl
+
 given_further : (before : ℕ) (long : Bool) (line : List ℕ) (rest : Reading) → is_blank line ≡ false → IsFurther (Some (lines_from before (cond long (Ends AtLongLine) (Gives line rest))))
 given_further before true line rest e = tt
 given_further before false line rest e = subst (λ t. IsFurther (Some (cond t (lines_from (before + 1) rest) (Next (before + 1) line (lines_from (before + 1) rest))))) (sym e) tt
