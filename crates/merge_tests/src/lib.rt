@@ -1,13 +1,13 @@
 //! What no clause of the crates below says and no data file can: that what takes memory is made where there is memory, the limits
-//! of a changeset, the order of values of different kinds, how a list with a gap treats its elements and refused growth, what an
+//! of a changeset, the order of values of different kinds, how a list in blocks treats its items, also where memory is refused, what an
 //! index passes over, and that a toy meets the bounds of the theory and of the model.
 #![tactic(auto)]
 
+mod block_lists;
 mod blocks;
 mod copies;
 mod data;
 mod exchanged_toys;
-mod gap_lists;
 mod indexes;
 mod merged_toys;
 mod next_keys;
@@ -15,13 +15,13 @@ mod regions;
 mod rivals;
 mod subsets;
 
+pub use block_lists::each_item_lives_while_its_list_has_it;
 pub use exchanged_toys::a_toy_can_be_exchanged;
-pub use gap_lists::a_refused_growth_or_copy_changes_nothing;
 pub use merged_toys::a_toy_can_be_merged;
 use std::alloc::Global;
 
 /// Each case by its name, and whether it comes out as it must.
-pub fn cases(alloc: Global) -> [(&'static str, bool); 20] {
+pub fn cases(alloc: Global) -> [(&'static str, bool); 17] {
     [
         (
             "blocks cross as their instructions meet",
@@ -51,24 +51,12 @@ pub fn cases(alloc: Global) -> [(&'static str, bool); 20] {
             data::orders_are_of_kinds_and_then_of_parts(alloc),
         ),
         (
-            "a full list hands the item back",
-            gap_lists::a_full_list_hands_the_item_back(alloc),
+            "each item lives while its list has it",
+            block_lists::each_item_lives_while_its_list_has_it(alloc),
         ),
         (
-            "edits of a list of three",
-            gap_lists::edits_of_a_list_of_three(alloc),
-        ),
-        (
-            "drops each element once",
-            gap_lists::drops_each_element_once(alloc),
-        ),
-        (
-            "each growth that is refused leaves the list",
-            gap_lists::each_growth_that_is_refused_leaves_the_list(alloc),
-        ),
-        (
-            "a refused growth or copy changes nothing",
-            gap_lists::a_refused_growth_or_copy_changes_nothing(alloc),
+            "a list grows and shrinks",
+            block_lists::a_list_grows_and_shrinks(alloc),
         ),
         (
             "an index says what may touch its list",

@@ -1,6 +1,8 @@
--- An edit of a list in one of its blocks.
+-- What is read of a list in one of its blocks, and an edit there.
 use Rattle.std.proofs.Common.{◌≡◌, ℕ, ◌+◌, ◌<◌, ◌≤◌, List, [], ◌∷◌, ◌++◌, length, set, take, drop, slice_get, Some, sym, ap, ◌∙◌, append-nil, arith}
 use Rattle.std.specs.Prelude.{insert, remove}
+use Rattle.std.proofs.Math.Seq.{drop-append-add, drop-append_seam}
+use Rattle.std.proofs.lemmas.List.{length-drop, drop-append-le}
 use Rattle.std.proofs.lemmas.Option.{slice_get_within}
 use Rattle.sum_list.specs.Blocks.{joined}
 use Rattle.sum_list.proofs.Parts.{insert_within, remove_within, set_within, get_within}
@@ -10,6 +12,14 @@ use Rattle.sum_list.proofs.Joined.{cut_at, joined_set, joined_insert, joined_rem
 module _ {X : Type 0} (bs : List (List X)) (i : ℕ) (b : List X) (place w : ℕ) (is : slice_get bs i ≡ Some b) (at : place ≡ length (joined (take i bs)) + w) where
   pub got : (x : X) → slice_get b w ≡ Some x → slice_get (joined bs) place ≡ Some x
   got x here = (λ k. slice_get (cut_at bs i b is k) (at k)) ∙ get_within (joined (take i bs)) b (joined (drop (i + 1) bs)) w x here
+
+  -- what the block has from the place on, and then what lies behind the block
+  pub run : w ≤ length b → drop place (joined bs) ≡ drop w b ++ drop (place + length (drop w b)) (joined bs)
+  run low =
+      let xs = joined (take i bs) in let ys = joined (drop (i + 1) bs) in
+      let end : place + length (drop w b) ≡ length xs + length b = omega (arith, at, length-drop w b) in
+      (λ k. drop (at k) (cut_at bs i b is k)) ∙ drop-append-add xs (b ++ ys) w ∙ drop-append-le w b ys low
+      ∙ ap (λ l. drop w b ++ l) (sym ((λ k. drop (end k) (cut_at bs i b is k)) ∙ drop-append-add xs (b ++ ys) (length b) ∙ drop-append_seam b ys))
 
   pub inserted : (c : List X) (x : X) → w ≤ length b → c ++ [] ≡ insert b w x → joined (set bs i c) ≡ insert (joined bs) place x
   inserted c x low e =

@@ -1,12 +1,12 @@
 //! A block of items, with the sums of their lengths and their least number.
-ghost use Rattle.std.specs.Prelude.{◌≡◌, ◌+◌, ◌*◌, ◌^◌, ◌<◌, ◌≤◌, [], ◌∷◌, ◌++◌, length, min, insert, remove, slice_get, slice_set, slice_index_or, Some, IfOk, IfErr, OnOk, vec_capacity};
+ghost use Rattle.std.specs.Prelude.{◌≡◌, ◌+◌, ◌*◌, ◌^◌, ◌<◌, ◌≤◌, [], ◌∷◌, ◌++◌, length, min, insert, remove, drop, slice_get, slice_set, slice_index_or, Some, IsSome, ◌==◌, IfOk, IfErr, OnOk, vec_capacity};
 ghost use Rattle.sum_list.specs.Block.{Keeps, least, items_of};
 ghost use Rattle.sum_list.specs.Counts.{counts};
 ghost use Rattle.sum_list.specs.Places.{IsAt, Reaches};
 
 use crate::At;
 use crate::measured::{Measure, Measured};
-use std::alloc::Global;
+use std::alloc::{AllocError, Global};
 use std::marker::Model;
 use std::mem;
 
@@ -74,6 +74,13 @@ impl<T: Measured> Block<T> {
         self.items.len()
     }
 
+    /// Whether one more item splits it.
+    pub(crate) fn is_full(&self) -> bool
+        ensures { result ≡ (length self.now == 128) }
+    {
+        self.items.len() == MOST
+    }
+
     /// The measures of its items.
     pub(crate) fn measures(&self) -> Measures
         ensures { Keeps T.before T.after T.first self.now result }
@@ -87,6 +94,14 @@ impl<T: Measured> Block<T> {
         ensures { slice_get self.now place ≡ Some result.now }
     {
         &self.items[place]
+    }
+
+    /// The items from a place on.
+    pub(crate) fn items_from(&self, place: usize) -> &[T]
+        requires { place ≤ length self.now }
+        ensures { result.now ≡ drop place self.now }
+    {
+        &self.items[place..]
     }
 
     /// The first place at which the sum is reached.
@@ -117,9 +132,10 @@ impl<T: Measured> Block<T> {
     ) -> Result<Option<Block<T>>, T>
         requires { place ≤ length self.old }
         ensures ok { IfOk result (λ upper. self.new ++ items_of upper ≡ insert self.old place item) }
+        ensures full { IfOk result (λ upper. IsSome upper → length self.old ≡ 128) }
         ensures err { IfErr result (λ x. (x ≡ item) × (self.new ≡ self.old)) }
     {
-        if self.items.len() == MOST {
+        if self.is_full() {
             return match self.insert_in_full(alloc, place, item) {
                 Err(item) => Err(item),
                 Ok(upper) => Ok(Some(upper)),
@@ -143,14 +159,14 @@ impl<T: Measured> Block<T> {
         let Ok(mut upper) = Vec::with_capacity(alloc, MOST) else {
             return Err(item);
         };
-        match self.items.insert(place, item) {
-            Err(failed) => Err(failed.value),
-            Ok(()) => {
-                split(&mut self.items, &mut upper);
-                self.measures = measure(self.items.as_slice());
-                Ok(Block::of(upper))
-            }
+        split(&mut self.items, &mut upper);
+        if place <= HALF {
+            put_reserved(&mut self.items, place, item);
+        } else {
+            put_reserved(&mut upper, place - HALF, item);
         }
+        self.measures = measure(self.items.as_slice());
+        Ok(Block::of(upper))
     }
 
     /// Takes out the item at a place, where it isn't the only one.
@@ -205,6 +221,20 @@ impl<T: Measured> Block<T> {
         let old = mem::replace(&mut self.items[place], item);
         self.measures = measure(self.items.as_slice());
         old
+    }
+}
+
+impl<T: Measured + Clone> Block<T> {
+    /// An equal block.
+    pub(crate) fn copy(&self, alloc: Global) -> Result<Block<T>, AllocError>
+        requires { (x y : T) → T.is_clone x y → y ≡ x }
+        ensures { IfOk result (λ copy. copy ≡ self.now) }
+    {
+        let items = Vec::from_clones(alloc, self.items.as_slice())?;
+        Ok(Block {
+            items,
+            measures: self.measures,
+        })
     }
 }
 
@@ -291,9 +321,22 @@ fn split<T>(items: &mut Vec<T>, upper: &mut Vec<T>)
     requires room { length items.old.items ≤ vec_capacity upper.old + 64 }
     ensures whole { items.new.items ++ upper.new.items ≡ items.old.items }
     ensures half { length items.new.items ≡ min 64 (length items.old.items) }
+    ensures capacities { (vec_capacity items.old ≤ vec_capacity items.new) × (vec_capacity upper.old ≤ vec_capacity upper.new) }
 {
     while items.len() > HALF {
         upper.push_reserved(items.take_last());
     }
     upper.reverse();
+}
+
+/// Puts an item at a place of a vector that has room for it.
+fn put_reserved<T: Drop>(items: &mut Vec<T>, place: usize, item: T)
+    requires within { place ≤ length items.old.items }
+    requires room { length items.old.items < vec_capacity items.old }
+    ensures { items.new.items ≡ insert items.old.items place item }
+{
+    match items.insert(place, item) {
+        Ok(()) => {}
+        Err(_) => unreachable!(),
+    }
 }

@@ -1,5 +1,5 @@
 //! A list in blocks.
-ghost use Rattle.std.specs.Prelude.{◌≡◌, ◌*◌, ◌^◌, ◌<◌, ◌≤◌, length, sum_by, insert, remove, slice_get, slice_set, Some, IfErr, OnOk, MatchOption};
+ghost use Rattle.std.specs.Prelude.{◌≡◌, ◌*◌, ◌^◌, ◌<◌, ◌≤◌, length, sum_by, insert, remove, slice_get, slice_set, Some, IsTrue, vec_capacity, List, [], ◌∷◌, IfOk, IfErr, OnOk, MatchOption};
 ghost use Rattle.sum_list.specs.Blocks.{joined, IsSeat};
 ghost use Rattle.sum_list.specs.Counts.{counts};
 ghost use Rattle.sum_list.specs.Places.{IsAt, Reaches, IsLeast};
@@ -7,7 +7,7 @@ ghost use Rattle.sum_list.specs.Places.{IsAt, Reaches, IsLeast};
 use crate::At;
 use crate::block::{Block, HALF};
 use crate::measured::{Measure, Measured};
-use std::alloc::Global;
+use std::alloc::{AllocError, Global};
 
 /// Where a place lies: in which block, and where in it.
 #[derive(Clone, Copy)]
@@ -106,19 +106,13 @@ pub(crate) fn put<T: Measured>(
     ensures ok { OnOk result (joined blocks.new.items ≡ insert (joined blocks.old.items) place item) }
     ensures err { IfErr result (λ x. (x ≡ item) × (joined blocks.new.items ≡ joined blocks.old.items)) }
 {
-    if blocks.reserve(1).is_err() {
-        return Err(item);
-    }
     if blocks.is_empty() {
-        return match Block::of_one(alloc, item) {
-            Err(item) => Err(item),
-            Ok(block) => {
-                blocks.push_reserved(block);
-                Ok(())
-            }
-        };
+        return put_first(blocks, alloc, item);
     }
     let Seat { block, within } = seat_of(blocks.as_slice(), place);
+    if !makes_room(blocks, block) {
+        return Err(item);
+    }
     let lower = &mut blocks[block];
     match lower.insert(alloc, within, item) {
         Err(item) => Err(item),
@@ -128,6 +122,34 @@ pub(crate) fn put<T: Measured>(
             Ok(()) => Ok(()),
         },
     }
+}
+
+/// Puts an item into an empty list. Most lists stay so short that they need no second block.
+fn put_first<T: Measured>(blocks: &mut Vec<Block<T>>, alloc: Global, item: T) -> Result<(), T>
+    requires { blocks.old.items ≡ [] }
+    ensures ok { OnOk result (joined blocks.new.items ≡ item ∷ []) }
+    ensures err { IfErr result (λ x. (x ≡ item) × (blocks.new.items ≡ [])) }
+{
+    if blocks.reserve_exact(1).is_err() {
+        return Err(item);
+    }
+    match Block::of_one(alloc, item) {
+        Err(item) => Err(item),
+        Ok(block) => {
+            blocks.push_reserved(block);
+            Ok(())
+        }
+    }
+}
+
+/// Makes room for the upper half of a block that is full. Whether there is memory.
+fn makes_room<T: Measured>(blocks: &mut Vec<Block<T>>, block: usize) -> bool
+    requires { block < length blocks.old.items }
+    ensures items { blocks.new.items ≡ blocks.old.items }
+    ensures room { (one : List T) → IsTrue result → slice_get blocks.old.items block ≡ Some one → length one ≡ 128 → length blocks.old.items < vec_capacity blocks.new }
+{
+    let one = &blocks[block];
+    !one.is_full() || blocks.reserve(1).is_ok()
 }
 
 /// Takes out the item at a place.
@@ -188,4 +210,19 @@ pub(crate) fn replace<T: Measured>(blocks: &mut Vec<Block<T>>, place: usize, ite
     let Seat { block, within } = seat_of(blocks.as_slice(), place);
     let one = &mut blocks[block];
     one.replace(within, item)
+}
+
+/// Equal blocks.
+pub(crate) fn copy<T: Measured + Clone>(
+    alloc: Global,
+    blocks: &[Block<T>],
+) -> Result<Vec<Block<T>>, AllocError>
+    requires { (x y : T) → T.is_clone x y → y ≡ x }
+    ensures { IfOk result (λ copy. copy.items ≡ blocks.now) }
+{
+    let mut copy = Vec::with_capacity(alloc, blocks.len())?;
+    for block in blocks {
+        copy.push_reserved(block.copy(alloc)?);
+    }
+    Ok(copy)
 }

@@ -3,7 +3,7 @@
 //! root of its length.
 #![tactic(auto)]
 
-ghost use Rattle.std.specs.Prelude.{◌≡◌, ◌<◌, ◌≤◌, ◌==◌, ◌^◌, [], ◌∷◌, ◌++◌, length, min, insert, remove, slice_get, slice_set, Some, option_copied, IfErr, OnOk, MatchOption};
+ghost use Rattle.std.specs.Prelude.{◌≡◌, ◌+◌, ◌<◌, ◌≤◌, ◌==◌, ◌^◌, [], ◌∷◌, ◌++◌, length, min, drop, insert, remove, slice_get, slice_set, Some, option_copied, IfOk, IfErr, OnOk, MatchOption};
 ghost use Rattle.sum_list.specs.Places.{IsAt, Reaches, IsLeast};
 
 mod at;
@@ -16,7 +16,7 @@ use block::Block;
 use blocks::Seat;
 use measured::Measure;
 pub use measured::Measured;
-use std::alloc::Global;
+use std::alloc::{AllocError, Global};
 use std::marker::Model;
 
 /// The most items of a list, with which the sums of their lengths fit 64 bits.
@@ -35,7 +35,7 @@ pub struct SumList<T: Measured> {
 }
 
 impl<T: Measured> Model for SumList<T> {
-    ghost use Rattle.std.specs.Prelude.{◌≡◌, ◌<◌, ◌^◌, List, length};
+    ghost use Rattle.std.specs.Prelude.{◌≡◌, ◌+◌, ◌<◌, ◌^◌, List, length};
     ghost use Rattle.sum_list.specs.Blocks.{joined};
 
     ghost Value = { List T };
@@ -82,6 +82,17 @@ impl<T: Measured> SumList<T> {
         let Seat { block, within } = blocks::seat_of(self.blocks.as_slice(), place);
         let block = &self.blocks[block];
         Some(block.get(within))
+    }
+
+    /// The items from `place` to the end of its block: at least one.
+    pub fn run_from(&self, place: usize) -> &[T]
+        requires { place < length self.now }
+        ensures items { drop place self.now ≡ result.now ++ drop (place + length result.now) self.now }
+        ensures some { 0 < length result.now }
+    {
+        let Seat { block, within } = blocks::seat_of(self.blocks.as_slice(), place);
+        let block = &self.blocks[block];
+        block.items_from(within)
     }
 
     /// The sums of the lengths of the items in front of `place`, or of all of them where it is behind the list.
@@ -161,5 +172,20 @@ impl<T: Measured> SumList<T> {
         ensures list { self.new ≡ slice_set self.old place item }
     {
         blocks::replace(&mut self.blocks, place, item)
+    }
+}
+
+impl<T: Measured + Clone> SumList<T> {
+    /// An equal list, of items whose clones are equal.
+    pub fn copy(&self) -> Result<SumList<T>, AllocError>
+        requires { (x y : T) → T.is_clone x y → y ≡ x }
+        ensures { IfOk result (λ copy. copy ≡ self.now) }
+    {
+        let blocks = blocks::copy(self.alloc, self.blocks.as_slice())?;
+        Ok(SumList {
+            blocks,
+            len: self.len,
+            alloc: self.alloc,
+        })
     }
 }

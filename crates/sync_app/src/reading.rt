@@ -4,10 +4,10 @@ ghost use Rattle.std.specs.FinSet as set;
 ghost use Rattle.sync_base.specs.Effects.{path_of};
 ghost use Rattle.sync_app.specs.Reading.{bindings_in, cell_found, elements_in, found, members_in, value_in};
 
-use gap_list::GapList;
 use std::collections::{BTreeMap, BTreeSet};
+use sum_list::SumList;
 use sync_base::{CellName, KeyText, Value as Held};
-use sync_cells::{Cell, Content};
+use sync_cells::{Cell, Content, Element};
 use sync_store::Store;
 use thiserror::Error;
 
@@ -60,8 +60,8 @@ pub fn value_of<'a>(objects: &'a Store, cell: &CellName) -> Result<&'a Held, Unr
 }
 
 /// The elements of a list. It takes no memory.
-pub fn list_of<'a>(objects: &'a Store, cell: &CellName) -> Result<&'a GapList<Held>, Unread>
-    ensures list { IfOk result (λ list. found elements_in objects.now (path_of cell.now) ≡ Ok list.now.items) }
+pub fn list_of<'a>(objects: &'a Store, cell: &CellName) -> Result<&'a SumList<Element>, Unread>
+    ensures list { IfOk result (λ list. found elements_in objects.now (path_of cell.now) ≡ Ok list.now) }
     ensures refused { IfErr result (λ why. found elements_in objects.now (path_of cell.now) ≡ Err why) }
 {
     match cell_of(objects, cell) {

@@ -7,6 +7,6 @@ use Rattle.sync_cells.specs.declared.content.Content.TheVariants as contents
 
 abbrev pub content_seen : Content → Cell
 content_seen (contents.One v) = One v
-content_seen (contents.List l) = Many l.items
+content_seen (contents.List l) = Many l
 content_seen (contents.Set s) = Members (set.from_list s.keys)
 content_seen (contents.Dict d) = Dict (map.from_entries d.entries)

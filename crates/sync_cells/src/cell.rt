@@ -9,11 +9,11 @@ ghost use Rattle.sync_cells.specs.Refusals.{shape_answer, sum_refusal, is_summan
 
 use super::content::Content;
 use super::refusal::{CellRefusal, WrongShape};
-use gap_list::GapList;
 use std::alloc::Global;
 use std::collections::{BTreeMap, BTreeSet};
 use std::marker::Model;
 use std::mem;
+use sum_list::SumList;
 use sync_base::{Blob, Column, Kind, NoMemory, Shape, Text, Time, Value as Held};
 
 /// A cell: one value, a list of values, a set of values, or a dictionary from text keys to values.
@@ -43,7 +43,7 @@ impl Cell {
     {
         let content = match column.shape {
             Shape::One => Content::One(default_value(alloc, column)?),
-            Shape::List => Content::List(GapList::new(alloc)),
+            Shape::List => Content::List(SumList::new(alloc)),
             Shape::Set => Content::Set(BTreeSet::new(alloc)),
             Shape::Dict => Content::Dict(BTreeMap::new(alloc)),
         };
@@ -63,7 +63,7 @@ impl Cell {
     {
         let content = match &self.content {
             Content::One(value) => Content::One(value.copy()?),
-            Content::List(list) => match list.make_copy() {
+            Content::List(list) => match list.copy() {
                 Ok(list) => Content::List(list),
                 Err(_) => return Err(NoMemory),
             },
@@ -146,7 +146,7 @@ impl Cell {
     {
         let empty = match &self.content {
             Content::One(_) => return Err(WrongShape),
-            Content::List(_) => Content::List(GapList::new(self.alloc)),
+            Content::List(_) => Content::List(SumList::new(self.alloc)),
             Content::Set(_) => Content::Set(BTreeSet::new(self.alloc)),
             Content::Dict(_) => Content::Dict(BTreeMap::new(self.alloc)),
         };

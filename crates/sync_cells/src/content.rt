@@ -1,12 +1,13 @@
-use gap_list::GapList;
+use super::element::Element;
 use std::collections::{BTreeMap, BTreeSet};
+use sum_list::SumList;
 use sync_base::{KeyText, Value as Held};
 
 /// What a cell holds.
 #[derive(Drop)]
 pub enum Content {
     One(Held),
-    List(GapList<Held>),
+    List(SumList<Element>),
     Set(BTreeSet<Held>),
     Dict(BTreeMap<KeyText, Held>),
 }

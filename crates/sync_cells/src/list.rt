@@ -6,8 +6,8 @@ ghost use Rattle.sync_cells.specs.Lists.{HoldsAt};
 
 use super::cell::Cell;
 use super::content::Content;
+use super::element::Element;
 use super::refusal::CellRefusal;
-use gap_list::Full;
 use sync_base::{Between, Inside, Value as Held};
 
 impl Cell {
@@ -34,7 +34,8 @@ impl Cell {
                 if list.len() != spot.prior() as usize {
                     return Err(CellRefusal::BadPrior);
                 }
-                Ok(list.replace(spot.place() as usize, value))
+                let before = list.replace(spot.place() as usize, Element::new(value));
+                Ok(before.into_value())
             }
             _ => Err(CellRefusal::WrongShape),
         }
@@ -52,12 +53,9 @@ impl Cell {
                 if list.len() != spot.prior() as usize {
                     return Err(CellRefusal::BadPrior);
                 }
-                if list.reserve(1).is_err() {
-                    return Err(CellRefusal::NoMemory);
-                }
-                match list.insert(spot.place() as usize, value) {
+                match list.insert(spot.place() as usize, Element::new(value)) {
                     Ok(()) => Ok(()),
-                    Err(Full(_)) => unreachable!(),
+                    Err(_) => Err(CellRefusal::NoMemory),
                 }
             }
             _ => Err(CellRefusal::WrongShape),
@@ -86,7 +84,7 @@ impl Cell {
                 if list.len() != spot.prior() as usize {
                     return Err(CellRefusal::BadPrior);
                 }
-                Ok(list.remove(spot.place() as usize))
+                Ok(list.remove(spot.place() as usize).into_value())
             }
             _ => Err(CellRefusal::WrongShape),
         }

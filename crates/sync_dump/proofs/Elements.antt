@@ -1,15 +1,15 @@
--- The tokens of a list from a place on.
-use Rattle.std.proofs.Common.{◌≡◌, ℕ, zero, suc, List, [], ◌∷◌, ◌++◌, drop, refl}
-use Rattle.std.specs.Prelude.{slice_get}
-use Rattle.json.specs.Tree.{items_tokens}
-use Rattle.serde_json.specs.Written.{items_outline}
+-- The tokens of values, one behind the other.
+use Rattle.std.proofs.Common.{◌≡◌, ℕ, ◌+◌, ◌<◌, List, [], ◌∷◌, ◌++◌, length, get_or, drop, refl, sym, ap, ◌∙◌, append_assoc}
+use Rattle.std.proofs.lemmas.List.{drop_more}
 use Rattle.sync_data.specs.declared.value.Value.{Value}
 use Rattle.sync_base.specs.States.{State}
-use Rattle.sync_dump.specs.Dump.{items_of}
-use Rattle.sync_dump.specs.Tokens.{element_tokens}
+use Rattle.sync_dump.specs.Dump.{data_of}
+use Rattle.sync_dump.specs.Tokens.{tokens_of, tokens_of_items}
 
-pub from_place : (s : State) (vs : List Value) (i : ℕ) → items_tokens (items_outline (items_of s (drop i vs))) ≡ element_tokens s (slice_get vs i) ++ items_tokens (items_outline (items_of s (drop (suc i) vs)))
-from_place s [] zero = refl
-from_place s [] (suc i) = refl
-from_place s (v ∷ vs) zero = refl
-from_place s (v ∷ vs) (suc i) = from_place s vs i
+pub items_append : (s : State) (vs ws : List Value) → tokens_of_items s (vs ++ ws) ≡ tokens_of_items s vs ++ tokens_of_items s ws
+items_append s [] ws = refl
+items_append s (v ∷ vs) ws =
+    ap (λ ts. tokens_of (data_of s v) ++ ts) (items_append s vs ws) ∙ sym (append_assoc (tokens_of (data_of s v)) (tokens_of_items s vs) (tokens_of_items s ws))
+
+pub next_item : (s : State) (vs : List Value) (i : ℕ) (v : Value) → i < length vs → v ≡ get_or vs i v → tokens_of_items s (drop i vs) ≡ tokens_of (data_of s v) ++ tokens_of_items s (drop (i + 1) vs)
+next_item s vs i v low is = ap (tokens_of_items s) (drop_more vs i v low ∙ ap (λ w. w ∷ drop (i + 1) vs) (sym is))

@@ -1,14 +1,13 @@
 -- What is written of a line so far: the tokens of its data.
-use Rattle.std.specs.Prelude.{◌≡◌, List, [], ◌++◌, Option}
-use Rattle.std.specs.Option.{option_map_or}
+use Rattle.std.specs.Prelude.{◌≡◌, List, ◌++◌}
 use Rattle.json.specs.Token.{Token}
-use Rattle.json.specs.Tree.{json_tokens}
+use Rattle.json.specs.Tree.{json_tokens, items_tokens}
 use Rattle.json.specs.Written.{Written}
 use Rattle.serde_json.specs.Data.{Data}
-use Rattle.serde_json.specs.Written.{outline}
+use Rattle.serde_json.specs.Written.{outline, items_outline}
 use Rattle.sync_data.specs.declared.value.Value.{Value}
 use Rattle.sync_base.specs.States.{State}
-use Rattle.sync_dump.specs.Dump.{data_of}
+use Rattle.sync_dump.specs.Dump.{items_of}
 
 abbrev pub tokens_of : Data → List Token
 tokens_of d = json_tokens (outline d)
@@ -17,6 +16,6 @@ tokens_of d = json_tokens (outline d)
 abbrev pub Adds : Written → Written → List Token → Type 0
 Adds old new ts = (new.tokens ≡ old.tokens ++ ts) × (new.before ≡ old.before)
 
--- those of a value, where there is one
-abbrev pub element_tokens : State → Option Value → List Token
-element_tokens s v = option_map_or (λ v. tokens_of (data_of s v)) v []
+-- those of values, one behind the other
+abbrev pub tokens_of_items : State → List Value → List Token
+tokens_of_items s vs = items_tokens (items_outline (items_of s vs))

@@ -1,18 +1,18 @@
-ghost use Rattle.std.specs.Prelude.{◌≡◌, ◌++◌, OnOk, slice_get};
+ghost use Rattle.std.specs.Prelude.{◌≡◌, ◌++◌, OnOk};
 ghost use Rattle.std.specs.FinMap as map;
 ghost use Rattle.std.specs.FinSet as set;
 ghost use Rattle.serde_json.specs.Data.{array, object};
 ghost use Rattle.sync_data.specs.Orders.{name_cmp};
 ghost use Rattle.sync_dump.specs.Dump.{data_of_cell, items_of, bindings_of, in_order};
-ghost use Rattle.sync_dump.specs.Tokens.{tokens_of, element_tokens, Adds};
+ghost use Rattle.sync_dump.specs.Tokens.{tokens_of, tokens_of_items, Adds};
 
 use super::values::put_value;
-use gap_list::GapList;
 use json::Writer;
 use std::alloc::{AllocError, Global};
 use std::collections::{BTreeMap, BTreeSet};
+use sum_list::SumList;
 use sync_base::{KeyText, Value};
-use sync_cells::{Cell, Content};
+use sync_cells::{Cell, Content, Element};
 use sync_store::Store;
 
 /// Writes what a cell holds.
@@ -36,31 +36,33 @@ fn put_list(
     alloc: Global,
     writer: &mut Writer,
     store: &Store,
-    list: &GapList<Value>,
+    list: &SumList<Element>,
 ) -> Result<(), AllocError>
-    ensures { OnOk result (Adds writer.old writer.new (tokens_of (array (items_of store.now list.now.items)))) }
+    ensures { OnOk result (Adds writer.old writer.new (tokens_of (array (items_of store.now list.now)))) }
 {
     writer.begin_array()?;
-    for place in 0..list.len() {
-        put_element(alloc, writer, store, list, place)?;
+    let mut place = 0;
+    while place < list.len() {
+        let run = list.run_from(place);
+        put_elements(alloc, writer, store, run)?;
+        place += run.len();
     }
     writer.end_array()
 }
 
-/// Writes the value at a place of a list.
-fn put_element(
+/// Writes the values of elements that follow each other.
+fn put_elements(
     alloc: Global,
     writer: &mut Writer,
     store: &Store,
-    list: &GapList<Value>,
-    place: usize,
+    elements: &[Element],
 ) -> Result<(), AllocError>
-    ensures { OnOk result (Adds writer.old writer.new (element_tokens store.now (slice_get list.now.items place))) }
+    ensures { OnOk result (Adds writer.old writer.new (tokens_of_items store.now elements.now)) }
 {
-    match list.get(place) {
-        Some(value) => put_value(alloc, writer, store, value),
-        None => Ok(()),
+    for element in elements {
+        put_value(alloc, writer, store, element.value())?;
     }
+    Ok(())
 }
 
 fn put_set(

@@ -1,6 +1,7 @@
 -- The lists that the walks make are those of the state's list.
-use Rattle.std.proofs.Common.{◌≡◌, ℕ, suc, zero, List, [], ◌∷◌, ◌++◌, map, drop, Option, None, Some, is_some, refl, sym, ap, ◌∙◌, append_assoc, true, false, cond}
-use Rattle.std.specs.Prelude.{flat_map, slice_get}
+use Rattle.std.proofs.Common.{◌≡◌, ℕ, suc, ◌+◌, ◌<◌, List, [], ◌∷◌, ◌++◌, length, get_or, map, drop, Option, None, Some, is_some, refl, sym, ap, ◌∙◌, append_assoc, arith, true, false, cond}
+use Rattle.std.specs.Prelude.{flat_map}
+use Rattle.std.proofs.lemmas.List.{drop_more}
 use Rattle.std.specs.Option.{option_map_or}
 use Rattle.std.specs.Ordering.{is_eq, eq_by_cmp}
 use Rattle.std.specs.Cmp.{eq_by_cmp_equiv, tied_itself}
@@ -38,17 +39,20 @@ singles h f (x ∷ xs) = ap (λ l. h (f x) ∷ l) (singles h f xs)
 pub edits_append : (p : CellPath) (xs ys : List Edit) → edit_instrs p (xs ++ ys) ≡ edit_instrs p xs ++ edit_instrs p ys
 edits_append p xs ys = ap (map instr_of) (map_append (λ e. Change p e) xs ys) ∙ map_append instr_of (map (λ e. Change p e) xs) (map (λ e. Change p e) ys)
 
-abbrev pub insertion : ℕ → Option Value → List Edit
-insertion k v = option_map_or (λ v. Insert (record { place = k; prior = k }) v ∷ []) v []
+insertions_append : (k : ℕ) (vs ws : List Value) → insertions k (vs ++ ws) ≡ insertions k vs ++ insertions (k + length vs) ws
+insertions_append k [] ws = ap (λ n. insertions n ws) (omega arith)
+insertions_append k (v ∷ vs) ws =
+    ap (λ es. Insert (record { place = k; prior = k }) v ∷ es) (insertions_append (suc k) vs ws ∙ ap (λ n. insertions (suc k) vs ++ insertions n ws) (omega arith))
 
-insertions_from : (k : ℕ) (vs : List Value) (i : ℕ) → insertions k (drop i vs) ≡ insertion k (slice_get vs i) ++ insertions (suc k) (drop (suc i) vs)
-insertions_from k [] zero = refl
-insertions_from k [] (suc i) = refl
-insertions_from k (v ∷ vs) zero = refl
-insertions_from k (v ∷ vs) (suc i) = insertions_from k vs i
+pub runs_append : (p : CellPath) (k : ℕ) (vs ws : List Value) → edit_instrs p (insertions k (vs ++ ws)) ≡ edit_instrs p (insertions k vs) ++ edit_instrs p (insertions (k + length vs) ws)
+runs_append p k vs ws = ap (edit_instrs p) (insertions_append k vs ws) ∙ edits_append p (insertions k vs) (insertions (k + length vs) ws)
 
-pub elements_from : (p : CellPath) (vs : List Value) (i : ℕ) → edit_instrs p (insertions i (drop i vs)) ≡ edit_instrs p (insertion i (slice_get vs i)) ++ edit_instrs p (insertions (suc i) (drop (suc i) vs))
-elements_from p vs i = ap (edit_instrs p) (insertions_from i vs i) ∙ edits_append p (insertion i (slice_get vs i)) (insertions (suc i) (drop (suc i) vs))
+pub next_insertion : (p : CellPath) (k : ℕ) (vs : List Value) (i : ℕ) (v : Value) → i < length vs → v ≡ get_or vs i v
+    → edit_instrs p (insertions (k + i) (drop i vs)) ≡ edit_instrs p (Insert (record { place = k + i; prior = k + i }) v ∷ []) ++ edit_instrs p (insertions (k + (i + 1)) (drop (i + 1) vs))
+next_insertion p k vs i v low is =
+    let next : suc (k + i) ≡ k + (i + 1) = omega arith in
+    ap (λ l. edit_instrs p (insertions (k + i) l)) (drop_more vs i v low ∙ ap (λ w. w ∷ drop (i + 1) vs) (sym is))
+    ∙ ap (λ n. edit_instrs p (Insert (record { place = k + i; prior = k + i }) v ∷ insertions n (drop (i + 1) vs))) next
 
 pub one_on : (p : CellPath) (old rest : List Instr) (e : Edit) (es : List Edit) → (old ++ edit_instrs p (e ∷ [])) ++ edit_instrs p es ≡ old ++ edit_instrs p (e ∷ es)
 one_on p old rest e es = append_assoc old (edit_instrs p (e ∷ [])) (edit_instrs p es)

@@ -1,5 +1,4 @@
-ghost use Rattle.std.specs.Prelude.{◌≡◌, ◌++◌, ◌∷◌, [], Some, IfOk, OnOk, slice_get};
-ghost use Rattle.std.specs.Option.{option_map_or};
+ghost use Rattle.std.specs.Prelude.{◌≡◌, ◌+◌, ◌^◌, ◌<◌, ◌++◌, ◌∷◌, [], Some, length, IfOk, OnOk};
 ghost use Rattle.std.specs.FinMap as fin;
 ghost use Rattle.std.specs.FinSet as set;
 ghost use Rattle.sync_data.specs.Orders.{name_cmp};
@@ -10,14 +9,14 @@ ghost use Rattle.snapshot_law.specs.Build.{insertions, is_default, edits_of};
 ghost use Rattle.sync_snapshot.specs.Lists.{edit_instrs};
 
 use super::schema::put;
-use gap_list::GapList;
 use std::alloc::Global;
 use std::collections::{BTreeMap, BTreeSet};
+use sum_list::SumList;
 use sync_base::{
     Between, CellName, Column, DictUpdate, Instr, KeyText, ListInsert, NoMemory, SetInsert, Update,
     Value,
 };
-use sync_cells::{Cell, Content};
+use sync_cells::{Cell, Content, Element};
 
 /// Puts what makes a cell of the default one.
 pub(crate) fn put_content(
@@ -59,12 +58,31 @@ fn is_default(alloc: Global, def: &Column, value: &Value) -> Result<bool, NoMemo
 fn put_elements(
     list: &mut Vec<Instr>,
     name: &CellName,
-    items: &GapList<Value>,
+    items: &SumList<Element>,
 ) -> Result<(), NoMemory>
-    ensures { OnOk result (list.new.items ≡ list.old.items ++ edit_instrs (path_of name.now) (insertions 0 items.now.items)) }
+    ensures { OnOk result (list.new.items ≡ list.old.items ++ edit_instrs (path_of name.now) (insertions 0 items.now)) }
 {
-    for place in 0..items.len() {
-        put_element(list, name, items, place)?;
+    let mut place = 0;
+    while place < items.len() {
+        let run = items.run_from(place);
+        put_run(list, name, place, run)?;
+        place += run.len();
+    }
+    Ok(())
+}
+
+/// Puts an insertion of each of the elements that follow each other from a place on.
+fn put_run(
+    list: &mut Vec<Instr>,
+    name: &CellName,
+    first: usize,
+    run: &[Element],
+) -> Result<(), NoMemory>
+    requires { first + length run.now < 2 ^ 32 }
+    ensures { OnOk result (list.new.items ≡ list.old.items ++ edit_instrs (path_of name.now) (insertions first run.now)) }
+{
+    for (i, element) in run.iter().enumerate() {
+        put_element(list, name, (first + i) as u32, element.value())?;
     }
     Ok(())
 }
@@ -72,20 +90,13 @@ fn put_elements(
 fn put_element(
     list: &mut Vec<Instr>,
     name: &CellName,
-    items: &GapList<Value>,
-    place: usize,
+    place: u32,
+    value: &Value,
 ) -> Result<(), NoMemory>
-    ensures { OnOk result (list.new.items ≡ list.old.items ++ edit_instrs (path_of name.now) (option_map_or (λ v. Insert (record { place = place; prior = place }) v ∷ []) (slice_get items.now.items place) [])) }
+    ensures { OnOk result (list.new.items ≡ list.old.items ++ edit_instrs (path_of name.now) (Insert (record { place = place; prior = place }) value.now ∷ [])) }
 {
-    let Some(value) = items.get(place) else {
-        return Ok(());
-    };
-    // An insertion names its place by 32 bits; every store's lists are short enough.
-    let Ok(number) = u32::try_from(place) else {
-        return Err(NoMemory);
-    };
-    let Ok(spot) = Between::new(number, number) else {
-        return Err(NoMemory);
+    let Ok(spot) = Between::new(place, place) else {
+        unreachable!();
     };
     let cell = name.copy()?;
     let value = value.copy()?;

@@ -64,7 +64,7 @@ fn tell(rt: &HostRuntime, about: &str, cases: &[(&str, bool)]) -> bool {
 fn try_words(rt: &HostRuntime, first: &str, rest: &[String]) -> bool {
     match first {
         "drawn" => crossing_cases::try_words(rt, rest),
-        "growth" => merge_tests::a_refused_growth_or_copy_changes_nothing(rt.alloc()),
+        "growth" => merge_tests::each_item_lives_while_its_list_has_it(rt.alloc()),
         _ => benches::measure(rt, first, rest),
     }
 }
