@@ -57,7 +57,7 @@ impl Measured for Told {
     }
 }
 
-fn told(alloc: Global, counted: &Rc<i32>) -> Option<Told> {
+fn counted_item(alloc: Global, counted: &Rc<i32>) -> Option<Told> {
     let block = Box::new(alloc, 1).ok()?;
     let live = counted.clone().ok()?;
     Some(Told { live, block })
@@ -72,7 +72,7 @@ fn is_counted(list: &SumList<Told>, counted: &Rc<i32>) -> bool {
 fn puts_or_stays(alloc: Global, list: &mut SumList<Told>, counted: &Rc<i32>, at: usize) -> bool {
     let len = list.len();
     let place = at % (len + 1);
-    match told(alloc, counted) {
+    match counted_item(alloc, counted) {
         Some(item) => {
             let is_put = list.insert(place, item).is_ok();
             list.len() == len + usize::from(is_put) && is_counted(list, counted)
@@ -103,7 +103,7 @@ fn replaces_or_removes(
     }
     let place = step % len;
     if step % 3 == 0 {
-        if let Some(item) = told(alloc, counted) {
+        if let Some(item) = counted_item(alloc, counted) {
             drop(list.replace(place, item));
         }
     } else {
