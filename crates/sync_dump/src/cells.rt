@@ -4,7 +4,7 @@ ghost use Rattle.std.specs.FinSet as set;
 ghost use Rattle.serde_json.specs.Data.{array, object};
 ghost use Rattle.sync_data.specs.Orders.{name_cmp};
 ghost use Rattle.sync_dump.specs.Dump.{data_of_cell, items_of, bindings_of, in_order};
-ghost use Rattle.sync_dump.specs.Tokens.{tokens_of, tokens_of_items, Adds};
+ghost use Rattle.sync_dump.specs.Tokens.{tokens_of, tokens_of_values, Adds};
 
 use super::values::put_value;
 use json::Writer;
@@ -57,7 +57,7 @@ fn put_elements(
     store: &Store,
     elements: &[Element],
 ) -> Result<(), AllocError>
-    ensures { OnOk result (Adds writer.old writer.new (tokens_of_items store.now elements.now)) }
+    ensures { OnOk result (Adds writer.old writer.new (tokens_of_values store.now elements.now)) }
 {
     for element in elements {
         put_value(alloc, writer, store, element.value())?;
