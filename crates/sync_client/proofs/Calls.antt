@@ -1,11 +1,12 @@
 -- A call of a client that appends one record, or none.
-use Rattle.std.proofs.Common.{◌≡◌, ℕ, suc, ◌≤◌, Bool, true, false, List, [], ◌∷◌, ◌++◌, length, Option, Some, None, Result, Ok, Err, refl, ap, ◌∙◌, sym, subst, append-nil, length-append, add-one, if◌then◌else◌, inl, inr, le_refl}
+use Rattle.std.proofs.Common.{◌≡◌, ℕ, suc, ◌≤◌, Bool, true, false, List, [], ◌∷◌, ◌++◌, length, Option, Some, None, Result, Ok, Err, refl, ap, ◌∙◌, sym, subst, append-nil, length-append, add-one, if◌then◌else◌, inl, inr}
 use Rattle.std.specs.Prelude.{⊤, ◌⊎◌, IfOk, IfErr, OnOk}
 use Rattle.std.specs.Option.{is_some}
 use Rattle.sync_data.specs.declared.instr.Instr.{Instr}
 use Rattle.sync_base.specs.States.{State}
 use Rattle.sync_disk.specs.declared.disk.Disk.{Ghosts}
 use Rattle.sync_journal.specs.Stands.{disk_of}
+use Rattle.sync_journal.proofs.Prefixes.{disk_stays}
 use Rattle.sync_model.specs.Bytes.{Tables, Uuid}
 use Rattle.sync_model.specs.Clients.{Born, Client as Model, ClientRecord, ClientRefusal, ClientStep, TooLate, after_record, appends, answers, refuse, born, born_once, client_of, commit, commit_born, if_born, is_late, no_client, subscribe, subscribed_once, upgrade}
 use Rattle.sync_model.specs.Files.{client_opens}
@@ -163,12 +164,7 @@ module _ {D : Type 0} {G : Ghosts D} (A : Type 0) (old new : Client D G) (why re
   }
 
   pub plain_disk : disk_of new.journal ≡ disk_of old.journal → UsesDisk (Told A why codes.DiskFault) old new
-  plain_disk still = record {
-    same_origin = ap G.origin still;
-    told = λ b told. (b, ap G.content still ∙ told);
-    later = subst (λ (d : D). G.faults (disk_of old.journal) ≤ G.faults d) (sym still) (le_refl (G.faults (disk_of old.journal)));
-    fault = λ e. absurd (subst IsPlain (sym same ∙ same_told A why codes.DiskFault e) plain);
-  }
+  plain_disk still = disk_stays _ old.journal new.journal (λ e. subst IsPlain (sym same ∙ same_told A why codes.DiskFault e) plain) still
 
 -- a record that can't be added is told elsewhere
 pub unseen : (why : CodeRefusal) (P : ClientRefusal → Type 0) → (why ≡ codes.DiskFault) ⊎ (why ≡ codes.NoMemory) → IfSeen (refusal_seen why) P

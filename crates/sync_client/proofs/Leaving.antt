@@ -1,28 +1,18 @@
 -- What a crash leaves of records that are added one after the other.
-use Rattle.std.proofs.Common.{◌≡◌, ℕ, suc, ◌+◌, List, [], ◌∷◌, ◌++◌, length, map, take, Some, sym, ap, ◌∙◌, subst, arith, append_assoc, length-append}
-use Rattle.std.proofs.lemmas.List.{map-append, take-append-le}
+use Rattle.std.proofs.Common.{◌≡◌, ℕ, ◌+◌, List, ◌++◌, map, Some, sym, subst}
+use Rattle.std.proofs.lemmas.List.{map-append}
 use Rattle.sync_disk.specs.declared.disk.Disk.{Ghosts}
 use Rattle.sync_disk.specs.Disk.{LeavesOnly}
 use Rattle.sync_disk.proofs.Moments.{and_then, weaker}
 use Rattle.sync_journal.specs.Records.{StandsForPrefix}
-use Rattle.sync_journal.specs.Records.Reading.{Good}
 use Rattle.sync_journal.specs.Stands.{Stands, disk_of}
 use Rattle.sync_journal.specs.declared.journal.Journal.{Journal}
+use Rattle.sync_journal.proofs.Prefixes.{longer, later}
 use Rattle.sync_journal.proofs.Steps.{at_rest}
 use Rattle.sync_model.specs.Clients.{ClientRecord}
 use Rattle.sync_exchange.specs.Seen.{client_bytes}
 use Rattle.sync_client.specs.Clients.{JournalAppends, Leaves}
 use Rattle.sync_client.specs.declared.refusal.ClientRefusal.TheVariants as codes
-
-take_part : {A : Type 0} (xs ys : List A) (k : ℕ) → take (length xs + k) (xs ++ ys) ≡ xs ++ take k ys
-take_part [] ys k = let e : 0 + k ≡ k = omega arith in ap (λ n. take n ys) e
-take_part (x ∷ xs) ys k = let e : suc (length xs) + k ≡ suc (length xs + k) = omega arith in ap (λ n. take n (x ∷ (xs ++ ys))) e ∙ ap (λ l. x ∷ l) (take_part xs ys k)
-
-longer : (rs xs ys : List (List ℕ)) (c : List ℕ) → StandsForPrefix rs xs c → StandsForPrefix rs (xs ++ ys) c
-longer rs xs ys c s = (s.0, omega (arith, s.1, length-append xs ys), s.2 ∙ ap (λ l. Good (rs ++ l)) (sym (take-append-le s.0 xs ys s.1)))
-
-later : (rs xs ys : List (List ℕ)) (c : List ℕ) → StandsForPrefix (rs ++ xs) ys c → StandsForPrefix rs (xs ++ ys) c
-later rs xs ys c s = (length xs + s.0, omega (arith, s.1, length-append xs ys), s.2 ∙ ap Good (append_assoc rs xs (take s.0 ys) ∙ ap (λ l. rs ++ l) (sym (take_part xs ys s.0))))
 
 module _ {D : Type 0} {G : Ghosts D} where
   -- those of the first part of a call

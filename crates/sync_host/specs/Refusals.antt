@@ -4,7 +4,7 @@ use Rattle.std.specs.Int.{w32, to_le_bytes}
 use Rattle.sync_model.specs.Clients.{ClientRefusal}
 use Rattle.sync_host.specs.declared.refusals.Declined.{Declined}
 
-abbrev plain : ℕ → Declined
+abbrev pub plain : ℕ → Declined
 plain number = record { number = number; first = 0; second = 0; third = 0 }
 
 abbrev of_one : ℕ → ℕ → Declined

@@ -1,6 +1,6 @@
-ghost use Rattle.std.specs.Prelude.{◌≡◌, ◌∷◌, ◌++◌};
+ghost use Rattle.std.specs.Prelude.{◌≡◌, ◌∷◌, ◌++◌, None};
 ghost use Rattle.sync_client.specs.Refusals.{refusal_seen, IfSeen};
-ghost use Rattle.sync_host.specs.Refusals.{declined, declined_bytes};
+ghost use Rattle.sync_host.specs.Refusals.{declined, declined_bytes, plain as numbered};
 
 use sync_client::ClientRefusal;
 
@@ -34,7 +34,8 @@ fn of(number: u8, first: u32, second: u32, third: u32) -> Declined
 impl Declined {
     /// What stands for a refusal. One that comes of the disk, of memory or of a closed client has the number 0.
     pub fn by(refusal: ClientRefusal) -> Declined
-        ensures { IfSeen (refusal_seen refusal) (λ why. result ≡ declined why) }
+        ensures known { IfSeen (refusal_seen refusal) (λ why. result ≡ declined why) }
+        ensures other { refusal_seen refusal ≡ None → result ≡ numbered 0 }
     {
         match refusal {
             ClientRefusal::Closed | ClientRefusal::DiskFault | ClientRefusal::NoMemory => plain(0),

@@ -111,9 +111,10 @@ impl LineReader {
         })
     }
 
-    /// The next line, where the whole of it was read already.
+    /// The next line, where the whole of it was read already, and the line feed behind it.
     pub fn ahead(&self) -> Option<&[u8]>
-        ensures { IfSome result (λ line. line.now ≡ take (feed_place self.now.held) self.now.held) }
+        ensures line { IfSome result (λ line. line.now ≡ take (feed_place self.now.held) self.now.held) }
+        ensures whole { IfSome result (λ line. length line.now < length self.now.held) }
     {
         let held = self.intake.held();
         let place = feed_place(held, 0);

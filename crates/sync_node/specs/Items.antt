@@ -62,6 +62,12 @@ EndsReading statuses.ReadFault old = Unit {0}
 EndsReading statuses.NoMemory old = Unit {0}
 EndsReading status old = ⊥
 
+-- a further item, or what refuses it
+abbrev pub IsFurther : Option Items → Type 0
+IsFurther (Some (Next number item rest)) = Unit {0}
+IsFurther (Some (Bad number)) = Unit {0}
+IsFurther items = ⊥
+
 -- the ends of a run at a read
 abbrev pub IsReadStatus : Status → Type 0
 IsReadStatus (statuses.BadInput number) = Unit {0}

@@ -1,7 +1,7 @@
-ghost use Rattle.std.specs.Prelude.{◌≡◌, ℕ, ◌<◌, ◌≤◌, List, Option, Err, IfOk, IfErr, IfSome, OnOk};
+ghost use Rattle.std.specs.Prelude.{◌≡◌, ℕ, ◌<◌, ◌≤◌, List, Option, Err, IfOk, IfErr, IfSome, IsTrue, OnOk, Some};
 ghost use Rattle.sync_io.specs.Faults.{HasRisen};
 ghost use Rattle.sync_io.specs.Input.{max_input};
-ghost use Rattle.sync_node.specs.Items.{Items, Read, EndsReading, IsReadStatus};
+ghost use Rattle.sync_node.specs.Items.{Items, Read, IsFurther, EndsReading, IsReadStatus};
 
 use std::alloc::Global;
 use sync_io::{NoMemory, Source, Status};
@@ -32,8 +32,10 @@ pub trait ItemReader: Drop {
         ensures ready { IfOk result ready }
         ensures ahead { IfOk result (λ made. (left : Option (List ℕ)) → ahead made left ≡ items_of left) };
 
-    /// Whether a further item was read from the source already, as far as that is known.
-    fn is_ahead(&self) -> bool;
+    /// Whether a further item was read from the source already, as far as that is known: it comes then whatever the source has
+    /// left.
+    fn is_ahead(&self) -> bool
+        ensures further { IsTrue result → (left : List ℕ) → IsFurther (ahead self.now (Some left)) };
 
     /// The next item, or None at the end of the input.
     fn next<S: Source>(&mut self, source: &mut S) -> Result<Option<Item>, Status>

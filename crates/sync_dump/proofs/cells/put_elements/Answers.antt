@@ -1,5 +1,4 @@
-use Rattle.std.proofs.Common.{◌+◌, ◌++◌, drop, sym, ap, ◌∙◌, append_assoc, append-nil, arith}
-use Rattle.std.proofs.lemmas.List.{drop_all}
+use Rattle.std.proofs.Common.{◌+◌, ◌++◌, drop, sym, ap, ◌∙◌, append_assoc}
 use Rattle.sync_dump.specs.Dump.{data_of}
 use Rattle.sync_dump.specs.Tokens.{tokens_of, tokens_of_values}
 use Rattle.sync_dump.proofs.Elements.{next_value}
@@ -13,11 +12,4 @@ loop-element-preserved c =
       ap (λ w. w ++ rest) (c.in_ok-put_value.ensures.0 ∙ ap (λ w. old ++ tokens_of (data_of s w)) c.value.ensures) ∙ append_assoc old (tokens_of (data_of s v)) rest
           ∙ ap (λ w. old ++ w) (sym (next_value s vs i v c.loop-element-test.true c.element-item.is)) ∙ c.loop-element.invariant.0,
       c.in_ok-put_value.ensures.1 ∙ c.loop-element.invariant.1,
-    )
-
-pub returns : goal.returns
-returns c =
-    let s = c.args.store.now in let vs = c.args.elements.now in let written = c.loop-element.writer.tokens in let end = c.loop-element-test.false in (
-      sym (append-nil written) ∙ ap (λ l. written ++ tokens_of_values s l) (sym (drop_all c.loop-element.element-index vs (omega arith))) ∙ c.loop-element.invariant.0,
-      c.loop-element.invariant.1,
     )

@@ -1,4 +1,4 @@
-use Rattle.std.proofs.Common.{◌≡◌, ◌∷◌, [], Some, None, if◌then◌else◌, sym, ap, ◌∙◌, subst, ◌≤◌, le_refl}
+use Rattle.std.proofs.Common.{◌≡◌, ◌∷◌, [], Some, None, if◌then◌else◌, sym, ap, ◌∙◌, subst}
 use Rattle.std.specs.Option.{option_copied}
 use Rattle.sync_data.specs.declared.instr.Instr.{Instr}
 use Rattle.sync_model.specs.Parts.{Given, at_ident}
@@ -6,7 +6,7 @@ use Rattle.sync_model.specs.Servers.{ServerRecord}
 use Rattle.sync_server.specs.Kept.{parts}
 use Rattle.sync_server.specs.Sending.{asked}
 use Rattle.sync_server.specs.Serving.{JournalAppends}
-use Rattle.sync_journal.specs.Stands.{disk_of}
+use Rattle.sync_journal.proofs.Prefixes.{disk_stays}
 use Rattle.sync_server.proofs.server.Server.take_ask.Goals as goal
 
 pub settle_at-requires : goal.settle_at-requires
@@ -36,12 +36,4 @@ returns-in-Err-append-clause-appends g c =
     subst (λ l. JournalAppends l c.args.self.now.journal c.append.new.self.journal (Some c.in-Err-append.refusal)) one c.in-Err-append.ensures.appends
 
 pub returns-in-Err-clause-disk : goal.returns-in-Err-clause-disk
-returns-in-Err-clause-disk g c =
-    let D = g.D.Disk in
-    let old = disk_of c.args.self.now.journal in
-    record {
-      same_origin = ap D.origin c.close.ensures.disk;
-      told = λ b told. (b, ap D.content c.close.ensures.disk ∙ told);
-      later = subst (λ d. D.faults old ≤ D.faults d) (sym c.close.ensures.disk) (le_refl (D.faults old));
-      fault = λ e. cc;
-    }
+returns-in-Err-clause-disk g c = disk_stays _ c.args.self.now.journal c.close.new.self (λ e. cc) c.close.ensures.disk

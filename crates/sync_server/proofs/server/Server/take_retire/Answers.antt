@@ -1,5 +1,5 @@
-use Rattle.std.proofs.Common.{◌≤◌, Some, None, ap, sym, ◌∙◌, subst, le_refl}
-use Rattle.sync_journal.specs.Stands.{disk_of}
+use Rattle.std.proofs.Common.{Some, None, sym, ◌∙◌, subst}
+use Rattle.sync_journal.proofs.Prefixes.{disk_stays}
 use Rattle.sync_server.specs.Kept.{parts}
 use Rattle.sync_server.specs.Retiring.{retiring}
 use Rattle.sync_server.specs.Serving.{JournalAppends}
@@ -20,12 +20,4 @@ returns-in-Err-append-clause-appends g c =
     subst (λ l. JournalAppends l c.args.self.now.journal c.append.new.self.journal (Some c.in-Err-append.refusal)) one c.in-Err-append.ensures.appends
 
 pub returns-in-Err-retire-clause-disk : goal.returns-in-Err-retire-clause-disk
-returns-in-Err-retire-clause-disk g c =
-    let D = g.D.Disk in
-    let old = disk_of c.args.self.now.journal in
-    record {
-      same_origin = ap D.origin c.close.ensures.disk;
-      told = λ b told. (b, ap D.content c.close.ensures.disk ∙ told);
-      later = subst (λ d. D.faults old ≤ D.faults d) (sym c.close.ensures.disk) (le_refl (D.faults old));
-      fault = λ e. cc;
-    }
+returns-in-Err-retire-clause-disk g c = disk_stays _ c.args.self.now.journal c.close.new.self (λ e. cc) c.close.ensures.disk
