@@ -12,8 +12,7 @@ loop-place-preserved c =
     let place = c.loop-place.place in let run = c.run_from-run.result.now in let left = drop (place + length run) vs in
     let old = c.loop-place.list.items in let cut = c.run_from-run.ensures.items in
     let long = ap length cut in let both = length-append run left in let whole = length-drop place vs in let rest = length-drop (place + length run) vs in (
-      ap (λ n. c.put_run.new.list.items ++ edit_instrs p (insertions (place + n) (drop (place + n) vs))) c.len-place.ensures
-          ∙ ap (λ w. w ++ edit_instrs p (insertions (place + length run) left)) c.in_ok-put_run.ensures
+      ap (λ w. w ++ edit_instrs p (insertions (place + length run) left)) c.in_ok-put_run.ensures
           ∙ append_assoc old (edit_instrs p (insertions place run)) (edit_instrs p (insertions (place + length run) left))
           ∙ ap (λ w. old ++ w) (sym (ap (λ l. edit_instrs p (insertions place l)) cut ∙ runs_append p place run left)) ∙ c.loop-place.invariant.0,
       omega arith,
