@@ -10,6 +10,7 @@ ghost use Rattle.list_lane.specs.declared.op.Op as operation;
 ghost use Rattle.list_regions.specs.Regions.{RegionOf, Whole};
 ghost use Rattle.list_regions.specs.Kept.{crossed_region, with_gap, reach as reaches, Alike, Meets, Passes};
 
+use super::cut::cut_worn;
 use super::merge::merge_at;
 use super::push::gap_at;
 use super::region::Region;
@@ -76,7 +77,9 @@ fn cross_open(
     let gap = region.gap();
     if offset >= gap as u64 {
         let inner = placed(traveller, offset - gap as u64);
+        let worn = region.is_worn(traveller.does);
         let left = cross_at(items, alloc, at.place, inner, lane_left);
+        cut_worn(items, alloc, at.place, inner.place, worn);
         return Ok(lifted(left, at.after + gap as u64));
     }
     let gap = length_after(traveller.does, gap);
