@@ -25,12 +25,12 @@ within_rest Inserts p x y w h = omega (arith, w, h)
 within_rest Erases p x y w h = omega (arith, w, h)
 within_rest Updates p x y w h = omega (arith, w, h)
 
-front_lists : {g x : ℕ} {os ns ms : List ℕ} {us ss ts : List (Option Op)} (ps : List ℕ) (vs : List (Option Op)) (n : ℕ) (s : Option Op) → Cut g x os us (ns ++ (n ∷ ps)) (ss ++ (s ∷ vs)) ms ts → Cut g x os us ((ns ++ n ∷ []) ++ ps) ((ss ++ s ∷ []) ++ vs) ms ts
-front_lists {g = g} {x = x} {os = os} {ns = ns} {ms = ms} {us = us} {ss = ss} {ts = ts} ps vs n s c =
+front_lists : {g x : ℕ} {os ms : List ℕ} {us ts : List (Option Op)} (ns ps : List ℕ) (ss vs : List (Option Op)) (n : ℕ) (s : Option Op) → Cut g x os us (ns ++ (n ∷ ps)) (ss ++ (s ∷ vs)) ms ts → Cut g x os us ((ns ++ n ∷ []) ++ ps) ((ss ++ s ∷ []) ++ vs) ms ts
+front_lists {g = g} {x = x} {os = os} {ms = ms} {us = us} {ts = ts} ns ps ss vs n s c =
     subst (λ r. Cut g x os us r ((ss ++ s ∷ []) ++ vs) ms ts) (sym (append_assoc ns (n ∷ []) ps)) (subst (λ r. Cut g x os us (ns ++ (n ∷ ps)) r ms ts) (sym (append_assoc ss (s ∷ []) vs)) c)
 
-back_lists : {g x : ℕ} {os ns ms : List ℕ} {us ss ts : List (Option Op)} (ps : List ℕ) (vs : List (Option Op)) (n : ℕ) (s : Option Op) → Cut g x os us ns ss (ms ++ (n ∷ ps)) (ts ++ (s ∷ vs)) → Cut g x os us ns ss ((ms ++ n ∷ []) ++ ps) ((ts ++ s ∷ []) ++ vs)
-back_lists {g = g} {x = x} {os = os} {ns = ns} {ms = ms} {us = us} {ss = ss} {ts = ts} ps vs n s c =
+back_lists : {g x : ℕ} {os ns : List ℕ} {us ss : List (Option Op)} (ms ps : List ℕ) (ts vs : List (Option Op)) (n : ℕ) (s : Option Op) → Cut g x os us ns ss (ms ++ (n ∷ ps)) (ts ++ (s ∷ vs)) → Cut g x os us ns ss ((ms ++ n ∷ []) ++ ps) ((ts ++ s ∷ []) ++ vs)
+back_lists {g = g} {x = x} {os = os} {ns = ns} {us = us} {ss = ss} ms ps ts vs n s c =
     subst (λ r. Cut g x os us ns ss r ((ts ++ s ∷ []) ++ vs)) (sym (append_assoc ms (n ∷ []) ps)) (subst (λ r. Cut g x os us ns ss (ms ++ (n ∷ ps)) r) (sym (append_assoc ts (s ∷ []) vs)) c)
 
 module _ (m : RegionOf) (i : ℕ) (q r : RegionOf) (h : Cutting m i q r) where
@@ -71,7 +71,7 @@ module _ (m : RegionOf) (i : ℕ) (q r : RegionOf) (h : Cutting m i q r) where
         gap = h.gap;
         one = h.one;
         first = h.first;
-        steps = λ ns ms ss ts c. front_lists ns ss n (Some a) (h.steps (n ∷ ns) ms (Some a ∷ ss) ts
+        steps = λ ns ms ss ts c. front_lists q.numbers ns q.lane.slots ss n (Some a) (h.steps (n ∷ ns) ms (Some a ∷ ss) ts
             (from_here n (Some a) lt g is (in_front w (subst (λ x. Cut 1 x (drop (i + 1) m.numbers) (drop (i + 1) m.lane.slots) ns ss ms ts) end c))));
         last = before_next (Some a) lt is ∙ longer_more a.does a.place front_end (1 + back_end) w ∙ ap (λ x. x + (1 + back_end)) (sym end);
       }
@@ -84,7 +84,7 @@ module _ (m : RegionOf) (i : ℕ) (q r : RegionOf) (h : Cutting m i q r) where
         gap = h.gap;
         one = h.one;
         first = h.first;
-        steps = λ ns ms ss ts c. back_lists ms ts n (Some b) (h.steps ns (n ∷ ms) ss (Some b ∷ ts) (from_here n (Some (from (front_end + 1) b)) lt g here (in_back c)));
+        steps = λ ns ms ss ts c. back_lists r.numbers ms r.lane.slots ts n (Some b) (h.steps ns (n ∷ ms) ss (Some b ∷ ts) (from_here n (Some (from (front_end + 1) b)) lt g here (in_back c)));
         last = before_next (Some (from (front_end + 1) b)) lt here ∙ longer_behind b.does b.place front_end 1 back_end w ∙ ap (λ x. front_end + (1 + x)) (sym end);
       }
 

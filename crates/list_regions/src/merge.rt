@@ -49,8 +49,9 @@ pub(crate) fn merge_at(
     let Some(right) = items.get(next) else {
         return Ok(());
     };
-    let (left, right) = (left.listed(alloc)?, right.listed(alloc)?);
-    let one = merged(alloc, &left, &right)?;
+    let first = left.listed(alloc)?;
+    let second = right.listed(alloc)?;
+    let one = merged(alloc, &first, &second)?;
     items.replace(place, one);
     items.remove(next);
     Ok(())
