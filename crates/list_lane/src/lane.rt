@@ -6,7 +6,9 @@ ghost use Rattle.list_lane.specs.Lanes.{crossed, first_slot, length_at_end, leng
 ghost use Rattle.list_lane.specs.Laws.{CrossesLeft, CrossesRight};
 
 use super::burst::Burst;
-use super::bursts::{cross_bursts, left_over, length_within, pop_slot, push_slot, slot_in, slots_of};
+use super::bursts::{
+    cross_bursts, left_over, length_within, pop_slot, push_slot, slot_in, slots_of,
+};
 use super::flat::length_behind;
 use super::op::Op;
 use std::alloc::Global;
