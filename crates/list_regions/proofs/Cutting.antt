@@ -22,12 +22,22 @@ pub record Halves (k g x : ℕ) (hs : List (Option Op)) (ns : List ℕ) (ss : Li
   pub front_spread : Spread k ns ss fronts
   pub back_spread : Spread k ms ts backs
 
-pub halves : {g x : ℕ} {k : ℕ} {os ns ms : List ℕ} {us ss ts hs : List (Option Op)} → Spread k os us hs → Cut g x os us ns ss ms ts → Halves k g x hs ns ss ms ts
+next_half : {g x k : ℕ} {s : Option Op} {os ns ms : List ℕ} {us ss ts fs : List (Option Op)} → ((y : ℕ) (is js : List ℕ) (vs ws : List (Option Op)) → Cut g y os us is vs js ws → Halves (suc k) g y fs is vs js ws)
+    → Cut g x (k ∷ os) (s ∷ us) ns ss ms ts → Halves k g x (s ∷ fs) ns ss ms ts
+next_half {x = x} f (left_out {ns = ns} {ms = ms} {ss = ss} {ts = ts} c) =
+    let h = f x ns ms ss ts c in
+    record { fronts = None ∷ h.fronts; backs = None ∷ h.backs; parts = empty h.parts; front_spread = skip h.front_spread; back_spread = skip h.back_spread }
+next_half {x = x} f (in_front {a = a} {ns = ns} {ms = ms} {ss = ss} {ts = ts} w c) =
+    let h = f (longer a.does x) ns ms ss ts c in
+    record { fronts = Some a ∷ h.fronts; backs = None ∷ h.backs; parts = front w h.parts; front_spread = here h.front_spread; back_spread = skip h.back_spread }
+next_half {x = x} f (in_back {a = a} {ns = ns} {ms = ms} {ss = ss} {ts = ts} c) =
+    let h = f x ns ms ss ts c in
+    record { fronts = None ∷ h.fronts; backs = Some a ∷ h.backs; parts = back h.parts; front_spread = skip h.front_spread; back_spread = here h.back_spread }
+
+pub halves : {g k : ℕ} {os : List ℕ} {us hs : List (Option Op)} → Spread k os us hs → {x : ℕ} {ns ms : List ℕ} {ss ts : List (Option Op)} → Cut g x os us ns ss ms ts → Halves k g x hs ns ss ms ts
 halves done finished = record { fronts = []; backs = []; parts = end; front_spread = done; back_spread = done }
 halves (skip d) c = let h = halves d c in record { fronts = None ∷ h.fronts; backs = None ∷ h.backs; parts = empty h.parts; front_spread = skip h.front_spread; back_spread = skip h.back_spread }
-halves (here d) (left_out c) = let h = halves d c in record { fronts = None ∷ h.fronts; backs = None ∷ h.backs; parts = empty h.parts; front_spread = skip h.front_spread; back_spread = skip h.back_spread }
-halves (here d) (in_front {a = a} w c) = let h = halves d c in record { fronts = Some a ∷ h.fronts; backs = None ∷ h.backs; parts = front w h.parts; front_spread = here h.front_spread; back_spread = skip h.back_spread }
-halves (here d) (in_back {a = a} c) = let h = halves d c in record { fronts = None ∷ h.fronts; backs = Some a ∷ h.backs; parts = back h.parts; front_spread = skip h.front_spread; back_spread = here h.back_spread }
+halves (here d) c = next_half (λ y is js vs ws e. halves d e) c
 
 -- ---- three parts in the other order
 within_back : (d : Does) (p x g y : ℕ) → Within d (p + (x + g)) (x + (g + y)) → Within d p y
@@ -117,8 +127,8 @@ module _ (m q r : RegionOf) (h : IsCut m q r) where
   cut_sum (x ∷ qs) (suc i) e = let u = cut_sum qs i e in omega (arith, u)
 
   pub cut_alike : (qs zs : List RegionOf) (i j : ℕ) → slice_get qs i ≡ Some m → j ≡ suc i → zs ≡ set (insert qs j r) i q → Alike qs zs
-  cut_alike qs zs i j e next new =
-      subst (Alike qs) (sym (new ∙ ap (λ n. set (insert qs n r) i q) next)) (record { same = λ k. cut_whole k qs i e; befores_are = cut_sum qs i e })
+  cut_alike qs zs i j e is_next new =
+      subst (Alike qs) (sym (new ∙ ap (λ n. set (insert qs n r) i q) is_next)) (record { same = λ k. cut_whole k qs i e; befores_are = cut_sum qs i e })
 
 -- ---- regions that were crossed are cut
 pub passes_alike : (l : Stamp → Stamp → Bool) (qs ys zs : List RegionOf) (b : Op) (z : Option Op) → Passes l qs b z ys → Alike ys zs → Passes l qs b z zs

@@ -17,9 +17,9 @@ use sync_transform::Does;
 /// From so many bursts on a region may be cut: a crossing looks at fewer about as fast as it finds a region.
 const MANY_BURSTS: usize = 8;
 
-/// A region is cut after crossings have looked at so many bursts for each of its slots, as that takes about as long as to write
-/// all slots again. So cuts take no longer than the crossings before them, also where a cut is in vain or soon undone.
-const LOOKS_AT_EACH: usize = 8;
+/// A region is cut after crossings have looked at so many bursts for each of its slots, as to write a slot again takes about as
+/// long. So cuts take no longer than the crossings before them, also where a cut is in vain or soon undone.
+const LOOKS_AT_EACH: usize = 32;
 
 /// Slots of a lane whose instructions lie near each other, as a lane of their own, with their numbers. In front of them lie
 /// elements that none of the whole lane erases or updates.
