@@ -9,7 +9,8 @@ use Rattle.list_lane.specs.Lanes.{crossed, Chains}
 use Rattle.list_lane.specs.Parts.{Parts, end, empty, front, back, from}
 use Rattle.list_lane.specs.declared.op.Op.{Op}
 use Rattle.list_regions.specs.Regions.{RegionOf, before, befores, Spread, skip, here, end as done, Woven, last, next, Whole, first}
-use Rattle.list_regions.specs.Kept.{region, Alike, Passes}
+use Rattle.list_lane.proofs.Rooms.{after_more, crossed_length}
+use Rattle.list_regions.specs.Kept.{Alike, Loose, Meets, Passes, Shrunk}
 use Rattle.list_regions.specs.Cuts.{Cut, finished, left_out, in_front, in_back, IsCut}
 use Rattle.list_regions.proofs.Views.{longer_more, longer_behind}
 use Rattle.list_regions.proofs.Edits.{Same, SameWhole, same_behind}
@@ -130,11 +131,43 @@ module _ (m q r : RegionOf) (h : IsCut m q r) where
   cut_alike qs zs i j e is_next new =
       subst (Alike qs) (sym (new ∙ ap (λ n. set (insert qs n r) i q) is_next)) (record { same = λ k. cut_whole k qs i e; befores_are = cut_sum qs i e })
 
--- ---- regions that were crossed are cut
-pub passes_alike : (l : Stamp → Stamp → Bool) (qs ys zs : List RegionOf) (b : Op) (z : Option Op) → Passes l qs b z ys → Alike ys zs → Passes l qs b z zs
-passes_alike l qs ys zs b z p a =
+-- ---- what holds of regions that were crossed, and are cut
+pub loose_alike : (qs zs : List RegionOf) → Loose qs → Alike qs zs → Loose zs
+loose_alike qs zs h a =
     let same = a.befores_are in
+    let room = h.room in
+    record { popped = h.popped; slots = h.slots; whole = a.same h.popped h.slots h.whole; room = omega (arith, same, room) }
+
+pub loose_shrunk : (qs zs : List RegionOf) → Loose qs → Shrunk qs zs → Loose zs
+loose_shrunk qs zs h a =
+    let low = a.low in
+    let room = h.room in
+    record { popped = h.popped; slots = h.slots; whole = a.same h.popped h.slots h.whole; room = omega (arith, low, room) }
+
+pub shrunk_then : (qs xs ys zs : List RegionOf) → Alike qs xs → Shrunk xs ys → Shrunk ys zs → Shrunk qs zs
+shrunk_then qs xs ys zs a s t =
+    let same = a.befores_are in
+    let one = s.low in
+    let two = t.low in
+    record { same = λ k ss w. t.same k ss (s.same k ss (a.same k ss w)); low = omega (arith, same, one, two) }
+
+pub passes_loose : (l : Stamp → Stamp → Bool) (qs zs : List RegionOf) (b : Op) (z : Option Op) → Meets qs b → Passes l qs b z zs → Loose zs
+passes_loose l qs zs b z m p =
+    let low = p.fits m.length_is m.fits m.within in
+    let one = after_more (Some b) m.length_is in
+    let count = crossed_length l m.slots (Some b) in
+    let room = m.room in
+    record {
+      popped = m.popped;
+      slots = (crossed l m.slots (Some b)).slots;
+      whole = (p.slots m.popped m.slots m.whole).0;
+      room = omega (arith, low, one, count, room);
+    }
+
+pub passes_shrunk : (l : Stamp → Stamp → Bool) (qs ys zs : List RegionOf) (b : Op) (z : Option Op) → Passes l qs b z ys → Shrunk ys zs → Passes l qs b z zs
+passes_shrunk l qs ys zs b z p a =
+    let less = a.low in
     record {
       slots = λ k ss w. (a.same k (crossed l ss (Some b)).slots (p.slots k ss w).0, (p.slots k ss w).1);
-      fits = λ n h w. let low = p.fits n h w in omega (arith, same, low);
+      fits = λ n h w. let low = p.fits n h w in omega (arith, less, low);
     }

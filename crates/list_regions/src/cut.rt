@@ -1,10 +1,11 @@
 //! A region becomes two.
-ghost use Rattle.std.specs.Prelude.{◌≡◌, ◌+◌, ◌<◌, IfSome, IsTrue, length};
-ghost use Rattle.list_regions.specs.Kept.{Alike};
+ghost use Rattle.std.specs.Prelude.{◌≡◌, ◌+◌, ◌<◌, ◌^◌, IfSome, IsTrue, length};
+ghost use Rattle.list_regions.specs.Kept.{Alike, Loose, Shrunk};
 ghost use Rattle.list_regions.specs.Cuts.{Cutting, IsCut};
 
 use super::crossing::{placed, reach};
 use super::listed::Listed;
+use super::pop::drop_spent;
 use super::region::Region;
 use std::alloc::Global;
 use sum_list::SumList;
@@ -16,8 +17,8 @@ pub struct Halves {
     pub(crate) back: Region,
 }
 
-/// Where the region at a place is worn, it is cut at one of its elements, if none of its slots touches that and either half has
-/// some. Else, or where memory is missing, it stays.
+/// Where the region at a place is worn, it is cut at one of its elements, if none of its slots touches that. A half without slots
+/// leaves, so what is left is nearer to its slots then. Where memory is missing the region stays.
 pub(crate) fn cut_worn(
     items: &mut SumList<Region>,
     alloc: Global,
@@ -25,11 +26,22 @@ pub(crate) fn cut_worn(
     element: u32,
     worn: bool,
 )
-    ensures { Alike items.old items.new }
+    requires { Loose items.old }
+    ensures { Shrunk items.old items.new }
 {
     if !worn || place >= items.len() {
         return;
     }
+    cut_at(items, alloc, place, element);
+    drop_spent(items, alloc, place + 1);
+    drop_spent(items, alloc, place);
+}
+
+/// The region at a place becomes its halves at one of its elements, if none of its slots touches that and there is memory.
+fn cut_at(items: &mut SumList<Region>, alloc: Global, place: usize, element: u32)
+    requires { place < 2 ^ 32 }
+    ensures { Alike items.old items.new }
+{
     let Some(region) = items.get(place) else {
         return;
     };
@@ -43,8 +55,7 @@ pub(crate) fn cut_worn(
     items.replace(place, front);
 }
 
-/// The halves of a region at one of its elements, or none where a slot touches that, one half would have no slot, or memory is
-/// missing.
+/// The halves of a region at one of its elements, or none where a slot touches that or memory is missing.
 fn cut(alloc: Global, region: &Region, element: u32) -> Option<Halves>
     ensures { IfSome result (λ h. IsCut region.now h.front h.back) }
 {
@@ -62,9 +73,6 @@ fn cut(alloc: Global, region: &Region, element: u32) -> Option<Halves>
         if !put(&mut halves, &listed, i) {
             return None;
         }
-    }
-    if halves.front.len() == 0 || halves.back.len() == 0 {
-        return None;
     }
     Some(halves)
 }

@@ -1,17 +1,11 @@
-use Rattle.std.proofs.Common.{◌≡◌, suc, ◌+◌, List, set, sym, ap, ◌∙◌, arith}
-use Rattle.std.specs.Option.{option_copied}
-use Rattle.list_regions.specs.Regions.{RegionOf}
-use Rattle.list_regions.proofs.Sets.{ok_of}
-use Rattle.list_regions.proofs.Cutting.{cut_alike}
+use Rattle.list_regions.proofs.Cutting.{loose_alike, loose_shrunk, shrunk_then}
 use Rattle.list_regions.proofs.cut.cut_worn.Goals as goal
 
+pub drop_spent-requires : goal.drop_spent-requires
+drop_spent-requires c = loose_alike c.args.items.now c.cut_at.new.items c.requires c.cut_at.ensures
+
+pub drop_spent-requires-2 : goal.drop_spent-requires-2
+drop_spent-requires-2 c = loose_shrunk c.cut_at.new.items c.drop_spent.new.items (loose_alike c.args.items.now c.cut_at.new.items c.requires c.cut_at.ensures) c.drop_spent.ensures
+
 pub returns : goal.returns
-returns c =
-    let qs = c.args.items.now in
-    let i = c.args.place in
-    let q = c.in-Some-cut.halves.front in
-    let r = c.in-Some-cut.halves.back in
-    let k : i + 1 ≡ suc i = omega arith in
-    let new = ok_of c.insert.result (sym c.is_err.ensures.value ∙ c.if-is_err.false) c.insert.ensures.ok in
-    cut_alike c.in-Some.region.now q r c.in-Some-cut.ensures qs c.replace.new.self i (i + 1) (sym c.get.ensures ∙ ap option_copied c.in-Some.is) k
-    (c.replace.ensures.list ∙ ap (λ (o : List RegionOf). set o i q) new)
+returns c = shrunk_then c.args.items.now c.cut_at.new.items c.drop_spent.new.items c.drop_spent-2.new.items c.cut_at.ensures c.drop_spent.ensures c.drop_spent-2.ensures
