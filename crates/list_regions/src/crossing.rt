@@ -21,7 +21,7 @@ use sync_data::NoMemory;
 use sync_transform::{Does, length_after};
 
 /// What is left of an instruction that crosses the regions. It takes memory where it erases the last element between two, which
-/// become one before.
+/// become one before. A region that is worn becomes two behind an insertion into it, if there is memory.
 pub(crate) fn cross_regions(
     items: &mut SumList<Region>,
     alloc: Global,

@@ -22,7 +22,7 @@ const MANY_BURSTS: usize = 8;
 const LOOKS_AT_EACH: usize = 32;
 
 /// Slots of a lane whose instructions lie near each other, as a lane of their own, with their numbers. In front of them lie
-/// elements that none of the whole lane erases or updates.
+/// elements that none of the whole lane erases or updates. It counts the bursts that crossings look at.
 #[derive(Drop)]
 pub struct Region {
     gap: u32,
