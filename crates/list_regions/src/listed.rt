@@ -29,12 +29,7 @@ impl Model for Listed {
 }
 
 impl Listed {
-    pub(crate) fn new(
-        gap: u32,
-        elements: u32,
-        numbers: Vec<u64>,
-        slots: Vec<Option<Op>>,
-    ) -> Listed
+    pub(crate) fn new(gap: u32, elements: u32, numbers: Vec<u64>, slots: Vec<Option<Op>>) -> Listed
         requires { IsListed numbers.items elements slots.items }
         ensures { result ≡ region gap numbers.items elements slots.items }
     {

@@ -1,4 +1,4 @@
-use Rattle.std.proofs.Common.{◌≡◌, ◌+◌, ◌-◌, length, ap, ◌∙◌, arith}
+use Rattle.std.proofs.Common.{◌-◌, length, ap, ◌∙◌, arith}
 use Rattle.list_regions.specs.Regions.{RegionOf}
 use Rattle.list_regions.specs.Kept.{fresh}
 use Rattle.list_regions.proofs.Halving.{cut_starts, cut_ends}

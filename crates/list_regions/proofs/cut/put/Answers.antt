@@ -1,4 +1,4 @@
-use Rattle.std.proofs.Common.{◌≡◌, ◌+◌, ◌-◌, Some, sym, ap, ◌∙◌, subst, arith}
+use Rattle.std.proofs.Common.{◌≡◌, ◌+◌, ◌-◌, sym, ap, ◌∙◌, subst, arith}
 use Rattle.sync_transform.specs.Places.{Within}
 use Rattle.list_lane.specs.Lanes.{length_at_end}
 use Rattle.list_lane.specs.declared.op.Op.{Op}
