@@ -1,4 +1,4 @@
-use Rattle.std.proofs.Common.{Ok, ap, map, sym}
+use Rattle.std.proofs.Common.{Ok, ap, map, sym, ◌∙◌}
 use Rattle.sync_server.specs.Kept.{parts}
 use Rattle.sync_exchange.specs.Seen.{server_bytes}
 use Rattle.sync_node.proofs.waiter.WaiterGatheredDiskCommand.open_file.Goals as goal
