@@ -16,7 +16,7 @@ from trials import PROGRAM, build
 
 OBJECTS = [25_000, 50_000, 100_000, 200_000]
 EACH = 8  # elements that each object's set or dictionary gets
-INSERTIONS = 25_000  # as many as a list of 100,000 takes before its block grows
+INSERTIONS = 25_000
 DRAWN = 1_000
 
 # the sizes of each work: the objects of the store before, and the calls that are timed
