@@ -7,5 +7,6 @@ pub mod Beside
 pub mod Bounded
 pub mod Turns
 pub mod Joins
+pub mod Listing
 pub mod Further
 pub mod Apart

@@ -124,6 +124,17 @@ impl Burst {
         }
     }
 
+    /// Appends them all to other slots.
+    pub(crate) fn append_to(&self, slots: &mut Vec<Option<Op>>) -> Result<(), NoMemory>
+        requires { Placed self.now }
+        ensures { OnOk result (slots.new.items ≡ slots.old.items ++ self.now) }
+    {
+        for i in 0..self.len() {
+            push_slot(slots, self.slot(i))?;
+        }
+        Ok(())
+    }
+
     /// The length of a list behind the first of them, where it was `first` before them all.
     pub(crate) fn length_before(&self, at: usize, first: u32) -> u32
         requires within { at ≤ length self.now }

@@ -1,4 +1,4 @@
-ghost use Rattle.std.specs.Prelude.{◌≡◌, ◌≤◌, ◌<◌, ◌+◌, ◌∷◌, ◌++◌, [], Some, OnOk, OnErr, length};
+ghost use Rattle.std.specs.Prelude.{◌≡◌, ◌≤◌, ◌<◌, ◌+◌, ◌∷◌, ◌++◌, [], Some, IfOk, OnOk, OnErr, length};
 ghost use Rattle.sync_base.specs.Rules.{top};
 ghost use Rattle.sync_theory.specs.Grid.{tail};
 ghost use Rattle.list_lane.specs.Lanes.{crossed as crosses, first_slot, length_before as before, slot_at};
@@ -141,6 +141,18 @@ pub(crate) fn slot_in(bursts: &VecDeque<Burst>, place: usize) -> Option<Op>
         rest -= burst.len();
     }
     None
+}
+
+/// All slots.
+pub(crate) fn slots_of(bursts: &VecDeque<Burst>, alloc: Global) -> Result<Vec<Option<Op>>, NoMemory>
+    requires { Placed (joined bursts.now.items) }
+    ensures { IfOk result (λ v. v.items ≡ joined bursts.now.items) }
+{
+    let mut slots = Vec::new(alloc);
+    for i in 0..bursts.len() {
+        bursts[i].append_to(&mut slots)?;
+    }
+    Ok(slots)
 }
 
 /// The length of a list behind so many slots, where it was `first` before them all.

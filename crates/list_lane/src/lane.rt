@@ -1,4 +1,4 @@
-ghost use Rattle.std.specs.Prelude.{◌≡◌, ◌+◌, ◌<◌, ◌≤◌, ◌∷◌, ◌++◌, [], None, Some, OnOk, OnErr, IfSome, IsTrue, IsFalse, length};
+ghost use Rattle.std.specs.Prelude.{◌≡◌, ◌+◌, ◌<◌, ◌≤◌, ◌∷◌, ◌++◌, [], None, Some, OnOk, OnErr, IfSome, IfOk, IsTrue, IsFalse, length};
 ghost use Rattle.sync_base.specs.Rules.{top};
 ghost use Rattle.sync_transform.specs.Places.{Within};
 ghost use Rattle.list_lane.specs.Ops.{lane_later};
@@ -6,7 +6,9 @@ ghost use Rattle.list_lane.specs.Lanes.{crossed, first_slot, length_at_end, leng
 ghost use Rattle.list_lane.specs.Laws.{CrossesLeft, CrossesRight};
 
 use super::burst::Burst;
-use super::bursts::{cross_bursts, left_over, length_within, pop_slot, push_slot, slot_in};
+use super::bursts::{
+    cross_bursts, left_over, length_within, pop_slot, push_slot, slot_in, slots_of,
+};
 use super::flat::length_behind;
 use super::op::Op;
 use std::alloc::Global;
@@ -122,6 +124,20 @@ impl Lane {
         ensures fits { Fits (before place self.now.first self.now.slots) result }
     {
         slot_in(&self.bursts, place)
+    }
+
+    /// What is in all slots, in one walk over them.
+    pub fn slots(&self) -> Result<Vec<Option<Op>>, NoMemory>
+        ensures slots { IfOk result (λ v. v.items ≡ self.now.slots) }
+        ensures chains { Chains self.now.first self.now.slots }
+    {
+        slots_of(&self.bursts, self.alloc)
+    }
+
+    /// In how many bursts the slots lie, each mostly of instructions near each other: a crossing looks at each burst, and at the
+    /// slots of those alone that it meets.
+    pub fn bursts(&self) -> usize {
+        self.bursts.len()
     }
 
     /// The length of the list on which the instruction in the slot at a place acts. It may take as long as a walk.

@@ -20,3 +20,5 @@ pub mod Dropping
 pub mod Merging
 pub mod Turned
 pub mod Slots
+pub mod Cutting
+pub mod Halving

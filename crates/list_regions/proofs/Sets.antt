@@ -1,6 +1,6 @@
 -- An item of a list is replaced, and once more.
-use Rattle.std.proofs.Common.{◌≡◌, ℕ, zero, suc, ◌<◌, List, [], ◌∷◌, length, set, Some, Result, Ok, Err, false, refl, ap, arith}
-use Rattle.std.specs.Prelude.{slice_get, insert, OnOk, OnErr, is_err}
+use Rattle.std.proofs.Common.{◌≡◌, ℕ, zero, suc, ◌<◌, List, [], ◌∷◌, length, set, Some, Result, Ok, Err, true, false, refl, ap, arith}
+use Rattle.std.specs.Prelude.{slice_get, insert, OnOk, OnErr, is_ok, is_err}
 
 pub set_twice : {A : Type 0} (xs : List A) (i : ℕ) (x y : A) → set (set xs i x) i y ≡ set xs i y
 set_twice [] i x y = refl
@@ -35,6 +35,10 @@ some_there (z ∷ xs) (suc i) lt = some_there xs i (omega (arith, lt))
 pub ok_of : {A E : Type 0} {P : Type 0} (r : Result A E) → is_err r ≡ false → OnOk r P → P
 ok_of (Ok x) e p = p
 ok_of (Err y) e p = cc
+
+pub of_ok : {A E : Type 0} {P : Type 0} (r : Result A E) → is_ok r ≡ true → OnOk r P → P
+of_ok (Ok x) e p = p
+of_ok (Err y) e p = cc
 
 pub on_err : {A E : Type 0} {P : Type 0} (r : Result A E) → P → OnErr r P
 on_err (Ok x) p = tt

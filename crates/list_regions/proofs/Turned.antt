@@ -39,7 +39,7 @@ before_more ss i x lt = let e : i + 1 ≡ suc i = omega arith in ap (λ n. lengt
     one (s ∷ t ∷ ss) zero x lt = refl
     one (s ∷ ss) (suc i) x lt = one ss i (length_after s x) (omega (arith, lt))
 
-end_more : (ss : List (Option Op)) (x : ℕ) (s : Option Op) → length_at_end x (ss ++ s ∷ []) ≡ length_after s (length_at_end x ss)
+pub end_more : (ss : List (Option Op)) (x : ℕ) (s : Option Op) → length_at_end x (ss ++ s ∷ []) ≡ length_after s (length_at_end x ss)
 end_more [] x s = refl
 end_more (a ∷ ss) x s = end_more ss (length_after a x) s
 
@@ -146,7 +146,7 @@ before_all [] i x h = refl
 before_all (s ∷ ss) zero x h = absurd (omega (arith, h))
 before_all (s ∷ ss) (suc i) x h = before_all ss i (length_after s x) (omega (arith, h))
 
-before_none : (n : ℕ) (ss : List (Option Op)) → length_before 0 n ss ≡ n
+pub before_none : (n : ℕ) (ss : List (Option Op)) → length_before 0 n ss ≡ n
 before_none n [] = refl
 before_none n (s ∷ ss) = refl
 

@@ -65,6 +65,11 @@ pub record IsRegion (gap : ℕ) (numbers : List ℕ) (lane : LaneOf) : Type 0 wh
   pub numbers_are : length numbers ≡ length lane.slots
   pub room : gap + lane.first + length lane.slots < top
 
+-- the same in one list
+pub record IsListed (numbers : List ℕ) (first : ℕ) (slots : List (Option Op)) : Type 0 where
+  pub numbers_are : length numbers ≡ length slots
+  pub chains : Chains first slots
+
 -- the regions of a lane whose first slot has that number
 pub record IsRegions (popped count first last : ℕ) (qs : List RegionOf) (ss : List (Option Op)) : Type 0 where
   pub whole : Whole popped qs ss

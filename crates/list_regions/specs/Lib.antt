@@ -1,3 +1,4 @@
 pub mod Regions
 pub mod Kept
 pub mod Merges
+pub mod Cuts

@@ -10,6 +10,7 @@ ghost use Rattle.list_lane.specs.declared.op.Op as operation;
 ghost use Rattle.list_regions.specs.Regions.{RegionOf, Whole};
 ghost use Rattle.list_regions.specs.Kept.{crossed_region, with_gap, reach as reaches, Alike, Meets, Passes};
 
+use super::cut::cut_worn;
 use super::merge::merge_at;
 use super::push::gap_at;
 use super::region::Region;
@@ -20,7 +21,7 @@ use sync_data::NoMemory;
 use sync_transform::{Does, length_after};
 
 /// What is left of an instruction that crosses the regions. It takes memory where it erases the last element between two, which
-/// become one before.
+/// become one before. A region that is worn becomes two behind an insertion into it, if there is memory.
 pub(crate) fn cross_regions(
     items: &mut SumList<Region>,
     alloc: Global,
@@ -76,7 +77,9 @@ fn cross_open(
     let gap = region.gap();
     if offset >= gap as u64 {
         let inner = placed(traveller, offset - gap as u64);
+        let worn = region.is_worn(traveller.does);
         let left = cross_at(items, alloc, at.place, inner, lane_left);
+        cut_worn(items, alloc, at.place, inner.place, worn);
         return Ok(lifted(left, at.after + gap as u64));
     }
     let gap = length_after(traveller.does, gap);

@@ -3,6 +3,8 @@
 #![tactic(auto)]
 
 mod crossing;
+mod cut;
+mod listed;
 mod merge;
 mod pop;
 mod push;

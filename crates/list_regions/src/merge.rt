@@ -8,6 +8,7 @@ ghost use Rattle.list_regions.specs.declared.merge.Next.TheVariants as nexts;
 ghost use Rattle.list_regions.specs.Merges.{IsBefore, IsMerged, Merging, Slots};
 
 use super::crossing::lifted;
+use super::listed::Listed;
 use super::region::Region;
 use list_lane::Op;
 use std::alloc::Global;
@@ -48,14 +49,16 @@ pub(crate) fn merge_at(
     let Some(right) = items.get(next) else {
         return Ok(());
     };
-    let one = merged(alloc, left, right)?;
+    let first = left.listed(alloc)?;
+    let second = right.listed(alloc)?;
+    let one = merged(alloc, &first, &second)?;
     items.replace(place, one);
     items.remove(next);
     Ok(())
 }
 
 /// A region and the next one behind it as one.
-pub(crate) fn merged(alloc: Global, left: &Region, right: &Region) -> Result<Region, NoMemory>
+pub(crate) fn merged(alloc: Global, left: &Listed, right: &Listed) -> Result<Region, NoMemory>
     requires left { Slots left.now }
     requires right { Slots right.now }
     requires room { left.now.gap + (left.now.lane.first + (right.now.gap + right.now.lane.first)) < top }
@@ -77,8 +80,8 @@ pub(crate) fn merged(alloc: Global, left: &Region, right: &Region) -> Result<Reg
 /// Appends the slot with the least number.
 fn merge_next(
     region: &mut Region,
-    left: &Region,
-    right: &Region,
+    left: &Listed,
+    right: &Listed,
     turn: Turn,
 ) -> Result<Turn, NoMemory>
     requires left { Slots left.now }
@@ -98,7 +101,7 @@ fn merge_next(
 }
 
 /// Which of both has the next number.
-fn order(left: &Region, right: &Region, turn: Turn) -> Next
+fn order(left: &Listed, right: &Listed, turn: Turn) -> Next
     requires left { Slots left.now }
     requires right { Slots right.now }
     requires some { (turn.left < length left.now.lane.slots) ⊎ (turn.right < length right.now.lane.slots) }
@@ -123,8 +126,8 @@ fn order(left: &Region, right: &Region, turn: Turn) -> Next
 /// Appends the next slot of the first.
 fn take_left(
     region: &mut Region,
-    left: &Region,
-    right: &Region,
+    left: &Listed,
+    right: &Listed,
     turn: Turn,
 ) -> Result<Turn, NoMemory>
     requires left { Slots left.now }
@@ -145,8 +148,8 @@ fn take_left(
 /// Appends the next slot of the second.
 fn take_right(
     region: &mut Region,
-    left: &Region,
-    right: &Region,
+    left: &Listed,
+    right: &Listed,
     turn: Turn,
 ) -> Result<Turn, NoMemory>
     requires right { Slots right.now }
@@ -170,8 +173,8 @@ fn take_right(
 /// Appends the next slot of both, which share a number. At most one has an instruction.
 fn take_both(
     region: &mut Region,
-    left: &Region,
-    right: &Region,
+    left: &Listed,
+    right: &Listed,
     turn: Turn,
 ) -> Result<Turn, NoMemory>
     requires left { Slots left.now }

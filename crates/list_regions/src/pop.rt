@@ -83,7 +83,7 @@ fn pop_at(items: &mut SumList<Region>, alloc: Global, place: usize, number: u64)
 }
 
 /// A region without slots leaves. Its elements come to those in front of the next one.
-fn drop_spent(items: &mut SumList<Region>, alloc: Global, place: usize)
+pub(crate) fn drop_spent(items: &mut SumList<Region>, alloc: Global, place: usize)
     requires { Loose items.old }
     ensures { Shrunk items.old items.new }
 {

@@ -1,10 +1,11 @@
-ghost use Rattle.std.specs.Prelude.{◌≡◌, ◌+◌, ◌<◌, [], Some, OnOk, OnErr, IsTrue, length, slice_get};
+ghost use Rattle.std.specs.Prelude.{◌≡◌, ◌+◌, ◌<◌, [], Some, IfOk, OnOk, OnErr, IsTrue, length, slice_get};
 ghost use Rattle.sync_base.specs.Rules.{top};
 ghost use Rattle.sync_transform.specs.Places.{Within};
 ghost use Rattle.list_lane.specs.Ops.{lane_later as later};
 ghost use Rattle.list_lane.specs.Lanes.{crossed, first_slot, length_at_end, length_before, slot_at, Fits};
 ghost use Rattle.list_regions.specs.Kept.{crossed_region, fresh as fresh_region, popped_region, pushed_region, with_front, with_gap as having};
 
+use super::listed::{Listed, numbers_of};
 use list_lane::{Lane, Op};
 use std::alloc::Global;
 use std::collections::VecDeque;
@@ -13,13 +14,21 @@ use sum_list::Measured;
 use sync_data::{NoMemory, Stamp};
 use sync_transform::Does;
 
+/// From so many bursts on a region may be cut: a crossing looks at fewer about as fast as it finds a region.
+const MANY_BURSTS: usize = 8;
+
+/// A region is cut after crossings have looked at so many bursts for each of its slots, as to write a slot again takes about as
+/// long. So cuts take no longer than the crossings before them, also where a cut is in vain or soon undone.
+const LOOKS_AT_EACH: usize = 32;
+
 /// Slots of a lane whose instructions lie near each other, as a lane of their own, with their numbers. In front of them lie
-/// elements that none of the whole lane erases or updates.
+/// elements that none of the whole lane erases or updates. It counts the bursts that crossings look at.
 #[derive(Drop)]
 pub struct Region {
     gap: u32,
     numbers: VecDeque<u64>,
     lane: Lane,
+    walked: usize,
 }
 
 impl Model for Region {
@@ -67,6 +76,7 @@ impl Region {
             gap: 0,
             numbers: VecDeque::new(alloc),
             lane: Lane::new(alloc, 0),
+            walked: 0,
         }
     }
 
@@ -79,6 +89,7 @@ impl Region {
             gap,
             numbers: VecDeque::new(alloc),
             lane: Lane::new(alloc, elements),
+            walked: 0,
         }
     }
 
@@ -160,6 +171,25 @@ impl Region {
         self.lane.last()
     }
 
+    /// The same in one list.
+    pub(crate) fn listed(&self, alloc: Global) -> Result<Listed, NoMemory>
+        ensures { IfOk result (λ l. l ≡ self.now) }
+    {
+        let numbers = numbers_of(&self.numbers, alloc)?;
+        let slots = self.lane.slots()?;
+        Ok(Listed::new(self.gap, self.lane.first(), numbers, slots))
+    }
+
+    /// Whether crossings have looked at its bursts so often that it is to be cut where an instruction like that crosses it.
+    pub(crate) fn is_worn(&self, does: Does) -> bool {
+        let bursts = self.lane.bursts();
+        let worn = bursts >= MANY_BURSTS && self.walked / LOOKS_AT_EACH >= self.lane.len();
+        match does {
+            Does::Inserts => worn,
+            Does::Erases | Does::Updates => false,
+        }
+    }
+
     /// The number of a slot.
     pub(crate) fn number(&self, place: usize) -> u64
         requires { place < length self.now.numbers }
@@ -199,6 +229,11 @@ impl Region {
         ensures region { self.new ≡ crossed_region (later lane_left) self.old traveller }
         ensures left { result ≡ (crossed (later lane_left) self.old.lane.slots (Some traveller)).left }
     {
+        self.walked = if self.is_worn(traveller.does) {
+            0
+        } else {
+            self.walked.saturating_add(self.lane.bursts())
+        };
         self.lane.cross(traveller, lane_left)
     }
 

@@ -1,6 +1,6 @@
 -- The least number of the items of a list, and of those of several.
 use Rattle.std.proofs.Common.{◌≡◌, ℕ, zero, suc, ◌+◌, ◌<◌, ◌≤◌, List, [], ◌∷◌, ◌++◌, min, length, get_or, take, sym, ap, ◌∙◌, arith}
-use Rattle.std.specs.Prelude.{All}
+use Rattle.std.specs.Prelude.{All, insert}
 use Rattle.std.proofs.lemmas.List.{take_more}
 use Rattle.std.proofs.lemmas.List.Elements.{All-nil, All-append}
 use Rattle.sum_list.specs.Block.{least}
@@ -20,6 +20,11 @@ module _ {X : Type 0} (n : X → ℕ) where
   least_more xs i x low is =
       let e = ap (least n) (take_more xs i x low ∙ ap (λ y. take i xs ++ y ∷ []) (sym is)) in
       let cut = least-append (take i xs) (x ∷ []) in let few = least_few (take i xs) in omega arith
+
+  pub least-insert : (xs : List X) (i : ℕ) (x : X) → least n (insert xs i x) ≡ min (least n xs) (n x)
+  least-insert xs zero x = omega arith
+  least-insert [] (suc i) x = omega arith
+  least-insert (y ∷ ys) (suc i) x = let rest = least-insert ys i x in omega arith
 
   pub some_before : (xs : List X) (i v : ℕ) → least n (take i xs) < v → v < 18446744073709551616 → 0 < i
   some_before xs zero v low few = absurd (omega arith)

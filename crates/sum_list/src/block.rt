@@ -141,10 +141,11 @@ impl<T: Measured> Block<T> {
                 Ok(upper) => Ok(Some(upper)),
             };
         }
+        let measures = with_one(self.measures, &item);
         match self.items.insert(place, item) {
             Err(failed) => Err(failed.value),
             Ok(()) => {
-                self.measures = measure(self.items.as_slice());
+                self.measures = measures;
                 Ok(None)
             }
         }

@@ -11,6 +11,7 @@ use Rattle.list_regions.specs.Kept.{at, crossed_region, with_gap, Passes}
 use Rattle.sum_list.specs.Places.{Reaches}
 use Rattle.list_regions.proofs.Sets.{same_item}
 use Rattle.list_regions.proofs.Meeting.{more_of, there, roomy, after_low, left_low, lifted_low, after_is, within, pass_tail, pass_touch, pass_gap}
+use Rattle.list_regions.proofs.Cutting.{passes_loose, passes_shrunk}
 use Rattle.list_regions.proofs.crossing.cross_open.Goals as goal
 
 pub placed-requires : goal.placed-requires
@@ -69,6 +70,25 @@ overflow_add-at c =
     let gap = c.gap-gap.ensures in
     omega (arith, low, sum, gap)
 
+pub cut_worn-requires : goal.cut_worn-requires
+cut_worn-requires c =
+    let b = c.args.traveller in
+    let qs = c.args.items.now in
+    let a = c.find_before-at.result in
+    let l = later c.args.lane_left in
+    let r = subst (λ n. Reaches before n qs a.place) c.reach.ensures c.find_before-at.ensures.first in
+    let q = c.in-Some.region.now in
+    let zs = c.cross_at-left.new.items in
+    let z = c.cross_at-left.result in
+    let here = sym c.get.ensures ∙ ap option_copied c.in-Some.is in
+    let gap = c.gap-gap.ensures in
+    let far = c.if-offset-gap.true in
+    let inner : c.placed-inner.result ≡ at b (b.place - a.before - q.gap) = c.placed-inner.ensures ∙ ap (λ n. at b (b.place - a.before - n)) gap in
+    passes_loose l qs zs b (option_map (from (a.after + q.gap)) z) c.requires
+    (pass_touch l qs b a c.find_before-at.ensures.sums r q zs z here (omega (arith, gap, far))
+    (c.cross_at-left.ensures.regions q here ∙ ap (λ (o : Op). set qs a.place (crossed_region l q o)) inner)
+    (c.cross_at-left.ensures.left q here ∙ ap (λ (o : Op). (crossed l q.lane.slots (Some o)).left) inner))
+
 pub returns-then-offset-gap-clause-ok : goal.returns-then-offset-gap-clause-ok
 returns-then-offset-gap-clause-ok c =
     let b = c.args.traveller in
@@ -83,11 +103,13 @@ returns-then-offset-gap-clause-ok c =
     let gap = c.gap-gap.ensures in
     let far = c.if-offset-gap.true in
     let inner : c.placed-inner.result ≡ at b (b.place - a.before - q.gap) = c.placed-inner.ensures ∙ ap (λ n. at b (b.place - a.before - n)) gap in
-    subst (λ y. Passes l qs b y zs) (sym c.lifted.ensures)
+    passes_shrunk l qs zs c.cut_worn.new.items b c.lifted.result
+    (subst (λ y. Passes l qs b y zs) (sym c.lifted.ensures)
     (subst (λ n. Passes l qs b (option_map (from (a.after + n)) z) zs) (sym gap)
     (pass_touch l qs b a c.find_before-at.ensures.sums r q zs z here (omega (arith, gap, far))
     (c.cross_at-left.ensures.regions q here ∙ ap (λ (o : Op). set qs a.place (crossed_region l q o)) inner)
-    (c.cross_at-left.ensures.left q here ∙ ap (λ (o : Op). (crossed l q.lane.slots (Some o)).left) inner)))
+    (c.cross_at-left.ensures.left q here ∙ ap (λ (o : Op). (crossed l q.lane.slots (Some o)).left) inner))))
+    c.cut_worn.ensures
 
 pub lifted-requires : goal.lifted-requires
 lifted-requires c =

@@ -7,6 +7,18 @@ use Rattle.list_regions.proofs.Popping.{moved_is}
 use Rattle.list_regions.proofs.Turned.{number_there, turn_low, right_low, both_taken}
 use Rattle.list_regions.proofs.merge.take_both.Goals as goal
 
+pub slot-own-requires : goal.slot-own-requires
+slot-own-requires c =
+    let there = number_there c.args.left.now.numbers c.args.turn.left c.requires.next.0 c.requires.next.1 in
+    let are = c.requires.left.are in
+    omega (arith, there, are)
+
+pub slot-requires : goal.slot-requires
+slot-requires c =
+    let there = number_there c.args.right.now.numbers c.args.turn.right c.requires.next.0 c.requires.next.2 in
+    let are = c.requires.right.are in
+    omega (arith, there, are)
+
 pub number-requires : goal.number-requires
 number-requires c = number_there c.args.left.now.numbers c.args.turn.left c.requires.next.0 c.requires.next.1
 

@@ -5,6 +5,12 @@ use Rattle.list_regions.specs.declared.merge.Turn.{Turn}
 use Rattle.list_regions.proofs.Turned.{number_there, turn_low, left_taken}
 use Rattle.list_regions.proofs.merge.take_left.Goals as goal
 
+pub slot-slot-requires : goal.slot-slot-requires
+slot-slot-requires c =
+    let there = number_there c.args.left.now.numbers c.args.turn.left c.requires.next.0 c.requires.next.1 in
+    let are = c.requires.left.are in
+    omega (arith, there, are)
+
 pub overflow_add-result : goal.overflow_add-result
 overflow_add-result c =
     let there = number_there c.args.left.now.numbers c.args.turn.left c.number.result c.number.ensures in

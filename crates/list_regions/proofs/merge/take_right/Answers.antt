@@ -8,6 +8,12 @@ use Rattle.list_regions.proofs.Popping.{moved_is}
 use Rattle.list_regions.proofs.Turned.{number_there, turn_low, right_low, right_taken}
 use Rattle.list_regions.proofs.merge.take_right.Goals as goal
 
+pub slot-requires : goal.slot-requires
+slot-requires c =
+    let there = number_there c.args.right.now.numbers c.args.turn.right c.requires.next.0 c.requires.next.1 in
+    let are = c.requires.right.are in
+    omega (arith, there, are)
+
 pub number-requires : goal.number-requires
 number-requires c = number_there c.args.right.now.numbers c.args.turn.right c.requires.next.0 c.requires.next.1
 
