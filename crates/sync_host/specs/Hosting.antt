@@ -7,7 +7,7 @@ use Rattle.sync_model.specs.Clients.{ClientRecord, client_of}
 use Rattle.sync_model.specs.Parts.{serve_by}
 use Rattle.sync_model.specs.Servers.{ServerRecord}
 use Rattle.sync_exchange.specs.Profile.{the_profile}
-use Rattle.sync_server.specs.Kept.{parts}
+use Rattle.server_memory.specs.Kept.{parts}
 use Rattle.sync_server.specs.Serving.{kept_of}
 use Rattle.sync_host.specs.Objects.{ObjectTold, object_form_of_line}
 use Rattle.sync_host.specs.Places.{place_lines}

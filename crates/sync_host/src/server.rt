@@ -5,7 +5,7 @@ ghost use Rattle.sync_model.specs.Parts.{serve_by};
 ghost use Rattle.sync_model.specs.Servers as model;
 ghost use Rattle.sync_exchange.specs.Profile.{the_profile};
 ghost use Rattle.sync_exchange.specs.Seen.{message_seen};
-ghost use Rattle.sync_server.specs.Kept.{parts};
+ghost use Rattle.server_memory.specs.Kept.{parts};
 ghost use Rattle.sync_server.specs.Serving.{kept_of};
 ghost use Rattle.sync_host.specs.Steps.{IfTold, ServerStands, Serves, message_read, server_standing};
 ghost use Rattle.sync_host.specs.declared.reply.Reply.TheVariants as replies;

@@ -3,7 +3,7 @@ ghost use Rattle.std.specs.Prelude.{◌≡◌, ◌++◌, ◌≤◌, ℕ, List, �
 ghost use Rattle.sync_disk.specs.Disk.{Rose};
 ghost use Rattle.sync_model.specs.Parts.{serve_by};
 ghost use Rattle.sync_model.specs.Servers.{ServerRecord};
-ghost use Rattle.sync_server.specs.Kept.{parts};
+ghost use Rattle.server_memory.specs.Kept.{parts};
 ghost use Rattle.sync_server.specs.Serving.{kept_of};
 ghost use Rattle.sync_exchange.specs.Profile.{the_profile};
 ghost use Rattle.sync_exchange.specs.Seen.{message_seen};

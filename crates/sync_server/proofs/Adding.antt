@@ -1,12 +1,9 @@
 -- Records that are added to a server's journal, one after the other.
-use Rattle.std.proofs.Common.{◌≡◌, ℕ, suc, List, [], ◌∷◌, ◌++◌, map, length, refl, sym, ap, ◌∙◌, subst, append_assoc, append-nil}
+use Rattle.std.proofs.Common.{◌≡◌, ℕ, List, [], ◌++◌, map, sym, ap, ◌∙◌, subst, append_assoc, append-nil}
 use Rattle.std.proofs.lemmas.List.{map-append}
 use Rattle.sync_disk.specs.declared.disk.Disk.{Ghosts}
 use Rattle.sync_journal.specs.Stands.{Stands}
 use Rattle.sync_journal.specs.declared.journal.Journal.{Journal}
-use Rattle.sync_data.specs.declared.instr.Instr.{Instr}
-use Rattle.sync_theory.specs.Changesets.{Changeset}
-use Rattle.sync_model.specs.Parts.{Given, idents_after}
 use Rattle.sync_model.specs.Servers.{ServerRecord}
 use Rattle.sync_exchange.specs.Seen.{server_bytes}
 use Rattle.sync_server.specs.Serving.{Adds}
@@ -18,7 +15,3 @@ module _ {D : Type 0} {G : Ghosts D} where
 
   pub adds_none : (old new : Journal D G) → new ≡ old → Adds [] old new
   adds_none old new e = λ rs s. subst (λ j. Stands (rs ++ []) j) (sym e) (subst (λ l. Stands l old) (sym (append-nil rs)) s)
-
-pub idents_length : (c base : ℕ) (es : List (Changeset Instr)) (version : ℕ) (x : Changeset Instr) (k : ℕ) (gs : List (Given Instr)) → length (idents_after c base es version x k gs) ≡ length gs
-idents_length c base es version x k [] = refl
-idents_length c base es version x k (g ∷ gs) = ap suc (idents_length c base es version x (suc k) gs)

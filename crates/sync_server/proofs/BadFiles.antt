@@ -5,7 +5,7 @@ use Rattle.sync_journal.specs.declared.opening.OpenCause.TheVariants.{BadFile}
 use Rattle.sync_journal.specs.declared.opening.ReadRefusal.{ReadRefusal}
 use Rattle.sync_journal.specs.declared.opening.ReadRefusal.TheVariants as refusals
 use Rattle.sync_server.specs.Files.{Refuses}
-use Rattle.sync_server.specs.Opening.{ReadsFile}
+use Rattle.server_memory.specs.Opening.{ReadsFile}
 
 pub bad_at : (file : List (List ℕ)) (why : ReadRefusal) (place : ℕ) → ReadsFile file (Err why) → unread_cause file why ≡ BadFile place → BadRecordAt Refuses file place
 bad_at file (refusals.BadRecord number) place reads is = record { number = number; reads = reads; gate = cc }

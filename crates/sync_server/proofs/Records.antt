@@ -9,10 +9,10 @@ use Rattle.sync_model.specs.Servers.{ServerRecord}
 use Rattle.sync_model.proofs.Written.{serve_writes}
 use Rattle.sync_exchange.specs.Profile.{the_profile}
 use Rattle.sync_messages.specs.declared.message.Message.{Message as CodeMessage}
-use Rattle.sync_server.specs.Kept.{parts}
+use Rattle.server_memory.specs.Kept.{parts}
 use Rattle.sync_server.specs.Serving.{Did, IsServed, IsServerOf, is_closed}
 use Rattle.sync_server.specs.declared.server.Server.{Server}
-use Rattle.sync_server.proofs.Continuing.{file_goes_on}
+use Rattle.server_memory.proofs.Continuing.{file_goes_on}
 
 module _ {D : Type 0} {G : Ghosts D} (records : List ServerRecord) (m : Message) (old new : Server D G) (is : IsServerOf records old) where
   pub did : (reply : CodeMessage) → IsServed (serve_by the_profile (parts old.kept) m) reply new.kept → is_closed new ≡ false → Did (serve_by the_profile (parts old.kept) m) reply records new

@@ -16,13 +16,13 @@ use Rattle.sync_model.proofs.Loops.{by_parts_begins, by_parts_skips, by_parts_me
 use Rattle.sync_exchange.specs.Profile.{the_profile}
 use Rattle.sync_exchange.specs.Seen.{change_seen, message_seen}
 use Rattle.sync_messages.specs.declared.message.Message.{Message as CodeMessage}
-use Rattle.sync_server.specs.Kept.{parts}
-use Rattle.sync_server.specs.Merging.{records_of}
-use Rattle.sync_server.specs.Refusals.{refusal_seen}
-use Rattle.sync_server.specs.Sending.{refusal_message}
+use Rattle.server_memory.specs.Kept.{parts}
+use Rattle.server_memory.specs.Merging.{records_of}
+use Rattle.server_memory.specs.Refusals.{refusal_seen}
+use Rattle.server_memory.specs.Sending.{refusal_message}
 use Rattle.sync_server.specs.Serving.{IsMerged, IsServed, IsTaken, JournalAppends, UploadedSoFar, change_records, merged_records}
-use Rattle.sync_server.specs.declared.kept.Kept.{Kept}
-use Rattle.sync_server.specs.declared.refusal.Refusal.{Refusal}
+use Rattle.server_memory.specs.declared.kept.Kept.{Kept}
+use Rattle.server_memory.specs.declared.refusal.Refusal.{Refusal}
 use Rattle.sync_server.specs.declared.refusal.ServerRefusal.{ServerRefusal as CodeRefusal}
 use Rattle.sync_server.specs.declared.server.Server.{Server}
 use Rattle.sync_server.proofs.Appending.{appends_more, appends_none, appends_part}

@@ -9,7 +9,7 @@ use Rattle.sync_model.specs.Fronts.{file_gives}
 use Rattle.sync_exchange.specs.Profile.{the_profile}
 use Rattle.sync_exchange.specs.Seen.{read_server}
 use Rattle.sync_server.specs.declared.server.Server.{Server}
-use Rattle.sync_server.specs.Opening.{AreRecords}
+use Rattle.server_memory.specs.Opening.{AreRecords}
 use Rattle.sync_server.specs.Serving.{IsServerOf, IsStored}
 
 -- a server wouldn't have written the record of that number after those before it

@@ -18,10 +18,10 @@ use Rattle.sync_model.specs.Servers.{ServerRecord, ServerRefusal}
 use Rattle.sync_exchange.specs.Profile.{the_profile}
 use Rattle.sync_exchange.specs.Seen.{message_seen, server_bytes}
 use Rattle.sync_messages.specs.declared.message.Message.{Message as CodeMessage}
-use Rattle.sync_server.specs.Kept.{parts}
-use Rattle.sync_server.specs.Refusals.{refusal_seen}
-use Rattle.sync_server.specs.declared.kept.Kept.{Kept}
-use Rattle.sync_server.specs.declared.refusal.Refusal.{Refusal}
+use Rattle.server_memory.specs.Kept.{parts}
+use Rattle.server_memory.specs.Refusals.{refusal_seen}
+use Rattle.server_memory.specs.declared.kept.Kept.{Kept}
+use Rattle.server_memory.specs.declared.refusal.Refusal.{Refusal}
 use Rattle.sync_server.specs.declared.refusal.ServerRefusal.{ServerRefusal as CodeRefusal}
 use Rattle.sync_server.specs.declared.refusal.ServerRefusal.TheVariants as causes
 use Rattle.sync_server.specs.declared.server.Server.{Server}

@@ -9,11 +9,11 @@ ghost use Rattle.sync_model.specs.Parts.{Given as GivenParts, at_ident, bind_by,
 ghost use Rattle.sync_exchange.specs.Profile.{the_profile};
 ghost use Rattle.sync_exchange.specs.Seen.{change_seen, message_seen, server_seen};
 ghost use Rattle.sync_recip.specs.Lists.{entry_of};
-ghost use Rattle.sync_server.specs.Integrating.{found};
-ghost use Rattle.sync_server.specs.Merging.{records_of};
-ghost use Rattle.sync_server.specs.Sending.{asked};
-ghost use Rattle.sync_server.specs.Retiring.{retiring};
-ghost use Rattle.sync_server.specs.Readers.{changes_of, counts_of, item_from, past};
+ghost use Rattle.server_memory.specs.Integrating.{found};
+ghost use Rattle.server_memory.specs.Merging.{records_of};
+ghost use Rattle.server_memory.specs.Sending.{asked};
+ghost use Rattle.server_memory.specs.Retiring.{retiring};
+ghost use Rattle.server_memory.specs.Readers.{changes_of, counts_of, item_from, past};
 
 use crate::asking::refuse;
 use crate::counts::Counts;
@@ -53,7 +53,7 @@ fn entry_record(alloc: Global, ident: Ident, change: &Change) -> Result<ServerRe
 }
 
 impl<D: Disk> Server<D> {
-    ghost use Rattle.sync_server.specs.Kept.{parts};
+    ghost use Rattle.server_memory.specs.Kept.{parts};
     ghost use Rattle.sync_server.specs.Serving.{Appends, Closes, Did, IsServed, IsServerOf, IsStored, IsTaken, StaysOpen, Survives, UsesDisk, change_records, is_closed, journal_of, kept_of};
 
     /// Adds a record to the journal. It closes the server where that fails.

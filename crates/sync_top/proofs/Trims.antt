@@ -20,7 +20,7 @@ use Rattle.sync_model.proofs.Written.{open_cut, serve_writes}
 use Rattle.sync_exchange.specs.Lemmas.Buildable.{real_buildable}
 use Rattle.sync_exchange.specs.Lemmas.Lawful.{real_lawful}
 use Rattle.sync_exchange.specs.Profile.{the_profile}
-use Rattle.sync_server.proofs.Continuing.{file_goes_on}
+use Rattle.server_memory.proofs.Continuing.{file_goes_on}
 use Rattle.sync_words.specs.Messages.{message_read}
 use Rattle.sync_node.specs.Frames.{frame}
 use Rattle.sync_node.specs.Items.{Items, Over, Bad, Limit, Next}

@@ -13,7 +13,7 @@ use Rattle.sync_model.specs.Trimmed.{count_records, crossed_record, crossed_of, 
 use Rattle.sync_model.specs.Trims.{is_live, pairs_from, trimmed_given}
 use Rattle.sync_model.specs.Worlds.{at}
 use Rattle.sync_exchange.specs.Profile.{the_profile}
-use Rattle.sync_server.specs.Readers.{item_from}
+use Rattle.server_memory.specs.Readers.{item_from}
 use Rattle.sync_trim.proofs.Given.{Idents}
 use Rattle.sync_trim.proofs.Versions.{from_floor}
 

@@ -11,7 +11,7 @@ use Rattle.sync_records.specs.Spelling.{client_spelling, server_spelling}
 use Rattle.sync_records.specs.declared.client.ClientRecord.{ClientRecord}
 use Rattle.sync_records.specs.declared.client.ClientRecord.TheVariants as codes
 use Rattle.sync_records.specs.declared.server.ServerRecord.{ServerRecord}
-use Rattle.sync_server.proofs.Reading.{kept_seen}
+use Rattle.server_memory.proofs.Reading.{kept_seen}
 
 pub server_texts : (rs : List ServerRecord) → map server_spelling rs ≡ map server_bytes (map server_seen rs)
 server_texts [] = refl

@@ -7,7 +7,7 @@ use Rattle.sync_data.specs.declared.instr.Instr.{Instr}
 use Rattle.sync_model.specs.Trimmed.{entry_records}
 use Rattle.sync_model.specs.Worlds.{at}
 use Rattle.sync_exchange.specs.Profile.{the_profile}
-use Rattle.sync_server.specs.Readers.{item_from}
+use Rattle.server_memory.specs.Readers.{item_from}
 use Rattle.sync_trim.proofs.Pieces.{at_some, at_none, get_at}
 
 pub from_floor : {A : Type 0} (floor v : ℕ) (xs : List A) → floor ≤ v → item_from floor xs v ≡ at xs (v - floor)

@@ -8,7 +8,7 @@ ghost use Rattle.sync_exchange.specs.Profile.{the_profile};
 ghost use Rattle.sync_exchange.specs.Seen.{client_bytes, read_client, read_server, server_bytes};
 ghost use Rattle.sync_records.specs.Limits.{IsClientRecord, IsServerRecord};
 ghost use Rattle.sync_records.specs.Spelling.{client_spelling, server_spelling};
-ghost use Rattle.sync_server.specs.Kept.{parts};
+ghost use Rattle.server_memory.specs.Kept.{parts};
 ghost use Rattle.sync_server.specs.Serving.{is_closed, kept_of};
 
 use crate::starting::started;

@@ -3,7 +3,7 @@ ghost use Rattle.sync_data.specs.declared.instr.Instr.{Instr};
 ghost use Rattle.sync_model.specs.Parts.{Given, at_ident};
 ghost use Rattle.sync_model.specs.Trims.{is_live, next_floor, state_from};
 ghost use Rattle.sync_exchange.specs.Profile.{the_profile};
-ghost use Rattle.sync_server.specs.Kept.{parts};
+ghost use Rattle.server_memory.specs.Kept.{parts};
 ghost use Rattle.sync_server.specs.Serving.{kept_of};
 
 use std::alloc::Global;

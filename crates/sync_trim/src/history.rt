@@ -2,7 +2,7 @@ ghost use Rattle.std.specs.Prelude.{◌≡◌, ◌≤◌, ◌-◌, ◌++◌, map
 ghost use Rattle.sync_model.specs.Trimmed.{entry_records};
 ghost use Rattle.sync_exchange.specs.Profile.{the_profile};
 ghost use Rattle.sync_exchange.specs.Seen.{server_seen};
-ghost use Rattle.sync_server.specs.Kept.{parts};
+ghost use Rattle.server_memory.specs.Kept.{parts};
 ghost use Rattle.sync_server.specs.Serving.{kept_of};
 
 use crate::bodies::body_of;

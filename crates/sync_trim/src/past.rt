@@ -5,8 +5,8 @@ ghost use Rattle.sync_model.specs.Parts.{Given, at_ident};
 ghost use Rattle.sync_model.specs.Trims.{is_live, pairs_from};
 ghost use Rattle.sync_exchange.specs.Profile.{the_profile};
 ghost use Rattle.sync_exchange.specs.Seen.{server_seen};
-ghost use Rattle.sync_server.specs.Kept.{parts};
-ghost use Rattle.sync_server.specs.Readers.{item_from};
+ghost use Rattle.server_memory.specs.Kept.{parts};
+ghost use Rattle.server_memory.specs.Readers.{item_from};
 ghost use Rattle.sync_server.specs.Serving.{kept_of};
 ghost use Rattle.sync_recip.specs.Lists.{entry_of};
 

@@ -3,7 +3,7 @@ ghost use Rattle.sync_model.specs.Servers as model;
 ghost use Rattle.sync_model.specs.Trimmed.{trim_records};
 ghost use Rattle.sync_exchange.specs.Profile.{the_profile};
 ghost use Rattle.sync_exchange.specs.Seen.{server_seen};
-ghost use Rattle.sync_server.specs.Kept.{parts};
+ghost use Rattle.server_memory.specs.Kept.{parts};
 ghost use Rattle.sync_server.specs.Serving.{is_closed, kept_of};
 
 use crate::bodies::part_bodies;

@@ -9,9 +9,9 @@ use Rattle.sync_dump.specs.Dump.{dump}
 use Rattle.sync_model.specs.Parts.{Parts, parts_of}
 use Rattle.sync_model.specs.Servers.{Server, entries_from, server_objects}
 use Rattle.sync_exchange.specs.Profile.{the_profile}
-use Rattle.sync_server.specs.Kept.{parts}
-use Rattle.sync_server.specs.Readers.{item_from}
-use Rattle.sync_server.specs.declared.kept.Kept.{Kept}
+use Rattle.server_memory.specs.Kept.{parts}
+use Rattle.server_memory.specs.Readers.{item_from}
+use Rattle.server_memory.specs.declared.kept.Kept.{Kept}
 use Rattle.sync_words.specs.Reports.{entries_text, entry_text, kept_text, server_text}
 use Rattle.sync_words.specs.Words.{said}
 

@@ -5,7 +5,7 @@ ghost use Rattle.sync_model.specs.Clients as clients;
 ghost use Rattle.sync_model.specs.Reports.{node_line};
 ghost use Rattle.sync_exchange.specs.Profile.{the_profile};
 ghost use Rattle.sync_client.specs.Clients.{IsClientOf};
-ghost use Rattle.sync_server.specs.Kept.{parts};
+ghost use Rattle.server_memory.specs.Kept.{parts};
 ghost use Rattle.sync_server.specs.Serving.{kept_of};
 ghost use Rattle.sync_words.specs.Reports.{client_text, entries_text, entry_text, floor_text, kept_text, standing_text};
 

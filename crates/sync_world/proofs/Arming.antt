@@ -11,7 +11,7 @@ use Rattle.sync_model.specs.Worlds.{Stop}
 use Rattle.sync_client.specs.Clients as clients
 use Rattle.sync_client.specs.Keeping.{Keeps}
 use Rattle.sync_client.specs.declared.client.Client.{Client}
-use Rattle.sync_server.specs.Kept.{parts}
+use Rattle.server_memory.specs.Kept.{parts}
 use Rattle.sync_server.specs.Serving as servers
 use Rattle.sync_server.specs.declared.server.Server.{Server}
 use Rattle.sync_world.specs.Events.{leaves_seen}

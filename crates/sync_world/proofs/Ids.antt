@@ -7,7 +7,7 @@ use Rattle.sync_data.specs.declared.instr.Instr.{Instr}
 use Rattle.sync_model.specs.Parts.{idents_of}
 use Rattle.sync_model.specs.Servers.{Server, place_of}
 use Rattle.sync_model.specs.Worlds.{Node, Stop, further, has_id, id_is, ident_is, is_there, seek}
-use Rattle.sync_server.specs.Integrating.{found}
+use Rattle.server_memory.specs.Integrating.{found}
 use Rattle.std.proofs.lemmas.Bool.Decides.{nat_tests}
 use Rattle.sync_exchange.specs.Profile.{the_profile}
 use Rattle.sync_world.specs.Holding.{HoldsEach, HoldsNode, id_of}

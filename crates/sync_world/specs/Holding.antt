@@ -15,7 +15,7 @@ use Rattle.sync_words.specs.Outcomes.{outcome_seen}
 use Rattle.sync_words.specs.declared.outcome.Outcome.{Outcome as CodeOutcome}
 use Rattle.sync_client.specs.Clients.{IsClientOf, IsStored, replica_of}
 use Rattle.sync_client.specs.declared.client.Client.{Client}
-use Rattle.sync_server.specs.Kept.{parts}
+use Rattle.server_memory.specs.Kept.{parts}
 use Rattle.sync_server.specs.Serving.{kept_of}
 use Rattle.sync_server.specs.declared.server.Server.{Server}
 use Rattle.sync_disk.specs.declared.disk.Disk.{Ghosts}

@@ -1,5 +1,5 @@
 use Rattle.std.proofs.Common.{OnOk, subst, sym}
-use Rattle.sync_server.specs.Kept.{parts}
+use Rattle.server_memory.specs.Kept.{parts}
 use Rattle.sync_server.specs.Serving.{kept_of}
 use Rattle.sync_node.specs.ServerTexts.{StandsFor}
 use Rattle.sync_node.proofs.Standing.{started_text, trimmed_text}

@@ -1,7 +1,7 @@
 use Rattle.sync_model.specs.Parts.{serve_by}
 use Rattle.sync_exchange.specs.Profile.{the_profile}
 use Rattle.sync_exchange.specs.Seen.{message_seen}
-use Rattle.sync_server.specs.Kept.{parts}
+use Rattle.server_memory.specs.Kept.{parts}
 use Rattle.sync_server.specs.Serving.{kept_of}
 use Rattle.sync_node.proofs.Told.{replied_ok}
 use Rattle.sync_node.proofs.waiter.reply.Goals as goal

@@ -3,7 +3,7 @@ use Rattle.sync_base.specs.States.{State}
 use Rattle.sync_data.specs.declared.instr.Instr.{Instr}
 use Rattle.sync_dump.specs.Dump.{dump}
 use Rattle.sync_model.specs.Parts.{Parts}
-use Rattle.sync_server.specs.Kept.{parts}
+use Rattle.server_memory.specs.Kept.{parts}
 use Rattle.sync_server.specs.Serving.{kept_of}
 use Rattle.sync_top.specs.Summaries.{server_dump}
 use Rattle.sync_top.proofs.summary.equal_clients.Goals as goal

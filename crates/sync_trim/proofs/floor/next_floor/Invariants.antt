@@ -1,4 +1,4 @@
-use Rattle.sync_server.specs.Kept.{parts}
+use Rattle.server_memory.specs.Kept.{parts}
 use Rattle.sync_server.specs.Serving.{kept_of}
 use Rattle.std.proofs.Common.{drop}
 use Rattle.sync_trim.proofs.Floors.{Lowered}

@@ -3,7 +3,7 @@ use Rattle.std.specs.Option.{option_map}
 use Rattle.sync_recip.specs.Lists.{entry_of}
 use Rattle.sync_store.specs.Applying.{AppliesAll}
 use Rattle.sync_store.specs.declared.refusals.AllRefusal.{AllRefusal}
-use Rattle.sync_server.specs.Kept.{parts}
+use Rattle.server_memory.specs.Kept.{parts}
 use Rattle.sync_server.specs.Serving.{kept_of}
 use Rattle.sync_trim.proofs.States.{acts_on, none_left, stops_at}
 use Rattle.sync_trim.proofs.Versions.{item_none, item_some}

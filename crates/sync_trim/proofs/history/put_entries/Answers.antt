@@ -5,7 +5,7 @@ use Rattle.sync_model.specs.Servers as model
 use Rattle.sync_model.specs.Trimmed.{entry_records}
 use Rattle.sync_exchange.specs.Profile.{the_profile}
 use Rattle.sync_exchange.specs.Seen.{server_seen}
-use Rattle.sync_server.specs.Kept.{parts}
+use Rattle.server_memory.specs.Kept.{parts}
 use Rattle.sync_server.specs.Serving.{kept_of}
 use Rattle.sync_trim.proofs.Pieces.{no_more, one_more}
 use Rattle.sync_trim.proofs.Versions.{item_none, item_some, no_bases, no_entries}

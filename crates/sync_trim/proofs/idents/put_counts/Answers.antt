@@ -3,10 +3,10 @@ use Rattle.sync_model.specs.Servers as model
 use Rattle.sync_model.specs.Trimmed.{count_records}
 use Rattle.sync_exchange.specs.Profile.{the_profile}
 use Rattle.sync_exchange.specs.Seen.{server_seen}
-use Rattle.sync_server.specs.Kept.{parts}
-use Rattle.sync_server.specs.Readers.{counts_of}
+use Rattle.server_memory.specs.Kept.{parts}
+use Rattle.server_memory.specs.Readers.{counts_of}
 use Rattle.sync_server.specs.Serving.{kept_of}
-use Rattle.sync_server.specs.declared.counts.Counts.{Counts}
+use Rattle.server_memory.specs.declared.counts.Counts.{Counts}
 use Rattle.sync_trim.proofs.Given.{is_read}
 use Rattle.sync_trim.proofs.Pieces.{one_more}
 use Rattle.sync_trim.proofs.idents.put_counts.Goals as goal

@@ -1,7 +1,7 @@
 use Rattle.std.proofs.Common.{ℕ, List, ◌+◌, ◌∷◌, ◌++◌, map, drop, sym, ap, ◌∙◌}
 use Rattle.sync_model.specs.Servers as model
 use Rattle.sync_exchange.specs.Seen.{server_seen}
-use Rattle.sync_server.specs.Kept.{parts}
+use Rattle.server_memory.specs.Kept.{parts}
 use Rattle.sync_server.specs.Serving.{kept_of}
 use Rattle.sync_trim.proofs.Pieces.{at_none, at_some, get_at, no_more, one_more}
 use Rattle.sync_trim.proofs.idents.put_retired.Goals as goal

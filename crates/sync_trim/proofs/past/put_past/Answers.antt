@@ -4,7 +4,7 @@ use Rattle.sync_model.specs.Trimmed.{crossed_of, crossed_records}
 use Rattle.sync_model.specs.Trims.{is_live, pairs_from}
 use Rattle.sync_exchange.specs.Profile.{the_profile}
 use Rattle.sync_exchange.specs.Seen.{server_seen}
-use Rattle.sync_server.specs.Kept.{parts}
+use Rattle.server_memory.specs.Kept.{parts}
 use Rattle.sync_server.specs.Serving.{kept_of}
 use Rattle.sync_trim.proofs.Given.{ident_some, is_given}
 use Rattle.sync_trim.proofs.past.put_past.Goals as goal

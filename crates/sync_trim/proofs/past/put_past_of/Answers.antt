@@ -5,8 +5,8 @@ use Rattle.sync_model.specs.Servers as model
 use Rattle.sync_model.specs.Trimmed.{crossed_record}
 use Rattle.sync_exchange.specs.Profile.{the_profile}
 use Rattle.sync_exchange.specs.Seen.{server_seen}
-use Rattle.sync_server.specs.Kept.{parts}
-use Rattle.sync_server.specs.Readers.{item_from}
+use Rattle.server_memory.specs.Kept.{parts}
+use Rattle.server_memory.specs.Readers.{item_from}
 use Rattle.sync_server.specs.Serving.{kept_of}
 use Rattle.sync_trim.proofs.Crossed.{Pair, crossed, crossed_left, got_none, got_some, passed}
 use Rattle.sync_trim.proofs.Pieces.{at_some, none_next, get_at}

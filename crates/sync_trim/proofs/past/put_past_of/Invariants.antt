@@ -1,6 +1,6 @@
 use Rattle.std.proofs.Common.{◌≡◌, ◌≤◌, ◌++◌, ℕ, map, drop}
 use Rattle.sync_exchange.specs.Seen.{server_seen}
-use Rattle.sync_server.specs.Kept.{parts}
+use Rattle.server_memory.specs.Kept.{parts}
 use Rattle.sync_server.specs.Serving.{kept_of}
 use Rattle.sync_trim.proofs.Crossed.{crossed_left}
 use Rattle.sync_trim.proofs.past.put_past_of.Given as goal

@@ -3,7 +3,7 @@ use Rattle.sync_codec.specs.Spelling.{spelling}
 use Rattle.snapshot_law.specs.Build.{build}
 use Rattle.sync_exchange.specs.Profile.{fits_changeset}
 use Rattle.sync_exchange.specs.Seen.{server_seen}
-use Rattle.sync_server.specs.Kept.{parts}
+use Rattle.server_memory.specs.Kept.{parts}
 use Rattle.sync_server.specs.Serving.{kept_of}
 use Rattle.sync_trim.proofs.Pieces.{put_one}
 use Rattle.sync_trim.proofs.Whole.{trims}

@@ -1,6 +1,6 @@
 use Rattle.std.proofs.Common.{◌++◌, ◌-◌, sym, ap, ◌∙◌, arith}
 use Rattle.sync_recip.specs.Lists.{entry_of}
-use Rattle.sync_server.specs.Kept.{parts}
+use Rattle.server_memory.specs.Kept.{parts}
 use Rattle.sync_server.specs.Serving.{kept_of}
 use Rattle.sync_words.specs.Reports.{entries_text}
 use Rattle.sync_words.proofs.Entries.{item_is, no_gap, one_put}

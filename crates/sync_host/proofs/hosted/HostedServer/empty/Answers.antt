@@ -1,6 +1,6 @@
 use Rattle.std.proofs.Common.{Ok, map, sym, ◌∙◌, ap}
 use Rattle.sync_exchange.specs.Seen.{server_bytes}
-use Rattle.sync_server.specs.Kept.{parts}
+use Rattle.server_memory.specs.Kept.{parts}
 use Rattle.sync_host.proofs.hosted.HostedServer.empty.Goals as goal
 
 pub returns : goal.returns

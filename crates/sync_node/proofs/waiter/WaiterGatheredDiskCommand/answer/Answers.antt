@@ -7,7 +7,7 @@ use Rattle.sync_node.specs.Holding.{ServerStands}
 use Rattle.sync_node.specs.Runs.{AnswersSo}
 use Rattle.sync_node.specs.Steps.{kept_or, replied}
 use Rattle.sync_words.specs.Messages.{message_read}
-use Rattle.sync_server.specs.Kept.{parts}
+use Rattle.server_memory.specs.Kept.{parts}
 use Rattle.sync_server.specs.Serving.{kept_of}
 use Rattle.sync_node.proofs.waiter.WaiterGatheredDiskCommand.answer.Goals as goal
 

@@ -1,5 +1,5 @@
 use Rattle.std.proofs.Common.{Ok, ap, map, sym, ◌∙◌}
-use Rattle.sync_server.specs.Kept.{parts}
+use Rattle.server_memory.specs.Kept.{parts}
 use Rattle.sync_exchange.specs.Seen.{server_bytes}
 use Rattle.sync_node.specs.Landed.{below_server}
 use Rattle.sync_node.proofs.Landed.{on_ok}

@@ -3,7 +3,7 @@ use Rattle.std.specs.Result.{result_err}
 use Rattle.sync_journal.specs.Stands.{disk_of}
 use Rattle.sync_exchange.specs.Seen.{change_seen}
 use Rattle.sync_model.specs.Servers.{ServerRecord}
-use Rattle.sync_server.specs.Merging.{records_of}
+use Rattle.server_memory.specs.Merging.{records_of}
 use Rattle.sync_server.specs.Serving.{Appends, JournalAppends}
 use Rattle.sync_server.specs.declared.refusal.ServerRefusal.TheVariants as causes
 use Rattle.sync_server.proofs.Appending.{appends_lost, appends_more, appends_none, appends_part}

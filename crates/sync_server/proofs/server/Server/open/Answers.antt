@@ -4,7 +4,7 @@ use Rattle.sync_journal.specs.Opening.{unread_cause}
 use Rattle.sync_journal.specs.Records.{lists, records_of}
 use Rattle.sync_journal.specs.Records.Reading.{Good}
 use Rattle.sync_journal.proofs.Reading.{not_small}
-use Rattle.sync_server.specs.Opening.{ReadsFile}
+use Rattle.server_memory.specs.Opening.{ReadsFile}
 use Rattle.sync_server.proofs.BadFiles.{bad_at, some_record}
 use Rattle.sync_server.proofs.server.Server.open.Goals as goal
 

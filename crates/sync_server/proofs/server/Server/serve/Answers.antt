@@ -2,8 +2,8 @@ use Rattle.std.proofs.Common.{◌≡◌, ◌==◌, Some, sym, ◌∙◌, subst}
 use Rattle.sync_exchange.specs.Profile.{the_profile}
 use Rattle.sync_exchange.specs.Seen.{message_seen}
 use Rattle.sync_model.specs.Parts.{serve_by}
-use Rattle.sync_server.specs.Kept.{parts}
-use Rattle.sync_server.specs.Sending.{asked}
+use Rattle.server_memory.specs.Kept.{parts}
+use Rattle.server_memory.specs.Sending.{asked}
 use Rattle.sync_server.specs.Serving.{Appends}
 use Rattle.sync_server.proofs.server.Server.serve.Goals as goal
 

@@ -1,9 +1,9 @@
 use Rattle.sync_exchange.specs.Profile.{the_profile}
 use Rattle.sync_exchange.specs.Seen.{message_seen}
 use Rattle.sync_model.specs.Parts.{serve_by}
-use Rattle.sync_server.specs.Kept.{parts}
+use Rattle.server_memory.specs.Kept.{parts}
 use Rattle.sync_server.proofs.Appending.{survives}
-use Rattle.sync_server.proofs.Keeps.{on_both}
+use Rattle.server_memory.proofs.Keeps.{on_both}
 use Rattle.sync_server.proofs.Records.{did}
 use Rattle.sync_server.proofs.server.Server.take.Goals as goal
 

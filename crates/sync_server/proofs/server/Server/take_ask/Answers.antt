@@ -3,8 +3,8 @@ use Rattle.std.specs.Option.{option_copied}
 use Rattle.sync_data.specs.declared.instr.Instr.{Instr}
 use Rattle.sync_model.specs.Parts.{Given, at_ident}
 use Rattle.sync_model.specs.Servers.{ServerRecord}
-use Rattle.sync_server.specs.Kept.{parts}
-use Rattle.sync_server.specs.Sending.{asked}
+use Rattle.server_memory.specs.Kept.{parts}
+use Rattle.server_memory.specs.Sending.{asked}
 use Rattle.sync_server.specs.Serving.{JournalAppends}
 use Rattle.sync_journal.proofs.Prefixes.{disk_stays}
 use Rattle.sync_server.proofs.server.Server.take_ask.Goals as goal

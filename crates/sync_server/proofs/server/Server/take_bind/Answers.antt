@@ -1,9 +1,9 @@
 use Rattle.std.proofs.Common.{Some, None, map, sym, ◌∙◌, subst}
 use Rattle.sync_exchange.specs.Profile.{the_profile}
 use Rattle.sync_model.specs.Servers.{place_of}
-use Rattle.sync_server.specs.Kept.{parts}
+use Rattle.server_memory.specs.Kept.{parts}
 use Rattle.sync_server.specs.Serving.{JournalAppends}
-use Rattle.sync_server.proofs.Idents.{bind_records}
+use Rattle.server_memory.proofs.Idents.{bind_records}
 use Rattle.sync_server.proofs.server.Server.take_bind.Goals as goal
 
 pub returns-in-Ok-append-clause-appends : goal.returns-in-Ok-append-clause-appends

@@ -6,13 +6,13 @@ use Rattle.sync_exchange.specs.Seen.{change_seen}
 use Rattle.sync_exchange.specs.Profile.{the_profile}
 use Rattle.sync_model.specs.Messages.{Change}
 use Rattle.sync_model.specs.Parts.{Parts, merge_by}
-use Rattle.sync_server.specs.Kept.{parts}
-use Rattle.sync_server.specs.Merging.{Merges, change_of, records_of}
-use Rattle.sync_server.specs.Refusals.{refusal_seen}
+use Rattle.server_memory.specs.Kept.{parts}
+use Rattle.server_memory.specs.Merging.{Merges, change_of, records_of}
+use Rattle.server_memory.specs.Refusals.{refusal_seen}
 use Rattle.sync_server.specs.Serving.{JournalAppends}
-use Rattle.sync_server.specs.declared.kept.Kept.{Kept}
+use Rattle.server_memory.specs.declared.kept.Kept.{Kept}
 use Rattle.sync_server.proofs.Appending.{appends_none}
-use Rattle.sync_server.proofs.Keeps.{the_same}
+use Rattle.server_memory.proofs.Keeps.{the_same}
 use Rattle.sync_server.proofs.Uploading.{is_taken, merged_change, refused_change}
 use Rattle.sync_server.proofs.server.Server.take_change.Goals as goal
 

@@ -1,10 +1,10 @@
 use Rattle.std.proofs.Common.{Some, None, sym, ◌∙◌, subst}
 use Rattle.sync_journal.proofs.Prefixes.{disk_stays}
-use Rattle.sync_server.specs.Kept.{parts}
-use Rattle.sync_server.specs.Retiring.{retiring}
+use Rattle.server_memory.specs.Kept.{parts}
+use Rattle.server_memory.specs.Retiring.{retiring}
 use Rattle.sync_server.specs.Serving.{JournalAppends}
-use Rattle.sync_server.proofs.Admitting.{retired_records}
-use Rattle.sync_server.proofs.Keeps.{not_false}
+use Rattle.server_memory.proofs.Admitting.{retired_records}
+use Rattle.server_memory.proofs.Keeps.{not_false}
 use Rattle.sync_server.proofs.server.Server.take_retire.Goals as goal
 
 pub returns-in-Ok-append-clause-appends : goal.returns-in-Ok-append-clause-appends

@@ -6,12 +6,12 @@ use Rattle.sync_exchange.specs.Seen.{change_seen}
 use Rattle.sync_model.specs.Messages.{Message}
 use Rattle.sync_model.specs.Parts.{Served, at_ident, upload_by}
 use Rattle.sync_messages.specs.declared.message.Message.TheVariants as CodeMessage
-use Rattle.sync_server.specs.Kept.{parts}
-use Rattle.sync_server.specs.Refusals.{refusal_seen}
-use Rattle.sync_server.specs.Sending.{refusal_message}
+use Rattle.server_memory.specs.Kept.{parts}
+use Rattle.server_memory.specs.Refusals.{refusal_seen}
+use Rattle.server_memory.specs.Sending.{refusal_message}
 use Rattle.sync_server.specs.Serving.{IsServed, IsTaken, JournalAppends, UploadedSoFar}
-use Rattle.sync_server.proofs.Keeps.{the_same}
-use Rattle.sync_server.proofs.Sending.{copied_some}
+use Rattle.server_memory.proofs.Keeps.{the_same}
+use Rattle.server_memory.proofs.Sending.{copied_some}
 use Rattle.sync_server.proofs.Uploading.{at_given, begins, ends, fails, goes_on, left_at, none_left, some_within, stops}
 use Rattle.sync_server.proofs.server.Server.take_upload.Goals as goal
 

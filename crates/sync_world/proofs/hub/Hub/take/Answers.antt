@@ -6,7 +6,7 @@ use Rattle.sync_model.specs.Servers as model
 use Rattle.sync_exchange.specs.Profile.{the_profile}
 use Rattle.sync_exchange.specs.Seen.{message_seen, server_bytes}
 use Rattle.sync_model.specs.Parts.{serve_by}
-use Rattle.sync_server.specs.Kept.{parts}
+use Rattle.server_memory.specs.Kept.{parts}
 use Rattle.sync_server.specs.Serving.{AskedFor, IsServerOf, IsStored, journal_of, kept_of}
 use Rattle.sync_server.specs.declared.refusal.ServerRefusal.{ServerRefusal}
 use Rattle.sync_world.specs.Nodes.{ServerStandReads}

@@ -8,7 +8,7 @@ use Rattle.sync_model.specs.Parts.{Parts}
 use Rattle.sync_model.specs.Servers.{server_of}
 use Rattle.sync_model.specs.Worlds.{Node, ident_is, is_there, seek}
 use Rattle.sync_exchange.specs.Profile.{the_profile}
-use Rattle.sync_server.specs.Kept.{parts}
+use Rattle.server_memory.specs.Kept.{parts}
 use Rattle.sync_server.specs.Serving.{kept_of}
 use Rattle.sync_world.specs.Holding.{given_ids, id_of}
 use Rattle.sync_world.proofs.Ids.{any_is_there, any_of_each, uuids_back}

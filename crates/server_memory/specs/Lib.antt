@@ -1,0 +1,12 @@
+pub mod Refusals
+pub mod History
+pub mod Extending
+pub mod Integrating
+pub mod Merging
+pub mod Kept
+pub mod Sending
+pub mod Readers
+pub mod Retiring
+pub mod Opening
+pub mod Fronting
+pub mod Crossing

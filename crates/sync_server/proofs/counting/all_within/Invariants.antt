@@ -1,7 +1,0 @@
-use Rattle.std.proofs.Common.{◌≡◌, map, drop}
-use Rattle.sync_model.specs.Fronts.{all_within}
-use Rattle.sync_server.specs.Fronting.{counted_seen}
-use Rattle.sync_server.proofs.counting.all_within.Given as goal
-
-abbrev pub invariant-loop-place : goal.invariant-loop-place
-invariant-loop-place l = all_within l.len (map counted_seen l.counts) ≡ all_within l.len (map counted_seen (drop l.place l.counts))

@@ -1,7 +1,0 @@
-use Rattle.std.proofs.Common.{◌≡◌, ◌++◌, map, drop}
-use Rattle.sync_model.specs.Fronts.{with_counts}
-use Rattle.sync_server.specs.Fronting.{counted_seen, uuids_of}
-use Rattle.sync_server.proofs.counting.with_counts.Given as goal
-
-abbrev pub invariant-loop-place : goal.invariant-loop-place
-invariant-loop-place l = l.made.items ++ with_counts l.retired (uuids_of (drop l.place l.idents)) (map counted_seen (drop l.place l.counts)) ≡ with_counts l.retired (uuids_of l.idents) (map counted_seen l.counts)

@@ -1,7 +1,0 @@
-use Rattle.std.proofs.Common.{drop}
-use Rattle.sync_journal.specs.Records.{lists}
-use Rattle.sync_server.proofs.Reading.{ReadSoFar}
-use Rattle.sync_server.proofs.kept.Kept.admit_all.Given as goal
-
-abbrev pub invariant-loop-place : goal.invariant-loop-place
-invariant-loop-place l = ReadSoFar (lists (drop l.first l.files)) l.first l.place (lists (drop l.place l.files)) l.fn.self l.self
