@@ -5,8 +5,8 @@ ghost use Rattle.sync_journal.specs.Records.{records_of};
 ghost use Rattle.sync_journal.specs.Records.Reading.{Good};
 ghost use Rattle.sync_journal.specs.Stands.{disk_of};
 
-use crate::kept::Kept;
 use crate::server::Server;
+use server_memory::Kept;
 use std::alloc::Global;
 use sync_disk::Disk;
 use sync_journal::{Journal, OpenCause, OpenRefusal};

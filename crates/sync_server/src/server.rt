@@ -15,12 +15,8 @@ ghost use Rattle.server_memory.specs.Sending.{asked};
 ghost use Rattle.server_memory.specs.Retiring.{retiring};
 ghost use Rattle.server_memory.specs.Readers.{changes_of, counts_of, item_from, past};
 
-use crate::asking::refuse;
-use crate::counts::Counts;
-use crate::history::LAST;
-use crate::kept::Kept;
-use crate::merging::ChangeHead;
-use crate::refusal::{ChangeRefusal, Refusal, ServerRefusal};
+use crate::refusal::ServerRefusal;
+use server_memory::{ChangeHead, ChangeRefusal, Counts, Kept, LAST, Refusal, refuse};
 use std::alloc::Global;
 use sync_base::{Blob, Changeset, Entry, Id, Ident, NoMemory};
 use sync_disk::{BeginsAnew, Disk, Leaves, MemoryDisk};
