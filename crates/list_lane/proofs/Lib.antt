@@ -4,6 +4,7 @@ pub mod Chain
 pub mod Meets
 pub mod Rooms
 pub mod Beside
+pub mod Stamps
 pub mod Bounded
 pub mod Turns
 pub mod Joins

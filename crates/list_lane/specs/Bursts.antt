@@ -1,5 +1,7 @@
 -- Slots whose places have all moved by one number since they were written, and where they lie.
-use Rattle.std.specs.Prelude.{◌≡◌, ℕ, ◌+◌, ◌-◌, ◌<◌, ◌≤◌, min, max, List, [], ◌∷◌, Option, None, Some}
+use Rattle.std.specs.Prelude.{◌≡◌, ℕ, ◌+◌, ◌-◌, ◌≤◌, min, max, Bool, true, not, if◌then◌else◌, List, [], ◌∷◌, Option, None, Some}
+use Rattle.sync_data.specs.declared.entry.Stamp.{Stamp}
+use Rattle.sync_theory.specs.Changesets.{later_stamp}
 use Rattle.sync_base.specs.Rules.{top}
 use Rattle.sync_transform.specs.Places.{longer}
 use Rattle.sync_transform.specs.declared.places.Does.{Does}
@@ -19,12 +21,24 @@ abbrev pub lift_all : ℕ → ℕ → List (Option Op) → List (Option Op)
 lift_all up down [] = []
 lift_all up down (s ∷ ss) = lift up down s ∷ lift_all up down ss
 
--- ---- all on one side of an instruction
--- each is behind that place
-abbrev pub AllBehind : ℕ → List (Option Op) → Type 0
-AllBehind p [] = Unit {0}
-AllBehind p (None ∷ ss) = AllBehind p ss
-AllBehind p (Some a ∷ ss) = (p < a.place) × AllBehind p ss
+-- ---- one in front of another: it stands, and pushes the other
+-- of two at one place; the flag is whether the second has the later stamp
+abbrev pub Leads : Does → Does → Bool → Type 0
+Leads Inserts Inserts l = l ≡ true
+Leads Inserts Erases l = Unit {0}
+Leads Inserts Updates l = Unit {0}
+Leads Erases e l = ⊥
+Leads Updates e l = ⊥
+
+abbrev pub InFront : Bool → Op → Op → Type 0
+InFront l a b = (a.place ≤ b.place) × ((a.place ≡ b.place) → Leads a.does b.does l)
+
+-- ---- all on one side of an instruction; the flag of two stamps is whether that of the lane is the later one
+-- each is behind it
+abbrev pub AllBehind : (Stamp → Stamp → Bool) → Op → List (Option Op) → Type 0
+AllBehind l b [] = Unit {0}
+AllBehind l b (None ∷ ss) = AllBehind l b ss
+AllBehind l b (Some a ∷ ss) = InFront (l a.stamp b.stamp) b a × AllBehind l b ss
 
 -- and is pushed by what is done there
 abbrev pub push_by : Does → Option Op → Option Op
@@ -35,15 +49,21 @@ abbrev pub pushed_all : Does → List (Option Op) → List (Option Op)
 pushed_all d [] = []
 pushed_all d (s ∷ ss) = push_by d s ∷ pushed_all d ss
 
--- each is before that place, as those before it pushed the place
-abbrev pub AllBefore : ℕ → List (Option Op) → Type 0
-AllBefore p [] = Unit {0}
-AllBefore p (None ∷ ss) = AllBefore p ss
-AllBefore p (Some a ∷ ss) = (a.place < p) × AllBefore (longer a.does p) ss
+-- each is in front of it, as those before it pushed it
+abbrev pub AllBefore : (Stamp → Stamp → Bool) → Op → List (Option Op) → Type 0
+AllBefore l b [] = Unit {0}
+AllBefore l b (None ∷ ss) = AllBefore l b ss
+AllBefore l b (Some a ∷ ss) = InFront (not (l a.stamp b.stamp)) a b × AllBefore l (record b { place = longer a.does b.place }) ss
+
+-- each has a stamp to which that flag applies
+abbrev pub AllLater : Bool → (Stamp → Stamp → Bool) → Stamp → List (Option Op) → Type 0
+AllLater f l t [] = Unit {0}
+AllLater f l t (None ∷ ss) = AllLater f l t ss
+AllLater f l t (Some a ∷ ss) = (l a.stamp t ≡ f) × AllLater f l t ss
 
 -- ---- where they lie
 abbrev pub no_bounds : Bounds
-no_bounds = record { low = top; past = 0; inserted = 0; erased = 0 }
+no_bounds = record { low = top; past = 0; edge = 0; inserted = 0; erased = 0; earliest = record { ms = 18446744073709551615; ident = top }; latest = record { ms = 0; ident = 0 } }
 
 -- the place that becomes that one behind such an instruction, or a later one
 abbrev pub unpushed : Does → ℕ → ℕ
@@ -61,8 +81,25 @@ is_erasure Inserts = 0
 is_erasure Erases = 1
 is_erasure Updates = 0
 
+abbrev pub is_after : Stamp → Stamp → Bool
+is_after s t = later_stamp s.ms s.ident t.ms t.ident
+
+abbrev pub earlier_of : Stamp → Stamp → Stamp
+earlier_of s t = if is_after t s then s else t
+
+abbrev pub later_of : Stamp → Stamp → Stamp
+later_of s t = if is_after s t then s else t
+
 abbrev pub with_op : Op → Bounds → Bounds
-with_op a b = record { low = min a.place b.low; past = max (a.place + 1) (unpushed a.does b.past); inserted = b.inserted + is_insertion a.does; erased = b.erased + is_erasure a.does }
+with_op a b = record {
+  low = min a.place b.low;
+  past = max (a.place + 1) (unpushed a.does b.past);
+  edge = max (a.place + 1 - is_insertion a.does) (unpushed a.does b.edge);
+  inserted = b.inserted + is_insertion a.does;
+  erased = b.erased + is_erasure a.does;
+  earliest = earlier_of a.stamp b.earliest;
+  latest = later_of a.stamp b.latest;
+}
 
 abbrev pub with_slot : Option Op → Bounds → Bounds
 with_slot None b = b

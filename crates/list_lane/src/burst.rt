@@ -1,13 +1,14 @@
-ghost use Rattle.std.specs.Prelude.{◌≡◌, ◌≤◌, ◌<◌, ◌+◌, ◌∷◌, ◌++◌, [], Some, ◌↔◌, OnOk, OnErr, IsTrue, IsFalse, length};
+ghost use Rattle.std.specs.Prelude.{◌≡◌, ◌≤◌, ◌<◌, ◌+◌, ◌∷◌, ◌++◌, [], Some, true, false, ◌↔◌, OnOk, OnErr, IsTrue, IsFalse, length};
 ghost use Rattle.sync_base.specs.Rules.{top};
 ghost use Rattle.list_lane.specs.Lanes.{crossed as crosses, first_slot, length_at_end, length_before as before, slot_at};
 ghost use Rattle.list_lane.specs.Ops.{lane_later as later};
 ghost use Rattle.list_lane.specs.Flat.{Placed};
-ghost use Rattle.list_lane.specs.Bursts.{lift_all, pushed_all, AllBefore, AllBehind};
+ghost use Rattle.list_lane.specs.Bursts.{lift_all, pushed_all, AllBefore, AllBehind, AllLater};
+ghost use Rattle.sync_transform.specs.declared.places.Does.TheVariants.{Inserts};
 ghost use Rattle.sync_theory.specs.Grid.{tail};
 
 use super::bounds::{Bounds, bounds_of, no_bounds};
-use super::flat::{cross_slots, left_behind, length_in, lift_slots, lifted};
+use super::flat::{cross_slots, is_later_in, left_behind, length_in, lift_slots, lifted};
 use super::op::Op;
 use std::alloc::Global;
 use std::marker::Model;
@@ -151,10 +152,10 @@ impl Burst {
         ensures slots { self.new ≡ (crosses (later lane_left) self.old (Some traveller)).slots }
         ensures left { result ≡ (crosses (later lane_left) self.old (Some traveller)).left }
     {
-        if self.is_before(traveller.place) {
-            return Some(self.beyond(traveller));
+        if self.is_before(traveller, lane_left) {
+            return Some(self.beyond(traveller, lane_left));
         }
-        if !self.is_behind(traveller.place) {
+        if !self.is_behind(traveller, lane_left) {
             return self.cross_each(traveller, lane_left);
         }
         if !self.shift(traveller.does) {
@@ -183,10 +184,10 @@ impl Burst {
         requires placed { Placed self.now }
         ensures { result ≡ (crosses (later lane_left) self.now (Some traveller)).left }
     {
-        if self.is_before(traveller.place) {
-            return Some(self.beyond(traveller));
+        if self.is_before(traveller, lane_left) {
+            return Some(self.beyond(traveller, lane_left));
         }
-        if self.is_behind(traveller.place) {
+        if self.is_behind(traveller, lane_left) {
             return Some(traveller);
         }
         left_behind(
@@ -198,29 +199,64 @@ impl Burst {
         )
     }
 
-    /// Whether all are before an instruction at that place, as each that it crosses pushes it on.
+    /// Whether all are in front of an instruction, as each that it crosses pushes it on. At its own place these are insertions, unless
+    /// it is an earlier one itself.
     #[inline(always)]
-    fn is_before(&self, place: u32) -> bool
-        ensures { IsTrue result → AllBefore place self.now }
+    fn is_before(&self, traveller: Op, lane_left: bool) -> bool
+        ensures { IsTrue result → AllBefore (later lane_left) traveller self.now }
     {
-        match self.bounds.past.checked_add(self.up as u64) {
-            Some(past) => place as u64 + self.down as u64 >= past,
-            None => false,
+        if is_from(traveller.place, self.down, self.bounds.past, self.up) {
+            return true;
+        }
+        if is_from(traveller.place, self.down, self.bounds.edge, self.up) {
+            return self.follows(traveller, lane_left);
+        }
+        false
+    }
+
+    /// Whether all are behind an instruction. At its own place these are insertions that are later than it, erasures and updates.
+    #[inline(always)]
+    fn is_behind(&self, traveller: Op, lane_left: bool) -> bool
+        ensures { IsTrue result → AllBehind (later lane_left) traveller self.now }
+    {
+        let place = traveller.place as u64 + self.down as u64;
+        let low = self.bounds.low as u64 + self.up as u64;
+        if place < low {
+            return true;
+        }
+        if place == low {
+            return self.leads(traveller, lane_left);
+        }
+        false
+    }
+
+    /// Whether it stands behind each insertion at its own place.
+    #[inline(always)]
+    fn follows(&self, traveller: Op, lane_left: bool) -> bool
+        ensures { IsTrue result → traveller.does ≡ Inserts → AllLater false (later lane_left) traveller.stamp self.now }
+    {
+        match traveller.does {
+            Does::Inserts => !is_later_in(self.bounds.latest, traveller.stamp, lane_left),
+            Does::Erases | Does::Updates => true,
         }
     }
 
-    /// Whether all are behind that place.
+    /// Whether it stands in front of whatever is at its own place.
     #[inline(always)]
-    fn is_behind(&self, place: u32) -> bool
-        ensures { IsTrue result → AllBehind place self.now }
+    fn leads(&self, traveller: Op, lane_left: bool) -> bool
+        ensures inserts { IsTrue result → traveller.does ≡ Inserts }
+        ensures earlier { IsTrue result → AllLater true (later lane_left) traveller.stamp self.now }
     {
-        place as u64 + (self.down as u64) < self.bounds.low as u64 + self.up as u64
+        match traveller.does {
+            Does::Inserts => is_later_in(self.bounds.earliest, traveller.stamp, lane_left),
+            Does::Erases | Does::Updates => false,
+        }
     }
 
     /// An instruction that is behind them all, once it has crossed them.
     #[inline(always)]
-    fn beyond(&self, traveller: Op) -> Op
-        requires before { AllBefore traveller.place self.now }
+    fn beyond(&self, traveller: Op, lane_left: bool) -> Op
+        requires before { AllBefore (later lane_left) traveller self.now }
         requires room { traveller.place + length self.now ≤ top }
         ensures { result ≡ record traveller { place = length_at_end traveller.place self.now } }
     {
@@ -245,6 +281,17 @@ impl Burst {
             _ => return false,
         }
         true
+    }
+}
+
+/// Whether a place, lifted back, is at or past the other, lifted on.
+#[inline(always)]
+fn is_from(place: u32, down: u32, past: u64, up: u32) -> bool
+    ensures { IsTrue result → past + up ≤ place + down }
+{
+    match past.checked_add(up as u64) {
+        Some(past) => place as u64 + down as u64 >= past,
+        None => false,
     }
 }
 

@@ -159,7 +159,7 @@ pub(crate) fn length_behind(slot: Option<Op>, length: u32) -> u32
 
 /// Whether the stamp in the lane is the later one.
 #[inline(always)]
-fn is_later_in(in_lane: Stamp, traveller: Stamp, lane_left: bool) -> bool
+pub(crate) fn is_later_in(in_lane: Stamp, traveller: Stamp, lane_left: bool) -> bool
     ensures { result ≡ later lane_left in_lane traveller }
 {
     if lane_left {

@@ -7,6 +7,7 @@ invariant-loop-i l = record {
   so_far : l.result ≡ bounds_of (drop l.i l.slots);
   within : l.i ≤ length l.slots;
   past : l.result.past + l.i ≤ 4294967296 + length l.slots;
+  edge : l.result.edge + l.i ≤ 4294967296 + length l.slots;
   inserted : l.result.inserted + l.i ≤ length l.slots;
   erased : l.result.erased + l.i ≤ length l.slots;
 }

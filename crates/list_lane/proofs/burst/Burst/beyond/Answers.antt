@@ -2,6 +2,7 @@ use Rattle.std.proofs.Common.{◌≡◌, ◌≤◌, ◌+◌, ◌-◌, length, sy
 use Rattle.list_lane.specs.declared.bounds.Bounds.{Bounds}
 use Rattle.list_lane.specs.Lanes.{length_at_end}
 use Rattle.list_lane.specs.Bursts.{AllBefore, lift_all}
+use Rattle.list_lane.specs.Ops.{lane_later as later}
 use Rattle.list_lane.proofs.Rooms.{last_below}
 use Rattle.list_lane.proofs.Bounded.{lift_length, pushed_far, counts_few}
 use Rattle.list_lane.proofs.burst.Burst.beyond.Goals as goal
@@ -18,13 +19,13 @@ overflow_add-place c =
 pub overflow_sub-place : goal.overflow_sub-place
 overflow_sub-place c =
     let a = c.self.inside in
-    let far = subst (λ (b : Bounds). length_at_end c.args.traveller.place (lift_all a.up a.down a.slots.items) + b.erased ≡ c.args.traveller.place + b.inserted) (sym c.self.invariant.bounds) (pushed_far a.slots.items a.up a.down c.args.traveller.place (subst (AllBefore c.args.traveller.place) (sym c.self.view_is) c.requires.before)) in
+    let far = subst (λ (b : Bounds). length_at_end c.args.traveller.place (lift_all a.up a.down a.slots.items) + b.erased ≡ c.args.traveller.place + b.inserted) (sym c.self.invariant.bounds) (pushed_far (later c.args.lane_left) a.slots.items a.up a.down c.args.traveller (subst (AllBefore (later c.args.lane_left) c.args.traveller) (sym c.self.view_is) c.requires.before)) in
     omega (arith, far)
 
 pub overflow_cast-result : goal.overflow_cast-result
 overflow_cast-result c =
     let a = c.self.inside in
-    let far = subst (λ (b : Bounds). length_at_end c.args.traveller.place (lift_all a.up a.down a.slots.items) + b.erased ≡ c.args.traveller.place + b.inserted) (sym c.self.invariant.bounds) (pushed_far a.slots.items a.up a.down c.args.traveller.place (subst (AllBefore c.args.traveller.place) (sym c.self.view_is) c.requires.before)) in
+    let far = subst (λ (b : Bounds). length_at_end c.args.traveller.place (lift_all a.up a.down a.slots.items) + b.erased ≡ c.args.traveller.place + b.inserted) (sym c.self.invariant.bounds) (pushed_far (later c.args.lane_left) a.slots.items a.up a.down c.args.traveller (subst (AllBefore (later c.args.lane_left) c.args.traveller) (sym c.self.view_is) c.requires.before)) in
     let most = last_below (lift_all a.up a.down a.slots.items) c.args.traveller.place in
     let room = c.requires.room in
     let view = ap length c.self.view_is in
@@ -33,6 +34,6 @@ overflow_cast-result c =
 pub returns : goal.returns
 returns c =
     let a = c.self.inside in
-    let far = subst (λ (b : Bounds). length_at_end c.args.traveller.place (lift_all a.up a.down a.slots.items) + b.erased ≡ c.args.traveller.place + b.inserted) (sym c.self.invariant.bounds) (pushed_far a.slots.items a.up a.down c.args.traveller.place (subst (AllBefore c.args.traveller.place) (sym c.self.view_is) c.requires.before)) in
+    let far = subst (λ (b : Bounds). length_at_end c.args.traveller.place (lift_all a.up a.down a.slots.items) + b.erased ≡ c.args.traveller.place + b.inserted) (sym c.self.invariant.bounds) (pushed_far (later c.args.lane_left) a.slots.items a.up a.down c.args.traveller (subst (AllBefore (later c.args.lane_left) c.args.traveller) (sym c.self.view_is) c.requires.before)) in
     let there : c.args.traveller.place + a.bounds.inserted - a.bounds.erased ≡ length_at_end c.args.traveller.place (lift_all a.up a.down a.slots.items) = omega (arith, far) in
     ap (λ n. record c.args.traveller { place = n }) (there ∙ ap (length_at_end c.args.traveller.place) c.self.view_is)

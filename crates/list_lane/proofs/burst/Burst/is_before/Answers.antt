@@ -1,15 +1,21 @@
-use Rattle.std.proofs.Common.{sym, subst, arith, le_refl}
-use Rattle.std.proofs.lemmas.Bool.{leb-true}
-use Rattle.list_lane.specs.declared.bounds.Bounds.{Bounds}
-use Rattle.list_lane.specs.Bursts.{AllBefore}
-use Rattle.list_lane.proofs.Bounded.{AllFrom, all_from, all_before, lifted_before}
+use Rattle.std.proofs.Common.{true, false, subst}
+use Rattle.std.proofs.lemmas.Bool.{false≢true}
+use Rattle.list_lane.specs.Ops.{lane_later as later}
+use Rattle.list_lane.proofs.Bounded.{AllPast, past_before, are_before}
 use Rattle.list_lane.proofs.burst.Burst.is_before.Goals as goal
 
-pub returns-in-Some : goal.returns-in-Some
-returns-in-Some c =
+pub returns-then-is_from : goal.returns-then-is_from
+returns-then-is_from c =
     let a = c.self.inside in
     λ h.
-    let k = leb-true _ _ h in
-    subst (AllBefore c.args.place) c.self.view_is
-    (lifted_before a.slots.items a.bounds.low a.up a.down c.args.place a.bounds.past (subst (λ (b : Bounds). AllFrom b.low a.slots.items) (sym c.self.invariant.bounds) (all_from a.slots.items)) c.self.invariant.front
-    (subst (λ (b : Bounds). AllBefore b.past a.slots.items) (sym c.self.invariant.bounds) (all_before a.slots.items _ (le_refl _))) (let e = c.in-Some.ensures in let sum = e.1 in omega (arith, sum, k)))
+    are_before (later c.args.lane_left) false c.args.self.now c.args.traveller
+    (subst (AllPast false c.args.traveller.place) c.self.view_is (past_before false a.slots.items a.bounds a.up a.down c.args.traveller.place c.self.invariant.bounds c.self.invariant.front (c.is_from.ensures c.if-is_from.true)))
+    (λ e. absurd (false≢true e))
+
+pub returns-then-is_from-2 : goal.returns-then-is_from-2
+returns-then-is_from-2 c =
+    let a = c.self.inside in
+    λ h.
+    are_before (later c.args.lane_left) true c.args.self.now c.args.traveller
+    (subst (AllPast true c.args.traveller.place) c.self.view_is (past_before true a.slots.items a.bounds a.up a.down c.args.traveller.place c.self.invariant.bounds c.self.invariant.front (c.is_from-2.ensures c.if-is_from-2.true)))
+    (λ _ d. c.follows.ensures h d)
