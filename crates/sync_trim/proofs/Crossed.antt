@@ -7,7 +7,6 @@ use Rattle.sync_theory.specs.Changesets.{Changeset}
 use Rattle.sync_data.specs.declared.entry.Entry.{Entry}
 use Rattle.sync_recip.specs.Lists.{entry_of}
 use Rattle.sync_data.specs.declared.instr.Instr.{Instr}
-use Rattle.sync_model.specs.Parts.{Given}
 use Rattle.sync_model.specs.Servers as model
 use Rattle.sync_model.specs.Trimmed.{count_records, crossed_record, crossed_of, crossed_records}
 use Rattle.sync_model.specs.Trims.{is_live, pairs_from, trimmed_given}

@@ -1,5 +1,5 @@
 -- What is read of the idents, from a place on.
-use Rattle.std.proofs.Common.{◌≡◌, ℕ, zero, suc, ◌+◌, ◌<◌, arith, length, List, [], ◌∷◌, map, drop, Option, Some, None, refl, sym, ap, ◌∙◌, add-one}
+use Rattle.std.proofs.Common.{◌≡◌, ℕ, zero, suc, ◌+◌, ◌<◌, arith, length, List, [], ◌∷◌, drop, Option, Some, None, refl, sym, ap, ◌∙◌, add-one}
 use Rattle.std.specs.Option.{option_map}
 use Rattle.sync_data.specs.declared.instr.Instr.{Instr}
 use Rattle.sync_model.specs.Parts.{Given, at_ident}

@@ -1,4 +1,4 @@
-use Rattle.std.proofs.Common.{ℕ, List, ◌+◌, ◌∷◌, ◌++◌, map, drop, sym, ap, ◌∙◌}
+use Rattle.std.proofs.Common.{ℕ, List, ◌+◌, ◌++◌, map, drop, sym, ap, ◌∙◌}
 use Rattle.sync_model.specs.Servers as model
 use Rattle.sync_exchange.specs.Seen.{server_seen}
 use Rattle.server_memory.specs.Kept.{parts}
