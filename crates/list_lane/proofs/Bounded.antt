@@ -1,6 +1,6 @@
 -- The bounds of a burst tell on which side of an instruction it lies.
-use Rattle.std.proofs.Common.{◌≡◌, ℕ, zero, suc, ◌+◌, ◌-◌, ◌<◌, ◌≤◌, Bool, true, false, not, List, [], ◌∷◌, ◌++◌, Option, Some, None, refl, sym, ap, ◌∙◌, subst, ⊎_elim, length, take, drop, get_or, append_assoc, le_refl, arith}
-use Rattle.std.specs.Prelude.{min, max, if◌then◌else◌}
+use Rattle.std.proofs.Common.{◌≡◌, ℕ, zero, suc, ◌+◌, ◌-◌, ◌<◌, ◌≤◌, Bool, true, false, not, List, [], ◌∷◌, ◌++◌, Option, Some, None, refl, sym, ap, ◌∙◌, subst, ⊎_elim, length, take, drop, get_or, append_assoc, arith}
+use Rattle.std.specs.Prelude.{min, max, IfSome}
 use Rattle.std.proofs.lemmas.Bool.{cases_lt}
 use Rattle.std.proofs.lemmas.List.{drop_more}
 use Rattle.sync_base.specs.Rules.{top}
@@ -11,26 +11,128 @@ use Rattle.sync_transform.specs.declared.places.Does.TheVariants.{Inserts, Erase
 use Rattle.list_lane.specs.Lanes.{length_at_end, slot_at}
 use Rattle.list_lane.specs.Flat.{Placed}
 use Rattle.list_lane.specs.Ops.{lane_later}
-use Rattle.list_lane.specs.Bursts.{lift, lift_all, Leads, InFront, AllBehind, AllBefore, AllLater, pushed_all, unpushed, is_insertion, is_erasure, is_after, earlier_of, later_of, bounds_of}
+use Rattle.list_lane.specs.Bursts.{lift, lift_all, Leads, InFront, AllBehind, AllBefore, AllLater, pushed_all, AllFrom, width, AllPast, is_insertion, is_erasure, insertions, erasures, is_after, NoneBefore, NoneAfter, Bounded, earlier_of, later_of, with_op, with_slot}
 use Rattle.list_lane.specs.declared.bounds.Bounds.{Bounds}
 use Rattle.list_lane.specs.declared.op.Op.{Op}
 use Rattle.list_lane.proofs.Stamps.{none_after, earlier_first, earlier_second, later_first, later_second, still_later, still_earlier}
 
--- ---- no place is before the least one
-abbrev pub AllFrom : ℕ → List (Option Op) → Type 0
-AllFrom m [] = Unit {0}
-AllFrom m (None ∷ ss) = AllFrom m ss
-AllFrom m (Some a ∷ ss) = (m ≤ a.place) × AllFrom m ss
+-- ---- a slot behind the others
+module _ (a : Op) where
+  from_last : (ss : List (Option Op)) (m k : ℕ) → AllFrom m ss → k ≤ m → k ≤ a.place → AllFrom k (ss ++ Some a ∷ [])
+  from_last [] m k f h g = (g, tt)
+  from_last (None ∷ ss) m k f h g = from_last ss m k f h g
+  from_last (Some c ∷ ss) m k f h g = let r = f.0 in (omega (arith, h, r), from_last ss m k f.1 h g)
 
-from_less : (ss : List (Option Op)) (m k : ℕ) → k ≤ m → AllFrom m ss → AllFrom k ss
-from_less [] m k h f = tt
-from_less (None ∷ ss) m k h f = from_less ss m k h f
-from_less (Some a ∷ ss) m k h f = let g = f.0 in (omega (arith, h, g), from_less ss m k h f.1)
+  past_last : (t : Bool) (ss : List (Option Op)) (p q : ℕ) → AllPast t p ss → p ≤ q → a.place + width t a.does + erasures ss ≤ q + insertions ss → AllPast t q (ss ++ Some a ∷ [])
+  past_last t [] p q f h g = (omega (arith, g), tt)
+  past_last t (None ∷ ss) p q f h g = past_last t ss p q f h g
+  past_last t (Some c ∷ ss) p q f h g =
+      let r = f.0 in
+      (omega (arith, h, r), past_last t ss (longer c.does p) (longer c.does q) f.1 (longer_more c.does p q h) (on c.does q (erasures ss) (insertions ss) g))
+    where
+      longer_more : (d : Does) (p q : ℕ) → p ≤ q → longer d p ≤ longer d q
+      longer_more Inserts p q h = omega (arith, h)
+      longer_more Erases p q h = omega (arith, h)
+      longer_more Updates p q h = h
 
-pub all_from : (ss : List (Option Op)) → AllFrom (bounds_of ss).low ss
-all_from [] = tt
-all_from (None ∷ ss) = all_from ss
-all_from (Some a ∷ ss) = (omega arith, from_less ss (bounds_of ss).low (min a.place (bounds_of ss).low) (omega arith) (all_from ss))
+      on : (d : Does) (q e i : ℕ) → a.place + width t a.does + (e + is_erasure d) ≤ q + (i + is_insertion d) → a.place + width t a.does + e ≤ longer d q + i
+      on Inserts q e i g = omega (arith, g)
+      on Erases q e i g = omega (arith, g)
+      on Updates q e i g = omega (arith, g)
+
+  insertions_last : (ss : List (Option Op)) → insertions (ss ++ Some a ∷ []) ≡ insertions ss + is_insertion a.does
+  insertions_last [] = refl
+  insertions_last (None ∷ ss) = insertions_last ss
+  insertions_last (Some c ∷ ss) = let e = insertions_last ss in omega (arith, e)
+
+  erasures_last : (ss : List (Option Op)) → erasures (ss ++ Some a ∷ []) ≡ erasures ss + is_erasure a.does
+  erasures_last [] = refl
+  erasures_last (None ∷ ss) = erasures_last ss
+  erasures_last (Some c ∷ ss) = let e = erasures_last ss in omega (arith, e)
+
+  none_before : (ss : List (Option Op)) (e f : Stamp) → NoneBefore e ss → is_after f e ≡ false → is_after f a.stamp ≡ false → NoneBefore f (ss ++ Some a ∷ [])
+  none_before [] e f n h g = (g, tt)
+  none_before (None ∷ ss) e f n h g = none_before ss e f n h g
+  none_before (Some c ∷ ss) e f n h g = (none_after f e c.stamp h n.0, none_before ss e f n.1 h g)
+
+  none_later : (ss : List (Option Op)) (e f : Stamp) → NoneAfter e ss → is_after e f ≡ false → is_after a.stamp f ≡ false → NoneAfter f (ss ++ Some a ∷ [])
+  none_later [] e f n h g = (g, tt)
+  none_later (None ∷ ss) e f n h g = none_later ss e f n h g
+  none_later (Some c ∷ ss) e f n h g = (none_after c.stamp e f n.0 h, none_later ss e f n.1 h g)
+
+  strict_reach : (d : Does) (x i e p : ℕ) → x + width false d + e ≤ max p (x + e + 1 - i) + i
+  strict_reach Inserts x i e p = omega arith
+  strict_reach Erases x i e p = omega arith
+  strict_reach Updates x i e p = omega arith
+
+  tied_reach : (d : Does) (x i e p : ℕ) → x + width true d + e ≤ max p (x + e + 1 - is_insertion d - i) + i
+  tied_reach Inserts x i e p = omega arith
+  tied_reach Erases x i e p = omega arith
+  tied_reach Updates x i e p = omega arith
+
+  bounded_op : (b : Bounds) (ss : List (Option Op)) → Bounded b ss → Bounded (with_op a b) (ss ++ Some a ∷ [])
+  bounded_op b ss h =
+      let i = h.inserted in
+      let e = h.erased in
+      let strict = strict_reach a.does a.place b.inserted b.erased b.past in
+      let tied = tied_reach a.does a.place b.inserted b.erased b.edge in
+      record {
+        low = from_last ss b.low (min a.place b.low) h.low (omega arith) (omega arith);
+        past = past_last false ss b.past (max b.past (a.place + b.erased + 1 - b.inserted)) h.past (omega arith) (omega (arith, i, e, strict));
+        edge = past_last true ss b.edge (max b.edge (a.place + b.erased + 1 - is_insertion a.does - b.inserted)) h.edge (omega arith) (omega (arith, i, e, tied));
+        inserted = ap (λ n. n + is_insertion a.does) h.inserted ∙ sym (insertions_last ss);
+        erased = ap (λ n. n + is_erasure a.does) h.erased ∙ sym (erasures_last ss);
+        earliest = none_before ss b.earliest (earlier_of a.stamp b.earliest) h.earliest (earlier_second a.stamp b.earliest) (earlier_first a.stamp b.earliest);
+        latest = none_later ss b.latest (later_of a.stamp b.latest) h.latest (later_second a.stamp b.latest) (later_first a.stamp b.latest);
+      }
+
+-- ---- an empty one
+from_none : (ss : List (Option Op)) (m : ℕ) → AllFrom m ss → AllFrom m (ss ++ None ∷ [])
+from_none [] m f = tt
+from_none (None ∷ ss) m f = from_none ss m f
+from_none (Some c ∷ ss) m f = (f.0, from_none ss m f.1)
+
+past_none : (t : Bool) (ss : List (Option Op)) (p : ℕ) → AllPast t p ss → AllPast t p (ss ++ None ∷ [])
+past_none t [] p f = tt
+past_none t (None ∷ ss) p f = past_none t ss p f
+past_none t (Some c ∷ ss) p f = (f.0, past_none t ss (longer c.does p) f.1)
+
+insertions_none : (ss : List (Option Op)) → insertions (ss ++ None ∷ []) ≡ insertions ss
+insertions_none [] = refl
+insertions_none (None ∷ ss) = insertions_none ss
+insertions_none (Some c ∷ ss) = ap (λ n. n + is_insertion c.does) (insertions_none ss)
+
+erasures_none : (ss : List (Option Op)) → erasures (ss ++ None ∷ []) ≡ erasures ss
+erasures_none [] = refl
+erasures_none (None ∷ ss) = erasures_none ss
+erasures_none (Some c ∷ ss) = ap (λ n. n + is_erasure c.does) (erasures_none ss)
+
+before_none : (ss : List (Option Op)) (e : Stamp) → NoneBefore e ss → NoneBefore e (ss ++ None ∷ [])
+before_none [] e n = tt
+before_none (None ∷ ss) e n = before_none ss e n
+before_none (Some c ∷ ss) e n = (n.0, before_none ss e n.1)
+
+later_none : (ss : List (Option Op)) (e : Stamp) → NoneAfter e ss → NoneAfter e (ss ++ None ∷ [])
+later_none [] e n = tt
+later_none (None ∷ ss) e n = later_none ss e n
+later_none (Some c ∷ ss) e n = (n.0, later_none ss e n.1)
+
+pub bounded_slot : (s : Option Op) (b : Bounds) (ss : List (Option Op)) → Bounded b ss → Bounded (with_slot s b) (ss ++ s ∷ [])
+bounded_slot None b ss h = record {
+  low = from_none ss b.low h.low;
+  past = past_none false ss b.past h.past;
+  edge = past_none true ss b.edge h.edge;
+  inserted = h.inserted ∙ sym (insertions_none ss);
+  erased = h.erased ∙ sym (erasures_none ss);
+  earliest = before_none ss b.earliest h.earliest;
+  latest = later_none ss b.latest h.latest;
+}
+bounded_slot (Some a) b ss h = bounded_op a b ss h
+
+-- a burst that wasn't moved back beyond the front stays so
+pub front_slot : (s : Option Op) (b : Bounds) (up down : ℕ) → IfSome s (λ a. down ≤ a.place + up) → down ≤ b.low + up → down ≤ (with_slot s b).low + up
+front_slot None b up down h g = g
+front_slot (Some a) b up down h g = omega (arith, h, g)
 
 -- ---- what is pushed on is written so
 pub lift_insertion : (ss : List (Option Op)) (m up down : ℕ) → AllFrom m ss → down ≤ m + up → lift_all (up + 1) down ss ≡ pushed_all Inserts (lift_all up down ss)
@@ -64,37 +166,8 @@ pub lift_length : (ss : List (Option Op)) (up down : ℕ) → length (lift_all u
 lift_length [] up down = refl
 lift_length (s ∷ ss) up down = ap (λ n. suc n) (lift_length ss up down)
 
--- ---- all are before a place that is past them; the flag is whether insertions at a place count as before it
-abbrev pub width : Bool → Does → ℕ
-width true Inserts = 0
-width false Inserts = 1
-width t Erases = 1
-width t Updates = 1
-
-abbrev pub AllPast : Bool → ℕ → List (Option Op) → Type 0
-AllPast t p [] = Unit {0}
-AllPast t p (None ∷ ss) = AllPast t p ss
-AllPast t p (Some a ∷ ss) = (a.place + width t a.does ≤ p) × AllPast t (longer a.does p) ss
-
-abbrev pub past_of : Bool → Bounds → ℕ
-past_of t b = if t then b.edge else b.past
-
-past_one : (t : Bool) (d : Does) (x e p q : ℕ) → (if t then max (x + 1 - is_insertion d) (unpushed d e) else max (x + 1) (unpushed d p)) ≤ q → (x + width t d ≤ q) × ((if t then e else p) ≤ longer d q)
-past_one true Inserts x e p q h = (omega (arith, h), omega (arith, h))
-past_one true Erases x e p q h = (omega (arith, h), omega (arith, h))
-past_one true Updates x e p q h = (omega (arith, h), omega (arith, h))
-past_one false Inserts x e p q h = (omega (arith, h), omega (arith, h))
-past_one false Erases x e p q h = (omega (arith, h), omega (arith, h))
-past_one false Updates x e p q h = (omega (arith, h), omega (arith, h))
-
-all_past : (t : Bool) (ss : List (Option Op)) (q : ℕ) → past_of t (bounds_of ss) ≤ q → AllPast t q ss
-all_past t [] q h = tt
-all_past t (None ∷ ss) q h = all_past t ss q h
-all_past t (Some a ∷ ss) q h =
-    let r = past_one t a.does a.place (bounds_of ss).edge (bounds_of ss).past q h in
-    (r.0, all_past t ss (longer a.does q) r.1)
-
-lifted_past : (t : Bool) (ss : List (Option Op)) (m up down p q : ℕ) → AllFrom m ss → down ≤ m + up → AllPast t q ss → q + up ≤ p + down → AllPast t p (lift_all up down ss)
+-- ---- what is lifted is before a place that is past its bounds, lifted alike
+pub lifted_past : (t : Bool) (ss : List (Option Op)) (m up down p q : ℕ) → AllFrom m ss → down ≤ m + up → AllPast t q ss → q + up ≤ p + down → AllPast t p (lift_all up down ss)
 lifted_past t [] m up down p q f h b k = tt
 lifted_past t (None ∷ ss) m up down p q f h b k = lifted_past t ss m up down p q f h b k
 lifted_past t (Some a ∷ ss) m up down p q f h b k =
@@ -112,37 +185,6 @@ lifted_past t (Some a ∷ ss) m up down p q f h b k =
     both Updates p q x g r k = k
 
 -- ---- by stamps
--- none is earlier than that one, or later
-abbrev pub NoneBefore : Stamp → List (Option Op) → Type 0
-NoneBefore e [] = Unit {0}
-NoneBefore e (None ∷ ss) = NoneBefore e ss
-NoneBefore e (Some a ∷ ss) = (is_after e a.stamp ≡ false) × NoneBefore e ss
-
-abbrev pub NoneAfter : Stamp → List (Option Op) → Type 0
-NoneAfter e [] = Unit {0}
-NoneAfter e (None ∷ ss) = NoneAfter e ss
-NoneAfter e (Some a ∷ ss) = (is_after a.stamp e ≡ false) × NoneAfter e ss
-
-pub none_before : (ss : List (Option Op)) → NoneBefore (bounds_of ss).earliest ss
-none_before [] = tt
-none_before (None ∷ ss) = none_before ss
-none_before (Some a ∷ ss) = (earlier_first a.stamp (bounds_of ss).earliest, before_less ss (earlier_of a.stamp (bounds_of ss).earliest) (bounds_of ss).earliest (earlier_second a.stamp (bounds_of ss).earliest) (none_before ss))
-  where
-    before_less : (ss : List (Option Op)) (s t : Stamp) → is_after s t ≡ false → NoneBefore t ss → NoneBefore s ss
-    before_less [] s t h f = tt
-    before_less (None ∷ ss) s t h f = before_less ss s t h f
-    before_less (Some a ∷ ss) s t h f = (none_after s t a.stamp h f.0, before_less ss s t h f.1)
-
-pub none_later : (ss : List (Option Op)) → NoneAfter (bounds_of ss).latest ss
-none_later [] = tt
-none_later (None ∷ ss) = none_later ss
-none_later (Some a ∷ ss) = (later_first a.stamp (bounds_of ss).latest, after_more ss (bounds_of ss).latest (later_of a.stamp (bounds_of ss).latest) (later_second a.stamp (bounds_of ss).latest) (none_later ss))
-  where
-    after_more : (ss : List (Option Op)) (s t : Stamp) → is_after s t ≡ false → NoneAfter s ss → NoneAfter t ss
-    after_more [] s t h f = tt
-    after_more (None ∷ ss) s t h f = after_more ss s t h f
-    after_more (Some a ∷ ss) s t h f = (none_after a.stamp s t f.0 h, after_more ss s t h f.1)
-
 module _ (left : Bool) (up down : ℕ) (t : Stamp) where
   pub all_later : (ss : List (Option Op)) (e : Stamp) → NoneBefore e ss → lane_later left e t ≡ true → AllLater true (lane_later left) t (lift_all up down ss)
   all_later [] e f h = tt
@@ -189,38 +231,44 @@ module _ (l : Stamp → Stamp → Bool) where
   are_before t (None ∷ ss) b h f = are_before t ss b h f
   are_before t (Some a ∷ ss) b h f = (front_of t a b h.0 (λ u e. (f u e).0), are_before t ss (record b { place = longer a.does b.place }) h.1 (λ u e. (f u e).1))
 
--- what is lifted is before a place that is past its bounds, lifted alike
-pub past_before : (t : Bool) (ss : List (Option Op)) (c : Bounds) (up down p : ℕ) → c ≡ bounds_of ss → down ≤ c.low + up → past_of t c + up ≤ p + down → AllPast t p (lift_all up down ss)
-past_before t ss c up down p e h k =
-    lifted_past t ss c.low up down p (past_of t c) (subst (λ (b : Bounds). AllFrom b.low ss) (sym e) (all_from ss)) h
-    (all_past t ss (past_of t c) (subst (λ (b : Bounds). past_of t b ≤ past_of t c) e (le_refl (past_of t c)))) k
-
 -- ---- how far a place is pushed by those before it
 count_push : (d : Does) (p i e l : ℕ) → (d ≡ Erases → 0 < p) → l + e ≡ longer d p + i → l + (e + is_erasure d) ≡ p + (i + is_insertion d)
 count_push Inserts p i e l h k = omega (arith, k)
 count_push Erases p i e l h k = let lt = h refl in omega (arith, lt, k)
 count_push Updates p i e l h k = omega (arith, k)
 
-pub pushed_far : (l : Stamp → Stamp → Bool) (ss : List (Option Op)) (up down : ℕ) (b : Op) → AllBefore l b (lift_all up down ss) → length_at_end b.place (lift_all up down ss) + (bounds_of ss).erased ≡ b.place + (bounds_of ss).inserted
+pub pushed_far : (l : Stamp → Stamp → Bool) (ss : List (Option Op)) (up down : ℕ) (b : Op) → AllBefore l b (lift_all up down ss) → length_at_end b.place (lift_all up down ss) + erasures ss ≡ b.place + insertions ss
 pushed_far l [] up down b h = refl
 pushed_far l (None ∷ ss) up down b h = pushed_far l ss up down b h
 pushed_far l (Some a ∷ ss) up down b h =
-    count_push a.does b.place (bounds_of ss).inserted (bounds_of ss).erased (length_at_end (longer a.does b.place) (lift_all up down ss)) (erases_before a.does h.0) (pushed_far l ss up down (record b { place = longer a.does b.place }) h.1)
+    count_push a.does b.place (insertions ss) (erasures ss) (length_at_end (longer a.does b.place) (lift_all up down ss)) (erases_before a.does h.0) (pushed_far l ss up down (record b { place = longer a.does b.place }) h.1)
   where
     erases_before : (d : Does) → (a.place + up - down ≤ b.place) × ((a.place + up - down ≡ b.place) → Leads d b.does (not (l a.stamp b.stamp))) → d ≡ Erases → 0 < b.place
     erases_before Inserts h e = cc
     erases_before Updates h e = cc
     erases_before Erases h e = let k = h.0 in ⊎_elim (λ lt. omega (arith, lt)) (λ le. absurd (h.1 (omega (arith, k, le)))) (cases_lt (a.place + up - down) b.place)
 
-pub counts_few : (ss : List (Option Op)) → (bounds_of ss).inserted ≤ length ss
-counts_few [] = omega arith
-counts_few (None ∷ ss) = let h = counts_few ss in omega (arith, h)
-counts_few (Some a ∷ ss) = let h = counts_few ss in one a.does (bounds_of ss).inserted (length ss) h
+pub counts_few : (ss : List (Option Op)) → (insertions ss ≤ length ss) × (erasures ss ≤ length ss)
+counts_few [] = (omega arith, omega arith)
+counts_few (None ∷ ss) = let h = counts_few ss in let i = h.0 in let e = h.1 in (omega (arith, i), omega (arith, e))
+counts_few (Some a ∷ ss) = let h = counts_few ss in (one (is_insertion a.does) (insertions ss) (length ss) (few_insertions a.does) h.0, one (is_erasure a.does) (erasures ss) (length ss) (few_erasures a.does) h.1)
   where
-    one : (d : Does) (i n : ℕ) → i ≤ n → i + is_insertion d ≤ suc n
-    one Inserts i n h = omega (arith, h)
-    one Erases i n h = omega (arith, h)
-    one Updates i n h = omega (arith, h)
+    few_insertions : (d : Does) → is_insertion d ≤ 1
+    few_insertions Inserts = omega arith
+    few_insertions Erases = omega arith
+    few_insertions Updates = omega arith
+
+    few_erasures : (d : Does) → is_erasure d ≤ 1
+    few_erasures Inserts = omega arith
+    few_erasures Erases = omega arith
+    few_erasures Updates = omega arith
+
+    one : (k i n : ℕ) → k ≤ 1 → i ≤ n → i + k ≤ suc n
+    one k i n f h = omega (arith, f, h)
+
+pub lift_append : (ss ts : List (Option Op)) (up down : ℕ) → lift_all up down (ss ++ ts) ≡ lift_all up down ss ++ lift_all up down ts
+lift_append [] ts up down = refl
+lift_append (s ∷ ss) ts up down = ap (λ r. lift up down s ∷ r) (lift_append ss ts up down)
 
 pub lift_drop : (ss : List (Option Op)) (i up down : ℕ) → lift_all up down (drop i ss) ≡ drop i (lift_all up down ss)
 lift_drop [] zero up down = refl

@@ -1,8 +1,7 @@
 -- Slots whose places have all moved by one number since they were written, and where they lie.
-use Rattle.std.specs.Prelude.{◌≡◌, ℕ, ◌+◌, ◌-◌, ◌≤◌, min, max, Bool, true, not, if◌then◌else◌, List, [], ◌∷◌, Option, None, Some}
+use Rattle.std.specs.Prelude.{◌≡◌, ℕ, ◌+◌, ◌-◌, ◌≤◌, min, max, Bool, true, false, not, if◌then◌else◌, List, [], ◌∷◌, Option, None, Some}
 use Rattle.sync_data.specs.declared.entry.Stamp.{Stamp}
 use Rattle.sync_theory.specs.Changesets.{later_stamp}
-use Rattle.sync_base.specs.Rules.{top}
 use Rattle.sync_transform.specs.Places.{longer}
 use Rattle.sync_transform.specs.declared.places.Does.{Does}
 use Rattle.sync_transform.specs.declared.places.Does.TheVariants.{Inserts, Erases, Updates}
@@ -62,15 +61,25 @@ AllLater f l t (None ∷ ss) = AllLater f l t ss
 AllLater f l t (Some a ∷ ss) = (l a.stamp t ≡ f) × AllLater f l t ss
 
 -- ---- where they lie
-abbrev pub no_bounds : Bounds
-no_bounds = record { low = top; past = 0; edge = 0; inserted = 0; erased = 0; earliest = record { ms = 18446744073709551615; ident = top }; latest = record { ms = 0; ident = 0 } }
+-- no place is before that one
+abbrev pub AllFrom : ℕ → List (Option Op) → Type 0
+AllFrom m [] = Unit {0}
+AllFrom m (None ∷ ss) = AllFrom m ss
+AllFrom m (Some a ∷ ss) = (m ≤ a.place) × AllFrom m ss
 
--- the place that becomes that one behind such an instruction, or a later one
-abbrev pub unpushed : Does → ℕ → ℕ
-unpushed Inserts p = p - 1
-unpushed Erases p = p + 1
-unpushed Updates p = p
+-- each place is before that one, as those before it pushed that; the flag is whether an insertion at it counts as before it
+abbrev pub width : Bool → Does → ℕ
+width true Inserts = 0
+width false Inserts = 1
+width t Erases = 1
+width t Updates = 1
 
+abbrev pub AllPast : Bool → ℕ → List (Option Op) → Type 0
+AllPast t p [] = Unit {0}
+AllPast t p (None ∷ ss) = AllPast t p ss
+AllPast t p (Some a ∷ ss) = (a.place + width t a.does ≤ p) × AllPast t (longer a.does p) ss
+
+-- how many are insertions, and erasures
 abbrev pub is_insertion : Does → ℕ
 is_insertion Inserts = 1
 is_insertion Erases = 0
@@ -81,9 +90,41 @@ is_erasure Inserts = 0
 is_erasure Erases = 1
 is_erasure Updates = 0
 
+abbrev pub insertions : List (Option Op) → ℕ
+insertions [] = 0
+insertions (None ∷ ss) = insertions ss
+insertions (Some a ∷ ss) = insertions ss + is_insertion a.does
+
+abbrev pub erasures : List (Option Op) → ℕ
+erasures [] = 0
+erasures (None ∷ ss) = erasures ss
+erasures (Some a ∷ ss) = erasures ss + is_erasure a.does
+
+-- none has an earlier stamp than that, or a later one
 abbrev pub is_after : Stamp → Stamp → Bool
 is_after s t = later_stamp s.ms s.ident t.ms t.ident
 
+abbrev pub NoneBefore : Stamp → List (Option Op) → Type 0
+NoneBefore e [] = Unit {0}
+NoneBefore e (None ∷ ss) = NoneBefore e ss
+NoneBefore e (Some a ∷ ss) = (is_after e a.stamp ≡ false) × NoneBefore e ss
+
+abbrev pub NoneAfter : Stamp → List (Option Op) → Type 0
+NoneAfter e [] = Unit {0}
+NoneAfter e (None ∷ ss) = NoneAfter e ss
+NoneAfter e (Some a ∷ ss) = (is_after a.stamp e ≡ false) × NoneAfter e ss
+
+-- bounds hold for slots; the counts are exact
+pub record Bounded (b : Bounds) (ss : List (Option Op)) : Type 0 where
+  pub low : AllFrom b.low ss
+  pub past : AllPast false b.past ss
+  pub edge : AllPast true b.edge ss
+  pub inserted : b.inserted ≡ insertions ss
+  pub erased : b.erased ≡ erasures ss
+  pub earliest : NoneBefore b.earliest ss
+  pub latest : NoneAfter b.latest ss
+
+-- bounds with a slot behind all others
 abbrev pub earlier_of : Stamp → Stamp → Stamp
 earlier_of s t = if is_after t s then s else t
 
@@ -93,8 +134,8 @@ later_of s t = if is_after s t then s else t
 abbrev pub with_op : Op → Bounds → Bounds
 with_op a b = record {
   low = min a.place b.low;
-  past = max (a.place + 1) (unpushed a.does b.past);
-  edge = max (a.place + 1 - is_insertion a.does) (unpushed a.does b.edge);
+  past = max b.past (a.place + b.erased + 1 - b.inserted);
+  edge = max b.edge (a.place + b.erased + 1 - is_insertion a.does - b.inserted);
   inserted = b.inserted + is_insertion a.does;
   erased = b.erased + is_erasure a.does;
   earliest = earlier_of a.stamp b.earliest;
@@ -105,11 +146,7 @@ abbrev pub with_slot : Option Op → Bounds → Bounds
 with_slot None b = b
 with_slot (Some a) b = with_op a b
 
-abbrev pub bounds_of : List (Option Op) → Bounds
-bounds_of [] = no_bounds
-bounds_of (s ∷ ss) = with_slot s (bounds_of ss)
-
--- what is kept of a burst: its bounds as it was written, and it wasn't moved back beyond the front of the list
+-- what is kept of a burst: bounds of its slots as they were written, and it wasn't moved back beyond the front of the list
 pub record IsBurst (up down : ℕ) (b : Bounds) (ss : List (Option Op)) : Type 0 where
-  pub bounds : b ≡ bounds_of ss
+  pub bounded : Bounded b ss
   pub front : down ≤ b.low + up

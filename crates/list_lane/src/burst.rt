@@ -1,13 +1,13 @@
-ghost use Rattle.std.specs.Prelude.{◌≡◌, ◌≤◌, ◌<◌, ◌+◌, ◌∷◌, ◌++◌, [], Some, true, false, ◌↔◌, OnOk, OnErr, IsTrue, IsFalse, length};
+ghost use Rattle.std.specs.Prelude.{◌≡◌, ◌≤◌, ◌<◌, ◌+◌, ◌∷◌, ◌++◌, [], Some, true, false, IfSome, ◌↔◌, OnOk, OnErr, IsTrue, IsFalse, length};
 ghost use Rattle.sync_base.specs.Rules.{top};
 ghost use Rattle.list_lane.specs.Lanes.{crossed as crosses, first_slot, length_at_end, length_before as before, slot_at};
 ghost use Rattle.list_lane.specs.Ops.{lane_later as later};
 ghost use Rattle.list_lane.specs.Flat.{Placed};
-ghost use Rattle.list_lane.specs.Bursts.{lift_all, pushed_all, AllBefore, AllBehind, AllLater};
+ghost use Rattle.list_lane.specs.Bursts.{lift, lift_all, pushed_all, AllBefore, AllBehind, AllLater};
 ghost use Rattle.sync_transform.specs.declared.places.Does.TheVariants.{Inserts};
 ghost use Rattle.sync_theory.specs.Grid.{tail};
 
-use super::bounds::{Bounds, bounds_of, no_bounds};
+use super::bounds::{Bounds, bounds_of, no_bounds, with_slot};
 use super::flat::{cross_slots, is_later_in, left_behind, length_in, lift_slots, lifted};
 use super::op::Op;
 use std::alloc::Global;
@@ -16,7 +16,7 @@ use sync_data::NoMemory;
 use sync_transform::Does;
 
 /// The most slots of a burst.
-const MOST: usize = 64;
+const MOST: usize = 128;
 
 /// How far from them an instruction that follows may be.
 const NEAR: u64 = 8;
@@ -86,6 +86,24 @@ impl Burst {
 
     /// Appends a slot.
     pub(crate) fn push(&mut self, slot: Option<Op>) -> Result<(), NoMemory>
+        requires placed { Placed self.old }
+        requires room { length self.old < top }
+        ensures ok { OnOk result (self.new ≡ self.old ++ slot ∷ []) }
+        ensures err { OnErr result (self.new ≡ self.old) }
+    {
+        let Some(written) = lowered(slot, self.up, self.down) else {
+            return self.push_settled(slot);
+        };
+        match push_slot(&mut self.slots, written) {
+            Ok(()) => {}
+            Err(NoMemory) => return Err(NoMemory),
+        }
+        self.bounds = with_slot(written, self.bounds);
+        Ok(())
+    }
+
+    /// The same, once all are written as they were lifted.
+    fn push_settled(&mut self, slot: Option<Op>) -> Result<(), NoMemory>
         requires placed { Placed self.old }
         requires room { length self.old < top }
         ensures ok { OnOk result (self.new ≡ self.old ++ slot ∷ []) }
@@ -293,6 +311,23 @@ fn is_from(place: u32, down: u32, past: u64, up: u32) -> bool
         Some(past) => place as u64 + down as u64 >= past,
         None => false,
     }
+}
+
+/// A slot as it is written among others that were lifted since, if it can be.
+#[inline(always)]
+fn lowered(slot: Option<Op>, up: u32, down: u32) -> Option<Option<Op>>
+    ensures slot { IfSome result (λ s. lift up down s ≡ slot) }
+    ensures front { IfSome result (λ s. IfSome s (λ op. down ≤ op.place + up)) }
+{
+    let Some(op) = slot else {
+        return Some(None);
+    };
+    let place = (op.place as u64 + down as u64).checked_sub(up as u64)?;
+    if place > u32::MAX as u64 {
+        return None;
+    }
+    let place = place as u32;
+    Some(Some(Op { place, ..op }))
 }
 
 #[inline(always)]

@@ -1,14 +1,13 @@
-use Rattle.std.proofs.Common.{sym, ap, ◌∙◌, subst}
-use Rattle.list_lane.specs.declared.bounds.Bounds.{Bounds}
+use Rattle.std.proofs.Common.{sym, ap, ◌∙◌}
 use Rattle.list_lane.specs.Bursts.{pushed_all}
-use Rattle.list_lane.proofs.Bounded.{AllFrom, all_from, lift_insertion, lift_erasure, pushed_same}
+use Rattle.list_lane.proofs.Bounded.{lift_insertion, lift_erasure, pushed_same}
 use Rattle.list_lane.proofs.burst.Burst.shift.Goals as goal
 
 pub returns-in-Inserts-clause-pushed : goal.returns-in-Inserts-clause-pushed
 returns-in-Inserts-clause-pushed c =
     let a = c.self.inside in
     λ h.
-    lift_insertion a.slots.items a.bounds.low a.up a.down (subst (λ (b : Bounds). AllFrom b.low a.slots.items) (sym c.self.invariant.bounds) (all_from a.slots.items)) c.self.invariant.front
+    lift_insertion a.slots.items a.bounds.low a.up a.down c.self.invariant.bounded.low c.self.invariant.front
     ∙ (λ i. pushed_all (sym c.in-Inserts.is i) (c.self.view_is i))
 
 pub returns-in-Erases-clause-pushed : goal.returns-in-Erases-clause-pushed
