@@ -74,13 +74,18 @@ count_in bytes = do
   count ← number32_in bytes
   if nat_lt 65536 count.0 then breaks bytes rules.TooLarge else Ok count
 
+-- the instructions behind the strings, which are the rest of these bytes
+abbrev pub listed_in : List ℕ → Bool → List (List ℕ) → List ℕ → Result (List Instr) Fault
+listed_in bytes second strings rest = do
+  count ← count_in rest
+  is ← instrs_at count.0 [] (record { second = second; strings = strings; used = 0; rest = count.1 })
+  ended bytes is.0 is.1
+
 unfoldable pub instrs_in : List ℕ → Result (List Instr) Fault
 instrs_in bytes = do
   second ← version_in bytes
   strings ← table_in second.1
-  count ← count_in strings.1
-  is ← instrs_at count.0 [] (record { second = second.0; strings = strings.0; used = 0; rest = count.1 })
-  ended bytes is.0 is.1
+  listed_in bytes second.0 strings.0 strings.1
 
 -- ---- the answer
 abbrev pub rule_number : Rule → ℕ

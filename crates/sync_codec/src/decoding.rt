@@ -3,14 +3,14 @@ ghost use Rattle.std.specs.List.{list_any};
 ghost use Rattle.sync_data.specs.Payload.{IsSmall, payload_all};
 ghost use Rattle.sync_codec.specs.Fields.{Gives};
 ghost use Rattle.sync_codec.specs.Spelling.{needs_second, spelling};
-ghost use Rattle.sync_codec.specs.Decoding.{version_in, count_in, next_at, instrs_at, ended, instrs_in, rule_number, bad_bytes, Answers, IsRead};
+ghost use Rattle.sync_codec.specs.Decoding.{version_in, count_in, next_at, instrs_at, ended, listed_in, instrs_in, rule_number, bad_bytes, Answers, IsRead};
 ghost use Rattle.sync_codec.specs.Valid.{AreInstrs};
 ghost use Rattle.sync_data.specs.declared.instr.Instr.{Instr};
 
 use crate::fields::{byte_of, number32_of};
 use crate::reader::Reader;
 use crate::refusal::{BadBytes, DecodeRefusal, Fault, ReadRefusal, Rule, broken};
-use crate::strings::take_table;
+use crate::strings::table_of;
 use std::alloc::Global;
 use sync_base::{AddColumn, Changeset, Instr, MOST_INSTRS, MOST_PAYLOAD, Shape};
 use sync_intern::Strings;
@@ -126,24 +126,28 @@ fn at_end(bytes: &[u8], reader: &Reader, instrs: &[Instr]) -> Result<(), ReadRef
     Ok(())
 }
 
-fn no_strings(alloc: Global) -> Result<Strings, ReadRefusal>
-    ensures { result ≡ Ok [] }
-{
-    match Strings::new(alloc) {
-        Ok(strings) => Ok(strings),
-        Err(_) => Err(ReadRefusal::NoMemory),
-    }
-}
-
 /// The instructions that the bytes spell.
 #[tactic(auto, unfolding(crate::specs::Decoding::instrs_in))]
 fn instrs_of(alloc: Global, bytes: &[u8]) -> Result<Vec<Instr>, ReadRefusal>
     ensures read { Gives (λ is. is.items) result (instrs_in bytes.now) }
     ensures small { IfOk result (λ is. IsSmall is.items) }
 {
-    let mut strings = no_strings(alloc)?;
     let (second, rest) = version_of(bytes)?;
-    let rest = take_table(&mut strings, rest)?;
+    let (strings, rest) = table_of(alloc, rest)?;
+    listed(alloc, bytes, second, strings, rest)
+}
+
+/// The instructions behind the strings, which are the rest of these bytes.
+fn listed<'a>(
+    alloc: Global,
+    bytes: &[u8],
+    second: bool,
+    strings: Strings<'a>,
+    rest: &'a [u8],
+) -> Result<Vec<Instr>, ReadRefusal>
+    ensures read { Gives (λ is. is.items) result (listed_in bytes.now second strings.entry rest.now) }
+    ensures small { IfOk result (λ is. IsSmall is.items) }
+{
     let (count, rest) = count_of(rest)?;
     let mut reader = Reader::new(second, &strings, rest);
     let instrs = take_instrs(alloc, count, &mut reader)?;

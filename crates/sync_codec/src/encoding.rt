@@ -1,5 +1,4 @@
 ghost use Rattle.std.specs.Prelude.{◌≡◌, ◌++◌, ◌∷◌, [], length, map, IfOk, OnOk};
-ghost use Rattle.std.specs.Prelude as kept;
 ghost use Rattle.std.specs.List.{flat_map, list_any, AllByRecursion};
 ghost use Rattle.sync_io.specs.Varints.{varint};
 ghost use Rattle.sync_codec.specs.Spelling.{spelling, version_of, instr_fields, strings_of, string_bytes, table_bytes};
@@ -52,11 +51,11 @@ fn put_table(out: &mut Vec<u8>, strings: &Strings) -> Result<(), NoMemory>
     put_strings(out, strings.as_slice())
 }
 
-fn put_strings(out: &mut Vec<u8>, strings: &[String]) -> Result<(), NoMemory>
-    ensures { OnOk result (out.new.items ≡ out.old.items ++ flat_map string_bytes (map (λ s. kept.string_bytes s) strings.now)) }
+fn put_strings(out: &mut Vec<u8>, strings: &[&str]) -> Result<(), NoMemory>
+    ensures { OnOk result (out.new.items ≡ out.old.items ++ flat_map string_bytes (map (λ s. s.now) strings.now)) }
 {
     for text in strings {
-        put_string(out, text.as_str())?;
+        put_string(out, text)?;
     }
     Ok(())
 }

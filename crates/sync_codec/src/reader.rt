@@ -12,7 +12,7 @@ use sync_intern::Strings;
 #[derive(Drop)]
 pub struct Reader<'a> {
     second: bool,
-    strings: &'a Strings,
+    strings: &'a Strings<'a>,
     used: usize,
     rest: &'a [u8],
 }
@@ -27,7 +27,7 @@ impl<'a> Model for Reader<'a> {
 
 impl<'a> Reader<'a> {
     /// A reader of those bytes, where no string was used yet. `second` is whether the first byte of all was 2.
-    pub fn new(second: bool, strings: &'a Strings, rest: &'a [u8]) -> Reader<'a>
+    pub fn new(second: bool, strings: &'a Strings<'a>, rest: &'a [u8]) -> Reader<'a>
         ensures { result ≡ record { second = second; strings = strings.now; used = 0; rest = rest.now } }
     {
         Reader {

@@ -1,9 +1,10 @@
-ghost use Rattle.std.specs.Prelude.{◌≡◌, ◌-◌, ◌^◌, ◌<◌, ◌≤◌, [], ◌+◌, length, IfOk, OnOk};
+ghost use Rattle.std.specs.Prelude.{◌≡◌, ◌-◌, ◌^◌, ◌<◌, ◌≤◌, [], ◌+◌, length, IfOk, OnOk, Ok};
 ghost use Rattle.sync_codec.specs.Fields.{Gives};
 ghost use Rattle.sync_codec.specs.Decoding.{string_len_in, as_text, string_in, strings_in, table_in};
 
 use crate::fields::{number32_of, run_of};
 use crate::refusal::{ReadRefusal, Rule, broken};
+use std::alloc::Global;
 use sync_intern::{LONGEST_STRING, Strings};
 
 /// The length of a string at the front, at most 255.
@@ -33,7 +34,7 @@ fn text_of<'a>(run: &'a [u8], field: &[u8]) -> Result<&'a str, ReadRefusal>
 
 /// The next string, which is known from then on. The bytes behind it are left.
 #[tactic(auto, unfolding(crate::specs::Decoding::string_in))]
-fn take_string<'a>(known: &mut Strings, bytes: &'a [u8]) -> Result<&'a [u8], ReadRefusal>
+fn take_string<'a>(known: &mut Strings<'a>, bytes: &'a [u8]) -> Result<&'a [u8], ReadRefusal>
     requires { length known.old < 2 ^ 32 - 1 }
     ensures taken { Gives (λ rest. (known.new, rest.now)) result (string_in known.old bytes.now) }
     ensures one_more { OnOk result (length known.new ≡ length known.old + 1) }
@@ -51,7 +52,7 @@ fn take_string<'a>(known: &mut Strings, bytes: &'a [u8]) -> Result<&'a [u8], Rea
 }
 
 fn take_strings<'a>(
-    known: &mut Strings,
+    known: &mut Strings<'a>,
     count: u32,
     bytes: &'a [u8],
 ) -> Result<&'a [u8], ReadRefusal>
@@ -68,12 +69,24 @@ fn take_strings<'a>(
     Ok(rest)
 }
 
-/// The number of strings, and the strings, which are known from then on. The bytes behind them are left.
+/// The strings, behind their number, and the bytes behind them.
 #[tactic(auto, unfolding(crate::specs::Decoding::table_in))]
-pub fn take_table<'a>(known: &mut Strings, bytes: &'a [u8]) -> Result<&'a [u8], ReadRefusal>
-    requires { known.old ≡ [] }
-    ensures { Gives (λ rest. (known.new, rest.now)) result (table_in bytes.now) }
+pub fn table_of<'a>(alloc: Global, bytes: &'a [u8]) -> Result<(Strings<'a>, &'a [u8]), ReadRefusal>
+    ensures { Gives (λ x. (x.0, x.1.now)) result (table_in bytes.now) }
 {
     let (count, rest) = number32_of(bytes)?;
-    take_strings(known, count, rest)
+    let mut known = no_strings(alloc)?;
+    match take_strings(&mut known, count, rest) {
+        Ok(rest) => Ok((known, rest)),
+        Err(refusal) => Err(refusal),
+    }
+}
+
+fn no_strings<'a>(alloc: Global) -> Result<Strings<'a>, ReadRefusal>
+    ensures { result ≡ Ok [] }
+{
+    match Strings::new(alloc) {
+        Ok(strings) => Ok(strings),
+        Err(_) => Err(ReadRefusal::NoMemory),
+    }
 }

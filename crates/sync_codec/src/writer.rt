@@ -16,12 +16,12 @@ const MOST_STRINGS: usize = 0xffff_ffff;
 
 /// The fields that were written, with the strings that they use.
 #[derive(Drop)]
-pub struct Writer {
-    strings: Strings,
+pub struct Writer<'a> {
+    strings: Strings<'a>,
     bytes: Vec<u8>,
 }
 
-impl Model for Writer {
+impl<'a> Model for Writer<'a> {
     ghost use Rattle.std.specs.List.{AllByRecursion};
     ghost use Rattle.sync_codec.specs.Writing.{Written};
     ghost use Rattle.sync_codec.specs.Valid.{IsString};
@@ -33,9 +33,9 @@ impl Model for Writer {
     ghost invariant = { λ a. AllByRecursion IsString a.strings };
 }
 
-impl Writer {
+impl<'a> Writer<'a> {
     /// No fields.
-    pub fn new(alloc: Global) -> Result<Writer, NoMemory>
+    pub fn new(alloc: Global) -> Result<Writer<'a>, NoMemory>
         ensures { result ≡ Ok (record { strings = []; bytes = [] }) }
     {
         match Strings::new(alloc) {
@@ -48,7 +48,7 @@ impl Writer {
     }
 
     /// The strings that the fields use, in order of first use.
-    pub fn strings(&self) -> &Strings
+    pub fn strings(&self) -> &Strings<'a>
         ensures used { result.now ≡ self.now.strings }
         ensures are { AllByRecursion IsString self.now.strings }
     {
@@ -120,7 +120,7 @@ impl Writer {
 
     /// Writes the number of a string of at most 255 bytes, which is used from now on.
     #[tactic(auto, using(crate::specs::Lemmas::utf8_is, crate::specs::Lemmas::Strings::with_one))]
-    pub fn string(&mut self, text: &str) -> Result<(), NoMemory>
+    pub fn string(&mut self, text: &'a str) -> Result<(), NoMemory>
         requires { length text.now ≤ 255 }
         ensures { OnOk result (self.new ≡ with_field self.old (string text.now)) }
     {

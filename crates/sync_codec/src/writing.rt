@@ -48,14 +48,14 @@ fn shape_byte(shape: Shape) -> u8
     }
 }
 
-impl Writer {
+impl<'a> Writer<'a> {
     fn flag(&mut self, flag: bool) -> Result<(), NoMemory>
         ensures { OnOk result (self.new ≡ with_field self.old (byte (flag_byte flag))) }
     {
         self.byte(if flag { 1 } else { 0 })
     }
 
-    fn name(&mut self, name: &Name) -> Result<(), NoMemory>
+    fn name(&mut self, name: &'a Name) -> Result<(), NoMemory>
         ensures spelled { OnOk result (self.new ≡ with_field self.old (string name.now)) }
         ensures is { OnOk result (IsName name.now) }
     {
@@ -89,7 +89,7 @@ impl Writer {
     }
 
     /// Writes a key.
-    pub fn key(&mut self, key: &Key) -> Result<(), NoMemory>
+    pub fn key(&mut self, key: &'a Key) -> Result<(), NoMemory>
         ensures spelled { OnOk result (self.new ≡ with_fields self.old (key_fields key.now)) }
         ensures is { OnOk result (IsKey key.now) }
     {
@@ -111,7 +111,7 @@ impl Writer {
         self.signed32(time.nanos())
     }
 
-    fn link(&mut self, table: &Name, key: &Key) -> Result<(), NoMemory>
+    fn link(&mut self, table: &'a Name, key: &'a Key) -> Result<(), NoMemory>
         ensures spelled { OnOk result (self.new ≡ with_fields self.old (value_fields (Value.Link table.now key.now))) }
         ensures is { OnOk result (IsName table.now × IsKey key.now) }
     {
@@ -129,7 +129,7 @@ impl Writer {
 
     /// Writes a value.
     #[tactic(auto, using(crate::specs::Lemmas::utf8_is))]
-    pub fn value(&mut self, value: &Value) -> Result<(), NoMemory>
+    pub fn value(&mut self, value: &'a Value) -> Result<(), NoMemory>
         requires small { value_payload value.now < 2 ^ 32 }
         ensures spelled { OnOk result (self.new ≡ with_fields self.old (value_fields value.now)) }
         ensures is { OnOk result (IsValue value.now) }
@@ -146,7 +146,7 @@ impl Writer {
         }
     }
 
-    fn binding(&mut self, value: &Option<Value>) -> Result<(), NoMemory>
+    fn binding(&mut self, value: &'a Option<Value>) -> Result<(), NoMemory>
         requires small { binding_payload_of value.now < 2 ^ 32 }
         ensures spelled { OnOk result (self.new ≡ with_fields self.old (binding_fields value.now)) }
         ensures is { OnOk result (IsBinding value.now) }
@@ -160,7 +160,7 @@ impl Writer {
         }
     }
 
-    fn target(&mut self, kind: &Kind) -> Result<(), NoMemory>
+    fn target(&mut self, kind: &'a Kind) -> Result<(), NoMemory>
         ensures spelled { OnOk result (self.new ≡ with_fields self.old (target_fields kind.now)) }
         ensures is { OnOk result (IsKind kind.now) }
     {
@@ -170,7 +170,7 @@ impl Writer {
         }
     }
 
-    fn column(&mut self, column: &Column) -> Result<(), NoMemory>
+    fn column(&mut self, column: &'a Column) -> Result<(), NoMemory>
         ensures spelled { OnOk result (self.new ≡ with_fields self.old (column_fields column.now)) }
         ensures is { OnOk result (IsKind column.now.kind) }
     {
@@ -181,7 +181,7 @@ impl Writer {
     }
 
     #[tactic(auto, using(crate::specs::Writing::with_fields_more))]
-    fn cell_name(&mut self, cell: &CellName) -> Result<(), NoMemory>
+    fn cell_name(&mut self, cell: &'a CellName) -> Result<(), NoMemory>
         ensures spelled { OnOk result (self.new ≡ with_fields self.old (cell_fields cell.now)) }
         ensures is { OnOk result (IsCell cell.now) }
     {
@@ -206,7 +206,7 @@ impl Writer {
         self.number32(spot.prior())
     }
 
-    fn add_table(&mut self, instr: &AddTable) -> Result<(), NoMemory>
+    fn add_table(&mut self, instr: &'a AddTable) -> Result<(), NoMemory>
         ensures spelled { OnOk result (self.new ≡ with_fields self.old (byte 1 ∷ string instr.now.table ∷ byte (key_kind_byte instr.now.key) ∷ [])) }
         ensures is { OnOk result (IsName instr.now.table) }
     {
@@ -215,7 +215,7 @@ impl Writer {
         self.byte(key_kind_byte(instr.key))
     }
 
-    fn add_column(&mut self, instr: &AddColumn) -> Result<(), NoMemory>
+    fn add_column(&mut self, instr: &'a AddColumn) -> Result<(), NoMemory>
         ensures spelled { OnOk result (self.new ≡ with_fields self.old (byte 2 ∷ string instr.now.table ∷ string instr.now.column ∷ column_fields instr.now.def)) }
         ensures is { OnOk result (IsName instr.now.table × IsName instr.now.column × IsKind instr.now.def.kind) }
     {
@@ -225,7 +225,7 @@ impl Writer {
         self.column(&instr.def)
     }
 
-    fn object(&mut self, opcode: u8, table: &Name, key: &Key) -> Result<(), NoMemory>
+    fn object(&mut self, opcode: u8, table: &'a Name, key: &'a Key) -> Result<(), NoMemory>
         ensures spelled { OnOk result (self.new ≡ with_fields self.old (byte opcode ∷ string table.now ∷ key_fields key.now)) }
         ensures is { OnOk result (IsName table.now × IsKey key.now) }
     {
@@ -234,7 +234,7 @@ impl Writer {
         self.key(key)
     }
 
-    fn cell_alone(&mut self, opcode: u8, cell: &CellName) -> Result<(), NoMemory>
+    fn cell_alone(&mut self, opcode: u8, cell: &'a CellName) -> Result<(), NoMemory>
         ensures spelled { OnOk result (self.new ≡ with_fields self.old (byte opcode ∷ cell_fields cell.now)) }
         ensures is { OnOk result (IsCell cell.now) }
     {
@@ -243,7 +243,12 @@ impl Writer {
     }
 
     #[tactic(auto, using(crate::specs::Writing::with_fields_more))]
-    fn cell_and_value(&mut self, opcode: u8, cell: &CellName, value: &Value) -> Result<(), NoMemory>
+    fn cell_and_value(
+        &mut self,
+        opcode: u8,
+        cell: &'a CellName,
+        value: &'a Value,
+    ) -> Result<(), NoMemory>
         requires small { value_payload value.now < 2 ^ 32 }
         ensures spelled { OnOk result (self.new ≡ with_fields self.old (byte opcode ∷ (cell_fields cell.now ++ value_fields value.now))) }
         ensures is { OnOk result (IsCell cell.now × IsValue value.now) }
@@ -253,7 +258,7 @@ impl Writer {
     }
 
     #[tactic(auto, using(crate::specs::Writing::with_fields_more))]
-    fn add_integer(&mut self, cell: &CellName, amount: i64) -> Result<(), NoMemory>
+    fn add_integer(&mut self, cell: &'a CellName, amount: i64) -> Result<(), NoMemory>
         ensures spelled { OnOk result (self.new ≡ with_fields self.old (byte 6 ∷ (cell_fields cell.now ++ number (zigzag amount) ∷ []))) }
         ensures is { OnOk result (IsCell cell.now × (zigzag amount < 2 ^ 64)) }
     {
@@ -262,7 +267,7 @@ impl Writer {
     }
 
     #[tactic(auto, using(crate::specs::Writing::with_fields_more))]
-    fn list_update(&mut self, instr: &ListUpdate) -> Result<(), NoMemory>
+    fn list_update(&mut self, instr: &'a ListUpdate) -> Result<(), NoMemory>
         requires small { value_payload instr.now.value < 2 ^ 32 }
         ensures spelled { OnOk result (self.new ≡ with_fields self.old (byte 7 ∷ (cell_fields instr.now.cell ++ (spot_fields instr.now.spot ++ value_fields instr.now.value)))) }
         ensures is { OnOk result (IsInstr (Instr.ListUpdate instr.now)) }
@@ -273,7 +278,7 @@ impl Writer {
     }
 
     #[tactic(auto, using(crate::specs::Writing::with_fields_more))]
-    fn list_insert(&mut self, instr: &ListInsert) -> Result<(), NoMemory>
+    fn list_insert(&mut self, instr: &'a ListInsert) -> Result<(), NoMemory>
         requires small { value_payload instr.now.value < 2 ^ 32 }
         ensures spelled { OnOk result (self.new ≡ with_fields self.old (byte 8 ∷ (cell_fields instr.now.cell ++ (spot_fields instr.now.spot ++ value_fields instr.now.value)))) }
         ensures is { OnOk result (IsInstr (Instr.ListInsert instr.now)) }
@@ -284,7 +289,7 @@ impl Writer {
     }
 
     #[tactic(auto, using(crate::specs::Writing::with_fields_more))]
-    fn list_erase(&mut self, instr: &ListErase) -> Result<(), NoMemory>
+    fn list_erase(&mut self, instr: &'a ListErase) -> Result<(), NoMemory>
         ensures spelled { OnOk result (self.new ≡ with_fields self.old (byte 9 ∷ (cell_fields instr.now.cell ++ spot_fields instr.now.spot))) }
         ensures is { OnOk result (IsInstr (Instr.ListErase instr.now)) }
     {
@@ -293,7 +298,7 @@ impl Writer {
     }
 
     #[tactic(auto, using(crate::specs::Writing::with_fields_more))]
-    fn dict_update(&mut self, instr: &DictUpdate) -> Result<(), NoMemory>
+    fn dict_update(&mut self, instr: &'a DictUpdate) -> Result<(), NoMemory>
         requires small { binding_payload_of instr.now.value < 2 ^ 32 }
         ensures spelled { OnOk result (self.new ≡ with_fields self.old (byte 12 ∷ (cell_fields instr.now.cell ++ string instr.now.at ∷ binding_fields instr.now.value))) }
         ensures is { OnOk result (IsInstr (Instr.DictUpdate instr.now)) }
@@ -305,7 +310,7 @@ impl Writer {
 
     /// Writes an instruction.
     #[tactic(auto, unfolding(crate::specs::Spelling::instr_fields))]
-    pub fn instr(&mut self, instr: &Instr) -> Result<(), NoMemory>
+    pub fn instr(&mut self, instr: &'a Instr) -> Result<(), NoMemory>
         requires small { payload instr.now < 2 ^ 32 }
         ensures spelled { OnOk result (self.new ≡ with_fields self.old (instr_fields instr.now)) }
         ensures is { OnOk result (IsInstr instr.now) }
@@ -328,7 +333,7 @@ impl Writer {
     }
 
     /// Writes instructions, one after the other.
-    pub fn instrs(&mut self, instrs: &[Instr]) -> Result<(), NoMemory>
+    pub fn instrs(&mut self, instrs: &'a [Instr]) -> Result<(), NoMemory>
         requires small { IsSmall instrs.now }
         ensures spelled { OnOk result (self.new ≡ with_fields self.old (flat_map instr_fields instrs.now)) }
         ensures are { OnOk result (All IsInstr instrs.now) }
