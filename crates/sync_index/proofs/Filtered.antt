@@ -13,9 +13,9 @@ use Rattle.sync_base.specs.Effects.{ObjectName}
 use Rattle.sync_base.specs.States.{object_cmp}
 use Rattle.sync_base.specs.Lemmas.Looks.{object_exact}
 use Rattle.sync_base.specs.Lemmas.Maps.{tied_is}
-use Rattle.sync_index.specs.Touched.{holds, with_name}
+use Rattle.sync_index.specs.Touched.{holds, HoldsMore}
 use Rattle.sync_index.specs.Filters.{spot_of, may_hold, PassesAll}
-use Rattle.sync_index.proofs.Indexed.{holds-with, or_true}
+use Rattle.sync_index.proofs.Indexed.{or_true}
 
 -- a mark is there once it is set, and the others stay
 pub marked : (marks : List Bool) (s t : ℕ) → s < length marks → slice_index_or (slice_set marks s true) t false ≡ ((t == s) || slice_index_or marks t false)
@@ -51,15 +51,15 @@ MarksMore key before after = (other : Key) → may_hold after other ≡ ((spot_o
 stay : (key : Key) (before after : List Bool) (objects : map.FinMap name_cmp (set.FinSet key_cmp)) → MarksMore key before after → PassesAll before objects → PassesAll after objects
 stay key before after objects more all o h = more o.1 ∙ ap (λ b. (spot_of o.1 == spot_of key) || b) (all o h) ∙ or_true (spot_of o.1 == spot_of key)
 
-one_more : (p : ObjectName) (before after : List Bool) (objects : map.FinMap name_cmp (set.FinSet key_cmp)) → MarksMore p.1 before after → PassesAll before objects → PassesAll after (with_name p objects)
-one_more p before after objects more all o h =
+one_more : (p : ObjectName) (before after : List Bool) (objects more_objects : map.FinMap name_cmp (set.FinSet key_cmp)) → MarksMore p.1 before after → HoldsMore p objects more_objects → PassesAll before objects → PassesAll after more_objects
+one_more p before after objects more_objects more held all o h =
     elim (eq_by_cmp object_cmp o p) as (λ b. eq_by_cmp object_cmp o p ≡ b → (b || holds objects o) ≡ true → may_hold after o.1 ≡ true) [
       | true ↦ λ e _. more o.1 ∙ ap (λ b. b || may_hold before o.1) (eq-eqb (spot_of o.1) (spot_of p.1) (ap (λ q. spot_of q.1) (tied_is object_exact o p e)))
       | false ↦ λ _ there. stay p.1 before after objects more all o there
-    ] refl (sym (holds-with objects p o) ∙ h)
+    ] refl (sym (held o) ∙ h)
 
 -- after the key was marked and the object was put, or was refused
 pub passes_put : {A E : Type 0} (r : Result A E) (p : ObjectName) (before after : List Bool) (objects more_objects : map.FinMap name_cmp (set.FinSet key_cmp))
-    → MarksMore p.1 before after → OnOk r (more_objects ≡ with_name p objects) → OnErr r (more_objects ≡ objects) → PassesAll before objects → PassesAll after more_objects
-passes_put (Ok _) p before after objects more_objects more put same all = subst (PassesAll after) (sym put) (one_more p before after objects more all)
+    → MarksMore p.1 before after → OnOk r (HoldsMore p objects more_objects) → OnErr r (more_objects ≡ objects) → PassesAll before objects → PassesAll after more_objects
+passes_put (Ok _) p before after objects more_objects more put same all = one_more p before after objects more_objects more put all
 passes_put (Err _) p before after objects more_objects more put same all = subst (PassesAll after) (sym same) (stay p.1 before after objects more all)

@@ -12,21 +12,12 @@ use Rattle.sync_data.specs.declared.instr.Instr.{Instr}
 use Rattle.sync_base.specs.Effects.{ObjectName, effect_of}
 use Rattle.sync_base.specs.States.{object_cmp}
 use Rattle.sync_base.specs.Objects.{object_of}
-use Rattle.sync_base.specs.Lemmas.Looks.{name_total, name_exact, object_total}
+use Rattle.sync_base.specs.Lemmas.Looks.{name_total, name_exact, object_total, object_exact}
 use Rattle.sync_base.specs.Lemmas.Maps.{tied_is}
-use Rattle.sync_index.specs.Touched.{Touched, holds, has_object, with_name, is_one, is_about, is_of_schema, with_one, with_instr, touches, Covers}
-
--- with each of the instructions
-abbrev pub indexed : Touched → List Instr → Touched
-indexed t [] = t
-indexed t (b ∷ bs) = indexed (with_instr b t) bs
-
--- nothing is indexed
-abbrev pub no_touched : Touched
-no_touched = record { objects = map.empty; schema = false }
+use Rattle.sync_index.specs.Touched.{Touched, holds, has_object, with_name, with_first, is_one, is_about, is_of_schema, HoldsMore, Adds, touches, Covers}
 
 -- ---- what is there after one more
-or_false : (b : Bool) → (b || false) ≡ b
+pub or_false : (b : Bool) → (b || false) ≡ b
 or_false true = refl
 or_false false = refl
 
@@ -55,25 +46,43 @@ holds-with objects p o =
     ] refl
     ∙ ap (λ b. b || holds objects o) (tied_then (name_cmp o.0 p.0) (key_cmp o.1 p.1))
 
-has-one : (t : Touched) (p : Option ObjectName) (o : ObjectName) → has_object (with_one p t) o ≡ (is_one o p || has_object t o)
-has-one t None o = refl
-has-one t (Some p) o = holds-with t.objects p o
+pub holds-first : (p : Option ObjectName) (objects : map.FinMap name_cmp (set.FinSet key_cmp)) (o : ObjectName) → holds (with_first p objects) o ≡ (is_one o p || holds objects o)
+holds-first None objects o = refl
+holds-first (Some p) objects o = holds-with objects p o
 
-pub has-indexed : (t : Touched) (bs : List Instr) (o : ObjectName) → has_object (indexed t bs) o ≡ (has_object t o || list_any (is_about o) bs)
-has-indexed t [] o = sym (or_false (has_object t o))
-has-indexed t (b ∷ bs) o =
-    has-indexed (with_instr b t) bs o ∙ ap (λ c. c || list_any (is_about o) bs) (has-one t (object_of (effect_of b)) o)
-    ∙ or_swap (is_about o b) (has_object t o) (list_any (is_about o) bs)
+-- the first of all
+pub new_first : (first : Option ObjectName) (p q : ObjectName) (objects : map.FinMap name_cmp (set.FinSet key_cmp)) → is_some first ≡ false → p ≡ q → HoldsMore q (with_first first objects) (with_name p objects)
+new_first None p q objects e same o = holds-with objects p o ∙ ap (λ r. eq_by_cmp object_cmp o r || holds objects o) same
+new_first (Some f) p q objects e same o = cc
 
-schema-one : (t : Touched) (p : Option ObjectName) → (with_one p t).schema ≡ (not (is_some p) || t.schema)
-schema-one t None = refl
-schema-one t (Some p) = refl
+or_turn : (a b c : Bool) → (a || (b || c)) ≡ (b || (a || c))
+or_turn true true c = refl
+or_turn true false c = refl
+or_turn false b c = refl
 
-pub schema-indexed : (t : Touched) (bs : List Instr) → (indexed t bs).schema ≡ (t.schema || list_any is_of_schema bs)
-schema-indexed t [] = sym (or_false t.schema)
-schema-indexed t (b ∷ bs) =
-    schema-indexed (with_instr b t) bs ∙ ap (λ c. c || list_any is_of_schema bs) (schema-one t (object_of (effect_of b)))
-    ∙ or_swap (is_of_schema b) t.schema (list_any is_of_schema bs)
+or_twice : (a b : Bool) → (a || b) ≡ (a || (a || b))
+or_twice true b = refl
+or_twice false b = refl
+
+-- another one among the others
+pub first_stays : (first : Option ObjectName) (p : ObjectName) (objects : map.FinMap name_cmp (set.FinSet key_cmp)) → HoldsMore p (with_first first objects) (with_first first (with_name p objects))
+first_stays first p objects o =
+    holds-first first (with_name p objects) o ∙ ap (λ b. is_one o first || b) (holds-with objects p o) ∙ or_turn (is_one o first) (eq_by_cmp object_cmp o p) (holds objects o)
+    ∙ sym (ap (λ b. eq_by_cmp object_cmp o p || b) (holds-first first objects o))
+
+-- the first once more
+pub first_again : (first : Option ObjectName) (p : ObjectName) (objects : map.FinMap name_cmp (set.FinSet key_cmp)) → is_one p first ≡ true → HoldsMore p (with_first first objects) (with_first first objects)
+first_again None p objects e o = cc
+first_again (Some f) p objects e o =
+    let same : p ≡ f = tied_is object_exact p f e in
+    holds-with objects f o ∙ or_twice (eq_by_cmp object_cmp o f) (holds objects o) ∙ sym (ap (λ b. eq_by_cmp object_cmp o f || b) (holds-with objects f o)) ∙ ap (λ q. eq_by_cmp object_cmp o q || holds (with_name f objects) o) (sym same)
+
+-- ---- a loop that adds each of a list
+pub goes_on : (t u : Touched) (i : Instr) (rest : List Instr) → Adds (object_of (effect_of i)) t u → (o : ObjectName) → (has_object u o || list_any (is_about o) rest) ≡ (has_object t o || list_any (is_about o) (i ∷ rest))
+goes_on t u i rest more o = ap (λ b. b || list_any (is_about o) rest) (more.0 o) ∙ or_swap (is_about o i) (has_object t o) (list_any (is_about o) rest)
+
+pub schema_goes_on : (t u : Touched) (i : Instr) (rest : List Instr) → Adds (object_of (effect_of i)) t u → (u.schema || list_any is_of_schema rest) ≡ (t.schema || list_any is_of_schema (i ∷ rest))
+schema_goes_on t u i rest more = ap (λ b. b || list_any is_of_schema rest) more.1 ∙ or_swap (is_of_schema i) t.schema (list_any is_of_schema rest)
 
 -- ---- it covers the list
 itself : (o : ObjectName) → eq_by_cmp object_cmp o o ≡ true
@@ -89,10 +98,3 @@ covers t (b ∷ bs) h g = (
   touched t (object_of (effect_of b)) (λ o e. h o (ap (λ c. c || list_any (is_about o) bs) e)) (λ e. g (ap (λ c. c || list_any is_of_schema bs) e)),
   covers t bs (λ o e. h o (ap (λ c. is_about o b || c) e ∙ or_true (is_about o b))) (λ e. g (ap (λ c. is_of_schema b || c) e ∙ or_true (is_of_schema b))),
 )
-
--- ---- the index of a list
-pub of_objects : (bs : List Instr) (o : ObjectName) → has_object (indexed no_touched bs) o ≡ list_any (is_about o) bs
-of_objects bs o = has-indexed no_touched bs o ∙ ap (λ k. option_map_or (λ keys. set.contains keys o.1) k false || list_any (is_about o) bs) (map.get-empty name_cmp o.0)
-
-pub of_schema : (bs : List Instr) → (indexed no_touched bs).schema ≡ list_any is_of_schema bs
-of_schema bs = schema-indexed no_touched bs

@@ -1,5 +1,5 @@
 -- What an index knows of a list of instructions, and what it tells of an instruction that may meet them.
-use Rattle.std.specs.Prelude.{◌≡◌, Bool, true, false, not, List, [], ◌∷◌, Option, None, Some, is_some, Ok}
+use Rattle.std.specs.Prelude.{◌≡◌, Bool, true, false, not, ◌||◌, List, [], ◌∷◌, Option, None, Some, is_some, Ok}
 use Rattle.std.specs.Option.{option_map_or, unwrap_or}
 use Rattle.std.specs.Ordering.{eq_by_cmp}
 use Rattle.std.specs.FinMap as map
@@ -34,19 +34,22 @@ is_about o i = is_one o (object_of (effect_of i))
 abbrev pub is_of_schema : Instr → Bool
 is_of_schema i = not (is_some (object_of (effect_of i)))
 
--- with one object more, with one instruction more
+-- with one object more
 abbrev pub with_name : ObjectName → map.FinMap name_cmp (set.FinSet key_cmp) → map.FinMap name_cmp (set.FinSet key_cmp)
 with_name o objects = map.insert objects o.0 (set.insert (unwrap_or (map.get objects o.0) set.empty) o.1)
 
-abbrev pub with_object : ObjectName → Touched → Touched
-with_object o t = record { objects = with_name o t.objects; schema = t.schema }
+-- with the first of them, where there is one
+abbrev pub with_first : Option ObjectName → map.FinMap name_cmp (set.FinSet key_cmp) → map.FinMap name_cmp (set.FinSet key_cmp)
+with_first None objects = objects
+with_first (Some o) objects = with_name o objects
 
-abbrev pub with_one : Option ObjectName → Touched → Touched
-with_one None t = record { objects = t.objects; schema = true }
-with_one (Some o) t = with_object o t
+-- one more is held
+abbrev pub HoldsMore : ObjectName → map.FinMap name_cmp (set.FinSet key_cmp) → map.FinMap name_cmp (set.FinSet key_cmp) → Type 0
+HoldsMore p before after = (o : ObjectName) → holds after o ≡ (eq_by_cmp object_cmp o p || holds before o)
 
-abbrev pub with_instr : Instr → Touched → Touched
-with_instr i t = with_one (object_of (effect_of i)) t
+-- what an instruction is about is added: its object, or that it is of the schema
+abbrev pub Adds : Option ObjectName → Touched → Touched → Type 0
+Adds p before after = ((o : ObjectName) → has_object after o ≡ (is_one o p || has_object before o)) × (after.schema ≡ (not (is_some p) || before.schema))
 
 -- ---- what may be touched
 abbrev pub touches : Touched → Option ObjectName → Bool

@@ -1,13 +1,14 @@
-ghost use Rattle.std.specs.Prelude.{◌≡◌, ◌||◌, List, true, false, IfOk, OnOk};
+ghost use Rattle.std.specs.Prelude.{◌≡◌, ◌||◌, List, true, false, Some, IfOk, OnOk};
 ghost use Rattle.std.specs.List.{list_any};
 ghost use Rattle.sync_data.specs.declared.instr.Instr.{Instr};
-ghost use Rattle.sync_base.specs.Effects.{ObjectName};
-ghost use Rattle.sync_index.specs.Touched.{has_object, may_touch, is_about, is_of_schema, with_object, with_instr, Covers, ApartFromAll};
+ghost use Rattle.sync_base.specs.Effects.{ObjectName, effect_of};
+ghost use Rattle.sync_base.specs.Objects.{object_of};
+ghost use Rattle.sync_index.specs.Touched.{has_object, may_touch, is_about, is_of_schema, Adds, Covers, ApartFromAll};
 ghost use Rattle.sync_index.specs.Spots.{LieAt, Misses};
 
 use super::filter::Filter;
+use super::held::Held;
 use super::object::object_of;
-use super::objects::Objects;
 use std::alloc::Global;
 use std::marker::Model;
 use sync_base::{Instr, Key, Name, NoMemory};
@@ -16,7 +17,7 @@ use sync_base::{Instr, Key, Name, NoMemory};
 #[derive(Drop)]
 pub struct Index {
     filter: Filter,
-    objects: Objects,
+    objects: Held,
     schema: bool,
 }
 
@@ -44,7 +45,7 @@ impl Index {
     {
         let mut index = Index {
             filter: Filter::new(),
-            objects: Objects::new(alloc),
+            objects: Held::new(alloc),
             schema: false,
         };
         for instr in instrs {
@@ -87,7 +88,7 @@ impl Index {
     }
 
     fn include(&mut self, instr: &Instr) -> Result<(), NoMemory>
-        ensures { OnOk result (self.new ≡ with_instr instr.now self.old) }
+        ensures { OnOk result (Adds (object_of (effect_of instr.now)) self.old self.new) }
     {
         let Some((table, key)) = object_of(instr) else {
             self.schema = true;
@@ -97,7 +98,7 @@ impl Index {
     }
 
     fn include_object(&mut self, table: &Name, key: Key) -> Result<(), NoMemory>
-        ensures { OnOk result (self.new ≡ with_object (table.now, key) self.old) }
+        ensures { OnOk result (Adds (Some (table.now, key)) self.old self.new) }
     {
         self.filter.mark(&key);
         self.objects.put(table, key)

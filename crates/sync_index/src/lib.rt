@@ -2,6 +2,7 @@
 #![tactic(auto)]
 
 mod filter;
+mod held;
 mod index;
 mod keys;
 mod object;
