@@ -75,17 +75,18 @@ pub fn table_of<'a>(alloc: Global, bytes: &'a [u8]) -> Result<(Strings<'a>, &'a 
     ensures { Gives (λ x. (x.0, x.1.now)) result (table_in bytes.now) }
 {
     let (count, rest) = number32_of(bytes)?;
-    let mut known = no_strings(alloc)?;
+    let mut known = no_strings(alloc, count)?;
     match take_strings(&mut known, count, rest) {
         Ok(rest) => Ok((known, rest)),
         Err(refusal) => Err(refusal),
     }
 }
 
-fn no_strings<'a>(alloc: Global) -> Result<Strings<'a>, ReadRefusal>
-    ensures { result ≡ Ok [] }
+/// No strings, with room for so many.
+fn no_strings<'a>(alloc: Global, count: u32) -> Result<Strings<'a>, ReadRefusal>
+    ensures { Gives (λ known. known) result (Ok []) }
 {
-    match Strings::new(alloc) {
+    match Strings::with_room(alloc, count as usize) {
         Ok(strings) => Ok(strings),
         Err(_) => Err(ReadRefusal::NoMemory),
     }

@@ -7,7 +7,7 @@ use indexmap::IndexSet;
 use std::alloc::Global;
 
 /// Up to so many strings are looked through; of more an index tells the places.
-const FEW: usize = 16;
+pub(crate) const FEW: usize = 16;
 
 /// The place of a string among others, where it is one of them. It takes no memory.
 pub(crate) fn place_among(texts: &[&str], text: &str) -> Option<usize>

@@ -4,7 +4,7 @@ ghost use Rattle.std.specs.List.{IsDistinct};
 ghost use Rattle.std.specs.Str.{bytes_eq};
 ghost use Rattle.sync_intern.specs.FirstUses.{has_string, with_string, place_of, place_in, AreShort};
 
-use super::places::{place_among, places_with};
+use super::places::{FEW, place_among, places_with};
 use indexmap::IndexSet;
 use std::alloc::Global;
 use std::marker::Model;
@@ -47,6 +47,20 @@ impl<'a> Strings<'a> {
         Ok(Strings {
             alloc,
             texts: Vec::new(alloc),
+            places: None,
+        })
+    }
+
+    /// No strings, with room for so many where they are few.
+    pub fn with_room(alloc: Global, count: usize) -> Result<Strings<'a>, NoMemory>
+        ensures none { IfOk result (λ made. made ≡ []) }
+    {
+        let Ok(texts) = Vec::with_capacity(alloc, count.min(FEW)) else {
+            return Err(NoMemory);
+        };
+        Ok(Strings {
+            alloc,
+            texts,
             places: None,
         })
     }
