@@ -1,7 +1,9 @@
 -- Instructions that act one after the other, and are taken back.
 use Rattle.std.proofs.Common.{◌≡◌, ℕ, zero, suc, ◌+◌, ◌≤◌, Bool, true, false, List, [], ◌∷◌, ◌++◌, length, drop, Option, None, Some, Ok, Err, cond, refl, sym, ◌∙◌, ap, get_or, ◌<◌, arith}
-use Rattle.std.proofs.Math.Seq.{drop-cons}
+use Rattle.std.proofs.Math.ListN.{get_or-append}
+use Rattle.std.proofs.Math.Seq.{drop-cons, get_or-append_seam}
 use Rattle.std.proofs.lemmas.List.Sums.{sum_by-append}
+use Rattle.std.specs.List.{IsLastAndRest}
 use Rattle.std.specs.Option.{option_and_then, option_map}
 use Rattle.sync_data.specs.declared.instr.Instr.{Instr}
 use Rattle.sync_base.specs.declared.answers.Break.{Break}
@@ -66,6 +68,18 @@ bears_less : (is : List Instr) (place : ℕ) (i : Instr) → place < length is �
 bears_less [] place i h e = omega arith
 bears_less (j ∷ is) zero i h e = let f = sum_first j is in let g = ap payload e in omega arith
 bears_less (j ∷ is) (suc place) i h e = let f = sum_first j is in let g = bears_less is place i (omega arith) e in omega arith
+
+-- an instruction before the last stands in the list at its own place
+pub stands_before : (is others : List Instr) (place : ℕ) (last i : Instr) → IsLastAndRest is last others → place < length others → i ≡ get_or others place i
+    → (place < length is) × (i ≡ get_or is place i)
+stands_before is others place last i split h at =
+    (omega (arith, split.1), at ∙ sym (ap (λ l. get_or l place i) split.0 ∙ get_or-append others (last ∷ []) i place h))
+
+-- and the last behind the others
+pub stands_last : (is others : List Instr) (place : ℕ) (last : Instr) → IsLastAndRest is last others → place ≡ length others
+    → (place < length is) × (last ≡ get_or is place last)
+stands_last is others place last split at_end =
+    (omega (arith, split.1), sym (ap (λ l. get_or l place last) split.0 ∙ ap (λ n. get_or (others ++ last ∷ []) n last) at_end ∙ get_or-append_seam others last [] last))
 
 rest_broken : (place : ℕ) (o : Option Break) (rest : Option (ℕ × Break)) → o ≡ None
     → shifted place (elim o [ Some b ↦ Some (0, b) | None ↦ option_map (λ p. (suc p.0, p.1)) rest ]) ≡ shifted (place + 1) rest

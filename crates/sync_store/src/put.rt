@@ -5,21 +5,38 @@ ghost use Rattle.std.specs.FinMap as map;
 ghost use Rattle.sync_base.specs.After.{after, new_cells};
 ghost use Rattle.sync_base.specs.Checks.{break_of};
 ghost use Rattle.sync_cells.specs.Undoing.{done, edit_of, has_place};
-ghost use Rattle.sync_store.specs.Backs.{back, changed_at};
+ghost use Rattle.sync_store.specs.Backs.{back, changed_at, Steps};
 ghost use Rattle.sync_store.specs.Small.{MayGrow};
 
 use super::object::Object;
 use super::parts::Parts;
+use super::refusals::ApplyRefusal;
 use super::undo::Undo;
 use sync_base::{
     AddColumn, AddTable, CellName, CreateObject, EraseObject, Instr, ListInsert, Name, NoMemory,
     Value as Held,
 };
-use sync_cells::{Edit, inverse_of};
+use sync_cells::Edit;
 
 impl Parts {
+    /// Applies an instruction, and hands back what takes it back; or nothing changes, and it tells
+    /// the break.
+    pub(crate) fn apply<'a>(&mut self, instr: &'a Instr) -> Result<Undo<'a>, ApplyRefusal>
+        requires { IsState self.old }
+        ensures { Steps result instr.now self.old self.new }
+    {
+        match self.check(instr) {
+            Ok(()) => {}
+            Err(cause) => return Err(ApplyRefusal::Break(cause)),
+        }
+        match self.put(instr) {
+            Ok(undo) => Ok(undo),
+            Err(NoMemory) => Err(ApplyRefusal::NoMemory),
+        }
+    }
+
     /// Applies an instruction that acts, and hands back what takes it back.
-    pub(crate) fn put(&mut self, instr: &Instr) -> Result<Undo, NoMemory>
+    fn put<'a>(&mut self, instr: &'a Instr) -> Result<Undo<'a>, NoMemory>
         requires state { IsState self.old }
         requires acts { break_of self.old (effect_of instr.now) ≡ None }
         ensures after { IfOk result (λ undo. self.new ≡ after self.old (effect_of instr.now)) }
@@ -53,7 +70,7 @@ impl Parts {
         }
     }
 
-    fn put_table(&mut self, add: &AddTable) -> Result<Undo, NoMemory>
+    fn put_table<'a>(&mut self, add: &'a AddTable) -> Result<Undo<'a>, NoMemory>
         requires { break_of self.old (NewTable add.now.table add.now.key) ≡ None }
         ensures after { IfOk result (λ undo. self.new ≡ after self.old (NewTable add.now.table add.now.key)) }
         ensures back { IfOk result (λ undo. back undo self.new ≡ self.old) }
@@ -65,10 +82,10 @@ impl Parts {
         if self.schema.add_table(table).is_err() {
             return Err(NoMemory);
         }
-        Ok(Undo::RemoveTable(add.table.copy()?))
+        Ok(Undo::RemoveTable(&add.table))
     }
 
-    fn put_column(&mut self, add: &AddColumn) -> Result<Undo, NoMemory>
+    fn put_column<'a>(&mut self, add: &'a AddColumn) -> Result<Undo<'a>, NoMemory>
         requires state { IsState self.old }
         requires acts { break_of self.old (NewColumn add.now.table add.now.column add.now.def) ≡ None }
         ensures after { IfOk result (λ undo. self.new ≡ after self.old (NewColumn add.now.table add.now.column add.now.def)) }
@@ -83,10 +100,10 @@ impl Parts {
         if self.schema.add_column(column).is_err() {
             return Err(NoMemory);
         }
-        Ok(Undo::RemoveColumn(add.table.copy()?, add.column.copy()?))
+        Ok(Undo::RemoveColumn(&add.table, &add.column))
     }
 
-    fn put_object(&mut self, create: &CreateObject) -> Result<Undo, NoMemory>
+    fn put_object<'a>(&mut self, create: &'a CreateObject) -> Result<Undo<'a>, NoMemory>
         ensures after { IfOk result (λ undo. self.new ≡ after self.old (Create (create.now.table, create.now.key))) }
         ensures back { IfOk result (λ undo. back undo self.new ≡ self.old) }
     {
@@ -96,7 +113,7 @@ impl Parts {
         let object = self.new_object(&create.table)?;
         self.objects
             .insert(create.table.copy()?, create.key.copy()?, object)?;
-        Ok(Undo::RemoveObject(create.table.copy()?, create.key.copy()?))
+        Ok(Undo::RemoveObject(&create.table, &create.key))
     }
 
     /// An object with the default cells of a table.
@@ -109,31 +126,32 @@ impl Parts {
         }
     }
 
-    fn cut_object(&mut self, erase: &EraseObject) -> Result<Undo, NoMemory>
+    fn cut_object<'a>(&mut self, erase: &'a EraseObject) -> Result<Undo<'a>, NoMemory>
         ensures after { IfOk result (λ undo. self.new ≡ after self.old (Erase (erase.now.table, erase.now.key))) }
         ensures back { IfOk result (λ undo. back undo self.new ≡ self.old) }
     {
         let Some(object) = self.objects.remove(&erase.table, &erase.key) else {
             return Ok(Undo::Nothing);
         };
-        let (table, key) = (erase.table.copy()?, erase.key.copy()?);
-        Ok(Undo::PutObject(table, key, object))
+        Ok(Undo::PutObject(&erase.table, &erase.key, object))
     }
 
-    fn change(&mut self, instr: &Instr, cell: &CellName, edit: Edit) -> Result<Undo, NoMemory>
+    /// Edits the cell of an instruction.
+    fn change<'a>(
+        &mut self,
+        instr: &'a Instr,
+        cell: &'a CellName,
+        edit: Edit,
+    ) -> Result<Undo<'a>, NoMemory>
         requires { edit_of instr.now ≡ Some edit }
         ensures after { IfOk result (λ undo. self.new ≡ changed_at cell.now (done edit) self.old) }
         ensures back { IfOk result (λ undo. back undo self.new ≡ self.old) }
         ensures placed { IfOk result (λ undo. has_place edit ≡ true) }
     {
-        let former = match self.objects.edit(cell, edit) {
-            Ok(former) => former,
-            Err(_) => return Err(NoMemory),
+        let Ok(former) = self.objects.edit(cell, edit) else {
+            return Err(NoMemory);
         };
-        let Some(edit) = inverse_of(instr, former)? else {
-            return Ok(Undo::Nothing);
-        };
-        Ok(Undo::EditCell(cell.copy()?, edit))
+        Ok(Undo::EditCell(instr, cell, former))
     }
 }
 

@@ -88,16 +88,13 @@ impl Store {
         requires small { payload instr.now ≤ most_bytes }
         ensures { Applies result instr.now self.old self.new }
     {
-        match self.parts.check(instr) {
-            Ok(()) => {}
-            Err(cause) => return Err(ApplyRefusal::Break(cause)),
-        }
-        match self.parts.put(instr) {
+        match self.parts.apply(instr) {
             Ok(undo) => {
                 let_go(undo);
                 Ok(())
             }
-            Err(NoMemory) => {
+            Err(ApplyRefusal::Break(cause)) => Err(ApplyRefusal::Break(cause)),
+            Err(ApplyRefusal::NoMemory) => {
                 self.parts.clear();
                 Err(ApplyRefusal::NoMemory)
             }

@@ -1,4 +1,4 @@
-use Rattle.std.proofs.Common.{◌≡◌, sym, ◌∙◌}
+use Rattle.std.proofs.Common.{sym, ◌∙◌}
 use Rattle.std.specs.FinMap as map
 use Rattle.sync_base.specs.Lemmas.Looks.{object_total, object_exact}
 use Rattle.sync_maps.specs.Seen.{remove_absent}
@@ -16,9 +16,7 @@ pub returns-clause-back : goal.returns-clause-back
 returns-clause-back c =
     let t = c.args.erase.now.table in
     let k = c.args.erase.now.key in
-    let t1 : c.in_ok-table.table ≡ t = cc c.in_ok-table.ensures.equal in
-    let k2 : c.in_ok-key.key ≡ k = cc c.in_ok-key.ensures.equal in
     (λ i. record {
       tables = c.self.inside.schema;
-      objects = ((λ j. map.insert (c.remove.ensures.others j) (t1 j, k2 j) c.in-Some.object) ∙ erased_back c.self.inside.objects (t, k) c.in-Some.object (sym c.remove.ensures.object ∙ c.in-Some.is)) i;
+      objects = ((λ j. map.insert (c.remove.ensures.others j) (t, k) c.in-Some.object) ∙ erased_back c.self.inside.objects (t, k) c.in-Some.object (sym c.remove.ensures.object ∙ c.in-Some.is)) i;
     }) ∙ c.self.view_is

@@ -21,10 +21,8 @@ returns-clause-back c =
     let t1 : c.in_ok-copy.field-0 ≡ t = cc c.in_ok-copy.ensures.equal in
     let c2 : c.in_ok-copy-2.field-0 ≡ name = cc c.in_ok-copy-2.ensures.equal in
     let d3 : c.in_ok-copy-3.field-0 ≡ def = cc c.in_ok-copy-3.ensures.equal in
-    let t4 : c.in_ok-copy-4.field-0 ≡ t = cc c.in_ok-copy-4.ensures.equal in
-    let c5 : c.in_ok-copy-5.field-0 ≡ name = cc c.in_ok-copy-5.ensures.equal in
     let added = was_ok c.add_column-2.result c.if-is_err.ensures.value c.add_column-2.ensures.ok in
     (λ i. record {
-      tables = ((λ j. tables_without_column (t4 j) (c5 j) (added j)) ∙ (λ j. tables_without_column t name (tables_after (NewColumn (t1 j) (c2 j) (d3 j)) c.self.inside.schema)) ∙ tables_back c.self.inside.schema t name def absent.0 absent.1) i;
-      objects = ((λ j. map_with (without_cell (t4 j) (c5 j)) (c.in_ok-add_column.ensures j)) ∙ objects_back s ok t name def absent.1) i;
+      tables = ((λ j. tables_without_column t name (added j)) ∙ (λ j. tables_without_column t name (tables_after (NewColumn (t1 j) (c2 j) (d3 j)) c.self.inside.schema)) ∙ tables_back c.self.inside.schema t name def absent.0 absent.1) i;
+      objects = ((λ j. map_with (without_cell t name) (c.in_ok-add_column.ensures j)) ∙ objects_back s ok t name def absent.1) i;
     }) ∙ c.self.view_is

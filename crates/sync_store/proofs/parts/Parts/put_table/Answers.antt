@@ -11,10 +11,9 @@ pub returns-clause-back : goal.returns-clause-back
 returns-clause-back c =
     let t = c.args.add.now.table in
     let given : c.in_ok-copy.field-0 ≡ t = cc c.in_ok-copy.ensures.equal in
-    let kept : c.in_ok-copy-2.field-0 ≡ t = cc c.in_ok-copy-2.ensures.equal in
     let added = was_ok c.add_table.result c.if-is_err.ensures.value c.add_table.ensures.ok in
     let absent = table_absent (record { tables = c.self.inside.schema; objects = c.self.inside.objects }) t c.args.add.now.key (ap (λ (s : State). break_of s (NewTable t c.args.add.now.key)) c.self.view_is ∙ c.requires) in
     (λ i. record {
-      tables = ((λ j. map.remove (added j) (kept j)) ∙ (λ j. map.remove (map.insert c.self.inside.schema (given j) (record { key = c.args.add.now.key; columns = map.empty })) t) ∙ table_back c.self.inside.schema t _ absent) i;
+      tables = ((λ j. map.remove (added j) t) ∙ (λ j. map.remove (map.insert c.self.inside.schema (given j) (record { key = c.args.add.now.key; columns = map.empty })) t) ∙ table_back c.self.inside.schema t _ absent) i;
       objects = c.self.inside.objects;
     }) ∙ c.self.view_is
