@@ -56,7 +56,7 @@ impl Client {
             changes,
         };
         self.first = self.first.saturating_add(1);
-        Some(matches!(self.list.take_entry(alloc, OWN, &entry), Ok(None)))
+        Some(matches!(self.list.take_entry(alloc, OWN, entry), Ok(None)))
     }
 
     /// An entry of another comes. Whether it comes out as crossing by pairs.
@@ -70,14 +70,14 @@ impl Client {
         match over_unsent(alloc, &self.plain, &entry)? {
             Ok(crossed) => {
                 self.theirs = theirs;
-                Some(self.crosses(alloc, &entry, crossed) && self.stands())
+                Some(self.crosses(alloc, entry, crossed) && self.stands())
             }
-            Err(stuck) => Some(self.refuses(alloc, &entry, stuck) && self.stands()),
+            Err(stuck) => Some(self.refuses(alloc, entry, stuck) && self.stands()),
         }
     }
 
     /// Whether the entry is carried so. The plain list is what came of it.
-    fn crosses(&mut self, alloc: Global, entry: &Entry, crossed: Crossed) -> bool {
+    fn crosses(&mut self, alloc: Global, entry: Entry, crossed: Crossed) -> bool {
         let Crossed { carried, list } = crossed;
         self.plain = list;
         self.mine.follow(&carried);
@@ -88,7 +88,7 @@ impl Client {
     }
 
     /// Whether the entry is refused with the number of that changeset.
-    fn refuses(&mut self, alloc: Global, entry: &Entry, stuck: Stuck) -> bool {
+    fn refuses(&mut self, alloc: Global, entry: Entry, stuck: Stuck) -> bool {
         let want = RebaseRefusal::Mismatch {
             number: self.first.saturating_add(stuck.at),
             kind: stuck.kind,

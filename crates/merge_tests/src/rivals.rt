@@ -58,8 +58,8 @@ fn meets_its_rival(alloc: Global, list: &mut PendingList, key: u32) -> Option<bo
         number: 1,
         changes: update(alloc, key, 6)?,
     };
-    let taken = list.take_entry(alloc, 1, &entry).ok()??;
-    Some(taken == entry.changes && last_gone(list) == Some(key as usize))
+    let taken = list.take_entry(alloc, 1, entry).ok()??;
+    Some(taken == update(alloc, key, 6)? && last_gone(list) == Some(key as usize))
 }
 
 /// Each of a hundred entries updates the object of an unsent changeset earlier than it.

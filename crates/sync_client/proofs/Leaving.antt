@@ -1,5 +1,5 @@
 -- What a crash leaves of records that are added one after the other.
-use Rattle.std.proofs.Common.{◌≡◌, ℕ, ◌+◌, List, ◌++◌, map, Some, sym, subst}
+use Rattle.std.proofs.Common.{◌≡◌, ℕ, List, ◌++◌, map, Some, sym, subst}
 use Rattle.std.proofs.lemmas.List.{map-append}
 use Rattle.sync_disk.specs.declared.disk.Disk.{Ghosts}
 use Rattle.sync_disk.specs.Disk.{LeavesOnly}

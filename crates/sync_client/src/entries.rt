@@ -80,7 +80,7 @@ impl Replica {
         if entry.origin == self.ident {
             self.take_own(&entry)
         } else {
-            self.take_other(alloc, &entry)
+            self.take_other(alloc, entry)
         }
     }
 
@@ -112,18 +112,18 @@ impl Replica {
     }
 
     /// Takes an entry of another: it is carried over the unsent changesets, and acts on the objects.
-    fn take_other(&mut self, alloc: Global, entry: &Entry) -> Result<(), ClientRefusal>
+    fn take_other(&mut self, alloc: Global, entry: Entry) -> Result<(), ClientRefusal>
         requires room { self.old.cursor < 4294967295 }
-        requires other { self.old.ident ≢ entry.now.origin }
-        ensures took { OnOk result (TookOther self.old self.new entry.now) }
+        requires other { self.old.ident ≢ entry.origin }
+        ensures took { OnOk result (TookOther self.old self.new entry) }
         ensures ident { self.new.ident ≡ self.old.ident }
         ensures count { self.new.count ≡ self.old.count }
         ensures cursor { OnOk result (self.new.cursor ≡ self.old.cursor + 1) }
-        ensures refused { IfErr result (RefusesOther self.old self.new entry.now) }
+        ensures refused { IfErr result (RefusesOther self.old self.new entry) }
         ensures plain { IfErr result IsPlain }
     {
         if self.unsent.is_empty() {
-            return self.take_alone(entry);
+            return self.take_alone(&entry);
         }
         let carried = match self.unsent.carry(alloc, self.ident, entry) {
             Ok(carried) => carried,
@@ -135,7 +135,7 @@ impl Replica {
         Ok(())
     }
 
-    /// The same where nothing is unsent, so that there is nothing to carry it over and it needs no copy.
+    /// The same where nothing is unsent, so that there is nothing to carry it over.
     fn take_alone(&mut self, entry: &Entry) -> Result<(), ClientRefusal>
         requires room { self.old.cursor < 4294967295 }
         requires none { self.old.unsent ≡ [] }

@@ -33,21 +33,20 @@ pub(crate) fn carry_over(
     items: &mut Items,
     rivals: &RivalIndex,
     own: Ident,
-    entry: &Entry,
+    entry: Entry,
 ) -> Result<Carried, RebaseRefusal>
-    requires differ { own ≢ entry.now.origin }
+    requires differ { own ≢ entry.origin }
     requires listed { Lists rivals.now (currents items.old) }
     ensures same { items.new ≡ items.old }
-    ensures crosses { IfOk result (λ carried. Crosses own items.old entry.now (settled carried.crossed items.old) carried.changes) }
+    ensures crosses { IfOk result (λ carried. Crosses own items.old entry (settled carried.crossed items.old) carried.changes) }
     ensures fits { IfOk result (λ carried. Fits carried.crossed items.old) }
-    ensures refused { IfErr result (Refuses own items.old entry.now) }
+    ensures refused { IfErr result (Refuses own items.old entry) }
 {
     if items.len() == 0 {
-        let changes = copy_of(&entry.changes)?;
-        return Ok(Carried::new(changes, Vec::new(alloc)));
+        return Ok(Carried::new(entry.changes, Vec::new(alloc)));
     }
-    let index = index_of(alloc, entry)?;
-    let codes = codes_of(alloc, rivals, entry)?;
+    let index = index_of(alloc, &entry.changes)?;
+    let codes = codes_of(alloc, rivals, &entry.changes)?;
     walk(alloc, items, rivals, own, entry, &index, &codes)
 }
 
@@ -57,21 +56,21 @@ fn walk(
     items: &mut Items,
     rivals: &RivalIndex,
     own: Ident,
-    entry: &Entry,
+    entry: Entry,
     index: &Index,
     codes: &[u64],
 ) -> Result<Carried, RebaseRefusal>
-    requires differ { own ≢ entry.now.origin }
+    requires differ { own ≢ entry.origin }
     requires listed { Lists rivals.now (currents items.old) }
-    requires indexed { Covers index.now entry.now.changes.instrs }
-    requires served { Serves rivals.now codes.now entry.now.changes.instrs }
+    requires indexed { Covers index.now entry.changes.instrs }
+    requires served { Serves rivals.now codes.now entry.changes.instrs }
     ensures same { items.new ≡ items.old }
-    ensures crosses { IfOk result (λ carried. Crosses own items.old entry.now (settled carried.crossed items.old) carried.changes) }
+    ensures crosses { IfOk result (λ carried. Crosses own items.old entry (settled carried.crossed items.old) carried.changes) }
     ensures fits { IfOk result (λ carried. Fits carried.crossed items.old) }
-    ensures refused { IfErr result (Refuses own items.old entry.now) }
+    ensures refused { IfErr result (Refuses own items.old entry) }
 {
-    let copy = copy_of(&entry.changes)?;
-    let mut changes = Shifted::new(copy);
+    let origin = entry.origin;
+    let mut changes = Shifted::new(entry.changes);
     let mut crossed = Vec::new(alloc);
     let mut pace = Pace::new();
     let end = items.len();
@@ -81,7 +80,7 @@ fn walk(
         if place >= end {
             return Ok(Carried::new(changes.into_changes(), crossed));
         }
-        if let Some(passing) = items.across(from, place, own, &changes, entry.origin) {
+        if let Some(passing) = items.across(from, place, own, &changes, origin) {
             let Passing { across, left } = passing;
             changes = passed_on(alloc, changes, left);
             from = across.start + across.count;
@@ -89,7 +88,7 @@ fn walk(
             continue;
         }
         from = place + 1;
-        if let Some(moves) = items.moves(place, own, &changes, entry.origin, index) {
+        if let Some(moves) = items.moves(place, own, &changes, origin, index) {
             changes.shift_to(moves.right);
             let became = Became::Moved(moves.left);
             push(&mut crossed, Crossed::One { place, became })?;
@@ -104,7 +103,7 @@ fn walk(
             place,
             own,
             changes.into_changes(),
-            entry.origin,
+            origin,
             index,
         ) {
             Err(refusal) => return Err(refusal),
@@ -133,11 +132,15 @@ fn passed_on(alloc: Global, changes: Shifted, left: Option<ListAction>) -> Shift
     }
 }
 
-fn codes_of(alloc: Global, rivals: &RivalIndex, entry: &Entry) -> Result<Vec<u64>, RebaseRefusal>
-    ensures served { IfOk result (λ codes. Serves rivals.now codes.items entry.now.changes.instrs) }
+fn codes_of(
+    alloc: Global,
+    rivals: &RivalIndex,
+    changes: &Changeset,
+) -> Result<Vec<u64>, RebaseRefusal>
+    ensures served { IfOk result (λ codes. Serves rivals.now codes.items changes.now.instrs) }
     ensures memory { IfErr result (λ refusal. refusal ≡ RebaseRefusal.NoMemory) }
 {
-    match rivals.rivals_of(alloc, entry.changes.instrs()) {
+    match rivals.rivals_of(alloc, changes.instrs()) {
         Ok(codes) => Ok(codes),
         Err(_) => Err(RebaseRefusal::NoMemory),
     }
@@ -172,22 +175,12 @@ fn pass(
     }
 }
 
-fn index_of(alloc: Global, entry: &Entry) -> Result<Index, RebaseRefusal>
-    ensures covers { IfOk result (λ index. Covers index entry.now.changes.instrs) }
+fn index_of(alloc: Global, changes: &Changeset) -> Result<Index, RebaseRefusal>
+    ensures covers { IfOk result (λ index. Covers index changes.now.instrs) }
     ensures memory { IfErr result (λ refusal. refusal ≡ RebaseRefusal.NoMemory) }
 {
-    match Index::of(alloc, entry.changes.instrs()) {
+    match Index::of(alloc, changes.instrs()) {
         Ok(index) => Ok(index),
-        Err(_) => Err(RebaseRefusal::NoMemory),
-    }
-}
-
-fn copy_of(changes: &Changeset) -> Result<Changeset, RebaseRefusal>
-    ensures equal { IfOk result (λ copy. copy ≡ changes.now) }
-    ensures memory { IfErr result (λ refusal. refusal ≡ RebaseRefusal.NoMemory) }
-{
-    match changes.copy() {
-        Ok(copy) => Ok(copy),
         Err(_) => Err(RebaseRefusal::NoMemory),
     }
 }

@@ -156,13 +156,13 @@ impl PendingList {
         &mut self,
         alloc: Global,
         own: Ident,
-        entry: &Entry,
+        entry: Entry,
     ) -> Result<Carried, RebaseRefusal>
-        requires { own ≢ entry.now.origin }
+        requires { own ≢ entry.origin }
         ensures same { self.new ≡ self.old }
-        ensures crosses { IfOk result (λ carried. Crosses own self.old entry.now (settled carried.crossed self.old) carried.changes) }
+        ensures crosses { IfOk result (λ carried. Crosses own self.old entry (settled carried.crossed self.old) carried.changes) }
         ensures fits { IfOk result (λ carried. Fits carried.crossed self.old) }
-        ensures refused { IfErr result (Refuses own self.old entry.now) }
+        ensures refused { IfErr result (Refuses own self.old entry) }
     {
         if self.crossed >= LOOKS && self.crossed >= self.items.len() {
             self.crossed = 0;

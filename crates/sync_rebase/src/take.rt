@@ -16,17 +16,17 @@ impl PendingList {
         &mut self,
         alloc: Global,
         own: Ident,
-        entry: &Entry,
+        entry: Entry,
     ) -> Result<Option<Changeset>, RebaseRefusal>
-        ensures carried { own ≢ entry.now.origin → IfOk result (AnswersCarried own self.old entry.now self.new) }
-        ensures none { own ≡ entry.now.origin → IfOk result (λ answer. answer ≡ None) }
-        ensures head { own ≡ entry.now.origin → IfOk result (λ _. IsHead entry.now self.old) }
-        ensures removed { own ≡ entry.now.origin → IfOk result (λ _. self.new ≡ tail self.old) }
-        ensures refused { IfErr result (Refuses own self.old entry.now) }
+        ensures carried { own ≢ entry.origin → IfOk result (AnswersCarried own self.old entry self.new) }
+        ensures none { own ≡ entry.origin → IfOk result (λ answer. answer ≡ None) }
+        ensures head { own ≡ entry.origin → IfOk result (λ _. IsHead entry self.old) }
+        ensures removed { own ≡ entry.origin → IfOk result (λ _. self.new ≡ tail self.old) }
+        ensures refused { IfErr result (Refuses own self.old entry) }
         ensures unchanged { OnErr result (self.new ≡ self.old) }
     {
         if own == entry.origin {
-            if !self.is_head(entry) {
+            if !self.is_head(&entry) {
                 return Err(RebaseRefusal::Forked {
                     number: entry.number,
                 });

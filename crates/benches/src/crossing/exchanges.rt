@@ -32,7 +32,7 @@ pub(crate) fn measured(rt: &HostRuntime, count: u32, about: About) -> Result<(u6
             number: 1,
             changes: entry(rt.alloc(), about, number)?,
         };
-        if list.take_entry(rt.alloc(), 1, &entry).is_err() {
+        if list.take_entry(rt.alloc(), 1, entry).is_err() {
             return Err(Failure::Refused);
         }
     }

@@ -31,7 +31,7 @@ pub(crate) fn measured(rt: &HostRuntime, count: u32, key: u32) -> Result<(u64, u
 }
 
 fn take(alloc: Global, list: &mut PendingList, entry: &Entry) -> Result<(), Failure> {
-    match list.take_entry(alloc, 1, entry) {
+    match list.take_entry(alloc, 1, entry.copy()?) {
         Ok(Some(changes)) if changes.instrs().len() == 1 => Ok(()),
         _ => Err(Failure::Refused),
     }

@@ -11,8 +11,8 @@ returns-then-entry-self-clause-step c =
     λ past lists. own_answers past c.args.self.now c.take_own.new.self x (record { origin = c.args.origin; number = c.args.number; ms = c.args.ms; body = c.args.body.now }) c.in-Ok.changes c.take_own.result d s (sym c.is_beyond.ensures ∙ c.if-is_beyond.false) c.if-entry-self.true lists
     c.take_own.ensures.head c.take_own.ensures.took c.take_own.ensures.forked c.take_own.ensures.differs c.take_own.ensures.unchanged
 
-pub returns-clause-step : goal.returns-clause-step
-returns-clause-step c =
+pub returns-else-entry-self-clause-step : goal.returns-else-entry-self-clause-step
+returns-else-entry-self-clause-step c =
     let d = c.in-Ok.ensures.read in
     let x : Entry = record { origin = c.args.origin; number = c.args.number; changes = c.in-Ok.changes } in
     let s : SameEntry x (record { origin = c.args.origin; number = c.args.number; ms = c.args.ms; body = c.args.body.now }) = record { origin = refl; number = refl; ms = d.time; valid = d.valid; bytes = d.bytes } in
