@@ -23,7 +23,7 @@ pub enum NameRefusal {
 #[derive(Drop)]
 pub struct Name {
     buf: [u8; LONGEST_NAME],
-    len: usize,
+    len: u8,
 }
 
 impl Model for Name {
@@ -50,7 +50,10 @@ impl Name {
         }
         let mut buf = [0; LONGEST_NAME];
         buf[..len].copy_from_slice(bytes);
-        Ok(Name { buf, len })
+        Ok(Name {
+            buf,
+            len: len as u8,
+        })
     }
 
     /// The text of the name, which has 1 to 63 bytes.
@@ -58,7 +61,7 @@ impl Name {
         ensures value { result.now ≡ self.now }
         ensures size { (0 < length self.now) × (length self.now ≤ 63) }
     {
-        str::from_utf8(&self.buf[..self.len]).unwrap()
+        str::from_utf8(&self.buf[..self.len as usize]).unwrap()
     }
 
     /// How many bytes the name has: 1 to 63.
@@ -66,14 +69,14 @@ impl Name {
         ensures value { result ≡ length self.now }
         ensures size { (0 < length self.now) × (length self.now ≤ 63) }
     {
-        self.buf[..self.len].len()
+        self.len as usize
     }
 
     /// The bytes of the name's text.
     fn bytes(&self) -> &[u8]
         ensures { result.now ≡ self.now }
     {
-        &self.buf[..self.len]
+        &self.buf[..self.len as usize]
     }
 
     /// An equal name. It takes no memory and always succeeds.
