@@ -25,7 +25,7 @@ pub fn holds(alloc: Global, word: &str, rest: &str) -> Result<bool, Failure> {
 }
 
 /// Uses the text, which gets that number, and is found by it and at it.
-fn is_next(strings: &mut Strings, text: &str, number: &str) -> Result<bool, Failure> {
+fn is_next<'a>(strings: &mut Strings<'a>, text: &'a str, number: &str) -> Result<bool, Failure> {
     let Ok(number) = number.parse::<u32>() else {
         return Err(Failure::Line);
     };
