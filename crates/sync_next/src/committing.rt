@@ -4,7 +4,7 @@ ghost use Rattle.sync_base.specs.States.{State};
 ghost use Rattle.sync_data.specs.Payload.{IsSmall};
 ghost use Rattle.sync_exchange.specs.Profile.{the_profile};
 ghost use Rattle.sync_model.specs.Clients as model;
-ghost use Rattle.sync_client.specs.Clients.{IsClientOf, Says};
+ghost use Rattle.sync_client.specs.Clients.{Closes, IsClientOf, IsStored, Says, Survives, UsesDisk};
 ghost use Rattle.sync_next.specs.Commits.{IsNoBreak};
 
 use sync_client::{Client, ClientRefusal};
@@ -19,8 +19,11 @@ pub fn commit<D: Disk>(
     edits: Vec<Instr>,
 ) -> Result<u32, ClientRefusal>
     ensures step { (records : List model.ClientRecord) → IsClientOf records client.old → Says (model.commit the_profile (model.client_of the_profile records) ms edits.items) records client.new result }
+    ensures survives { (records : List model.ClientRecord) → IsClientOf records client.old → IsStored records client.old → Survives (model.commit the_profile (model.client_of the_profile records) ms edits.items) records client.old client.new result }
     ensures never_too_large { IsSmall edits.items → IsErrOf result ClientRefusal.TooLarge → ⊥ }
     ensures never_breaks { (records : List model.ClientRecord) (after : State) → IsClientOf records client.old → act_all edits.items (model.client_of the_profile records).objects ≡ Some after → IsNoBreak result }
+    ensures closes { Closes client.old client.new result }
+    ensures disk { UsesDisk (IsErrOf result ClientRefusal.DiskFault) client.old client.new }
 {
     client.commit(ms, edits)
 }

@@ -1,10 +1,10 @@
-ghost use Rattle.std.specs.Prelude.{◌≡◌, ℕ, List, true, false, IfOk, OnErr};
+ghost use Rattle.std.specs.Prelude.{◌≡◌, ℕ, List, true, false, IfOk, IsErrOf, OnErr};
 ghost use Rattle.sync_base.specs.Effects.{CellPath};
 ghost use Rattle.sync_base.specs.Footprints.{Part, SameAt};
 ghost use Rattle.sync_exchange.specs.Profile.{the_profile};
 ghost use Rattle.sync_exchange.specs.Seen.{message_seen};
 ghost use Rattle.sync_model.specs.Clients as model;
-ghost use Rattle.sync_client.specs.Clients.{IsClientOf, Says};
+ghost use Rattle.sync_client.specs.Clients.{Closes, IsClientOf, IsStored, Says, Survives, UsesDisk};
 ghost use Rattle.sync_changed.specs.Ends.{SameEndsAt, all_spare};
 ghost use Rattle.sync_changed.specs.Places.{is_told};
 
@@ -31,10 +31,13 @@ pub fn take<D: Disk>(
     message: Message,
 ) -> Result<Taken, NoMemory>
     ensures step { (records : List model.ClientRecord) → IsClientOf records client.old → IfOk result (λ taken. Says (model.take the_profile (model.client_of the_profile records) (message_seen message)) records client.new taken.answer) }
+    ensures survives { (records : List model.ClientRecord) → IsClientOf records client.old → IsStored records client.old → IfOk result (λ taken. Survives (model.take the_profile (model.client_of the_profile records) (message_seen message)) records client.old client.new taken.answer) }
     ensures told { (records after : List model.ClientRecord) → IsClientOf records client.old → IsClientOf after client.new
         → IfOk result (λ taken. (x : Part) → is_told taken.places.items x ≡ false → SameAt (model.client_of the_profile after).objects (model.client_of the_profile records).objects x) }
     ensures ends { (records after : List model.ClientRecord) → IsClientOf records client.old → IsClientOf after client.new
         → IfOk result (λ taken. (front back : ℕ) (list : CellPath) → all_spare front back list taken.places.items ≡ true → SameEndsAt front back list (model.client_of the_profile after).objects (model.client_of the_profile records).objects) }
+    ensures closes { IfOk result (λ taken. Closes client.old client.new taken.answer) }
+    ensures disk { IfOk result (λ taken. UsesDisk (IsErrOf taken.answer ClientRefusal.DiskFault) client.old client.new) }
     ensures unchanged { OnErr result (client.new ≡ client.old) }
 {
     let unsent = client.unsent();
