@@ -15,6 +15,7 @@ pub mod Summing
 pub mod Synced
 pub mod Tells
 pub mod Trims
+pub mod Uploads
 pub mod Validity
 pub mod Whole
 mod Equal

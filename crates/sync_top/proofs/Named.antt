@@ -1,5 +1,5 @@
 -- Each event of an exchange is refused by a named rule alone.
-use Rattle.std.proofs.Common.{◌≡◌, ◌≤◌, ⊎_elim, ℕ, zero, suc, Bool, true, false, not, ◌&&◌, ◌||◌, if◌then◌else◌, nat_lt, List, [], ◌∷◌, ◌++◌, length, Option, None, Some, Result, Ok, Err, refl, subst, arith}
+use Rattle.std.proofs.Common.{◌≡◌, ◌≤◌, ⊎_elim, ℕ, zero, suc, Bool, true, false, not, ◌&&◌, ◌||◌, if◌then◌else◌, nat_lt, List, [], ◌∷◌, ◌++◌, length, Option, None, Some, Result, Ok, Err, refl, sym, ap, ◌∙◌, subst, arith}
 use Rattle.std.specs.Prelude.{⊤, bytes_eq, ◌==◌, ◌-◌, map}
 use Rattle.sync_data.specs.declared.instr.Instr.{Instr}
 use Rattle.sync_base.specs.States.{IsState}
@@ -8,7 +8,7 @@ use Rattle.sync_theory.specs.Changesets.{Changeset}
 use Rattle.sync_model.specs.Bytes.{Name, Uuid, Tables}
 use Rattle.sync_model.specs.Profile.{Profile, all_admitted, apply_all, first_need, first_outside, is_small, needs, restricted}
 use Rattle.sync_model.specs.Log.{IsFair, MayDecline, MayRefuse, WorldFacts}
-use Rattle.sync_model.specs.Messages.{Message, Bind, Ident, Upload, Ask, Download, Refused, Stored, Ask2, Retire, Retired, AskTables}
+use Rattle.sync_model.specs.Messages.{Change, Message, Bind, Ident, Upload, Ask, Download, Refused, Stored, Ask2, Retire, Retired, AskTables}
 use Rattle.sync_model.specs.Clients as clients
 use Rattle.sync_model.specs.Clients.{Client, ClientRecord, ClientRefusal, ClientStep, answers, appends, ask, bind, change_of, client_of, commit, commit_applied, commit_born, if_born, if_named, is_late, question, refuse, settled_from, subscribe, subscribed_once, take as take_message, to_upload, upgrade, upload}
 use Rattle.sync_model.specs.Servers as servers
@@ -17,8 +17,10 @@ use Rattle.sync_model.specs.Worlds as worlds
 use Rattle.sync_model.specs.Worlds.{World, Node, Event, Joins, Starts, Edits, Binds, Uploads, Asks, Upgrades, Subscribes, Delivers, Restarts, Stops, Injects, Outcome, Words, arm, at, client_called, client_calls, client_ends, client_moved, delivers, empty_world, happens, has_id, has_name, is_node, is_there, made_words, message_at, message_words, named_by, names_own, says, seek, server_called, server_ends, server_moved, server_name, starts_at, stopped, subscribe_words, took_words, upgrade_words}
 use Rattle.sync_model.proofs.Lists.{seek_found}
 use Rattle.sync_model.proofs.Limits.{each_at}
-use Rattle.sync_top.specs.Named.{IsNamedOutcome, IsNamedReply, IsReplyTo, MayNotCommit, MayNotSend, MayNotSubscribe, RefusesBy, SaysOnly}
+use Rattle.sync_top.specs.Named.{IsNamedOutcome, IsNamedReply, IsOfChange, IsReplyTo, MayNotCommit, MayNotSend, MayNotSubscribe, RefusesBy, SaysOnly}
+use Rattle.sync_model.proofs.Holding.{Holds}
 use Rattle.sync_top.proofs.Born.{AllBorn, born_id}
+use Rattle.sync_top.proofs.Uploads.{upload_named}
 
 -- a fair reply has none of the codes from 60 to 63
 fair_code : (n : ℕ) → 60 ≤ n → n ≤ 63 → (why : ServerRefusal) → n ≡ code_of why → MayRefuse why → ⊥
@@ -207,23 +209,24 @@ module _ {I S : Type 0} (p : Profile I S) where
       on true true o fair = absurd (fair_below 69 (omega arith) fair.0 fair.1 fair.3)
       on true false o fair = once o fair
 
-  reply_named : (s : Server I) (m : Message) → IsFair (serve p s m).answer → IsNamedReply m (serve p s m).answer
-  reply_named s (Bind u) fair = go (place_of u s.ids == 0) (length s.ids == p.full)
+  reply_named : (s : Server I) (m : Message) → IsFair (serve p s m).answer
+      → ((c : ℕ) (changes : List Change) → m ≡ Upload c changes → RefusesBy IsOfChange (serve p s m).answer) → IsNamedReply m (serve p s m).answer
+  reply_named s (Bind u) fair up = go (place_of u s.ids == 0) (length s.ids == p.full)
     where
       go : (a b : Bool) → RefusesBy (λ code. code ≡ 65) (if not a then replies (Ident u (place_of u s.ids)) else (if b then refuses 0 0 (servers.IdentsFull (length s.ids)) else record { records = servers.Client u ∷ []; answer = Ident u (suc (length s.ids)) })).answer
       go false b = tt
       go true true = refl
       go true false = tt
-  reply_named s (Upload c changes) fair = fair
-  reply_named s (Ask c cursor settled) fair = there_named (λ code. code ≡ 67) s c cursor settled (download_first p c cursor) (first_named c cursor) fair
-  reply_named s (Ask2 c cursor settled) fair = there_named (λ code. ⊥) s c cursor settled (download p c cursor) (λ xs. tt) fair
-  reply_named s (AskTables c cursor settled second tables) fair = there_named (λ code. code ≡ 67) s c cursor settled (download_tables p second tables c cursor) (tables_named second tables c cursor) fair
-  reply_named s (Retire c by) fair = retire_named s c by fair
-  reply_named s (Retired c by number) fair = refl
-  reply_named s (Ident u c) fair = refl
-  reply_named s (Download c from entries) fair = refl
-  reply_named s (Stored c number) fair = refl
-  reply_named s (Refused c number code place) fair = refl
+  reply_named s (Upload c changes) fair up = (fair, up c changes refl)
+  reply_named s (Ask c cursor settled) fair up = there_named (λ code. code ≡ 67) s c cursor settled (download_first p c cursor) (first_named c cursor) fair
+  reply_named s (Ask2 c cursor settled) fair up = there_named (λ code. ⊥) s c cursor settled (download p c cursor) (λ xs. tt) fair
+  reply_named s (AskTables c cursor settled second tables) fair up = there_named (λ code. code ≡ 67) s c cursor settled (download_tables p second tables c cursor) (tables_named second tables c cursor) fair
+  reply_named s (Retire c by) fair up = retire_named s c by fair
+  reply_named s (Retired c by number) fair up = refl
+  reply_named s (Ident u c) fair up = refl
+  reply_named s (Download c from entries) fair up = refl
+  reply_named s (Stored c number) fair up = refl
+  reply_named s (Refused c number code place) fair up = refl
 
   there_message : (w : World) (k : ℕ) (m : Message) → message_at w k ≡ Some m → (n : ℕ) × (at w.messages n ≡ Some m)
   there_message w zero m is = cc
@@ -236,7 +239,7 @@ joins_named w name records true b = tt
 joins_named w name records false true = tt
 joins_named w name records false false = tt
 
-module _ (w : World) (all : AllBorn w) (facts : WorldFacts the_profile IsState w) where
+module _ (w : World) (all : AllBorn w) (holds : Holds the_profile w) (facts : WorldFacts the_profile IsState w) where
   born : (place : ℕ) (nd : Node) → at w.clients place ≡ Some nd → (v : Uuid) × ((client_of the_profile nd.records).id ≡ Some v)
   born place nd here = born_id the_profile nd (each_at w.clients place nd all here)
 
@@ -258,7 +261,8 @@ module _ (w : World) (all : AllBorn w) (facts : WorldFacts the_profile IsState w
   event_named (Delivers message to) = go (is_node w to) (message_at w message) refl
     where
       comes : (b : Bool) (m : Message) (n : ℕ) → at w.messages n ≡ Some m → SaysOnly MayDecline (IsNamedReply m) (if b then server_called the_profile w m else client_calls the_profile w to (λ c. take_message the_profile c m) took_words).words
-      comes true m n here = server_named the_profile MayDecline (IsNamedReply m) w m (reply_named the_profile (server_of the_profile w.server) m (facts.replies n m here))
+      comes true m n here = server_named the_profile MayDecline (IsNamedReply m) w m (reply_named the_profile (server_of the_profile w.server) m (facts.replies n m here) (λ c changes is.
+          subst (λ z. RefusesBy IsOfChange (serve the_profile (server_of the_profile w.server) z).answer) (sym is) (upload_named w holds n c changes (here ∙ ap (λ z. Some z) is))))
       comes false m n here = calls_named the_profile MayDecline (IsNamedReply m) w to (λ c. take_message the_profile c m) took_words
           (λ place nd there. took_named the_profile MayDecline (IsNamedReply m) (take_message the_profile (client_of the_profile nd.records) m).answer (λ why is. facts.declines n m here place nd there why is))
 

@@ -7,7 +7,10 @@ use Rattle.sync_model.specs.Bytes.{Name}
 use Rattle.sync_model.specs.Log.{Stands, WorldFacts}
 use Rattle.sync_model.specs.Reports.{report_by_log, report_of}
 use Rattle.sync_model.specs.Worlds.{Edits, Event, IsReached, Made, World, empty_world, happens, world_after}
+use Rattle.sync_model.proofs.Holding.{all_hold}
 use Rattle.sync_exchange.specs.Profile.{the_profile}
+use Rattle.sync_exchange.specs.Lemmas.Buildable.{real_buildable}
+use Rattle.sync_exchange.specs.Lemmas.Lawful.{real_lawful}
 use Rattle.sync_top.specs.Runs.{Passes, run_from}
 use Rattle.sync_top.specs.Exchange.{answers, report, events_of}
 use Rattle.gen_law.specs.Generated.{after, world_by}
@@ -46,7 +49,7 @@ module _ (laws : Laws) where
     acknowledged = λ before after name ms number edits split made.
         subst (λ v. Stands the_profile v name number ms edits) (sym (made_by ∙ ap (world_after the_profile empty_world) split ∙ after_both before (Edits name ms edits ∷ after) empty_world))
         (laws.acknowledged (world_after the_profile empty_world before) name ms number edits after made);
-    named = λ before after e split. event_named (world_after the_profile empty_world before) (events_born the_profile before) (laws.facts (world_after the_profile empty_world before) (before, refl)) e;
+    named = λ before after e split. event_named (world_after the_profile empty_world before) (events_born the_profile before) (all_hold the_profile real_lawful real_buildable before) (laws.facts (world_after the_profile empty_world before) (before, refl)) e;
     quiet = laws.quiet w (events, sym made_by);
     progress = laws.progress w (events, sym made_by);
   }

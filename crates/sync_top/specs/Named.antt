@@ -1,9 +1,10 @@
 -- By which rules an event of an exchange may be refused.
-use Rattle.std.specs.Prelude.{◌≡◌, ℕ, Option, None, Some}
+use Rattle.std.specs.Prelude.{◌≡◌, ◌⊎◌, ℕ, Option, None, Some}
 use Rattle.sync_data.specs.declared.instr.Instr.{Instr}
 use Rattle.sync_model.specs.Clients.{ClientRefusal, NotNamed, TooLarge, NumbersFull, OldForm, NotSubscribed, Break, Subscribed, TooLate}
 use Rattle.sync_model.specs.Log.{IsFair, MayDecline}
 use Rattle.sync_model.specs.Messages.{Message, Bind, Upload, Ask, Refused, Ask2, Retire, AskTables}
+use Rattle.sync_model.specs.Profile.{IsNamedKind}
 use Rattle.sync_model.specs.Worlds.{World, Event, Edits, Uploads, Asks, Subscribes, Delivers, Injects, Words, Declined, Replied, message_at}
 
 -- a transaction: its size, the numbers, the form of the file, the first instruction of another table than the client's, and
@@ -32,12 +33,16 @@ abbrev pub RefusesBy : (ℕ → Type 0) → Message → Type 0
 RefusesBy Code (Refused ident number code place) = Code code
 RefusesBy Code reply = Unit {0}
 
--- What a server replies to a message that a client of the exchange made: a Bind is refused where the idents are full, an Ask of
--- the first form where the next entry needs the second, one of the second form never, and what isn't for a server because of
--- that. A client of the exchange asks for no retirement.
+-- a change: a mismatch of the schema, or a full history
+abbrev pub IsOfChange : ℕ → Type 0
+IsOfChange code = IsNamedKind code ⊎ (code ≡ 64)
+
+-- What a server replies to a message that a client of the exchange made: a Bind is refused where the idents are full, an Upload
+-- by its changes alone, an Ask of the first form where the next entry needs the second, one of the second form never, and what
+-- isn't for a server because of that. A client of the exchange asks for no retirement.
 abbrev pub IsNamedReply : Message → Message → Type 0
 IsNamedReply (Bind u) reply = RefusesBy (λ code. code ≡ 65) reply
-IsNamedReply (Upload ident changes) reply = IsFair reply
+IsNamedReply (Upload ident changes) reply = IsFair reply × RefusesBy IsOfChange reply
 IsNamedReply (Ask ident cursor settled) reply = RefusesBy (λ code. code ≡ 67) reply
 IsNamedReply (Ask2 ident cursor settled) reply = RefusesBy (λ code. ⊥) reply
 IsNamedReply (AskTables ident cursor settled second tables) reply = RefusesBy (λ code. code ≡ 67) reply
