@@ -33,7 +33,7 @@ impl Folder {
     /// The words of a command, with the path of the file in place of its name.
     fn words(&self, alloc: Global, command: &str) -> Result<Vec<String>, Failure> {
         let mut words = words_of(alloc, command)?;
-        if let [_, name] = words.as_mut_slice() {
+        if let [_, name, ..] = words.as_mut_slice() {
             *name = self.path(alloc, name.as_str())?;
         }
         Ok(words)
@@ -53,7 +53,7 @@ impl Folder {
         match step.commands.as_str().strip_prefix("held ") {
             Some(command) => {
                 let words = self.words(rt.alloc(), command)?;
-                let [_, path] = words.as_slice() else {
+                let [_, path, ..] = words.as_slice() else {
                     return Ok(false);
                 };
                 let held = hold(rt, path.as_str());

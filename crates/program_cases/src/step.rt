@@ -36,11 +36,16 @@ impl Step {
         Ok(())
     }
 
-    /// Takes a line that stands behind `<*COUNT` so many times.
+    /// Takes a line that stands behind `<*COUNT` so many times; a text behind `<+COUNT` so often, without the end of a line.
     fn repeat(&mut self, alloc: Global, mark: &str, rest: &str) -> Result<(), Failure> {
         if let Some(count) = mark.strip_prefix("<*") {
             for _ in 0..number(count)? {
                 put(alloc, &mut self.input, "<", rest)?;
+            }
+        }
+        if let Some(count) = mark.strip_prefix("<+") {
+            for _ in 0..number(count)? {
+                self.input.extend_from_slice(rest.as_bytes())?;
             }
         }
         Ok(())

@@ -1,6 +1,7 @@
 pub mod Asked
 pub mod Born
 pub mod Counted
+pub mod Declines
 pub mod Events
 pub mod Jobs
 pub mod Named

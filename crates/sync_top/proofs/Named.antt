@@ -7,7 +7,7 @@ use Rattle.sync_exchange.specs.Profile.{the_profile}
 use Rattle.sync_theory.specs.Changesets.{Changeset}
 use Rattle.sync_model.specs.Bytes.{Name, Uuid, Tables}
 use Rattle.sync_model.specs.Profile.{Profile, all_admitted, apply_all, first_need, first_outside, is_small, needs, restricted}
-use Rattle.sync_model.specs.Log.{IsFair, MayDecline, MayRefuse, WorldFacts}
+use Rattle.sync_model.specs.Log.{IsFair, MayRefuse, WorldFacts}
 use Rattle.sync_model.specs.Messages.{Change, Message, Bind, Ident, Upload, Ask, Download, Refused, Stored, Ask2, Retire, Retired, AskTables}
 use Rattle.sync_model.specs.Clients as clients
 use Rattle.sync_model.specs.Clients.{Client, ClientRecord, ClientRefusal, ClientStep, answers, appends, ask, bind, change_of, client_of, commit, commit_applied, commit_born, if_born, if_named, is_late, question, refuse, settled_from, subscribe, subscribed_once, take as take_message, to_upload, upgrade, upload}
@@ -17,9 +17,10 @@ use Rattle.sync_model.specs.Worlds as worlds
 use Rattle.sync_model.specs.Worlds.{World, Node, Event, Joins, Starts, Edits, Binds, Uploads, Asks, Upgrades, Subscribes, Delivers, Restarts, Stops, Injects, Outcome, Words, arm, at, client_called, client_calls, client_ends, client_moved, delivers, empty_world, happens, has_id, has_name, is_node, is_there, made_words, message_at, message_words, named_by, names_own, says, seek, server_called, server_ends, server_moved, server_name, starts_at, stopped, subscribe_words, took_words, upgrade_words}
 use Rattle.sync_model.proofs.Lists.{seek_found}
 use Rattle.sync_model.proofs.Limits.{each_at}
-use Rattle.sync_top.specs.Named.{IsNamedOutcome, IsNamedReply, IsOfChange, IsReplyTo, MayNotCommit, MayNotSend, MayNotSubscribe, RefusesBy, SaysOnly}
+use Rattle.sync_top.specs.Named.{IsDeclineOf, IsNamedOutcome, IsNamedReply, IsOfChange, IsReplyTo, MayNotCommit, MayNotSend, MayNotSubscribe, MayNotTake, RefusesBy, SaysOnly}
 use Rattle.sync_model.proofs.Holding.{Holds}
 use Rattle.sync_top.proofs.Born.{AllBorn, born_id}
+use Rattle.sync_top.proofs.Declines.{take_named}
 use Rattle.sync_top.proofs.Uploads.{upload_named}
 
 -- a fair reply has none of the codes from 60 to 63
@@ -260,13 +261,14 @@ module _ (w : World) (all : AllBorn w) (holds : Holds the_profile w) (facts : Wo
       (λ place nd here. let b = born place nd here in subscribed_named the_profile MayNotSubscribe (λ reply. ⊥) (subscribe (client_of the_profile nd.records) tables).answer (subscribe_named the_profile (client_of the_profile nd.records) b.0 b.1 tables))
   event_named (Delivers message to) = go (is_node w to) (message_at w message) refl
     where
-      comes : (b : Bool) (m : Message) (n : ℕ) → at w.messages n ≡ Some m → SaysOnly MayDecline (IsNamedReply m) (if b then server_called the_profile w m else client_calls the_profile w to (λ c. take_message the_profile c m) took_words).words
-      comes true m n here = server_named the_profile MayDecline (IsNamedReply m) w m (reply_named the_profile (server_of the_profile w.server) m (facts.replies n m here) (λ c changes is.
+      comes : (b : Bool) (m : Message) (n : ℕ) → at w.messages n ≡ Some m → SaysOnly (MayNotTake m) (IsNamedReply m) (if b then server_called the_profile w m else client_calls the_profile w to (λ c. take_message the_profile c m) took_words).words
+      comes true m n here = server_named the_profile (MayNotTake m) (IsNamedReply m) w m (reply_named the_profile (server_of the_profile w.server) m (facts.replies n m here) (λ c changes is.
           subst (λ z. RefusesBy IsOfChange (serve the_profile (server_of the_profile w.server) z).answer) (sym is) (upload_named w holds n c changes (here ∙ ap (λ z. Some z) is))))
-      comes false m n here = calls_named the_profile MayDecline (IsNamedReply m) w to (λ c. take_message the_profile c m) took_words
-          (λ place nd there. took_named the_profile MayDecline (IsNamedReply m) (take_message the_profile (client_of the_profile nd.records) m).answer (λ why is. facts.declines n m here place nd there why is))
+      comes false m n here = calls_named the_profile (MayNotTake m) (IsNamedReply m) w to (λ c. take_message the_profile c m) took_words
+          (λ place nd there. let b = born place nd there in took_named the_profile (MayNotTake m) (IsNamedReply m) (take_message the_profile (client_of the_profile nd.records) m).answer
+          (λ why is. take_named the_profile (client_of the_profile nd.records) b.0 b.1 m why is (facts.declines n m here place nd there why is)))
 
-      go : (b : Bool) (m : Option Message) → message_at w message ≡ m → SaysOnly MayDecline (IsReplyTo m) (if b then delivers the_profile w to m else says w worlds.NoNode).words
+      go : (b : Bool) (m : Option Message) → message_at w message ≡ m → SaysOnly (IsDeclineOf m) (IsReplyTo m) (if b then delivers the_profile w to m else says w worlds.NoNode).words
       go true None is = tt
       go true (Some m) is = let at_n = there_message the_profile w message m is in comes (bytes_eq to server_name) m at_n.0 at_n.1
       go false None is = tt

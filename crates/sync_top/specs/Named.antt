@@ -1,9 +1,9 @@
 -- By which rules an event of an exchange may be refused.
 use Rattle.std.specs.Prelude.{◌≡◌, ◌⊎◌, ℕ, Option, None, Some}
 use Rattle.sync_data.specs.declared.instr.Instr.{Instr}
-use Rattle.sync_model.specs.Clients.{ClientRefusal, NotNamed, TooLarge, NumbersFull, OldForm, NotSubscribed, Break, Subscribed, TooLate}
-use Rattle.sync_model.specs.Log.{IsFair, MayDecline}
-use Rattle.sync_model.specs.Messages.{Message, Bind, Upload, Ask, Refused, Ask2, Retire, AskTables}
+use Rattle.sync_model.specs.Clients.{ClientRefusal, NotNamed, TooLarge, NumbersFull, OldForm, NotSubscribed, Break, NotMine, Mismatch, WasRefused, Subscribed, TooLate}
+use Rattle.sync_model.specs.Log.{IsFair}
+use Rattle.sync_model.specs.Messages.{Message, Bind, Upload, Ask, Download, Refused, Ask2, Retire, AskTables}
 use Rattle.sync_model.specs.Profile.{IsNamedKind}
 use Rattle.sync_model.specs.Worlds.{World, Event, Edits, Uploads, Asks, Subscribes, Delivers, Injects, Words, Declined, Replied, message_at}
 
@@ -27,6 +27,21 @@ abbrev pub MayNotSubscribe : ClientRefusal → Type 0
 MayNotSubscribe Subscribed = Unit {0}
 MayNotSubscribe TooLate = Unit {0}
 MayNotSubscribe why = ⊥
+
+abbrev pub IsMismatch : ClientRefusal → Type 0
+IsMismatch (Mismatch version number kind) = IsNamedKind kind
+IsMismatch why = ⊥
+
+-- Why a client declines a message that was made: it is for another node; a Download also because an entry and an unsent changeset
+-- mismatch, and a Refused because of what it says.
+abbrev pub MayNotTake : Message → ClientRefusal → Type 0
+MayNotTake (Download ident from entries) why = (why ≡ NotMine) ⊎ IsMismatch why
+MayNotTake (Refused ident number code place) why = (why ≡ NotMine) ⊎ (why ≡ WasRefused number code)
+MayNotTake m why = why ≡ NotMine
+
+abbrev pub IsDeclineOf : Option Message → ClientRefusal → Type 0
+IsDeclineOf None why = ⊥
+IsDeclineOf (Some m) why = MayNotTake m why
 
 -- a reply that is a refusal has such a code
 abbrev pub RefusesBy : (ℕ → Type 0) → Message → Type 0
@@ -65,6 +80,6 @@ IsNamedOutcome w (Edits name ms edits) words = SaysOnly MayNotCommit (λ reply. 
 IsNamedOutcome w (Uploads name) words = SaysOnly MayNotSend (λ reply. ⊥) words
 IsNamedOutcome w (Asks name) words = SaysOnly MayNotSend (λ reply. ⊥) words
 IsNamedOutcome w (Subscribes name tables) words = SaysOnly MayNotSubscribe (λ reply. ⊥) words
-IsNamedOutcome w (Delivers message to) words = SaysOnly MayDecline (IsReplyTo (message_at w message)) words
+IsNamedOutcome w (Delivers message to) words = SaysOnly (IsDeclineOf (message_at w message)) (IsReplyTo (message_at w message)) words
 IsNamedOutcome w (Injects message) words = SaysOnly (λ why. ⊥) (λ reply. Unit {0}) words
 IsNamedOutcome w e words = SaysOnly (λ why. ⊥) (λ reply. ⊥) words
