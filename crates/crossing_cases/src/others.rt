@@ -186,6 +186,10 @@ fn put_changes(entries: &mut [Entry], first: usize, list: Vec<Changeset>) {
 /// Whether all changes come out as they must, of a client that takes entries, while others come, in between.
 pub fn tried(alloc: Global, drawn: &mut Drawn) -> Option<bool> {
     let mut server = Server::new(alloc);
+    tried_by(alloc, drawn, &mut server)
+}
+
+fn tried_by(alloc: Global, drawn: &mut Drawn, server: &mut Server) -> Option<bool> {
     for _ in 0..drawn.size() {
         server.enter(alloc, drawn)?;
     }

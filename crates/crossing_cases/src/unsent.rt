@@ -114,6 +114,10 @@ impl Client {
 /// Whether all entries come out as they must, of a client that commits, and whose changesets come back, in between.
 pub fn tried(alloc: Global, drawn: &mut Drawn) -> Option<bool> {
     let mut client = Client::new(alloc);
+    tried_by(alloc, drawn, &mut client)
+}
+
+fn tried_by(alloc: Global, drawn: &mut Drawn, client: &mut Client) -> Option<bool> {
     for _ in 0..drawn.size() {
         client.commit(alloc, drawn)?;
     }

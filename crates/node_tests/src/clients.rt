@@ -109,15 +109,19 @@ fn is_sent(alloc: Global, sent: Result<Message, ClientRefusal>, want: &[u8]) -> 
 /// A client that subscribed makes changes of its tables alone, and asks by them.
 fn subscribed_holds(alloc: Global) -> Option<bool> {
     let mut client = client_of(alloc, &[])?;
+    is_subscribed(alloc, &mut client)
+}
+
+fn is_subscribed(alloc: Global, client: &mut Client<MemoryDisk>) -> Option<bool> {
     let born = client.born([1; 16]).is_ok();
-    let first = subscribes(alloc, &mut client)? == Ok(());
-    let again = subscribes(alloc, &mut client)? == Err(ClientRefusal::Subscribed);
-    let outside = commits(alloc, &mut client, CREATE_T)?;
-    let inside = commits(alloc, &mut client, ADD_Q)?;
+    let first = subscribes(alloc, client)? == Ok(());
+    let again = subscribes(alloc, client)? == Err(ClientRefusal::Subscribed);
+    let outside = commits(alloc, client, CREATE_T)?;
+    let inside = commits(alloc, client, ADD_Q)?;
     // Ident 3 for its uuid.
     let named = takes(
         alloc,
-        &mut client,
+        client,
         &[2, 1, 1, 1, 1, 1, 1, 1, 1, 1, 1, 1, 1, 1, 1, 1, 1, 3],
     );
     let asks = is_sent(alloc, client.ask(), &[11, 3, 0, 0, 1, 1, 1, 0x71]);
@@ -137,12 +141,16 @@ fn subscribed_holds(alloc: Global) -> Option<bool> {
 /// A client that began with a state has its objects and its version, and subscribes no more.
 fn started_holds(alloc: Global) -> Option<bool> {
     let mut client = client_of(alloc, STARTED)?;
-    let late = subscribes(alloc, &mut client)? == Err(ClientRefusal::TooLate);
+    is_started(alloc, &mut client)
+}
+
+fn is_started(alloc: Global, client: &mut Client<MemoryDisk>) -> Option<bool> {
+    let late = subscribes(alloc, client)? == Err(ClientRefusal::TooLate);
     let Ok(table) = Name::new("t") else {
         return None;
     };
     let kind = client.objects().schema().table(&table);
-    let made = commits(alloc, &mut client, ADD_Q)?;
+    let made = commits(alloc, client, ADD_Q)?;
     Some(late && kind == Some(KeyKind::Int) && client.cursor() == 1 && made == Ok(1))
 }
 

@@ -101,8 +101,12 @@ fn answers(host: &mut Host, request: &[u8], reply: &[u8]) -> bool {
 /// Whether a new place answers these requests so, one after the other.
 fn answers_all(alloc: Global, table: &[(&[u8], &[u8])]) -> bool {
     let mut host = Host::new(alloc);
+    answers_each(&mut host, table)
+}
+
+fn answers_each(host: &mut Host, table: &[(&[u8], &[u8])]) -> bool {
     for (request, reply) in table {
-        if !answers(&mut host, request, reply) {
+        if !answers(host, request, reply) {
             return false;
         }
     }

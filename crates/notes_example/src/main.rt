@@ -26,20 +26,39 @@ fn run(rt: &HostRuntime) -> Result<(), Failure> {
     let Ok(mut server) = Server::open(alloc, MemoryDisk::new(alloc)?) else {
         return Err(Failure::Server(ServerRefusal::DiskFault));
     };
-    let mut ann = Phone::new(alloc, "Ann", [1; 16])?;
-    let mut ben = Phone::new(alloc, "Ben", [2; 16])?;
+    play(rt, &mut server)
+}
 
-    // Ann begins, and Ben gets what she has.
+/// Two phones at a server.
+fn play(rt: &HostRuntime, server: &mut Server<MemoryDisk>) -> Result<(), Failure> {
+    let mut ann = Phone::new(rt.alloc(), "Ann", [1; 16])?;
+    let mut ben = Phone::new(rt.alloc(), "Ben", [2; 16])?;
+    begin(rt, server, &mut ann, &mut ben)?;
+    change_offline(rt, &mut ann, &mut ben)?;
+    meet_again(rt, server, &mut ann, &mut ben)
+}
+
+/// Ann begins, and Ben gets what she has.
+fn begin(
+    rt: &HostRuntime,
+    server: &mut Server<MemoryDisk>,
+    ann: &mut Phone,
+    ben: &mut Phone,
+) -> Result<(), Failure> {
+    let alloc = rt.alloc();
     let mut edits = ann.edits(alloc);
     notes::set_up(&mut edits)?;
     notes::create(&mut edits, 1)?;
     notes::write(alloc, &mut edits, 1, "buy milk")?;
     let edits = edits.finish();
     ann.commit(rt, 1, edits)?;
-    ann.sync(rt, &mut server)?;
-    ben.sync(rt, &mut server)?;
+    ann.sync(rt, server)?;
+    ben.sync(rt, server)
+}
 
-    // Both are offline, and change the same note.
+/// Both are offline, and change the same note.
+fn change_offline(rt: &HostRuntime, ann: &mut Phone, ben: &mut Phone) -> Result<(), Failure> {
+    let alloc = rt.alloc();
     println!(rt; "offline")?;
     let mut edits = ann.edits(alloc);
     notes::write(alloc, &mut edits, 1, "buy bread")?;
@@ -53,14 +72,21 @@ fn run(rt: &HostRuntime) -> Result<(), Failure> {
     notes::create(&mut edits, 2)?;
     notes::write(alloc, &mut edits, 2, "call home")?;
     let edits = edits.finish();
-    ben.commit(rt, 20, edits)?;
+    ben.commit(rt, 20, edits)
+}
 
-    // Back online, the later text stands on both, and both tags stay.
+/// Back online, the later text stands on both, and both tags stay.
+fn meet_again(
+    rt: &HostRuntime,
+    server: &mut Server<MemoryDisk>,
+    ann: &mut Phone,
+    ben: &mut Phone,
+) -> Result<(), Failure> {
     println!(rt; "online")?;
-    ann.sync(rt, &mut server)?;
-    ben.sync(rt, &mut server)?;
-    ann.sync(rt, &mut server)?;
-    for phone in [&ann, &ben] {
+    ann.sync(rt, server)?;
+    ben.sync(rt, server)?;
+    ann.sync(rt, server)?;
+    for phone in [&*ann, &*ben] {
         print_note(rt, phone, 1)?;
         print_note(rt, phone, 2)?;
     }

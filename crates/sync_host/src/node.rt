@@ -10,6 +10,7 @@ use crate::opening::{open_client, open_server};
 use crate::reply::{Reply, copy};
 use crate::verb::Verb;
 use std::alloc::Global;
+use std::mem;
 
 /// What stands in a host's place.
 #[derive(Drop)]
@@ -17,6 +18,13 @@ pub(crate) enum Node {
     None,
     Client(HostedClient),
     Server(HostedServer),
+}
+
+/// Puts a node in the place of another.
+fn put(place: &mut Node, node: Node)
+    ensures { place.new ≡ node }
+{
+    drop(mem::replace(place, node));
 }
 
 impl Node {
@@ -28,14 +36,15 @@ impl Node {
         ensures opened { result ≡ replies.Done → OpensClient file.now self.new }
         ensures bad { (place : ℕ) → result ≡ replies.BadFile place → client_files.BadPlace file.now place }
     {
-        *self = Node::None;
+        put(self, Node::None);
         match open_client(alloc, file) {
             Ok(client) => {
-                *self = Node::Client(HostedClient {
+                let hosted = HostedClient {
                     client,
                     stored: 0,
                     changed: Vec::new(alloc),
-                });
+                };
+                put(self, Node::Client(hosted));
                 Reply::Done
             }
             Err(reply) => reply,
@@ -47,10 +56,10 @@ impl Node {
         ensures opened { result ≡ replies.Done → OpensServer file.now self.new }
         ensures bad { (place : ℕ) → result ≡ replies.BadFile place → server_files.BadPlace file.now place }
     {
-        *self = Node::None;
+        put(self, Node::None);
         match open_server(alloc, file) {
             Ok(server) => {
-                *self = Node::Server(HostedServer { server });
+                put(self, Node::Server(HostedServer { server }));
                 Reply::Done
             }
             Err(reply) => reply,

@@ -4,6 +4,7 @@ ghost use Rattle.serde_json.specs.View.{view};
 ghost use Rattle.sync_dump.specs.Dump.{line};
 ghost use Rattle.sync_model.specs.Clients as model;
 ghost use Rattle.sync_value_text.specs.Printed.{data_of_key};
+ghost use Rattle.sync_changed.specs.declared.place.Place.TheVariants as places;
 ghost use Rattle.sync_host.specs.Places.{data_of_place, place_lines};
 ghost use Rattle.sync_host.specs.Replies.{reply_bytes};
 ghost use Rattle.sync_host.specs.Steps.{IfTold, Spares, Tells, line_answer};
@@ -12,7 +13,7 @@ use crate::reply::Reply;
 use serde_json::{Value as Json, json};
 use std::alloc::{AllocError, Global};
 use sync_changed::{Place, changed_by_edits};
-use sync_data::{Key, NoMemory};
+use sync_data::{CellName, Key, NoMemory};
 use sync_edits::NodeLine;
 use sync_value_text::json_of_key;
 
@@ -77,19 +78,32 @@ fn json_of_place(alloc: Global, place: &Place) -> Result<Json, AllocError>
             let key = key_of(alloc, key)?;
             json!(in alloc; {"key": key, "table": table})
         }
-        Place::Cell(cell) => {
-            let table = cell.table.text();
-            let key = key_of(alloc, &cell.key)?;
-            let column = cell.column.text();
-            json!(in alloc; {"column": column, "key": key, "table": table})
-        }
-        Place::Elements { cell, front, back } => {
-            let table = cell.table.text();
-            let key = key_of(alloc, &cell.key)?;
-            let column = cell.column.text();
-            json!(in alloc; {"back": *back, "column": column, "front": *front, "key": key, "table": table})
-        }
+        Place::Cell(cell) => json_of_cell(alloc, cell),
+        Place::Elements { cell, front, back } => json_of_elements(alloc, cell, *front, *back),
     }
+}
+
+fn json_of_cell(alloc: Global, cell: &CellName) -> Result<Json, AllocError>
+    ensures { IfOk result (λ json. view json ≡ data_of_place (places.Cell cell.now)) }
+{
+    let table = cell.table.text();
+    let key = key_of(alloc, &cell.key)?;
+    let column = cell.column.text();
+    json!(in alloc; {"column": column, "key": key, "table": table})
+}
+
+fn json_of_elements(
+    alloc: Global,
+    cell: &CellName,
+    front: u32,
+    back: u32,
+) -> Result<Json, AllocError>
+    ensures { IfOk result (λ json. view json ≡ data_of_place (places.Elements cell.now front back)) }
+{
+    let table = cell.table.text();
+    let key = key_of(alloc, &cell.key)?;
+    let column = cell.column.text();
+    json!(in alloc; {"back": back, "column": column, "front": front, "key": key, "table": table})
 }
 
 fn key_of(alloc: Global, key: &Key) -> Result<Json, AllocError>

@@ -21,6 +21,15 @@ pub(crate) enum About {
 /// The one run and the nanoseconds of taking so many entries by as many unsent changesets, the one after the other.
 pub(crate) fn measured(rt: &HostRuntime, count: u32, about: About) -> Result<(u64, u128), Failure> {
     let mut list = PendingList::new(rt.alloc());
+    measured_by(rt, &mut list, count, about)
+}
+
+fn measured_by(
+    rt: &HostRuntime,
+    list: &mut PendingList,
+    count: u32,
+    about: About,
+) -> Result<(u64, u128), Failure> {
     for number in 0..count {
         let changes = unsent(rt.alloc(), about, number)?;
         list.push(Unsent::made(1, 0, changes)?)?;

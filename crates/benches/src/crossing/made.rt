@@ -72,7 +72,10 @@ fn put<T: Drop>(list: &mut Vec<T>, item: T) -> Result<(), Failure> {
 }
 
 fn changeset(alloc: Global, instr: Instr, ms: u64) -> Result<Changeset, Failure> {
-    let mut instrs = Vec::with_capacity(alloc, 1)?;
+    let Ok(mut instrs) = Vec::with_capacity(alloc, 1) else {
+        drop(instr);
+        return Err(Failure::Memory);
+    };
     put(&mut instrs, instr)?;
     match Changeset::checked(ms, instrs) {
         Ok(changes) => Ok(changes),

@@ -10,16 +10,32 @@ use sync_rebase::{PendingList, Unsent};
 /// object 1. An addition and an addition both stay, so that each run finds the same list.
 pub(crate) fn measured(rt: &HostRuntime, count: u32, key: u32) -> Result<(u64, u128), Failure> {
     let mut list = unsent(rt.alloc(), count)?;
+    measured_by(rt, &mut list, key)
+}
+
+fn measured_by(
+    rt: &HostRuntime,
+    list: &mut PendingList,
+    key: u32,
+) -> Result<(u64, u128), Failure> {
     let entry = Entry {
         origin: 2,
         number: 1,
         changes: addition(rt.alloc(), key, 9)?,
     };
+    runs_of(rt, list, &entry)
+}
+
+fn runs_of(
+    rt: &HostRuntime,
+    list: &mut PendingList,
+    entry: &Entry,
+) -> Result<(u64, u128), Failure> {
     let mut runs = 1u64;
     for _ in 0..40 {
         let start = Instant::now(rt)?;
         for _ in 0..runs {
-            take(rt.alloc(), &mut list, &entry)?;
+            take(rt.alloc(), list, entry)?;
         }
         let nanos = start.elapsed(rt)?.as_nanos();
         if nanos >= LEAST {

@@ -11,8 +11,19 @@ pub(crate) fn download(rt: &HostRuntime, unsent: u32, entries: u32) -> Result<()
     let alloc = rt.alloc();
     let disk = MemoryDisk::new(alloc).ok().ok_or(Failure::System)?;
     let mut client = with_schema(alloc, disk)?;
+    take(rt, &mut client, unsent, entries)
+}
+
+// The client makes so many changesets, and takes so many entries.
+fn take<D: Disk>(
+    rt: &HostRuntime,
+    client: &mut Client<D>,
+    unsent: u32,
+    entries: u32,
+) -> Result<(), Failure> {
+    let alloc = rt.alloc();
     for _ in 0..unsent {
-        commits(alloc, &mut client)?;
+        commits(alloc, client)?;
     }
     let range = Range {
         client: 2,
@@ -33,6 +44,17 @@ pub(crate) fn with_schema<D: Disk>(alloc: Global, disk: D) -> Result<Client<D>, 
     let Ok(mut client) = Client::open(alloc, disk) else {
         return Err(Failure::Refused);
     };
+    match take_schema(alloc, &mut client) {
+        Ok(()) => Ok(client),
+        Err(failure) => {
+            drop(client);
+            Err(failure)
+        }
+    }
+}
+
+// It is born, is given ident 9, and takes the schema.
+fn take_schema<D: Disk>(alloc: Global, client: &mut Client<D>) -> Result<(), Failure> {
     let schema = Range {
         client: 1,
         first: 1,
@@ -46,7 +68,7 @@ pub(crate) fn with_schema<D: Disk>(alloc: Global, disk: D) -> Result<Client<D>, 
     ) else {
         return Err(Failure::Refused);
     };
-    Ok(client)
+    Ok(())
 }
 
 // A transaction that adds one to the cell of object 1.

@@ -36,6 +36,20 @@ pub(crate) fn make(rt: &HostRuntime, node: &str, entries: u32, path: &str) -> Re
 fn server_of(alloc: Global, entries: u32) -> Result<MemoryDisk, Failure> {
     let disk = MemoryDisk::new(alloc).ok().ok_or(Failure::System)?;
     let mut server = with_clients(alloc, disk, 2)?;
+    match take_uploads(alloc, &mut server, entries) {
+        Ok(()) => Ok(server.into_disk()),
+        Err(failure) => {
+            drop(server);
+            Err(failure)
+        }
+    }
+}
+
+fn take_uploads<D: Disk>(
+    alloc: Global,
+    server: &mut Server<D>,
+    entries: u32,
+) -> Result<(), Failure> {
     for turn in 0..entries / AT_ONCE {
         let base = server.len();
         let range = Range {
@@ -44,14 +58,28 @@ fn server_of(alloc: Global, entries: u32) -> Result<MemoryDisk, Failure> {
             count: AT_ONCE,
             bodies: Bodies::Objects(base.saturating_add(1)),
         };
-        stores(&mut server, upload(alloc, range, base)?)?;
+        stores(server, upload(alloc, range, base)?)?;
     }
-    Ok(server.into_disk())
+    Ok(())
 }
 
 fn client_of(alloc: Global, entries: u32) -> Result<MemoryDisk, Failure> {
     let disk = MemoryDisk::new(alloc).ok().ok_or(Failure::System)?;
     let mut client = with_schema(alloc, disk)?;
+    match take_downloads(alloc, &mut client, entries) {
+        Ok(()) => Ok(client.into_disk()),
+        Err(failure) => {
+            drop(client);
+            Err(failure)
+        }
+    }
+}
+
+fn take_downloads<D: Disk>(
+    alloc: Global,
+    client: &mut Client<D>,
+    entries: u32,
+) -> Result<(), Failure> {
     for _ in 0..entries / AT_ONCE {
         let cursor = client.cursor();
         let range = Range {
@@ -64,7 +92,7 @@ fn client_of(alloc: Global, entries: u32) -> Result<MemoryDisk, Failure> {
             return Err(Failure::Refused);
         };
     }
-    Ok(client.into_disk())
+    Ok(())
 }
 
 /// Times the opening of a file.

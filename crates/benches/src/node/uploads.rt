@@ -32,6 +32,14 @@ pub(crate) fn upload(rt: &HostRuntime, place: &str, plan: Plan) -> Result<(), Fa
 // Client 1 brings the schema, and each other client one Upload. The microseconds that the server takes for these.
 fn take_all<D: Disk>(rt: &HostRuntime, disk: D, plan: Plan) -> Result<u128, Failure> {
     let mut server = with_clients(rt.alloc(), disk, plan.clients)?;
+    take_each(rt, &mut server, plan)
+}
+
+fn take_each<D: Disk>(
+    rt: &HostRuntime,
+    server: &mut Server<D>,
+    plan: Plan,
+) -> Result<u128, Failure> {
     let mut micros: u128 = 0;
     for client in 0..plan.clients {
         let base = if plan.together { 1 } else { server.len() };
@@ -43,7 +51,7 @@ fn take_all<D: Disk>(rt: &HostRuntime, disk: D, plan: Plan) -> Result<u128, Fail
         };
         let message = message(rt.alloc(), range, base)?;
         let start = Instant::now(rt)?;
-        stores(&mut server, message)?;
+        stores(server, message)?;
         micros = micros.saturating_add(since(rt, start)?);
     }
     Ok(micros)
@@ -58,6 +66,20 @@ pub(crate) fn with_clients<D: Disk>(
     let Ok(mut server) = Server::open(alloc, disk) else {
         return Err(Failure::Refused);
     };
+    match take_clients(alloc, &mut server, clients) {
+        Ok(()) => Ok(server),
+        Err(failure) => {
+            drop(server);
+            Err(failure)
+        }
+    }
+}
+
+fn take_clients<D: Disk>(
+    alloc: Global,
+    server: &mut Server<D>,
+    clients: u32,
+) -> Result<(), Failure> {
     for client in 0..=clients {
         let Ok(_) = server.take(bind(alloc, client)?) else {
             return Err(Failure::Refused);
@@ -69,8 +91,7 @@ pub(crate) fn with_clients<D: Disk>(
         count: 1,
         bodies: Bodies::Schema,
     };
-    stores(&mut server, message(alloc, schema, 0)?)?;
-    Ok(server)
+    stores(server, message(alloc, schema, 0)?)
 }
 
 /// The server takes an Upload whole.

@@ -40,7 +40,18 @@ impl Filled {
             seed: 1,
             place: 0,
         };
-        filled.apply(Instr::AddTable(AddTable {
+        match filled.begin() {
+            Ok(()) => Ok(filled),
+            Err(failure) => {
+                drop(filled);
+                Err(failure)
+            }
+        }
+    }
+
+    /// Makes the table, its columns and the object whose cells grow.
+    fn begin(&mut self) -> Result<(), Failure> {
+        self.apply(Instr::AddTable(AddTable {
             table: name("t")?,
             key: KeyKind::Int,
         }))?;
@@ -50,10 +61,9 @@ impl Filled {
             ("u", Shape::Set),
             ("d", Shape::Dict),
         ] {
-            filled.apply(add_column(column, Kind::Int, shape)?)?;
+            self.apply(add_column(column, Kind::Int, shape)?)?;
         }
-        filled.apply(create(GROWING)?)?;
-        Ok(filled)
+        self.apply(create(GROWING)?)
     }
 
     pub(crate) fn apply(&mut self, instr: Instr) -> Result<(), Failure> {
