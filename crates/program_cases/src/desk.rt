@@ -2,6 +2,7 @@ use super::failure::{Failure, number};
 use super::running::{Failing, NOTHING, Outcome, ran};
 use super::step::Step;
 use std::alloc::Global;
+use std::mem;
 use sync_disk::{Disk, Leaves, MemoryDisk};
 use sync_io::Status;
 
@@ -94,12 +95,19 @@ impl Desk {
         bytes_of(alloc, self.disk(alloc, name)?)
     }
 
+    /// Makes the file of a name one of these bytes.
+    fn make(&mut self, alloc: Global, name: &str, bytes: &[u8]) -> Result<(), Failure> {
+        let disk = self.disk(alloc, name)?;
+        drop(mem::replace(disk, disk_of(alloc, bytes)?));
+        Ok(())
+    }
+
     /// Runs a command, or does what else a step names.
     fn run(&mut self, alloc: Global, command: &str, input: &[u8]) -> Result<Outcome, Failure> {
         let words = words_of(alloc, command)?;
         match words.as_slice() {
             [word, name] if word.as_str() == "file" => {
-                *self.disk(alloc, name.as_str())? = disk_of(alloc, input)?;
+                self.make(alloc, name.as_str(), input)?;
                 Ok(done(alloc))
             }
             [word, name] if word.as_str() == "holds" => Ok(Outcome {

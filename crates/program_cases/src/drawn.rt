@@ -2,7 +2,7 @@
 use super::failure::{Failure, number};
 use super::tally::Tally;
 use std::alloc::Global;
-use std::fs;
+use std::{fs, mem};
 use sync_data::{Instr, Name};
 use sync_disk::MemoryDisk;
 use sync_edits::{Event, event_of};
@@ -58,10 +58,10 @@ fn edits_of(alloc: Global, line: &str) -> Result<Vec<Instr>, Failure> {
 /// The exchange after these events.
 fn world_after(alloc: Global, events: Vec<u8>) -> Result<World, Failure> {
     let words = Vec::from_array(alloc, ["replay".to_string(alloc)?])?;
+    let mut disk = MemoryDisk::new(alloc)?;
+    let mut world = World::new(alloc)?;
     let mut source = MemorySource::new(events, Vec::new(alloc));
     let mut sink = MemorySink::new(alloc, Vec::new(alloc));
-    let mut world = World::new(alloc)?;
-    let mut disk = MemoryDisk::new(alloc)?;
     run(alloc, &words, &mut source, &mut sink, &mut disk, &mut world);
     Ok(world)
 }
@@ -70,8 +70,8 @@ fn world_after(alloc: Global, events: Vec<u8>) -> Result<World, Failure> {
 fn is_edit(alloc: Global, world: &World, seed: u64, line: &str) -> Result<bool, Failure> {
     let name = Name::new("A").ok().ok_or(Failure::Data)?;
     let client = world.client(&name).ok_or(Failure::Data)?;
-    let drawn = Gen::new(seed).edit(alloc, client.objects())?;
     let edits = edits_of(alloc, line)?;
+    let drawn = Gen::new(seed).edit(alloc, client.objects())?;
     Ok(edits.as_slice() == [drawn].as_slice())
 }
 
@@ -110,14 +110,19 @@ fn is_right(rt: &HostRuntime, world: &World, line: &str) -> Result<bool, Failure
 
 /// Tries each line of `drawn.txt`. A line `after NAME` says after which events the edits behind it are drawn.
 pub fn try_all(rt: &HostRuntime) -> Result<Tally, Failure> {
-    let mut tally = Tally::new();
     let mut world = World::new(rt.alloc())?;
+    try_each(rt, &mut world)
+}
+
+fn try_each(rt: &HostRuntime, world: &mut World) -> Result<Tally, Failure> {
+    let mut tally = Tally::new();
     let text = fs::read_to_string(rt, "drawn.txt")?;
     for line in text.lines() {
         if let Some(path) = line.strip_prefix("after ") {
-            world = world_after(rt.alloc(), fs::read(rt, path)?)?;
+            let after = world_after(rt.alloc(), fs::read(rt, path)?)?;
+            drop(mem::replace(world, after));
         } else if !line.is_empty() && !line.starts_with("#") {
-            tally.count(rt, is_right(rt, &world, line)?, line)?;
+            tally.count(rt, is_right(rt, world, line)?, line)?;
         }
     }
     Ok(tally)

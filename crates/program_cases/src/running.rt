@@ -41,6 +41,7 @@ pub fn ran(
     let mut sink = MemorySink::new(alloc, writes);
     let mut world = World::new(alloc)?;
     let status = run(alloc, words, &mut source, &mut sink, disk, &mut world);
+    drop(world);
     let written = Vec::from_slice(alloc, sink.bytes())?;
     Ok(Outcome { status, written })
 }
