@@ -29,13 +29,30 @@ fn run(rt: &HostRuntime) -> Result<(), Failure> {
     play(rt, &mut server)
 }
 
-/// Two phones at a server.
+/// Two phones at a server, Ann's and Ben's.
 fn play(rt: &HostRuntime, server: &mut Server<MemoryDisk>) -> Result<(), Failure> {
     let mut ann = Phone::new(rt.alloc(), "Ann", [1; 16])?;
+    play_with(rt, server, &mut ann)
+}
+
+fn play_with(
+    rt: &HostRuntime,
+    server: &mut Server<MemoryDisk>,
+    ann: &mut Phone,
+) -> Result<(), Failure> {
     let mut ben = Phone::new(rt.alloc(), "Ben", [2; 16])?;
-    begin(rt, server, &mut ann, &mut ben)?;
-    change_offline(rt, &mut ann, &mut ben)?;
-    meet_again(rt, server, &mut ann, &mut ben)
+    use_both(rt, server, ann, &mut ben)
+}
+
+fn use_both(
+    rt: &HostRuntime,
+    server: &mut Server<MemoryDisk>,
+    ann: &mut Phone,
+    ben: &mut Phone,
+) -> Result<(), Failure> {
+    begin(rt, server, ann, ben)?;
+    change_offline(rt, ann, ben)?;
+    meet_again(rt, server, ann, ben)
 }
 
 /// Ann begins, and Ben gets what she has.
