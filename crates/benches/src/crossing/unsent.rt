@@ -13,11 +13,7 @@ pub(crate) fn measured(rt: &HostRuntime, count: u32, key: u32) -> Result<(u64, u
     measured_by(rt, &mut list, key)
 }
 
-fn measured_by(
-    rt: &HostRuntime,
-    list: &mut PendingList,
-    key: u32,
-) -> Result<(u64, u128), Failure> {
+fn measured_by(rt: &HostRuntime, list: &mut PendingList, key: u32) -> Result<(u64, u128), Failure> {
     let entry = Entry {
         origin: 2,
         number: 1,
