@@ -30,11 +30,13 @@ impl Folder {
         Ok(format!(in alloc; "{front}{name}")?)
     }
 
-    /// The words of a command, with the path of the file in place of its name.
+    /// The words of a command, with the path of the file in place of its name. `gen` names none.
     fn words(&self, alloc: Global, command: &str) -> Result<Vec<String>, Failure> {
         let mut words = words_of(alloc, command)?;
-        if let [_, name, ..] = words.as_mut_slice() {
-            *name = self.path(alloc, name.as_str())?;
+        if let [word, name, ..] = words.as_mut_slice() {
+            if word.as_str() != "gen" {
+                *name = self.path(alloc, name.as_str())?;
+            }
         }
         Ok(words)
     }
