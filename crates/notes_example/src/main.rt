@@ -29,7 +29,8 @@ fn run(rt: &HostRuntime) -> Result<(), Failure> {
     play(rt, &mut server)
 }
 
-/// Two phones at a server, Ann's and Ben's.
+/// Two phones at the server, Ann's and Ben's. Each is made in a function of its own, which hands it on by reference: that keeps the
+/// proofs of these functions short.
 fn play(rt: &HostRuntime, server: &mut Server<MemoryDisk>) -> Result<(), Failure> {
     let mut ann = Phone::new(rt.alloc(), "Ann", [1; 16])?;
     play_with(rt, server, &mut ann)
@@ -44,6 +45,7 @@ fn play_with(
     use_both(rt, server, ann, &mut ben)
 }
 
+/// What Ann and Ben do.
 fn use_both(
     rt: &HostRuntime,
     server: &mut Server<MemoryDisk>,
