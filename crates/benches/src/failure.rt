@@ -50,3 +50,14 @@ impl<T: Drop> From<AllocFailed<T>> for Failure {
         Failure::Memory
     }
 }
+
+/// What was made, where what was done with it came to its end. It is dropped here alone, which keeps the proofs of its callers short.
+pub(crate) fn kept<T: Drop>(made: T, done: Result<(), Failure>) -> Result<T, Failure> {
+    match done {
+        Ok(()) => Ok(made),
+        Err(failure) => {
+            drop(made);
+            Err(failure)
+        }
+    }
+}

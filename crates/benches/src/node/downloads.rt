@@ -1,4 +1,4 @@
-use crate::failure::Failure;
+use crate::failure::{Failure, kept};
 use crate::node::messages::{ADDITION, Bodies, Range, download as message, ident};
 use crate::node::{since, tell};
 use std::alloc::Global;
@@ -44,13 +44,8 @@ pub(crate) fn with_schema<D: Disk>(alloc: Global, disk: D) -> Result<Client<D>, 
     let Ok(mut client) = Client::open(alloc, disk) else {
         return Err(Failure::Refused);
     };
-    match take_schema(alloc, &mut client) {
-        Ok(()) => Ok(client),
-        Err(failure) => {
-            drop(client);
-            Err(failure)
-        }
-    }
+    let done = take_schema(alloc, &mut client);
+    kept(client, done)
 }
 
 // It is born, is given ident 9, and takes the schema.

@@ -1,4 +1,4 @@
-use crate::failure::Failure;
+use crate::failure::{Failure, kept};
 use crate::node::downloads::with_schema;
 use crate::node::messages::{Bodies, Range, download, upload};
 use crate::node::uploads::{stores, with_clients};
@@ -36,13 +36,8 @@ pub(crate) fn make(rt: &HostRuntime, node: &str, entries: u32, path: &str) -> Re
 fn server_of(alloc: Global, entries: u32) -> Result<MemoryDisk, Failure> {
     let disk = MemoryDisk::new(alloc).ok().ok_or(Failure::System)?;
     let mut server = with_clients(alloc, disk, 2)?;
-    match take_uploads(alloc, &mut server, entries) {
-        Ok(()) => Ok(server.into_disk()),
-        Err(failure) => {
-            drop(server);
-            Err(failure)
-        }
-    }
+    let done = take_uploads(alloc, &mut server, entries);
+    Ok(kept(server, done)?.into_disk())
 }
 
 fn take_uploads<D: Disk>(
@@ -66,13 +61,8 @@ fn take_uploads<D: Disk>(
 fn client_of(alloc: Global, entries: u32) -> Result<MemoryDisk, Failure> {
     let disk = MemoryDisk::new(alloc).ok().ok_or(Failure::System)?;
     let mut client = with_schema(alloc, disk)?;
-    match take_downloads(alloc, &mut client, entries) {
-        Ok(()) => Ok(client.into_disk()),
-        Err(failure) => {
-            drop(client);
-            Err(failure)
-        }
-    }
+    let done = take_downloads(alloc, &mut client, entries);
+    Ok(kept(client, done)?.into_disk())
 }
 
 fn take_downloads<D: Disk>(

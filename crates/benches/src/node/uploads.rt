@@ -1,4 +1,4 @@
-use crate::failure::Failure;
+use crate::failure::{Failure, kept};
 use crate::node::messages::{Bodies, Range, bind, upload as message};
 use crate::node::{since, tell};
 use std::alloc::Global;
@@ -66,13 +66,8 @@ pub(crate) fn with_clients<D: Disk>(
     let Ok(mut server) = Server::open(alloc, disk) else {
         return Err(Failure::Refused);
     };
-    match take_clients(alloc, &mut server, clients) {
-        Ok(()) => Ok(server),
-        Err(failure) => {
-            drop(server);
-            Err(failure)
-        }
-    }
+    let done = take_clients(alloc, &mut server, clients);
+    kept(server, done)
 }
 
 fn take_clients<D: Disk>(

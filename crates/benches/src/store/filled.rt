@@ -1,5 +1,5 @@
 use super::work::Work;
-use crate::failure::Failure;
+use crate::failure::{Failure, kept};
 use std::alloc::Global;
 use std::mem;
 use std::time::Instant;
@@ -40,13 +40,8 @@ impl Filled {
             seed: 1,
             place: 0,
         };
-        match filled.begin() {
-            Ok(()) => Ok(filled),
-            Err(failure) => {
-                drop(filled);
-                Err(failure)
-            }
-        }
+        let done = filled.begin();
+        kept(filled, done)
     }
 
     /// Makes the table, its columns and the object whose cells grow.
