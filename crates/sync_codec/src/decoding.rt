@@ -86,6 +86,7 @@ fn take_instr(
     let instr = reader.instr(alloc)?;
     let payload = payload.saturating_add(instr.payload());
     if payload > MOST_PAYLOAD {
+        drop(instr);
         return broken(field, Rule::TooLarge);
     }
     done.push(instr)?;

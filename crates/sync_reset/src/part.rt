@@ -104,6 +104,7 @@ pub(crate) fn apply(part: &mut Store, instr: Instr) -> Result<(), NoMemory>
 {
     // No instruction of a store or a changeset carries more.
     if instr.payload() > MOST_PAYLOAD {
+        drop(instr);
         return Err(NoMemory);
     }
     match part.apply(instr) {

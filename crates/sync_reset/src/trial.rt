@@ -44,6 +44,7 @@ impl Trial {
         match self.part.check(&fitted) {
             Ok(()) => self.keep(fitted),
             Err(cause) => {
+                drop(fitted);
                 let code = cause.code();
                 put(&mut self.dropped, Dropped { place, code })
             }
@@ -56,9 +57,23 @@ impl Trial {
         ensures kept { OnOk result (self.new.kept.items ≡ self.old.kept.items ++ instr ∷ []) }
         ensures dropped { OnOk result (self.new.dropped.items ≡ self.old.dropped.items) }
     {
+        match self.act(&instr) {
+            Ok(()) => put(&mut self.kept, instr),
+            Err(NoMemory) => {
+                drop(instr);
+                Err(NoMemory)
+            }
+        }
+    }
+
+    /// Lets a copy of an instruction act.
+    fn act(&mut self, instr: &Instr) -> Result<(), NoMemory>
+        ensures acted { OnOk result (act instr.now self.old.part ≡ Some self.new.part) }
+        ensures kept { self.new.kept.items ≡ self.old.kept.items }
+        ensures dropped { self.new.dropped.items ≡ self.old.dropped.items }
+    {
         let acting = instr.copy()?;
-        apply(&mut self.part, acting)?;
-        put(&mut self.kept, instr)
+        apply(&mut self.part, acting)
     }
 }
 

@@ -58,13 +58,19 @@ impl Cutter {
         ensures { OnOk result (Takes self.old self.new (instr ∷ [])) }
     {
         let Some(bytes) = weight(&instr) else {
+            drop(instr);
             return Err(NoMemory);
         };
         if self.has_room(&instr, bytes) {
             return self.put(instr, bytes);
         }
-        self.close()?;
-        self.put(instr, bytes)
+        match self.close() {
+            Ok(()) => self.put(instr, bytes),
+            Err(NoMemory) => {
+                drop(instr);
+                Err(NoMemory)
+            }
+        }
     }
 
     /// Whether the open changeset is within the limits with one more instruction of so many bytes.
@@ -92,7 +98,10 @@ impl Cutter {
                 self.payload = payload;
                 Ok(())
             }
-            Err(_) => Err(NoMemory),
+            Err(failed) => {
+                drop(failed);
+                Err(NoMemory)
+            }
         }
     }
 

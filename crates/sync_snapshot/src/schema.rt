@@ -25,7 +25,10 @@ pub(crate) fn put(list: &mut Vec<Instr>, instr: Instr) -> Result<(), NoMemory>
 {
     match list.push(instr) {
         Ok(()) => Ok(()),
-        Err(_) => Err(NoMemory),
+        Err(failed) => {
+            drop(failed);
+            Err(NoMemory)
+        }
     }
 }
 

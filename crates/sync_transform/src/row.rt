@@ -82,11 +82,15 @@ pub(crate) fn pass(
     let mut written = 0;
     while read < rights.len() {
         match meet_at(&mut now, rights, written, read, left_later) {
-            Err(kind) => return Err(RowMismatch { place: read, kind }),
+            Err(kind) => {
+                drop(now);
+                return Err(RowMismatch { place: read, kind });
+            }
             Ok(Step { stays, next }) => {
                 read += 1;
                 written = next;
                 if !stays {
+                    drop(now);
                     let freed = close(rights, written, read);
                     return Ok(Passed { left: None, freed });
                 }
