@@ -1,6 +1,6 @@
 //! Drawn changesets that cross whole lists, compared with crossing them one by one.
 //!
-//! `trials drawn SEED COUNT` draws COUNT entries that a client's unsent changesets take (`PendingList::take_entry`), and COUNT
+//! `trials drawn SEED COUNT` draws COUNT entries that a client's unsent changesets take (`PendingList::carry` and `settle`), and COUNT
 //! changes that are carried over the entries of others (`Recip::carry` and `settle`). The seed settles them. What comes of each, and
 //! where it is refused, is compared with what crossing the changesets of the list one after the other (`cross_sets`) comes to.
 #![tactic(auto)]

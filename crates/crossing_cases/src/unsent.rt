@@ -1,4 +1,6 @@
 //! A client's unsent changesets take drawn entries.
+ghost use Rattle.std.specs.Prelude.{◌≢◌};
+
 use crate::ROUNDS;
 use crate::drawn::{Drawn, put};
 use crate::lengths::Lengths;
@@ -44,7 +46,7 @@ impl Client {
     }
 
     /// The first unsent changeset comes back as an entry, if there is one. Whether it is taken out.
-    fn take_own(&mut self, alloc: Global) -> Option<bool> {
+    fn take_own(&mut self) -> Option<bool> {
         if self.plain.is_empty() {
             return Some(true);
         }
@@ -56,7 +58,16 @@ impl Client {
             changes,
         };
         self.first = self.first.saturating_add(1);
-        Some(matches!(self.list.take_entry(alloc, OWN, entry), Ok(None)))
+        Some(self.drops(&entry))
+    }
+
+    /// Whether the entry is the oldest unsent changeset, which is taken out then.
+    fn drops(&mut self, entry: &Entry) -> bool {
+        let is_head = self.list.is_head(entry);
+        if is_head {
+            self.list.drop_head();
+        }
+        is_head
     }
 
     /// An entry of another comes. Whether it comes out as crossing by pairs.
@@ -76,24 +87,38 @@ impl Client {
         }
     }
 
+    /// What an entry of another comes to, and the unsent changesets as they crossed it.
+    fn take(&mut self, alloc: Global, entry: Entry) -> Result<Changeset, RebaseRefusal>
+        requires { entry.origin ≢ 2 }
+    {
+        match self.list.carry(alloc, OWN, entry) {
+            Ok(carried) => Ok(self.list.settle(carried)),
+            Err(refusal) => Err(refusal),
+        }
+    }
+
     /// Whether the entry is carried so. The plain list is what came of it.
-    fn crosses(&mut self, alloc: Global, entry: Entry, crossed: Crossed) -> bool {
+    fn crosses(&mut self, alloc: Global, entry: Entry, crossed: Crossed) -> bool
+        requires { entry.origin ≢ 2 }
+    {
         let Crossed { carried, list } = crossed;
         self.plain = list;
         self.mine.follow(&carried);
-        match self.list.take_entry(alloc, OWN, entry) {
-            Ok(Some(changes)) => changes == carried,
-            _ => false,
+        match self.take(alloc, entry) {
+            Ok(changes) => changes == carried,
+            Err(_) => false,
         }
     }
 
     /// Whether the entry is refused with the number of that changeset.
-    fn refuses(&mut self, alloc: Global, entry: Entry, stuck: Stuck) -> bool {
+    fn refuses(&mut self, alloc: Global, entry: Entry, stuck: Stuck) -> bool
+        requires { entry.origin ≢ 2 }
+    {
         let want = RebaseRefusal::Mismatch {
             number: self.first.saturating_add(stuck.at),
             kind: stuck.kind,
         };
-        match self.list.take_entry(alloc, OWN, entry) {
+        match self.take(alloc, entry) {
             Ok(_) => false,
             Err(refusal) => refusal == want,
         }
@@ -125,7 +150,7 @@ fn tried_by(alloc: Global, drawn: &mut Drawn, client: &mut Client) -> Option<boo
     for _ in 0..ROUNDS {
         match drawn.below(4) {
             0 => client.commit(alloc, drawn)?,
-            1 => right &= client.take_own(alloc)?,
+            1 => right &= client.take_own()?,
             _ => {}
         }
         right &= client.take_other(alloc, drawn)?;

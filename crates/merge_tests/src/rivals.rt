@@ -58,7 +58,8 @@ fn meets_its_rival(alloc: Global, list: &mut PendingList, key: u32) -> Option<bo
         number: 1,
         changes: update(alloc, key, 6)?,
     };
-    let taken = list.take_entry(alloc, 1, entry).ok()??;
+    let carried = list.carry(alloc, 1, entry).ok()?;
+    let taken = list.settle(carried);
     Some(taken == update(alloc, key, 6)? && last_gone(list) == Some(key as usize))
 }
 

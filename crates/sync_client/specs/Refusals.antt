@@ -39,7 +39,6 @@ IfSeen (Some why) Cause = Cause why
 -- why an entry of this version isn't carried
 abbrev pub rebase_refusal : ℕ → RebaseRefusal → CodeRefusal
 rebase_refusal version (rebases.Mismatch number kind) = codes.Mismatch version number (mismatch_code kind)
-rebase_refusal version (rebases.Forked number) = codes.Forked number
 rebase_refusal version rebases.NoMemory = codes.NoMemory
 
 -- a client in memory is neither closed nor meets faults

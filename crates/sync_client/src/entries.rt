@@ -161,7 +161,6 @@ impl Replica {
                 number,
                 kind: kind.code(),
             },
-            RebaseRefusal::Forked { number } => ClientRefusal::Forked { number },
             RebaseRefusal::NoMemory => ClientRefusal::NoMemory,
         }
     }

@@ -1,5 +1,5 @@
 -- An entry walks along the unsent changesets: what was settled so far, and what the rest gives, is what all gives.
-use Rattle.std.proofs.Common.{◌≡◌, ◌≢◌, ◌≤◌, ◌<◌, ℕ, zero, suc, ◌+◌, ◌-◌, Bool, List, [], ◌∷◌, ◌++◌, Some, Result, Ok, Err, refl, sym, ap, ◌∙◌, length, take, drop, get_or, map, subst, add-one, zero-add, append-nil, arith}
+use Rattle.std.proofs.Common.{◌≡◌, ◌≤◌, ◌<◌, ℕ, zero, suc, ◌+◌, ◌-◌, Bool, List, [], ◌∷◌, ◌++◌, Some, Result, Ok, Err, refl, sym, ap, ◌∙◌, length, take, drop, get_or, map, subst, add-one, zero-add, append-nil, arith}
 use Rattle.std.proofs.lemmas.List.{drop_more, drop_all, take_all, map_push}
 use Rattle.sync_data.specs.declared.instr.Instr.{Instr}
 use Rattle.sync_data.specs.declared.entry.Entry.{Entry}
@@ -23,7 +23,7 @@ use Rattle.sync_rebase.specs.declared.carried.Crossed.TheVariants.{One}
 use Rattle.sync_rebase.specs.declared.carried.Became.{Became}
 use Rattle.sync_rebase.specs.declared.carried.Became.TheVariants.{Moved, Changed}
 use Rattle.sync_rebase.specs.declared.refusal.RebaseRefusal.{RebaseRefusal}
-use Rattle.sync_rebase.specs.declared.refusal.RebaseRefusal.TheVariants.{Mismatch, Forked, NoMemory}
+use Rattle.sync_rebase.specs.declared.refusal.RebaseRefusal.TheVariants.{Mismatch, NoMemory}
 use Rattle.sync_rebase.specs.Settling.{left_of, put_current, settled, Suits, Fits, currents}
 use Rattle.sync_rebase.specs.Taking.{Crosses, Refuses}
 use Rattle.sync_rebase.specs.Passing.{StopsAt}
@@ -138,21 +138,17 @@ module _ (t : Touched) (x : Indexed) (codes : List ℕ) (own : ℕ) (us : List (
       let named : made_by own u.original.number c ≡ changeset_of own (record u { current = c.instrs }) = λ j. record { origin = own; number = u.original.number; ms = time j; instrs = c.instrs } in
       walk_becomes (Changed c) next time (m ∙ ap (λ x. Ok (x, made_by e.origin e.number next)) named) covers
 
-  pub walk_stops : (refusal : RebaseRefusal) → own ≢ e.origin → StopsAt own u e.origin now refusal → Refuses own us e refusal
-  walk_stops (Mismatch number kind) differ h = (
-    differ,
-    record {
-      place = i;
-      left = h.1.left;
-      right = h.1.right;
-      rebased = w.so_far
-          ∙ ap (λ l. rebase_after (in_grid own (take i (settled crossed us))) i (rebase (cross_sets meet) (in_grid own l) (made_by e.origin e.number now))) opened
-          ∙ rebase_stop (cross_sets meet) (in_grid own (take i (settled crossed us))) i (changeset_of own u) (in_grid own (drop (i + 1) us)) (made_by e.origin e.number now) (h.1.left, h.1.right, kind) (h.1.stuck e.number);
-      number_is = h.0 ∙ sym (number_there us i u _ opened);
-    },
-  )
-  walk_stops (Forked number) differ h = absurd h
-  walk_stops NoMemory differ h = differ
+  pub walk_stops : (refusal : RebaseRefusal) → StopsAt own u e.origin now refusal → Refuses own us e refusal
+  walk_stops (Mismatch number kind) h = record {
+    place = i;
+    left = h.1.left;
+    right = h.1.right;
+    rebased = w.so_far
+        ∙ ap (λ l. rebase_after (in_grid own (take i (settled crossed us))) i (rebase (cross_sets meet) (in_grid own l) (made_by e.origin e.number now))) opened
+        ∙ rebase_stop (cross_sets meet) (in_grid own (take i (settled crossed us))) i (changeset_of own u) (in_grid own (drop (i + 1) us)) (made_by e.origin e.number now) (h.1.left, h.1.right, kind) (h.1.stuck e.number);
+    number_is = h.0 ∙ sym (number_there us i u _ opened);
+  }
+  walk_stops NoMemory h = tt
 
 -- ---- over several that stay
 pub walk_skips : (t : Touched) (x : Indexed) (codes : List ℕ) (own : ℕ) (us : List (Unsent Instr)) (e : Entry) (crossed : List Crossed) (now : Changes) (d i : ℕ) → i + d ≤ length us → Pass i (i + d) (currents us) now.instrs

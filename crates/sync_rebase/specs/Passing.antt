@@ -8,7 +8,7 @@ use Rattle.sync_law.specs.Instrs.{meet}
 use Rattle.sync_model.specs.Clients.{Unsent, changeset_of}
 use Rattle.sync_transform.specs.Sets.{made_by}
 use Rattle.sync_rebase.specs.declared.refusal.RebaseRefusal.{RebaseRefusal}
-use Rattle.sync_rebase.specs.declared.refusal.RebaseRefusal.TheVariants.{Mismatch, Forked, NoMemory}
+use Rattle.sync_rebase.specs.declared.refusal.RebaseRefusal.TheVariants.{Mismatch, NoMemory}
 
 -- they can't cross, at these places of their lists
 pub record Mismatches (own : ℕ) (u : Unsent Instr) (origin : ℕ) (c : Changes) (kind : base.Mismatch) : Type 0 where
@@ -19,5 +19,4 @@ pub record Mismatches (own : ℕ) (u : Unsent Instr) (origin : ℕ) (c : Changes
 -- why the entry stops there
 abbrev pub StopsAt : ℕ → Unsent Instr → ℕ → Changes → RebaseRefusal → Type 0
 StopsAt own u origin c (Mismatch number kind) = (number ≡ u.original.number) × Mismatches own u origin c kind
-StopsAt own u origin c (Forked number) = ⊥
 StopsAt own u origin c NoMemory = Unit {0}

@@ -41,9 +41,10 @@ fn measured_by(
             number: 1,
             changes: entry(rt.alloc(), about, number)?,
         };
-        if list.take_entry(rt.alloc(), 1, entry).is_err() {
+        let Ok(carried) = list.carry(rt.alloc(), 1, entry) else {
             return Err(Failure::Refused);
-        }
+        };
+        drop(list.settle(carried));
     }
     Ok((1, start.elapsed(rt)?.as_nanos()))
 }

@@ -3,7 +3,7 @@ use crate::crossing::made::addition;
 use crate::failure::Failure;
 use std::alloc::Global;
 use std::time::Instant;
-use sync_base::Entry;
+use sync_base::{Changeset, Entry};
 use sync_rebase::{PendingList, Unsent};
 
 /// The runs and the nanoseconds of taking an entry about the object with that key, by so many unsent changesets about the
@@ -14,24 +14,20 @@ pub(crate) fn measured(rt: &HostRuntime, count: u32, key: u32) -> Result<(u64, u
 }
 
 fn measured_by(rt: &HostRuntime, list: &mut PendingList, key: u32) -> Result<(u64, u128), Failure> {
-    let entry = Entry {
-        origin: 2,
-        number: 1,
-        changes: addition(rt.alloc(), key, 9)?,
-    };
-    runs_of(rt, list, &entry)
+    let changes = addition(rt.alloc(), key, 9)?;
+    runs_of(rt, list, &changes)
 }
 
 fn runs_of(
     rt: &HostRuntime,
     list: &mut PendingList,
-    entry: &Entry,
+    changes: &Changeset,
 ) -> Result<(u64, u128), Failure> {
     let mut runs = 1u64;
     for _ in 0..40 {
         let start = Instant::now(rt)?;
         for _ in 0..runs {
-            take(rt.alloc(), list, entry)?;
+            take(rt.alloc(), list, changes)?;
         }
         let nanos = start.elapsed(rt)?.as_nanos();
         if nanos >= LEAST {
@@ -42,10 +38,20 @@ fn runs_of(
     Err(Failure::System)
 }
 
-fn take(alloc: Global, list: &mut PendingList, entry: &Entry) -> Result<(), Failure> {
-    match list.take_entry(alloc, 1, entry.copy()?) {
-        Ok(Some(changes)) if changes.instrs().len() == 1 => Ok(()),
-        _ => Err(Failure::Refused),
+/// The changesets are those of client 1, and the entry is one of client 2.
+fn take(alloc: Global, list: &mut PendingList, changes: &Changeset) -> Result<(), Failure> {
+    let entry = Entry {
+        origin: 2,
+        number: 1,
+        changes: changes.copy()?,
+    };
+    let Ok(carried) = list.carry(alloc, 1, entry) else {
+        return Err(Failure::Refused);
+    };
+    if list.settle(carried).instrs().len() == 1 {
+        Ok(())
+    } else {
+        Err(Failure::Refused)
     }
 }
 

@@ -122,7 +122,7 @@ returns-in-Err-clause-refused c =
     let u = element all c.next-place.result within in
     let same = c.loop-from.invariant.same in
     let left : c.moves.new.self ≡ all = c.moves.ensures.same ∙ same in
-    walk_stops c.args.index.now c.args.rivals.now c.args.codes.now c.args.own c.args.items.now c.args.entry c.next-place.result c.loop-from.crossed.items c.loop-from.changes there u.0 within u.1 c.in-Err.refusal c.requires.differ
+    walk_stops c.args.index.now c.args.rivals.now c.args.codes.now c.args.own c.args.items.now c.args.entry c.next-place.result c.loop-from.crossed.items c.loop-from.changes there u.0 within u.1 c.in-Err.refusal
     (subst (λ y. StopsAt c.args.own u.0 c.args.entry.origin y c.in-Err.refusal) c.into_changes-in-loop-from.ensures (c.in-Err.ensures.stuck u.0 (subst (λ l. IsAt c.next-place.result l u.0) (sym left) u.1)))
 
 pub loop-from-preserved : goal.loop-from-preserved
