@@ -191,10 +191,14 @@ impl Replica {
         }
     }
 
-    /// Whether the bytes are a record that a client would have written; then it stands for it too.
+    /// Whether the bytes are a record that a client would have written; then it stands for it too. Most are entries, whose
+    /// bytes aren't copied.
     fn read(&mut self, alloc: Global, bytes: &[u8]) -> Result<bool, NoMemory>
         ensures { (records : List model.ClientRecord) → Keeps records self.old → ReadsOne records self.new bytes.now result }
     {
+        if let Some(took) = ClientRecord::took_in(bytes) {
+            return self.admit_took(alloc, took.origin, took.number, took.ms, took.body);
+        }
         match ClientRecord::record_of(alloc, bytes) {
             Ok(found) => {
                 let admitted = self.admit(alloc, &found);

@@ -45,7 +45,7 @@ fn take_string<'a>(known: &mut Strings<'a>, bytes: &'a [u8]) -> Result<&'a [u8],
     if known.place(text).is_some() {
         return broken(field, Rule::StringRepeat);
     }
-    match known.number(text) {
+    match known.add(text) {
         Ok(_) => Ok(rest),
         Err(_) => Err(ReadRefusal::NoMemory),
     }

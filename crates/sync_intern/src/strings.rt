@@ -124,8 +124,8 @@ impl<'a> Strings<'a> {
         self.add(text)
     }
 
-    /// The number of a new string, which goes last. NoMemory changes nothing.
-    fn add(&mut self, text: &'a str) -> Result<u32, NoMemory>
+    /// The number of a string that wasn't used before, which goes last. NoMemory changes nothing.
+    pub fn add(&mut self, text: &'a str) -> Result<u32, NoMemory>
         requires short { length text.now ≤ 255 }
         requires room { length self.old < 2 ^ 32 - 1 }
         requires new_ { has_string self.old text.now ≡ false }

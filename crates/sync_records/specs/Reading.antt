@@ -7,6 +7,7 @@ use Rattle.sync_records.specs.declared.refusal.RecordRefusal.{RecordRefusal}
 use Rattle.sync_records.specs.declared.refusal.RecordRefusal.TheVariants as refusals
 use Rattle.sync_records.specs.declared.client.ClientRecord.{ClientRecord}
 use Rattle.sync_records.specs.declared.client.ClientRecord.TheVariants as client
+use Rattle.sync_records.specs.declared.client.Took.{Took}
 use Rattle.sync_records.specs.declared.server.ServerRecord.{ServerRecord}
 use Rattle.sync_records.specs.declared.server.ServerRecord.TheVariants as server
 
@@ -78,6 +79,10 @@ made_of p = client.Made p.0.0 p.0.1 p.1
 
 abbrev pub took_of : ((ℕ × ℕ) × ℕ) × List ℕ → ClientRecord
 took_of p = client.Took p.0.0.0 p.0.0.1 p.0.1 p.1
+
+-- the record of these fields
+abbrev pub took_seen : Took → ClientRecord
+took_seen t = client.Took t.origin t.number t.ms t.body.now
 
 abbrev pub entry_of : (((ℕ × ℕ) × ℕ) × ℕ) × List ℕ → ServerRecord
 entry_of p = server.Entry p.0.0.0.0 p.0.0.0.1 p.0.0.1 p.0.1 p.1

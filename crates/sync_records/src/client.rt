@@ -1,6 +1,6 @@
-ghost use Rattle.std.specs.Prelude.{◌≡◌, ◌++◌, List, length, IfOk, OnOk, Some};
+ghost use Rattle.std.specs.Prelude.{◌≡◌, ◌++◌, List, length, IfOk, IfSome, OnOk, Some};
 ghost use Rattle.sync_records.specs.Limits.{IsClientRecord};
-ghost use Rattle.sync_records.specs.Reading.{Gives, seen, made_of as read_made, made_in, took_of as read_took, took_in, client_forms, fields_in, record_in};
+ghost use Rattle.sync_records.specs.Reading.{Gives, seen, made_of as read_made, made_in, took_of as read_took, took_in, took_seen, client_forms, fields_in, record_in};
 ghost use Rattle.sync_records.specs.Spelling.{client_spelling};
 ghost use Rattle.sync_records.specs.declared.client.ClientRecord.{ClientRecord};
 
@@ -63,6 +63,35 @@ fn made_of(alloc: Global, bytes: &[u8]) -> Result<ClientRecord, RecordRefusal>
     let (ms, rest) = wide_of(rest)?;
     let body = body_of(alloc, rest)?;
     Ok(ClientRecord::Made { number, ms, body })
+}
+
+/// The fields of a record Took, with its bytes borrowed.
+#[derive(Clone, Copy)]
+pub struct Took<'a> {
+    pub origin: Ident,
+    pub number: u32,
+    pub ms: u64,
+    pub body: &'a [u8],
+}
+
+fn took_fields(bytes: &[u8]) -> Option<Took<'_>>
+    ensures { IfSome result (λ took. seen read_took took_in bytes.now ≡ Some (took_seen took)) }
+{
+    let Ok((origin, rest)) = number_of(bytes) else {
+        return None;
+    };
+    let Ok((number, rest)) = number_of(rest) else {
+        return None;
+    };
+    let Ok((ms, body)) = wide_of(rest) else {
+        return None;
+    };
+    Some(Took {
+        origin,
+        number,
+        ms,
+        body,
+    })
 }
 
 fn took_of(alloc: Global, bytes: &[u8]) -> Result<ClientRecord, RecordRefusal>
@@ -160,6 +189,17 @@ impl ClientRecord {
         match put_record(&mut out, self) {
             Ok(()) => Ok(out),
             Err(_) => Err(NoMemory),
+        }
+    }
+
+    /// The fields of a Took, where all of the bytes spell one. It takes no memory.
+    pub fn took_in(bytes: &[u8]) -> Option<Took<'_>>
+        ensures spelled { IfSome result (λ took. bytes.now ≡ client_spelling (took_seen took)) }
+        ensures exact { IfSome result (λ took. record_in client_forms bytes.now ≡ Some (took_seen took)) }
+    {
+        match bytes {
+            [4, fields @ ..] => took_fields(fields),
+            _ => None,
         }
     }
 

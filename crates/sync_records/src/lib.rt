@@ -8,7 +8,7 @@ mod refusal;
 mod server;
 mod writing;
 
-pub use client::ClientRecord;
+pub use client::{ClientRecord, Took};
 pub use named::Named;
 pub use refusal::RecordRefusal;
 pub use server::ServerRecord;

@@ -3,11 +3,13 @@ ghost use Rattle.std.specs.Option.{option_copied, option_map_or};
 ghost use Rattle.sync_data.specs.declared.key.KeyKind.{KeyKind};
 ghost use Rattle.sync_base.specs.Effects.{NewTable, NewColumn, Erase, Change, effect_of, path_of};
 ghost use Rattle.sync_base.specs.Effects as effects;
-ghost use Rattle.sync_base.specs.States.{column_in, cell_at};
+ghost use Rattle.std.specs.FinMap as map;
+ghost use Rattle.sync_base.specs.States.{column_in};
 ghost use Rattle.sync_base.specs.Checks.{break_of, first_failed, object_checks, size, is_int};
 ghost use Rattle.sync_base.specs.declared.answers.Break.{Break as BreakSeen};
 ghost use Rattle.sync_store.specs.Asking.{verdict, cell_checks, change_checks, is_wanted, takes, has_size};
 
+use super::object::Object;
 use super::parts::Parts;
 use super::wanted::Wanted;
 use sync_base::{AddColumn, Break, CellName, Column, Instr, Key, Kind, Name, Shape, Value as Held};
@@ -99,29 +101,26 @@ impl Parts {
         Ok(())
     }
 
-    /// The column of a cell whose object stands.
-    fn find_column(&self, cell: &CellName) -> Result<&Column, Break>
-        ensures there { IfOk result (λ column. column_in self.now.tables cell.now.table cell.now.column ≡ Some column.now) }
+    /// The column of a cell, and its object, which stands.
+    fn find_column(&self, cell: &CellName) -> Result<(&Column, &Object), Break>
+        ensures there { IfOk result (λ found. column_in self.now.tables cell.now.table cell.now.column ≡ Some found.0.now) }
+        ensures object { IfOk result (λ found. map.get self.now.objects (cell.now.table, cell.now.key) ≡ Some found.1.now) }
         ensures passed { OnOk result ((rest : List (Bool × BreakSeen)) → first_failed (cell_checks self.now (path_of cell.now) rest) ≡ first_failed rest) }
         ensures cause { IfErr result (λ cause. (rest : List (Bool × BreakSeen)) → first_failed (cell_checks self.now (path_of cell.now) rest) ≡ Some cause) }
     {
-        match self.check_object(&cell.table, &cell.key) {
-            Ok(()) => {}
-            Err(cause) => return Err(cause),
+        if self.schema.table(&cell.table).is_none() {
+            return Err(Break::NoTable);
         }
+        if !self.schema.is_key_of(&cell.table, &cell.key) {
+            return Err(Break::WrongKeyKind);
+        }
+        let Some(object) = self.objects.object(&cell.table, &cell.key) else {
+            return Err(Break::NoObject);
+        };
         match self.schema.column(&cell.table, &cell.column) {
-            Some(column) => Ok(column),
+            Some(column) => Ok((column, object)),
             None => Err(Break::NoColumn),
         }
-    }
-
-    /// The cell of a name.
-    pub(crate) fn cell(&self, cell: &CellName) -> Option<&Cell>
-        ensures { option_copied result ≡ cell_at self.now (path_of cell.now).0 cell.now.column }
-    {
-        self.objects
-            .object(&cell.table, &cell.key)?
-            .cell(&cell.column)
     }
 
     /// Whether a cell is changed whose column has a wanted shape and takes the value, and whose list has that length.
@@ -134,26 +133,26 @@ impl Parts {
     ) -> Result<(), Break>
         ensures { result ≡ verdict (first_failed (change_checks self.now (path_of cell.now) (is_wanted shape) (takes self.now.tables (option_copied value.entry)) (has_size prior))) }
     {
-        let column = match self.find_column(cell) {
-            Ok(column) => column,
+        let (column, object) = match self.find_column(cell) {
+            Ok(found) => found,
             Err(cause) => return Err(cause),
         };
         let has_shape = is_wanted(shape, column.shape);
         let fits = self.takes(column, value);
-        let has_size = self.has_size(cell, prior);
+        let has_size = has_size(object, &cell.column, prior);
         judge(has_shape, fits, has_size)
     }
 
     fn check_sum(&self, cell: &CellName) -> Result<(), Break>
         ensures { result ≡ verdict (first_failed (change_checks self.now (path_of cell.now) (is_wanted Wanted.One) (λ c. is_int c.kind) (has_size None))) }
     {
-        let column = match self.find_column(cell) {
-            Ok(column) => column,
+        let (column, object) = match self.find_column(cell) {
+            Ok(found) => found,
             Err(cause) => return Err(cause),
         };
         let has_shape = is_wanted(Wanted::One, column.shape);
         let fits = is_int(&column.kind);
-        let has_size = self.has_size(cell, None);
+        let has_size = has_size(object, &cell.column, None);
         judge(has_shape, fits, has_size)
     }
 
@@ -174,15 +173,15 @@ impl Parts {
             None => true,
         }
     }
+}
 
-    /// Whether the cell is there, and is a list of that length where one is wanted.
-    fn has_size(&self, cell: &CellName, prior: Option<u32>) -> bool
-        ensures { result ≡ option_map_or (has_size prior) (cell_at self.now (path_of cell.now).0 cell.now.column) false }
-    {
-        match self.cell(cell) {
-            Some(found) => is_size(found, prior),
-            None => false,
-        }
+/// Whether an object has the cell of a column, and it is a list of that length where one is wanted.
+fn has_size(object: &Object, column: &Name, prior: Option<u32>) -> bool
+    ensures { result ≡ option_map_or (has_size prior) (map.get object.now column.now) false }
+{
+    match object.cell(column) {
+        Some(found) => is_size(found, prior),
+        None => false,
     }
 }
 

@@ -1,8 +1,10 @@
-use Rattle.std.proofs.Common.{sym, ◌∙◌, ap, [], ◌∷◌}
-use Rattle.std.specs.Option.{option_copied}
+use Rattle.std.proofs.Common.{Bool, Option, sym, ◌∙◌, ap, [], ◌∷◌}
+use Rattle.std.specs.Option.{option_copied, option_and_then, option_map_or}
+use Rattle.std.specs.FinMap as map
 use Rattle.sync_data.specs.declared.column.Column.{Column}
 use Rattle.sync_base.specs.declared.answers.Break.TheVariants as breaks
 use Rattle.sync_base.specs.Effects.{path_of}
+use Rattle.sync_base.specs.States.{Cells}
 use Rattle.sync_base.specs.Checks.{first_failed, column_check}
 use Rattle.sync_store.specs.Asking.{verdict, column_checks, is_wanted, takes, has_size}
 use Rattle.sync_store.proofs.parts.Parts.check_change.Goals as goal
@@ -13,6 +15,7 @@ returns-in-Err c = sym (ap verdict (c.in-Err.ensures.cause (column_checks c.args
 pub returns : goal.returns
 returns c =
     let there = sym c.in-Ok.ensures.there in
+    let sized : Option Cells → Bool = λ cells. option_map_or (has_size c.args.prior) (option_and_then (λ held. map.get held c.args.cell.now.column) cells) false in
     c.judge.ensures
-    ∙ (λ i. verdict (first_failed (((c.is_wanted-has_shape.ensures ∙ ap (column_check (λ (col : Column). is_wanted c.args.shape col.shape)) there) i, breaks.WrongShape) ∷ ((c.takes-fits.ensures ∙ ap (column_check (takes c.args.self.now.tables (option_copied c.args.value))) there) i, breaks.WrongKind) ∷ (c.has_size-has_size.ensures i, breaks.BadPrior) ∷ [])))
+    ∙ (λ i. verdict (first_failed (((c.is_wanted-has_shape.ensures ∙ ap (column_check (λ (col : Column). is_wanted c.args.shape col.shape)) there) i, breaks.WrongShape) ∷ ((c.takes-fits.ensures ∙ ap (column_check (takes c.args.self.now.tables (option_copied c.args.value))) there) i, breaks.WrongKind) ∷ ((c.has_size-has_size.ensures ∙ ap sized (sym c.in-Ok.ensures.object)) i, breaks.BadPrior) ∷ [])))
     ∙ sym (ap verdict (c.in-Ok.ensures.passed (column_checks c.args.self.now (path_of c.args.cell.now) (is_wanted c.args.shape) (takes c.args.self.now.tables (option_copied c.args.value)) (has_size c.args.prior))))
