@@ -114,15 +114,15 @@ impl Node for Client<MemoryDisk> {
     }
 
     fn arm(&mut self, stroke: u8, leaves: Leaves) {
-        self.arm(stroke as u32 + 1, leaves);
+        self.journal.arm(stroke as u32 + 1, leaves);
     }
 
     fn disarm(&mut self) {
-        self.disarm();
+        self.journal.disarm();
     }
 
     fn stopped(&self) -> bool {
-        self.stopped()
+        self.journal.stopped()
     }
 }
 
@@ -206,15 +206,15 @@ impl Node for Server<MemoryDisk> {
     }
 
     fn arm(&mut self, stroke: u8, leaves: Leaves) {
-        self.arm(stroke as u32 + 1, leaves);
+        self.journal.arm(stroke as u32 + 1, leaves);
     }
 
     fn disarm(&mut self) {
-        self.disarm();
+        self.journal.disarm();
     }
 
     fn stopped(&self) -> bool {
-        self.stopped()
+        self.journal.stopped()
     }
 }
 

@@ -1,11 +1,9 @@
 ghost use Rattle.std.specs.Prelude.{◌≡◌, ◌⊎◌, ◌≤◌, ◌∷◌, [], ℕ, List, length, Some, IsErrOf, IfErr, IfOk, OnOk, OnErr, true, false};
 ghost use Rattle.sync_data.specs.Payload.{IsSmall};
-ghost use Rattle.sync_disk.specs.Disk.{SameDisk};
-ghost use Rattle.sync_disk.specs.Faults.{armed, begun, disarmed, has_stopped};
 ghost use Rattle.sync_model.specs.Clients as model;
 ghost use Rattle.sync_exchange.specs.Profile.{the_profile};
 ghost use Rattle.sync_exchange.specs.Seen.{client_seen};
-ghost use Rattle.sync_journal.specs.Stands.{Stands, disk_of};
+ghost use Rattle.sync_journal.specs.Stands.{disk_of};
 ghost use Rattle.sync_client.specs.Refusals.{refusal_seen, IfSeen};
 
 use crate::refusal::ClientRefusal;
@@ -13,7 +11,7 @@ use crate::replica::Replica;
 use crate::transactions::Made;
 use std::alloc::Global;
 use sync_data::{Blob, Id, Instr};
-use sync_disk::{BeginsAnew, Disk, Leaves, MemoryDisk};
+use sync_disk::Disk;
 use sync_journal::{Journal, JournalRefusal};
 use sync_records::ClientRecord;
 use sync_subset::Subset;
@@ -23,7 +21,8 @@ use sync_subset::Subset;
 #[derive(Drop)]
 pub struct Client<D: Disk> {
     pub(crate) alloc: Global,
-    pub(crate) journal: Journal<D>,
+    /// What stands on the disk. Records come to it by the client's calls alone.
+    pub journal: Journal<D>,
     pub(crate) replica: Replica,
 }
 
@@ -154,13 +153,6 @@ impl<D: Disk> Client<D> {
         Ok(())
     }
 
-    /// The disk that it holds.
-    pub fn disk(&self) -> &D
-        ensures { result.now ≡ disk_of (journal_of self.now) }
-    {
-        self.journal.disk()
-    }
-
     /// Want of memory closes the client.
     pub(crate) fn refused(&mut self, refusal: ClientRefusal) -> ClientRefusal
         ensures same { result ≡ refusal }
@@ -197,56 +189,5 @@ impl<D: Disk> Client<D> {
                 Err(ClientRefusal::NoMemory)
             }
         }
-    }
-}
-
-impl Client<MemoryDisk> {
-    ghost use Rattle.sync_client.specs.Clients.{is_closed, journal_of, replica_of};
-
-    /// Arms the disk that it holds, and changes nothing else.
-    pub fn arm(&mut self, at: u32, leaves: Leaves)
-        requires { 1 ≤ at }
-        ensures origin { ⟦<MemoryDisk as Disk>⟧.origin (disk_of (journal_of self.new)) ≡ armed at leaves (⟦<MemoryDisk as Disk>⟧.origin (disk_of (journal_of self.old))) (length (⟦<MemoryDisk as Disk>⟧.strokes (disk_of (journal_of self.old)))) }
-        ensures same { SameDisk ⟦<MemoryDisk as Disk>⟧.content ⟦<MemoryDisk as Disk>⟧.strokes ⟦<MemoryDisk as Disk>⟧.images ⟦<MemoryDisk as Disk>⟧.faults ⟦<MemoryDisk as Disk>⟧.failing (disk_of (journal_of self.old)) (disk_of (journal_of self.new)) }
-        ensures closed { is_closed self.new ≡ is_closed self.old }
-        ensures replica { replica_of self.new ≡ replica_of self.old }
-        ensures stands { (records : List (List ℕ)) → Stands records (journal_of self.old) → Stands records (journal_of self.new) }
-    {
-        self.journal.arm(at, leaves);
-    }
-
-    /// Disarms the disk that it holds, and changes nothing else.
-    pub fn disarm(&mut self)
-        ensures origin { ⟦<MemoryDisk as Disk>⟧.origin (disk_of (journal_of self.new)) ≡ disarmed (⟦<MemoryDisk as Disk>⟧.origin (disk_of (journal_of self.old))) (length (⟦<MemoryDisk as Disk>⟧.strokes (disk_of (journal_of self.old)))) }
-        ensures same { SameDisk ⟦<MemoryDisk as Disk>⟧.content ⟦<MemoryDisk as Disk>⟧.strokes ⟦<MemoryDisk as Disk>⟧.images ⟦<MemoryDisk as Disk>⟧.faults ⟦<MemoryDisk as Disk>⟧.failing (disk_of (journal_of self.old)) (disk_of (journal_of self.new)) }
-        ensures closed { is_closed self.new ≡ is_closed self.old }
-        ensures replica { replica_of self.new ≡ replica_of self.old }
-        ensures stands { (records : List (List ℕ)) → Stands records (journal_of self.old) → Stands records (journal_of self.new) }
-    {
-        self.journal.disarm();
-    }
-
-    /// Whether the disk that it holds has stopped.
-    pub fn stopped(&self) -> bool
-        ensures { result ≡ has_stopped (⟦<MemoryDisk as Disk>⟧.origin (disk_of (journal_of self.now))).stop (length (⟦<MemoryDisk as Disk>⟧.strokes (disk_of (journal_of self.now)))) }
-    {
-        self.journal.stopped()
-    }
-}
-
-impl<D: BeginsAnew> Client<D> {
-    ghost use Rattle.sync_client.specs.Clients.{is_closed, journal_of, replica_of};
-
-    /// The disk that it holds begins its strokes anew with what it holds, which stands synced. It is no longer armed.
-    pub fn begin_anew(&mut self)
-        ensures content { D.content (disk_of (journal_of self.new)) ≡ D.content (disk_of (journal_of self.old)) }
-        ensures strokes { D.strokes (disk_of (journal_of self.new)) ≡ [] }
-        ensures origin { (c : List ℕ) → D.content (disk_of (journal_of self.new)) ≡ Some c
-            → D.origin (disk_of (journal_of self.new)) ≡ begun c (D.origin (disk_of (journal_of self.old))) }
-        ensures closed { is_closed self.new ≡ is_closed self.old }
-        ensures replica { replica_of self.new ≡ replica_of self.old }
-        ensures stands { (records : List (List ℕ)) → Stands records (journal_of self.old) → Stands records (journal_of self.new) }
-    {
-        self.journal.begin_anew();
     }
 }

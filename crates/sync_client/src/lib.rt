@@ -5,7 +5,6 @@ mod beginning;
 mod client;
 mod entries;
 mod files;
-mod gathering;
 mod opening;
 mod refusal;
 mod replica;

@@ -4,7 +4,7 @@ use sync_data::Ident;
 /// client is as before, and for a Download as after the entries before.
 #[derive(Clone, Copy, Debug, PartialEq, Eq)]
 pub enum ClientRefusal {
-    /// An earlier call on this value answered `DiskFault` or `NoMemory`, or `land` failed.
+    /// An earlier call on this value answered `DiskFault` or `NoMemory`, or its journal was closed.
     Closed,
     /// The client has no uuid yet.
     NotBorn,

@@ -166,7 +166,7 @@ impl HostedClient {
     pub(crate) fn empty(&mut self)
         ensures { EmptiedClient self.old self.new }
     {
-        self.client.begin_anew();
+        self.client.journal.begin_anew();
     }
 }
 
@@ -191,7 +191,7 @@ impl HostedServer {
     pub(crate) fn empty(&mut self)
         ensures { EmptiedServer self.old self.new }
     {
-        self.server.begin_anew();
+        self.server.journal.begin_anew();
     }
 }
 

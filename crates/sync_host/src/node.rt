@@ -82,8 +82,8 @@ impl Node {
     {
         match self {
             Node::None => &[],
-            Node::Client(hosted) => hosted.client.disk().outbox(),
-            Node::Server(hosted) => hosted.server.disk().outbox(),
+            Node::Client(hosted) => hosted.client.journal.disk().outbox(),
+            Node::Server(hosted) => hosted.server.journal.disk().outbox(),
         }
     }
 

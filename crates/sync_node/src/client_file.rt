@@ -116,7 +116,7 @@ impl<D: Disk, C: ClientStep> Command<D> for ClientFile<GatheredDisk<D>, C> {
     }
 
     fn land_records(&mut self) -> Result<(), DiskRefusal> {
-        self.client.land()
+        self.client.journal.land()
     }
 
     fn close(self) -> D {

@@ -111,7 +111,7 @@ impl<D: Disk> Command<D> for Waiter<GatheredDisk<D>> {
     }
 
     fn land_records(&mut self) -> Result<(), DiskRefusal> {
-        self.server.land()
+        self.server.journal.land()
     }
 
     fn close(self) -> D {

@@ -3,16 +3,19 @@ ghost use Rattle.sync_disk.specs.Disk.{LeavesOnly, Rose, Told};
 ghost use Rattle.sync_disk.specs.Faults.{IsSound};
 ghost use Rattle.sync_journal.specs.Records.{records_of};
 ghost use Rattle.sync_journal.specs.Records.Reading.{Good};
-ghost use Rattle.sync_journal.specs.Stands.{disk_of};
+ghost use Rattle.sync_journal.specs.Landed.{IsLanded};
+ghost use Rattle.sync_journal.specs.Stands.{Stands, disk_of};
+ghost use Rattle.gathered_disk.specs.Below.{below};
 
 use crate::server::Server;
 use server_memory::Kept;
+use gathered_disk::GatheredDisk;
 use std::alloc::Global;
 use sync_disk::Disk;
 use sync_journal::{Journal, OpenCause, OpenRefusal};
 
 impl<D: Disk> Server<D> {
-    ghost use Rattle.sync_server.specs.Serving.{is_closed, journal_of};
+    ghost use Rattle.sync_server.specs.Serving.{is_closed, journal_of, kept_of};
     ghost use Rattle.sync_server.specs.Files.{BadPlace, Opened};
 
     /// Opens the server of a disk. Besides what a journal refuses, `BadFile` comes where a record isn't one that a server would
@@ -48,6 +51,21 @@ impl<D: Disk> Server<D> {
                 kept,
             }),
             Err(why) => Err(journal.unread(records.as_slice(), why)),
+        }
+    }
+
+    /// The same server over a disk that gathers: from then on `land` of its journal brings the records of its
+    /// calls to the disk.
+    pub fn gathered(self) -> Server<GatheredDisk<D>>
+        ensures landed { (records : List (List ℕ)) → Stands records (journal_of self) → IsLanded records (journal_of result) }
+        ensures below { below (disk_of (journal_of result)) ≡ disk_of (journal_of self) }
+        ensures kept { kept_of result ≡ kept_of self }
+        ensures closed { is_closed result ≡ is_closed self }
+    {
+        Server {
+            alloc: self.alloc,
+            journal: self.journal.gathered(),
+            kept: self.kept,
         }
     }
 }

@@ -3,7 +3,6 @@
 
 mod crossed;
 mod files;
-mod gathering;
 mod refusal;
 mod server;
 

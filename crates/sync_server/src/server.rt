@@ -1,9 +1,7 @@
 ghost use Rattle.std.specs.Prelude.{◌≡◌, ◌≤◌, ◌∷◌, [], ℕ, List, map, length, slice_get, if◌then◌else◌, false, true, Some, IsErrOf, IfOk, OnOk};
 ghost use Rattle.std.specs.Option.{option_copied, option_map};
 ghost use Rattle.sync_data.specs.declared.instr.Instr.{Instr};
-ghost use Rattle.sync_disk.specs.Disk.{SameDisk};
-ghost use Rattle.sync_disk.specs.Faults.{armed, begun, disarmed, has_stopped};
-ghost use Rattle.sync_journal.specs.Stands.{Stands, disk_of};
+ghost use Rattle.sync_journal.specs.Stands.{disk_of};
 ghost use Rattle.sync_model.specs.Servers as model;
 ghost use Rattle.sync_model.specs.Parts.{Given as GivenParts, at_ident, bind_by, serve_by, upload_by};
 ghost use Rattle.sync_exchange.specs.Profile.{the_profile};
@@ -19,7 +17,7 @@ use crate::refusal::ServerRefusal;
 use server_memory::{ChangeHead, ChangeRefusal, Counts, Kept, LAST, Refusal, refuse};
 use std::alloc::Global;
 use sync_base::{Blob, Changeset, Entry, Id, Ident, NoMemory};
-use sync_disk::{BeginsAnew, Disk, Leaves, MemoryDisk};
+use sync_disk::Disk;
 use sync_journal::{Journal, JournalRefusal};
 use sync_messages::{Ask, Change, Given, Message, Retire, Retired, Stored, Upload};
 use sync_records::ServerRecord;
@@ -30,7 +28,8 @@ use sync_subset::Subset;
 #[derive(Drop)]
 pub struct Server<D: Disk> {
     pub(crate) alloc: Global,
-    pub(crate) journal: Journal<D>,
+    /// What stands on the disk. Records come to it by the server's calls alone.
+    pub journal: Journal<D>,
     pub(crate) kept: Kept,
 }
 
@@ -395,68 +394,10 @@ impl<D: Disk> Server<D> {
         self.kept.past(ident, version)
     }
 
-    /// The disk that it holds.
-    pub fn disk(&self) -> &D
-        ensures { result.now ≡ disk_of (journal_of self.now) }
-    {
-        self.journal.disk()
-    }
-
     /// Hands the disk back.
     pub fn into_disk(self) -> D
         ensures { result ≡ disk_of (journal_of self) }
     {
         self.journal.into_disk()
-    }
-}
-
-impl Server<MemoryDisk> {
-    ghost use Rattle.sync_server.specs.Serving.{is_closed, journal_of, kept_of};
-
-    /// Arms the disk that it holds, and changes nothing else.
-    pub fn arm(&mut self, at: u32, leaves: Leaves)
-        requires { 1 ≤ at }
-        ensures origin { ⟦<MemoryDisk as Disk>⟧.origin (disk_of (journal_of self.new)) ≡ armed at leaves (⟦<MemoryDisk as Disk>⟧.origin (disk_of (journal_of self.old))) (length (⟦<MemoryDisk as Disk>⟧.strokes (disk_of (journal_of self.old)))) }
-        ensures same { SameDisk ⟦<MemoryDisk as Disk>⟧.content ⟦<MemoryDisk as Disk>⟧.strokes ⟦<MemoryDisk as Disk>⟧.images ⟦<MemoryDisk as Disk>⟧.faults ⟦<MemoryDisk as Disk>⟧.failing (disk_of (journal_of self.old)) (disk_of (journal_of self.new)) }
-        ensures closed { is_closed self.new ≡ is_closed self.old }
-        ensures kept { kept_of self.new ≡ kept_of self.old }
-        ensures stands { (records : List (List ℕ)) → Stands records (journal_of self.old) → Stands records (journal_of self.new) }
-    {
-        self.journal.arm(at, leaves);
-    }
-
-    /// Disarms the disk that it holds, and changes nothing else.
-    pub fn disarm(&mut self)
-        ensures origin { ⟦<MemoryDisk as Disk>⟧.origin (disk_of (journal_of self.new)) ≡ disarmed (⟦<MemoryDisk as Disk>⟧.origin (disk_of (journal_of self.old))) (length (⟦<MemoryDisk as Disk>⟧.strokes (disk_of (journal_of self.old)))) }
-        ensures same { SameDisk ⟦<MemoryDisk as Disk>⟧.content ⟦<MemoryDisk as Disk>⟧.strokes ⟦<MemoryDisk as Disk>⟧.images ⟦<MemoryDisk as Disk>⟧.faults ⟦<MemoryDisk as Disk>⟧.failing (disk_of (journal_of self.old)) (disk_of (journal_of self.new)) }
-        ensures closed { is_closed self.new ≡ is_closed self.old }
-        ensures kept { kept_of self.new ≡ kept_of self.old }
-        ensures stands { (records : List (List ℕ)) → Stands records (journal_of self.old) → Stands records (journal_of self.new) }
-    {
-        self.journal.disarm();
-    }
-
-    /// Whether the disk that it holds has stopped.
-    pub fn stopped(&self) -> bool
-        ensures { result ≡ has_stopped (⟦<MemoryDisk as Disk>⟧.origin (disk_of (journal_of self.now))).stop (length (⟦<MemoryDisk as Disk>⟧.strokes (disk_of (journal_of self.now)))) }
-    {
-        self.journal.stopped()
-    }
-}
-
-impl<D: BeginsAnew> Server<D> {
-    ghost use Rattle.sync_server.specs.Serving.{is_closed, journal_of, kept_of};
-
-    /// The disk that it holds begins its strokes anew with what it holds, which stands synced. It is no longer armed.
-    pub fn begin_anew(&mut self)
-        ensures content { D.content (disk_of (journal_of self.new)) ≡ D.content (disk_of (journal_of self.old)) }
-        ensures strokes { D.strokes (disk_of (journal_of self.new)) ≡ [] }
-        ensures origin { (c : List ℕ) → D.content (disk_of (journal_of self.new)) ≡ Some c
-            → D.origin (disk_of (journal_of self.new)) ≡ begun c (D.origin (disk_of (journal_of self.old))) }
-        ensures closed { is_closed self.new ≡ is_closed self.old }
-        ensures kept { kept_of self.new ≡ kept_of self.old }
-        ensures stands { (records : List (List ℕ)) → Stands records (journal_of self.old) → Stands records (journal_of self.new) }
-    {
-        self.journal.begin_anew();
     }
 }

@@ -81,7 +81,7 @@ impl Hub {
             → (⟦<MemoryDisk as Disk>⟧.origin (disk_of (journal_of self.old.server))).listed ≡ 0
             → HoldsServer records None self.new.stop self.new.server }
     {
-        self.server.begin_anew();
+        self.server.journal.begin_anew();
         self.stop = None;
     }
 
@@ -90,7 +90,7 @@ impl Hub {
         ensures { (records : List model.ServerRecord) (s : Option ModelStop) → HoldsServer records s self.old.stop self.old.server
             → HoldsServer records (Some (stop_seen stop)) self.new.stop self.new.server }
     {
-        self.server.arm(stop.at, stop.leaves);
+        self.server.journal.arm(stop.at, stop.leaves);
         self.stop = Some(stop);
     }
 

@@ -119,7 +119,7 @@ impl Node {
             → HoldsClient records None self.new.stop self.new.client }
         ensures name { self.new.name ≡ self.old.name }
     {
-        self.client.begin_anew();
+        self.client.journal.begin_anew();
         self.stop = None;
     }
 
@@ -129,7 +129,7 @@ impl Node {
             → HoldsClient records (Some (stop_seen stop)) self.new.stop self.new.client }
         ensures name { self.new.name ≡ self.old.name }
     {
-        self.client.arm(stop.at, stop.leaves);
+        self.client.journal.arm(stop.at, stop.leaves);
         self.stop = Some(stop);
     }
 

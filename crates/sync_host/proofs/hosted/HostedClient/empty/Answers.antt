@@ -1,6 +1,5 @@
-use Rattle.std.proofs.Common.{map, refl, sym, ◌∙◌, subst}
+use Rattle.std.proofs.Common.{map, refl, ◌∙◌}
 use Rattle.sync_exchange.specs.Seen.{client_bytes}
-use Rattle.sync_client.specs.Keeping.{Keeps}
 use Rattle.sync_host.proofs.hosted.HostedClient.empty.Goals as goal
 
 pub returns : goal.returns
@@ -8,6 +7,6 @@ returns c =
     let e = c.begin_anew.ensures in
     record {
       none_left = e.strokes;
-      stands = λ records is. record { client = record { kept = subst (Keeps records) (sym e.replica) is.client.kept; open_ = e.closed ∙ is.client.open_ }; stored = e.stands (map client_bytes records) is.stored };
+      stands = λ records is. record { client = record { kept = is.client.kept; open_ = e.closed ∙ is.client.open_ }; stored = e.stands (map client_bytes records) is.stored };
       others = refl;
     }

@@ -1,5 +1,4 @@
-use Rattle.std.proofs.Common.{map, subst, sym}
-use Rattle.sync_client.specs.Keeping.{Keeps}
+use Rattle.std.proofs.Common.{map}
 use Rattle.sync_exchange.specs.Seen.{client_bytes}
 use Rattle.sync_node.specs.Landed.{below_client}
 use Rattle.sync_node.proofs.Landed.{on_ok}
@@ -12,7 +11,7 @@ returns-clause-landed g c = λ notes records stands. on_ok c.land.result _ _
       (
         stands.0,
         record {
-          client = record { kept = subst (λ r. Keeps records r) (sym c.land.ensures.replica) stands.1.client.kept; open_ = landed.stands.is_open };
+          client = record { kept = stands.1.client.kept; open_ = landed.stands.is_open };
           stored = landed.stands;
         },
       ),
@@ -22,5 +21,5 @@ returns-clause-landed g c = λ notes records stands. on_ok c.land.result _ _
 
 pub returns-clause-leaves : goal.returns-clause-leaves
 returns-clause-leaves g c = λ notes olds all over stands image is.
-    leaves_now g.D.Disk.moment g.D.Disk.images g.D.Disk.images_since g.met.D.Disk.counts_now (below_client c.args.self.now.client) (below_client c.land.new.self) _
+    leaves_now g.D.Disk.moment g.D.Disk.images g.D.Disk.images_since g.met.D.Disk.counts_now (below_client c.args.self.now.client) (below_client (record c.args.self.now.client { journal = c.land.new.self })) _
     (c.land.ensures.any_moment (map client_bytes olds) (map client_bytes all) over.holds stands.1.stored) image is

@@ -6,6 +6,7 @@ use Rattle.sync_world.proofs.hub.Hub.disarm.Goals as goal
 pub returns : goal.returns
 returns c records is stored listed =
     let e = c.begin_anew.ensures in
-    let new = c.begin_anew.new.self in
+    let old = c.args.self.now.server in
+    let new = record old { journal = c.begin_anew.new.self } in
     let holds = e.stands (map server_bytes records) stored in
-    opened_server records new _ (server_kept records c.args.self.now.server new is e.closed e.kept) holds (e.origin _ holds.settled.told) refl listed
+    opened_server records new _ (server_kept records old new is e.closed refl) holds (e.origin _ holds.settled.told) refl listed
