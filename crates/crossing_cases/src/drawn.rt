@@ -51,7 +51,7 @@ impl Drawn {
         if self.below(2) == 0 {
             self.below(8)
         } else {
-            self.below(160)
+            self.below(300)
         }
     }
 

@@ -12,6 +12,9 @@ use sync_base::{Changeset, Instr, NoMemory};
 use sync_intern::Strings;
 use sync_io::put_varint64;
 
+/// Room for what stands before the fields of most changesets.
+const HEAD_ROOM: usize = 64;
+
 fn version_of(instrs: &[Instr]) -> u8
     ensures { result ≡ version_of instrs.now }
 {
@@ -60,13 +63,23 @@ fn put_strings(out: &mut Vec<u8>, strings: &[&str]) -> Result<(), NoMemory>
     Ok(())
 }
 
+/// No bytes, with room for so many where there is memory.
+pub(crate) fn with_room(alloc: Global, size: usize) -> Vec<u8>
+    ensures { result.items ≡ [] }
+{
+    match Vec::with_capacity(alloc, size) {
+        Ok(bytes) => bytes,
+        Err(_) => Vec::new(alloc),
+    }
+}
+
 /// The instructions' bytes, with their version, strings and number before them.
 fn with_head(alloc: Global, instrs: &[Instr], body: &Writer) -> Result<Vec<u8>, NoMemory>
     requires { body.now ≡ with_fields (record { strings = []; bytes = [] }) (flat_map instr_fields instrs.now) }
     ensures spelled { IfOk result (λ v. v.items ≡ spelling instrs.now) }
     ensures strings { OnOk result (AllByRecursion IsString (strings_of (flat_map instr_fields instrs.now))) }
 {
-    let mut out = Vec::new(alloc);
+    let mut out = with_room(alloc, HEAD_ROOM.saturating_add(body.bytes().len()));
     put_bytes(&mut out, &[version_of(instrs)])?;
     put_table(&mut out, body.strings())?;
     put_number(&mut out, instrs.len() as u64)?;

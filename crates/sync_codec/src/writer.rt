@@ -5,11 +5,15 @@ ghost use Rattle.sync_codec.specs.Spelling.{byte, number, run, string};
 ghost use Rattle.sync_codec.specs.Writing.{with_field};
 ghost use Rattle.sync_codec.specs.Valid.{IsString};
 
+use crate::encoding::with_room;
 use std::alloc::Global;
 use std::marker::Model;
 use sync_base::NoMemory;
 use sync_intern::Strings;
 use sync_io::{put_varint32, put_varint64, zigzag32, zigzag64};
+
+/// Room for the fields of most changesets.
+const ROOM: usize = 64;
 
 /// The most strings that have numbers.
 const MOST_STRINGS: usize = 0xffff_ffff;
@@ -41,7 +45,7 @@ impl<'a> Writer<'a> {
         match Strings::new(alloc) {
             Ok(strings) => Ok(Writer {
                 strings,
-                bytes: Vec::new(alloc),
+                bytes: with_room(alloc, ROOM),
             }),
             Err(_) => Err(NoMemory),
         }

@@ -25,6 +25,9 @@ use sync_rivals::RivalIndex;
 /// After so many looks at an entry it has paid to list it.
 const LOOKS: usize = 64;
 
+/// A list of fewer entries isn't listed: between two changes of its client most of them leave it, looked at a few times.
+const SHORT: usize = 256;
+
 /// The entries of others with their versions, which rise, as one client's changes crossed them.
 #[derive(Drop)]
 pub struct Recip {
@@ -201,7 +204,7 @@ impl Recip {
         ensures { self.new ≡ self.old }
     {
         let count = self.items.len();
-        if count < LOOKS {
+        if count < SHORT {
             return;
         }
         let looked = count.saturating_sub(self.rivals.listed());

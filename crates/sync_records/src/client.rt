@@ -9,7 +9,7 @@ use crate::fields::{
 };
 use crate::named::Named;
 use crate::refusal::RecordRefusal;
-use crate::writing::{put_bytes, put_number, put_pair};
+use crate::writing::{ROOM, put_bytes, put_number, put_pair};
 use std::alloc::Global;
 use subset_bytes::put_tables;
 use sync_data::{Blob, Id, Ident, NoMemory};
@@ -185,7 +185,10 @@ impl ClientRecord {
         // So they are read as the record again.
         ensures is { OnOk result (IsClientRecord self.now) }
     {
-        let mut out = Vec::new(alloc);
+        let Ok(out) = Vec::with_capacity(alloc, ROOM) else {
+            return Err(NoMemory);
+        };
+        let mut out = out;
         match put_record(&mut out, self) {
             Ok(()) => Ok(out),
             Err(_) => Err(NoMemory),

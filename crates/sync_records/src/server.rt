@@ -6,7 +6,7 @@ ghost use Rattle.sync_records.specs.declared.server.ServerRecord.{ServerRecord};
 
 use crate::fields::{FORM, body_of, form_of, id_of, number_of, pair_of, version_of, wide_of};
 use crate::refusal::RecordRefusal;
-use crate::writing::{put_bytes, put_entry, put_number, put_pair};
+use crate::writing::{ROOM, put_bytes, put_entry, put_number, put_pair};
 use std::alloc::Global;
 use sync_data::{Blob, Id, Ident, NoMemory};
 use sync_io::{put_varint32, put_varint64};
@@ -234,7 +234,10 @@ impl ServerRecord {
         // So they are read as the record again.
         ensures is { OnOk result (IsServerRecord self.now) }
     {
-        let mut out = Vec::new(alloc);
+        let Ok(out) = Vec::with_capacity(alloc, ROOM) else {
+            return Err(NoMemory);
+        };
+        let mut out = out;
         match put_record(&mut out, self) {
             Ok(()) => Ok(out),
             Err(_) => Err(NoMemory),

@@ -4,6 +4,9 @@ ghost use Rattle.sync_io.specs.Varints.{varint};
 use sync_data::{Blob, Ident};
 use sync_io::{NoMemory, put_varint32, put_varint64};
 
+/// Room for most records.
+pub(crate) const ROOM: usize = 128;
+
 /// A number behind a tag.
 pub(crate) fn put_number(out: &mut Vec<u8>, tag: u8, number: u32) -> Result<(), NoMemory>
     ensures { OnOk result (out.new.items ≡ out.old.items ++ (tag ∷ varint number)) }
