@@ -1,6 +1,6 @@
 -- The two laws of records: what is read is spelled so, and what is spelled so is read.
-use Rattle.std.proofs.Common.{◌≡◌, ℕ, ◌<◌, ◌^◌, leb, eqb, true, List, ◌∷◌, ◌++◌, drop, length, Some, Result, Ok, Err, refl, sym, ap, ◌∙◌, lit<}
-use Rattle.std.specs.Prelude.{IfOk}
+use Rattle.std.proofs.Common.{◌≡◌, ℕ, ◌<◌, ◌^◌, leb, eqb, true, List, ◌∷◌, ◌++◌, drop, length, Option, Some, None, Result, Ok, Err, refl, sym, ap, ◌∙◌, lit<}
+use Rattle.std.specs.Prelude.{IfOk, IfSome}
 use Rattle.std.specs.List.{AllByRecursion}
 use Rattle.std.proofs.lemmas.Bool.{eqb-true, le-leb}
 use Rattle.sync_io.specs.VarintLaws.{IsBytes}
@@ -10,12 +10,13 @@ use Rattle.subset_bytes.specs.Laws.{FitsTables, tables_are, tables_fit}
 use Rattle.subset_bytes.specs.Spelling.{tables_spelling}
 use Rattle.sync_records.specs.declared.client.ClientRecord.{ClientRecord}
 use Rattle.sync_records.specs.declared.client.ClientRecord.TheVariants as client
+use Rattle.sync_records.specs.declared.client.Took.{Took}
 use Rattle.sync_records.specs.declared.server.ServerRecord.{ServerRecord}
 use Rattle.sync_records.specs.declared.server.ServerRecord.TheVariants as server
 use Rattle.sync_records.specs.declared.refusal.RecordRefusal.{RecordRefusal}
 use Rattle.sync_records.specs.Limits.{IsClientRecord, IsServerRecord}
 use Rattle.sync_records.specs.Spelling.{client_spelling, server_spelling}
-use Rattle.sync_records.specs.Reading.{Gives, id_in, ident_in, form_in, made_in, took_in, entry_in, past_in, version_in, pair_in, count_in, names_in, rest_in, made_of, took_of, entry_of, pair_as, count_of, carried_of, past_of, client_forms, server_forms, record_in}
+use Rattle.sync_records.specs.Reading.{Gives, id_in, ident_in, form_in, made_in, took_in, entry_in, past_in, version_in, pair_in, count_in, names_in, rest_in, made_of, took_of, took_seen, entry_of, pair_as, count_of, carried_of, past_of, client_forms, server_forms, record_in}
 use Rattle.sync_records.proofs.Whole.{IsWhole, all_is, rest_is, IsForm, form_is, form_again, record_takes}
 
 id_is : IsWhole (λ text. text) id_in (λ text. length text ≡ 16)
@@ -116,6 +117,10 @@ client_fits (client.Floor version) is = is
 pub client_found : (bytes : List ℕ) (r : Result ClientRecord RecordRefusal) → IsBytes bytes → Gives (λ x. x) r (record_in client_forms bytes) → IfOk r (λ x. bytes ≡ client_spelling x)
 client_found bytes (Ok x) fits given = (record_takes client_spelling FitsClient client_forms client_forms_are bytes x fits given).0
 client_found bytes (Err refusal) fits given = tt
+
+pub client_took : (bytes : List ℕ) (r : Option Took) → IsBytes bytes → IfSome r (λ t. record_in client_forms bytes ≡ Some (took_seen t)) → IfSome r (λ t. bytes ≡ client_spelling (took_seen t))
+client_took bytes (Some t) fits given = (record_takes client_spelling FitsClient client_forms client_forms_are bytes (took_seen t) fits given).0
+client_took bytes None fits given = tt
 
 pub client_read : (bytes : List ℕ) (x : ClientRecord) → IsClientRecord x → bytes ≡ client_spelling x → record_in client_forms bytes ≡ Some x
 client_read bytes x is e = ap (record_in client_forms) e ∙ client_again x (client_fits x is)

@@ -94,6 +94,15 @@ fn took_fields(bytes: &[u8]) -> Option<Took<'_>>
     })
 }
 
+fn took_all(bytes: &[u8]) -> Option<Took<'_>>
+    ensures { IfSome result (λ took. record_in client_forms bytes.now ≡ Some (took_seen took)) }
+{
+    match bytes {
+        [4, fields @ ..] => took_fields(fields),
+        _ => None,
+    }
+}
+
 fn took_of(alloc: Global, bytes: &[u8]) -> Result<ClientRecord, RecordRefusal>
     ensures { Gives (λ x. x) result (seen read_took took_in bytes.now) }
 {
@@ -200,10 +209,7 @@ impl ClientRecord {
         ensures spelled { IfSome result (λ took. bytes.now ≡ client_spelling (took_seen took)) }
         ensures exact { IfSome result (λ took. record_in client_forms bytes.now ≡ Some (took_seen took)) }
     {
-        match bytes {
-            [4, fields @ ..] => took_fields(fields),
-            _ => None,
-        }
+        took_all(bytes)
     }
 
     /// The record that all of the bytes spell.
