@@ -1,4 +1,4 @@
-use Rattle.std.proofs.Common.{Bool, Option, None, sym, ◌∙◌, ap, [], ◌∷◌}
+use Rattle.std.proofs.Common.{Bool, false, Option, None, sym, ◌∙◌, ap, [], ◌∷◌}
 use Rattle.std.specs.Option.{option_and_then, option_map_or}
 use Rattle.std.specs.FinMap as map
 use Rattle.sync_data.specs.declared.column.Column.{Column}
