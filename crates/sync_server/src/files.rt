@@ -8,8 +8,8 @@ ghost use Rattle.sync_journal.specs.Stands.{Stands, disk_of};
 ghost use Rattle.gathered_disk.specs.Below.{below};
 
 use crate::server::Server;
-use server_memory::Kept;
 use gathered_disk::GatheredDisk;
+use server_memory::Kept;
 use std::alloc::Global;
 use sync_disk::Disk;
 use sync_journal::{Journal, OpenCause, OpenRefusal};
