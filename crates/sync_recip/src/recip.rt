@@ -25,7 +25,7 @@ use sync_rivals::RivalIndex;
 /// After so many looks at an entry it has paid to list it.
 const LOOKS: usize = 64;
 
-/// A list of fewer entries isn't listed: between two changes of its client most of them leave it, looked at a few times.
+/// Fewer entries from a base on aren't listed: they are looked at a few times, and then the base is behind them.
 const SHORT: usize = 256;
 
 /// The entries of others with their versions, which rise, as one client's changes crossed them.
@@ -185,7 +185,7 @@ impl Recip {
         } = carried;
         let count = crossed.len();
         self.put_all(base, crossed);
-        self.list_more(count);
+        self.list_more(base, count);
         self.join_more(base, count);
         changes
     }
@@ -199,15 +199,17 @@ impl Recip {
     }
 
     /// Lists some of the entries that aren't: as many as crossed, and one in LOOKS of those that were looked at, so that
-    /// listing takes about as long as looking. A short list isn't listed.
-    fn list_more(&mut self, crossed: usize)
+    /// listing takes about as long as looking. Where few stand from the base on none is listed: those before it are looked at
+    /// no more.
+    fn list_more(&mut self, base: u32, crossed: usize)
         ensures { self.new ≡ self.old }
     {
         let count = self.items.len();
-        if count < SHORT {
+        let first = self.items.count_below(base);
+        if count - first < SHORT {
             return;
         }
-        let looked = count.saturating_sub(self.rivals.listed());
+        let looked = count.saturating_sub(self.rivals.listed().max(first));
         for _ in 0..(looked / LOOKS + 1).saturating_add(crossed) {
             let place = self.rivals.listed();
             if place >= count {
