@@ -15,9 +15,6 @@ use std::marker::Model;
 use sync_data::NoMemory;
 use sync_transform::Does;
 
-/// The most slots of a burst.
-const MOST: usize = 128;
-
 /// How far from them an instruction that follows may be.
 const NEAR: u64 = 8;
 
@@ -68,7 +65,7 @@ impl Burst {
     pub(crate) fn is_near(&self, op: Op) -> bool {
         let place = op.place as u64 + self.down as u64;
         let (low, high) = (self.bounds.low as u64 + self.up as u64, self.high());
-        self.slots.len() < MOST && place + NEAR >= low && place <= high.saturating_add(NEAR)
+        place + NEAR >= low && place <= high.saturating_add(NEAR)
     }
 
     /// The first place behind them all, as they end.

@@ -11,6 +11,13 @@ use std::alloc::Global;
 use std::collections::VecDeque;
 use sync_data::NoMemory;
 
+/// A burst of fewer slots takes more, whatever the number of bursts.
+const FEW: usize = 128;
+
+/// A burst may have so many times as many slots as there are bursts. A crossing looks at the head of each burst, and at each slot of one
+/// that it meets; a head takes about three times as long as a slot.
+const HEAD: usize = 3;
+
 /// What is left of an instruction that crosses all bursts in turn. They stand as crossed.
 pub(crate) fn cross_bursts(
     bursts: &mut VecDeque<Burst>,
@@ -64,7 +71,7 @@ pub(crate) fn push_slot(
     if count == 0 {
         return push_new(alloc, bursts, slot);
     }
-    if !goes_into(&bursts[count - 1], slot) {
+    if !goes_into(&bursts[count - 1], count, slot) {
         return push_new(alloc, bursts, slot);
     }
     push_last(bursts, slot)
@@ -103,9 +110,11 @@ fn push_burst(bursts: &mut VecDeque<Burst>, burst: Burst) -> Result<(), NoMemory
     }
 }
 
-fn goes_into(burst: &Burst, slot: Option<Op>) -> bool {
+/// Whether a slot that follows goes into a burst, the last of so many.
+fn goes_into(burst: &Burst, count: usize, slot: Option<Op>) -> bool {
+    let most = FEW.max(count.saturating_mul(HEAD));
     match slot {
-        Some(op) => burst.is_near(op),
+        Some(op) => burst.len() < most && burst.is_near(op),
         None => true,
     }
 }

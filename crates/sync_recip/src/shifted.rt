@@ -28,11 +28,13 @@ use sync_transform::{
 };
 
 /// An entry as one client's changes crossed it. Where it is one list instruction that was only shifted, or that fell, others
-/// hold it too, and what that instruction does now is kept beside it.
+/// hold it too, and what that instruction does now is kept beside it; and the spot of its changes, so that what an index tells
+/// apart isn't looked at.
 #[derive(Drop)]
 pub(crate) struct ShiftedEntry {
     shared: SharedEntry,
     action: Option<ListAction>,
+    spot: Option<u8>,
     fell: bool,
 }
 
@@ -47,7 +49,9 @@ impl Model for ShiftedEntry {
 
     ghost view = { λ a. record { origin = a.shared.origin; number = a.shared.number; changes = stood a.fell a.action a.shared.changes } };
 
-    ghost invariant = { λ a. kind_in a.shared.changes.instrs ≡ option_map kind_of a.action };
+    ghost use Rattle.sync_index.specs.Spots.{LieAt};
+
+    ghost invariant = { λ a. (kind_in a.shared.changes.instrs ≡ option_map kind_of a.action) × LieAt a.spot a.shared.changes.instrs };
 }
 
 impl ShiftedEntry {
@@ -56,9 +60,11 @@ impl ShiftedEntry {
         ensures { result ≡ shared }
     {
         let action = action_in(&shared.entry().changes);
+        let spot = shared.spot();
         ShiftedEntry {
             shared,
             action,
+            spot,
             fell: false,
         }
     }
@@ -210,7 +216,7 @@ impl ShiftedEntry {
         if self.fell {
             return true;
         }
-        stays_apart(self.shared.spot(), &self.shared.entry().changes, index)
+        stays_apart(self.spot, &self.shared.entry().changes, index)
     }
 
     /// Its one list instruction does the same elsewhere. It takes no memory, and those who hold it too don't see it.
