@@ -1,4 +1,5 @@
 use crate::disks::{disk_with, holds};
+use byte_lists::ByteLists;
 use gathered_disk::GatheredDisk;
 use std::alloc::Global;
 use sync_disk::{Disk, DiskRefusal, Leaves, MemoryDisk};
@@ -25,10 +26,11 @@ fn append<D: Disk>(journal: &mut Journal<D>, record: &[u8]) -> Result<(), Journa
     journal.append(record)
 }
 
-fn are_records(found: &[Vec<u8>], want: &[&[u8]]) -> bool {
-    for (record, want) in found.iter().zip(want) {
-        if record.as_slice() != *want {
-            return false;
+fn are_records(found: &ByteLists, want: &[&[u8]]) -> bool {
+    for (place, want) in want.iter().enumerate() {
+        match found.get(place) {
+            Some(record) if record == *want => {}
+            _ => return false,
         }
     }
     found.len() == want.len()

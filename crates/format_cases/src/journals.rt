@@ -1,6 +1,7 @@
 //! Journals' files, and the records that they stand for.
 use crate::bytes::{bytes_of, columns_of, number_of};
 use crate::failure::Failure;
+use byte_lists::ByteLists;
 use std::alloc::Global;
 use sync_disk::{Disk, MemoryDisk};
 use sync_journal::{Journal, OpenCause};
@@ -77,10 +78,10 @@ fn holds_bytes(alloc: Global, disk: &mut MemoryDisk, want: &[u8]) -> Result<bool
     Ok(bytes.as_slice() == want)
 }
 
-fn records_text(alloc: Global, records: &[Vec<u8>]) -> Result<String, Failure> {
+fn records_text(alloc: Global, records: &ByteLists) -> Result<String, Failure> {
     let mut text = String::new(alloc);
-    for record in records {
-        text.push_str(hex::encode(alloc, record.as_slice())?.as_str())?;
+    for place in 0..records.len() {
+        text.push_str(hex::encode(alloc, records.at(place))?.as_str())?;
         text.push_str("/")?;
     }
     Ok(text)

@@ -2,6 +2,7 @@
 
 use crate::client::{Call, ID, Sends, answer, sent};
 use crate::spelled::{disk_of, is_spelled, message};
+use byte_lists::ByteLists;
 use std::alloc::Global;
 use sync_client::{Client, ClientRefusal};
 use sync_disk::{Leaves, MemoryDisk};
@@ -314,14 +315,15 @@ const SERVERS: [Tried; 3] = [
 ];
 
 // Whether these are the records before the call and the first so many of those that it adds.
-fn are_records(records: &[Vec<u8>], tried: &Tried, kept: usize) -> bool {
+fn are_records(records: &ByteLists, tried: &Tried, kept: usize) -> bool {
     if records.len() != tried.before.len().saturating_add(kept) {
         return false;
     }
     let wanted = tried.before.iter().chain(tried.adds.iter());
-    for (found, want) in records.iter().zip(wanted) {
-        if found.as_slice() != *want {
-            return false;
+    for (place, want) in wanted.take(records.len()).enumerate() {
+        match records.get(place) {
+            Some(found) if found == *want => {}
+            _ => return false,
         }
     }
     true

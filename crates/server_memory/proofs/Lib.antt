@@ -24,3 +24,4 @@ pub mod NextRecords
 pub mod Entering
 pub mod Passing
 pub mod Entries
+pub mod Trimmed

@@ -4,7 +4,6 @@ use Rattle.std.specs.Option.{option_map}
 use Rattle.sync_data.specs.declared.instr.Instr.{Instr}
 use Rattle.sync_base.specs.States.{State}
 use Rattle.sync_data.specs.declared.memory.NoMemory.{NoMemory}
-use Rattle.sync_journal.specs.Records.{lists}
 use Rattle.sync_model.specs.Fronts.{Front, begins_trimmed, file_gives, front_of, front_parts, further_on, is_form, part_of, of_kind, rest_of, rest_on, taking_all, then_at}
 use Rattle.sync_model.specs.Parts.{Parts, admits_part, no_parts}
 use Rattle.sync_model.specs.Servers.{ServerRecord}
@@ -211,8 +210,3 @@ whole_file file new e is = record {
   are = record { reads = refl; spelled = refl };
   gives = plain_front (map read_server file) e ∙ ap (λ k. Ok (record { parts = k; size = 0 })) (sym is);
 }
-
-pub lists_drop : (n : ℕ) (files : List (Vec ℕ Global)) → lists (drop n files) ≡ drop n (lists files)
-lists_drop zero files = refl
-lists_drop (suc n) [] = refl
-lists_drop (suc n) (f ∷ files) = lists_drop n files

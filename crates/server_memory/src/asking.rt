@@ -74,10 +74,8 @@ fn sent_of(
     if body.len() > room {
         return Ok(None);
     }
-    match Blob::new(alloc, &body) {
-        Ok(body) => Ok(Some(Sent::new(origin, number, changes.ms(), body))),
-        Err(NoMemory) => Err(NoMemory),
-    }
+    let body = Blob::new(alloc, &body)?;
+    Ok(Some(Sent::new(origin, number, changes.ms(), body)))
 }
 
 /// What is left of an entry for the client, where the client takes it and there is room.
@@ -124,10 +122,7 @@ fn sent_entries(
         match next_sent(alloc, shared.entry(), room, second, tables) {
             Ok(Some(next)) => {
                 room -= next.body().len();
-                match keep(&mut sent, next) {
-                    Ok(()) => {}
-                    Err(NoMemory) => return Err(NoMemory),
-                }
+                keep(&mut sent, next)?;
             }
             Ok(None) => return Ok(sent),
             Err(NoMemory) => return Err(NoMemory),
@@ -210,10 +205,8 @@ impl Kept {
                 Err(NoMemory) => return Err(NoMemory),
             }
         }
-        match sent_entries(alloc, entries, second, tables) {
-            Ok(sent) => Ok(Message::Download(Download::new(ident, cursor, sent))),
-            Err(NoMemory) => Err(NoMemory),
-        }
+        let sent = sent_entries(alloc, entries, second, tables)?;
+        Ok(Message::Download(Download::new(ident, cursor, sent)))
     }
 
     /// Whether a question that gets this reply settles more than those before it of its ident.

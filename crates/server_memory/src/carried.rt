@@ -108,10 +108,8 @@ impl Grown {
             number: head.number,
             changes,
         };
-        match keep_entry(&mut self.entries, &mut self.bases, alloc, entry, head.base) {
-            Ok(()) => Ok(true),
-            Err(NoMemory) => Err(NoMemory),
-        }
+        keep_entry(&mut self.entries, &mut self.bases, alloc, entry, head.base)?;
+        Ok(true)
     }
 
     /// Whether an entry is the next of its origin, and acts; then it is the last one.

@@ -19,10 +19,7 @@ pub(crate) fn with_versions(
 {
     let mut made = Recip::new(alloc);
     for (place, entry) in entries.iter().enumerate() {
-        match made.push_shared(first + place as u32, entry) {
-            Ok(()) => {}
-            Err(NoMemory) => return Err(NoMemory),
-        }
+        made.push_shared(first + place as u32, entry)?;
     }
     Ok(made)
 }
@@ -40,10 +37,7 @@ pub(crate) fn extend_others(
 {
     for place in 0..idents.len() {
         if place != own {
-            match idents[place].extend(version, entry) {
-                Ok(()) => {}
-                Err(NoMemory) => return Err(NoMemory),
-            }
+            idents[place].extend(version, entry)?;
         }
     }
     Ok(())

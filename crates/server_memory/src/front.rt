@@ -111,18 +111,9 @@ impl Kept {
         requires within { first ≤ length records.now }
         ensures { Fronts result (taking_all (of_kind part_of) (seen_from first records.now) (front_parts the_profile second first)) }
     {
-        let parts = match read_parts(alloc, records, first, second) {
-            Ok(parts) => parts,
-            Err(refusal) => return Err(refusal),
-        };
-        let below = match grown_of(alloc, first, parts.as_slice()) {
-            Ok(below) => below,
-            Err(refusal) => return Err(refusal),
-        };
-        let objects = match grown_of(alloc, first, parts.as_slice()) {
-            Ok(objects) => objects,
-            Err(refusal) => return Err(refusal),
-        };
+        let parts = read_parts(alloc, records, first, second)?;
+        let below = grown_of(alloc, first, parts.as_slice())?;
+        let objects = grown_of(alloc, first, parts.as_slice())?;
         Kept::front_floor(alloc, records, first + parts.len(), second, below, objects)
     }
 
@@ -229,10 +220,7 @@ impl Kept {
         if most > LAST as usize {
             return Err(ReadRefusal::NoMemory);
         }
-        let (counts, len) = match read_counts(alloc, records, place, most) {
-            Ok(counts) => counts,
-            Err(refusal) => return Err(refusal),
-        };
+        let (counts, len) = read_counts(alloc, records, place, most)?;
         let end = place + counts.len();
         if counts.len() < most || floor > len || !all_within(len, counts.as_slice()) {
             return Err(ReadRefusal::BadRecord { place: end - 1 });
@@ -272,7 +260,7 @@ impl Kept {
         ensures { Fronts result (taking (of_kind entry_is) (len - floor) (seen_from place records.now) (front_entries the_profile second below floor len retired.items idents.items place)) }
     {
         let most = (len - floor) as usize;
-        let grown = match read_entries(
+        let grown = read_entries(
             alloc,
             records,
             place,
@@ -280,10 +268,7 @@ impl Kept {
             second,
             idents.as_slice(),
             objects,
-        ) {
-            Ok(grown) => grown,
-            Err(refusal) => return Err(refusal),
-        };
+        )?;
         let count = grown.entries.len();
         let end = place + count;
         if count < most || !all_end(grown.entries.as_slice(), idents.as_slice()) {
@@ -317,7 +302,7 @@ impl Kept {
             entries,
             bases,
         } = grown;
-        let passed = match read_passed(
+        let passed = read_passed(
             alloc,
             records,
             place,
@@ -325,10 +310,7 @@ impl Kept {
             floor,
             idents.as_slice(),
             entries.as_slice(),
-        ) {
-            Ok(passed) => passed,
-            Err(refusal) => return Err(refusal),
-        };
+        )?;
         let idents = match with_pairs(
             alloc,
             floor,

@@ -189,14 +189,9 @@ impl History {
         ensures bound { OnOk result (self.new ≡ record self.old { idents = self.old.idents ++ newly_given id self.old.floor self.old.entries ∷ [] }) }
         ensures ident { IfOk result (λ ident. ident ≡ suc (length self.old.idents)) }
     {
-        let reciprocal = match with_versions(alloc, self.floor, self.entries.as_slice()) {
-            Ok(reciprocal) => reciprocal,
-            Err(NoMemory) => return Err(NoMemory),
-        };
-        match keep(&mut self.idents, Given::new(id, reciprocal)) {
-            Ok(()) => Ok(self.idents.len() as u32),
-            Err(NoMemory) => Err(NoMemory),
-        }
+        let reciprocal = with_versions(alloc, self.floor, self.entries.as_slice())?;
+        keep(&mut self.idents, Given::new(id, reciprocal))?;
+        Ok(self.idents.len() as u32)
     }
 
     /// Takes another settled number of an ident that is given.
@@ -214,10 +209,7 @@ impl History {
         ensures { OnOk result (self.new ≡ record self.old { idents = idents_retired ident by 1 self.old.idents; retired = self.old.retired ++ (ident, by) ∷ [] }) }
     {
         let place = ident as usize - 1;
-        match keep(&mut self.retired, (ident, by)) {
-            Ok(()) => {}
-            Err(NoMemory) => return Err(NoMemory),
-        }
+        keep(&mut self.retired, (ident, by))?;
         self.idents[place].retire(alloc, by);
         Ok(())
     }
@@ -261,10 +253,7 @@ impl History {
             number,
             changes,
         };
-        match keep_entry(&mut self.entries, &mut self.bases, alloc, entry, base) {
-            Ok(()) => {}
-            Err(NoMemory) => return Err(NoMemory),
-        }
+        keep_entry(&mut self.entries, &mut self.bases, alloc, entry, base)?;
         self.second |= second;
         extend_others(&mut self.idents, place, version, &self.entries[last])
     }

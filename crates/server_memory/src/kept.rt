@@ -56,15 +56,10 @@ impl Kept {
             Ok(()) => {}
             Err(why) => return Err(ChangeRefusal::Refused(why)),
         }
-        let changes = match read(alloc, head, body) {
-            Ok(changes) => changes,
-            Err(refusal) => return Err(refusal),
-        };
+        let changes = read(alloc, head, body)?;
         let second = any_needs_second(changes.instrs());
-        match self.history.carry(alloc, ident, head.base, changes) {
-            Ok(carried) => Ok(Prepared { carried, second }),
-            Err(refusal) => Err(refusal),
-        }
+        let carried = self.history.carry(alloc, ident, head.base, changes)?;
+        Ok(Prepared { carried, second })
     }
 
     /// Merges the next change of an ident, and answers whether a Form stands before its Entry in the journal. Its bytes may

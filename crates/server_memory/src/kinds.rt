@@ -1,7 +1,6 @@
 //! The records of a file as those of a kind.
 ghost use Rattle.std.specs.Prelude.{◌≡◌, map, IfOk};
 ghost use Rattle.std.specs.Option.{option_map};
-ghost use Rattle.sync_journal.specs.Records.{lists};
 ghost use Rattle.sync_exchange.specs.Profile.{the_profile};
 ghost use Rattle.sync_exchange.specs.Seen.{read_server, server_seen};
 ghost use Rattle.sync_model.specs.Fronts.{is_form, floor_is, of_kind, part_of, retired_is, uuid_is, count_is, crossed_is, entry_is};
@@ -10,6 +9,7 @@ ghost use Rattle.server_memory.specs.Fronting.{AreSpelled, IsSpelled, carried_se
 
 use crate::lists::keep;
 use crate::merging::ChangeHead;
+use byte_lists::ByteLists;
 use std::alloc::Global;
 use sync_base::{Blob, Id, Ident, NoMemory};
 use sync_records::{RecordRefusal, ServerRecord};
@@ -30,19 +30,14 @@ fn record_in(alloc: Global, bytes: &[u8]) -> Result<Found, NoMemory>
 }
 
 /// The records of a file.
-pub(crate) fn records_in(alloc: Global, files: &[Vec<u8>]) -> Result<Vec<Found>, NoMemory>
-    ensures read { IfOk result (λ found. seen found.items ≡ map read_server (lists files.now)) }
-    ensures spelled { IfOk result (λ found. AreSpelled (seen found.items) (lists files.now)) }
+pub(crate) fn records_in(alloc: Global, files: &ByteLists) -> Result<Vec<Found>, NoMemory>
+    ensures read { IfOk result (λ found. seen found.items ≡ map read_server files.now) }
+    ensures spelled { IfOk result (λ found. AreSpelled (seen found.items) files.now) }
 {
     let mut found = Vec::new(alloc);
-    for bytes in files {
-        match record_in(alloc, bytes.as_slice()) {
-            Ok(record) => match keep(&mut found, record) {
-                Ok(()) => {}
-                Err(NoMemory) => return Err(NoMemory),
-            },
-            Err(NoMemory) => return Err(NoMemory),
-        }
+    for place in 0..files.len() {
+        let record = record_in(alloc, files.at(place))?;
+        keep(&mut found, record)?;
     }
     Ok(found)
 }

@@ -1,5 +1,4 @@
 ghost use Rattle.std.specs.Prelude.{◌≡◌, ◌≤◌, ◌∷◌, [], Ok, length, drop, map, true, IfOk};
-ghost use Rattle.sync_journal.specs.Records.{lists};
 ghost use Rattle.sync_exchange.specs.Profile.{the_profile};
 ghost use Rattle.sync_exchange.specs.Seen.{read_server, server_seen};
 ghost use Rattle.sync_model.specs.Servers as model;
@@ -12,6 +11,7 @@ use crate::kept::Kept;
 use crate::kinds::{Found, as_form, records_in};
 use crate::merging::ChangeHead;
 use crate::refusal::ChangeRefusal;
+use byte_lists::ByteLists;
 use std::alloc::Global;
 use sync_base::{Id, Ident, NoMemory};
 use sync_journal::{LONGEST, ReadRefusal};
@@ -19,23 +19,18 @@ use sync_records::{RecordRefusal, ServerRecord};
 
 impl Kept {
     /// Reads the records of a file.
-    pub fn of(alloc: Global, files: &[Vec<u8>]) -> Result<Kept, ReadRefusal>
-        ensures { ReadsFile (lists files.now) result }
+    pub fn of(alloc: Global, files: &ByteLists) -> Result<Kept, ReadRefusal>
+        ensures { ReadsFile files.now result }
     {
-        let (mut kept, size) = match Kept::front(alloc, files) {
-            Ok(front) => front,
-            Err(refusal) => return Err(refusal),
-        };
-        match kept.admit_all(alloc, files, size) {
-            Ok(()) => Ok(kept),
-            Err(refusal) => Err(refusal),
-        }
+        let (mut kept, size) = Kept::front(alloc, files)?;
+        kept.admit_all(alloc, files, size)?;
+        Ok(kept)
     }
 
     /// Reads the records with which a trimmed file begins, and answers how many they are. A file that has its whole
     /// history has none of them.
-    fn front(alloc: Global, files: &[Vec<u8>]) -> Result<(Kept, usize), ReadRefusal>
-        ensures { ReadsFront (lists files.now) result }
+    fn front(alloc: Global, files: &ByteLists) -> Result<(Kept, usize), ReadRefusal>
+        ensures { ReadsFront files.now result }
     {
         match is_trimmed(alloc, files) {
             Ok(true) => Kept::trimmed_front(alloc, files),
@@ -48,9 +43,9 @@ impl Kept {
     }
 
     /// Reads the records with which a trimmed file begins.
-    fn trimmed_front(alloc: Global, files: &[Vec<u8>]) -> Result<(Kept, usize), ReadRefusal>
-        requires { is_trimmed (map read_server (lists files.now)) ≡ true }
-        ensures { ReadsFront (lists files.now) result }
+    fn trimmed_front(alloc: Global, files: &ByteLists) -> Result<(Kept, usize), ReadRefusal>
+        requires { is_trimmed (map read_server files.now) ≡ true }
+        ensures { ReadsFront files.now result }
     {
         let records = match records_in(alloc, files) {
             Ok(records) => records,
@@ -81,14 +76,14 @@ impl Kept {
     fn admit_all(
         &mut self,
         alloc: Global,
-        files: &[Vec<u8>],
+        files: &ByteLists,
         first: usize,
     ) -> Result<(), ReadRefusal>
         requires { first ≤ length files.now }
-        ensures { ReadsRest (lists (drop first files.now)) first self.old self.new result }
+        ensures { ReadsRest (drop first files.now) first self.old self.new result }
     {
         for place in first..files.len() {
-            match self.read(alloc, files[place].as_slice()) {
+            match self.read(alloc, files.at(place)) {
                 Ok(true) => {}
                 Ok(false) => return Err(ReadRefusal::BadRecord { place }),
                 Err(NoMemory) => return Err(ReadRefusal::NoMemory),
@@ -162,10 +157,8 @@ impl Kept {
         if self.history.given() == LAST {
             return Ok(false);
         }
-        match self.history.bind(alloc, id) {
-            Ok(_) => Ok(true),
-            Err(NoMemory) => Err(NoMemory),
-        }
+        self.history.bind(alloc, id)?;
+        Ok(true)
     }
 
     fn admit_retired(&mut self, alloc: Global, ident: Ident, by: Ident) -> Result<bool, NoMemory>
@@ -250,19 +243,20 @@ fn starts_second(alloc: Global, bytes: &[u8]) -> Result<bool, NoMemory>
 }
 
 /// Whether the records are those of a trimmed file.
-fn is_trimmed(alloc: Global, files: &[Vec<u8>]) -> Result<bool, NoMemory>
-    ensures { IfOk result (λ answer. answer ≡ is_trimmed (map read_server (lists files.now))) }
+fn is_trimmed(alloc: Global, files: &ByteLists) -> Result<bool, NoMemory>
+    ensures { IfOk result (λ answer. answer ≡ is_trimmed (map read_server files.now)) }
 {
-    match files {
-        [] => Ok(false),
-        [first] => begins(alloc, first.as_slice()),
-        [first, second, ..] => match begins(alloc, first.as_slice()) {
-            Ok(true) => Ok(true),
-            Ok(false) => match starts_second(alloc, first.as_slice()) {
-                Ok(true) => begins(alloc, second.as_slice()),
-                other => other,
-            },
-            Err(NoMemory) => Err(NoMemory),
-        },
+    let Some(first) = files.get(0) else {
+        return Ok(false);
+    };
+    if begins(alloc, first)? {
+        return Ok(true);
     }
+    let Some(second) = files.get(1) else {
+        return Ok(false);
+    };
+    if starts_second(alloc, first)? {
+        return begins(alloc, second);
+    }
+    Ok(false)
 }

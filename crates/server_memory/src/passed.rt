@@ -229,10 +229,7 @@ fn crossed_from(
                 Some(found) => &found.entry,
                 None => shared,
             };
-            match made.push_shared(version, entry) {
-                Ok(()) => {}
-                Err(NoMemory) => return Err(NoMemory),
-            }
+            made.push_shared(version, entry)?;
         }
     }
     Ok(made)
@@ -277,14 +274,8 @@ pub(crate) fn with_pairs(
     for place in 0..idents.len() {
         let given = &idents[place];
         let ident = place as u32 + 1;
-        let reciprocal = match crossed_by(alloc, floor, ident, given, entries, passed) {
-            Ok(reciprocal) => reciprocal,
-            Err(NoMemory) => return Err(NoMemory),
-        };
-        match keep(&mut made, given.crossing(reciprocal)) {
-            Ok(()) => {}
-            Err(NoMemory) => return Err(NoMemory),
-        }
+        let reciprocal = crossed_by(alloc, floor, ident, given, entries, passed)?;
+        keep(&mut made, given.crossing(reciprocal))?;
     }
     Ok(made)
 }

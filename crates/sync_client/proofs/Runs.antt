@@ -1,11 +1,9 @@
 -- The parts of a state that stand one behind the other in a file.
 use Rattle.std.proofs.Common.{◌≡◌, ℕ, suc, ◌+◌, Bool, true, false, List, [], ◌∷◌, ◌++◌, length, map, drop, get_or, Vec, Option, Some, None, Result, Ok, refl, ap, ◌∙◌, sym, subst, length-append, arith, ◌==◌, if◌then◌else◌}
-use Rattle.std.specs.declared.alloc.Global.{Global}
 use Rattle.std.specs.Option.{option_map}
 use Rattle.sync_data.specs.Payload.{Changes}
 use Rattle.sync_data.specs.declared.instr.Instr.{Instr}
 use Rattle.sync_data.specs.declared.memory.NoMemory.{NoMemory}
-use Rattle.sync_journal.specs.Records.{lists}
 use Rattle.sync_io.specs.Formats.{◌>>=◌}
 use Rattle.sync_model.specs.Bytes.{Bytes}
 use Rattle.sync_model.specs.Files.{bodies_ahead, body_and, part_body}
@@ -88,20 +86,20 @@ run_bad second file left rest run place index bytes s is bad = (
 )
 
 -- those behind the run
-behind_is : (records : List (Vec ℕ Global)) (second : Bool) (file : List (List ℕ)) (run : List Changes) (place index : ℕ) → RunSoFar second file (lists (drop index records)) run place index → RunOf second file (lists (drop (place + length run) records)) (lists_of run)
-behind_is records second file run place index s = subst (λ i. RunOf second file (lists (drop i records)) (lists_of run)) s.index_is s.run_of
+behind_is : (records : List (List ℕ)) (second : Bool) (file : List (List ℕ)) (run : List Changes) (place index : ℕ) → RunSoFar second file (drop index records) run place index → RunOf second file (drop (place + length run) records) (lists_of run)
+behind_is records second file run place index s = subst (λ i. RunOf second file (drop i records) (lists_of run)) s.index_is s.run_of
 
-pub run_other : (records : List (Vec ℕ Global)) (second : Bool) (file rest : List (List ℕ)) (run : List Changes) (place index : ℕ) (bytes : List ℕ) → RunSoFar second file (lists (drop index records)) run place index → lists (drop index records) ≡ bytes ∷ rest → part_body (read_client bytes) ≡ None
-    → WholeRun second file (lists (drop (place + length run) records)) (lists_of run)
+pub run_other : (records : List (List ℕ)) (second : Bool) (file rest : List (List ℕ)) (run : List Changes) (place index : ℕ) (bytes : List ℕ) → RunSoFar second file (drop index records) run place index → drop index records ≡ bytes ∷ rest → part_body (read_client bytes) ≡ None
+    → WholeRun second file (drop (place + length run) records) (lists_of run)
 run_other records second file rest run place index bytes s is other = record {
   run_of = behind_is records second file run place index s;
-  no_more = ap (λ i. bodies_ahead the_profile (map read_client (lists (drop i records)))) (sym s.index_is) ∙ ap (λ (l : List (List ℕ)). bodies_ahead the_profile (map read_client l)) is ∙ ap (λ o. body_and o (bodies_ahead the_profile (map read_client rest))) other;
+  no_more = ap (λ i. bodies_ahead the_profile (map read_client (drop i records))) (sym s.index_is) ∙ ap (λ (l : List (List ℕ)). bodies_ahead the_profile (map read_client l)) is ∙ ap (λ o. body_and o (bodies_ahead the_profile (map read_client rest))) other;
 }
 
-pub run_end : (records : List (Vec ℕ Global)) (second : Bool) (file : List (List ℕ)) (run : List Changes) (place index : ℕ) → RunSoFar second file (lists (drop index records)) run place index → lists (drop index records) ≡ [] → WholeRun second file (lists (drop (place + length run) records)) (lists_of run)
+pub run_end : (records : List (List ℕ)) (second : Bool) (file : List (List ℕ)) (run : List Changes) (place index : ℕ) → RunSoFar second file (drop index records) run place index → drop index records ≡ [] → WholeRun second file (drop (place + length run) records) (lists_of run)
 run_end records second file run place index s is = record {
   run_of = behind_is records second file run place index s;
-  no_more = ap (λ i. bodies_ahead the_profile (map read_client (lists (drop i records)))) (sym s.index_is) ∙ ap (λ (l : List (List ℕ)). bodies_ahead the_profile (map read_client l)) is;
+  no_more = ap (λ i. bodies_ahead the_profile (map read_client (drop i records))) (sym s.index_is) ∙ ap (λ (l : List (List ℕ)). bodies_ahead the_profile (map read_client l)) is;
 }
 
 -- what was found

@@ -1,11 +1,9 @@
 -- A client's file that begins with a state: what opening makes of it.
 use Rattle.std.proofs.Common.{◌≡◌, ℕ, zero, suc, ◌+◌, ◌≤◌, ◌<◌, Bool, true, false, not, ◌&&◌, List, [], ◌∷◌, ◌++◌, length, map, drop, Vec, Option, Some, None, Result, Ok, Err, refl, ap, ◌∙◌, sym, subst, append-nil, length-append, arith, inl, inr}
 use Rattle.std.specs.Prelude.{◌⊎◌}
-use Rattle.std.specs.declared.alloc.Global.{Global}
 use Rattle.sync_data.specs.Payload.{Changes}
 use Rattle.sync_data.specs.declared.instr.Instr.{Instr}
 use Rattle.sync_base.specs.States.{State}
-use Rattle.sync_journal.specs.Records.{lists}
 use Rattle.sync_model.specs.Bytes.{Bytes}
 use Rattle.sync_model.specs.Clients.{Client, ClientRecord, after_record, after_records, client_of, grown_or, no_client}
 use Rattle.sync_model.specs.Each.{Each, no_more, and_each}
@@ -259,19 +257,19 @@ module _ (before : List ClientRecord) (r : Replica) (k : Keeps before r) (blank 
         }
 
 -- ---- from a place of the file on
-pub some_left : (records : List (Vec ℕ Global)) (place : ℕ) → place < length records → (b : List ℕ) × (l : List (List ℕ)) × (lists (drop place records) ≡ b ∷ l)
+pub some_left : (records : List (List ℕ)) (place : ℕ) → place < length records → (b : List ℕ) × (l : List (List ℕ)) × (drop place records ≡ b ∷ l)
 some_left [] place h = absurd (omega (arith, h))
-some_left (v ∷ vs) zero h = (v.items, lists vs, refl)
+some_left (v ∷ vs) zero h = (v, vs, refl)
 some_left (v ∷ vs) (suc n) h = some_left vs n (omega (arith, h))
 
-abbrev file_at : List (Vec ℕ Global) → ℕ → List (List ℕ)
-file_at records place = lists (drop place records)
+abbrev file_at : List (List ℕ) → ℕ → List (List ℕ)
+file_at records place = drop place records
 
 -- a place that is refused
-abbrev Refused : List ClientRecord → List (Vec ℕ Global) → ℕ → ℕ → Type 0
+abbrev Refused : List ClientRecord → List (List ℕ) → ℕ → ℕ → Type 0
 Refused before records place bad = (count : ℕ) × (bad ≡ place + count) × (reading (client_of the_profile before) (file_at records place) ≡ Err count)
 
-pub blank_refused : (before : List ClientRecord) (r : Replica) (k : Keeps before r) (records : List (Vec ℕ Global)) (place : ℕ) → place < length records → is_blank (seen k.past r) ≡ false → ((b : List ℕ) (l : List (List ℕ)) → lists (drop place records) ≡ b ∷ l → IsOfState (read_client b)) → Refused before records place place
+pub blank_refused : (before : List ClientRecord) (r : Replica) (k : Keeps before r) (records : List (List ℕ)) (place : ℕ) → place < length records → is_blank (seen k.past r) ≡ false → ((b : List ℕ) (l : List (List ℕ)) → drop place records ≡ b ∷ l → IsOfState (read_client b)) → Refused before records place place
 blank_refused before r k records place h blank of_state =
     let t = some_left records place h in
     (0, omega arith, ap (reading (client_of the_profile before)) t.2 ∙ ap (λ (c : Seen). reading c (t.0 ∷ t.1)) k.stands_for ∙ state_refused (seen k.past r) t.0 t.1 blank (of_state t.0 t.1 t.2))
@@ -280,23 +278,23 @@ pub run_refused : (before : List ClientRecord) (r new : Replica) (k : Keeps befo
 run_refused before r new k blank file behind place (reads.BadRecord bad) f = (f.0, f.1, cut_refused before r k blank file f.0 f.2)
 run_refused before r new k blank file behind place reads.NoMemory f = tt
 
-module _ (before : List ClientRecord) (r : Replica) (k : Keeps before r) (blank : is_blank (seen k.past r) ≡ true) (records : List (Vec ℕ Global)) (place : ℕ) (run : List Changes) (n : ℕ) (n_is : n ≡ length run) (w : WholeRun r.second (lists (drop place records)) (lists (drop (place + length run) records)) (lists_of run)) where
-  whole : WholeRun r.second (lists (drop place records)) (lists (drop (place + n) records)) (lists_of run)
-  whole = subst (λ m. WholeRun r.second (lists (drop place records)) (lists (drop (place + m) records)) (lists_of run)) (sym n_is) w
+module _ (before : List ClientRecord) (r : Replica) (k : Keeps before r) (blank : is_blank (seen k.past r) ≡ true) (records : List (List ℕ)) (place : ℕ) (run : List Changes) (n : ℕ) (n_is : n ≡ length run) (w : WholeRun r.second (drop place records) (drop (place + length run) records) (lists_of run)) where
+  whole : WholeRun r.second (drop place records) (drop (place + n) records) (lists_of run)
+  whole = subst (λ m. WholeRun r.second (drop place records) (drop (place + m) records) (lists_of run)) (sym n_is) w
 
-  pub end_refused : (number : ℕ) → lists (drop (place + n) records) ≡ [] → Named (lists_of run) number ⊎ Ended (lists_of run) number → Refused before records place (place + number)
-  end_refused number none (inl named) = (number, refl, named_refused before r k blank (file_at records place) (lists (drop (place + n) records)) (lists_of run) number whole named)
+  pub end_refused : (number : ℕ) → drop (place + n) records ≡ [] → Named (lists_of run) number ⊎ Ended (lists_of run) number → Refused before records place (place + number)
+  end_refused number none (inl named) = (number, refl, named_refused before r k blank (file_at records place) (drop (place + n) records) (lists_of run) number whole named)
   end_refused number none (inr ended) = (number, refl, ended_refused before r k blank (file_at records place) (lists_of run) number (subst (λ l. WholeRun r.second (file_at records place) l (lists_of run)) none whole) ended)
 
-  module _ (bytes : List ℕ) (left : lists (drop (place + n) records) ≡ bytes ∷ lists (drop (place + n + 1) records)) where
-    before_it : WholeRun r.second (file_at records place) (bytes ∷ lists (drop (place + n + 1) records)) (lists_of run)
+  module _ (bytes : List ℕ) (left : drop (place + n) records ≡ bytes ∷ drop (place + n + 1) records) where
+    before_it : WholeRun r.second (file_at records place) (bytes ∷ drop (place + n + 1) records) (lists_of run)
     before_it = subst (λ l. WholeRun r.second (file_at records place) l (lists_of run)) left whole
 
-    pub close_refused : (number : ℕ) → ((b : List ℕ) (l : List (List ℕ)) → lists (drop place records) ≡ b ∷ l → IsOfState (read_client b)) → Named (lists_of run) number ⊎ Unclosed (lists_of run) bytes number → Refused before records place (place + number)
-    close_refused number of_state (inl named) = (number, refl, named_refused before r k blank (file_at records place) (bytes ∷ lists (drop (place + n + 1) records)) (lists_of run) number before_it named)
-    close_refused number of_state (inr unclosed) = (number, refl, unclosed_refused before r k blank (file_at records place) (lists (drop (place + n + 1) records)) (lists_of run) bytes number before_it unclosed of_state)
+    pub close_refused : (number : ℕ) → ((b : List ℕ) (l : List (List ℕ)) → drop place records ≡ b ∷ l → IsOfState (read_client b)) → Named (lists_of run) number ⊎ Unclosed (lists_of run) bytes number → Refused before records place (place + number)
+    close_refused number of_state (inl named) = (number, refl, named_refused before r k blank (file_at records place) (bytes ∷ drop (place + n + 1) records) (lists_of run) number before_it named)
+    close_refused number of_state (inr unclosed) = (number, refl, unclosed_refused before r k blank (file_at records place) (drop (place + n + 1) records) (lists_of run) bytes number before_it unclosed of_state)
 
-    pub closed_on : (new : Replica) → Closed r new (lists_of run) bytes → (count : ℕ) × (place + n + 1 ≡ place + count) × (1 ≤ count) × ReadSome before new (file_at records place) (lists (drop (place + count) records)) count
+    pub closed_on : (new : Replica) → Closed r new (lists_of run) bytes → (count : ℕ) × (place + n + 1 ≡ place + count) × (1 ≤ count) × ReadSome before new (file_at records place) (drop (place + count) records) count
     closed_on new d =
         let long = length_lists run in
         let count : length (lists_of run) + 1 ≡ n + 1 = omega (arith, long, n_is) in
@@ -304,8 +302,8 @@ module _ (before : List ClientRecord) (r : Replica) (k : Keeps before r) (blank 
           n + 1,
           there,
           omega arith,
-          subst (λ m. ReadSome before new (file_at records place) (lists (drop m records)) (n + 1)) there
-              (subst (ReadSome before new (file_at records place) (lists (drop (place + n + 1) records))) count (state_read before r k blank new (file_at records place) (lists (drop (place + n + 1) records)) (lists_of run) bytes before_it d)),
+          subst (λ m. ReadSome before new (file_at records place) (drop m records) (n + 1)) there
+              (subst (ReadSome before new (file_at records place) (drop (place + n + 1) records)) count (state_read before r k blank new (file_at records place) (drop (place + n + 1) records) (lists_of run) bytes before_it d)),
         )
 
 -- what `close` told, of the run and the bytes as they are kept

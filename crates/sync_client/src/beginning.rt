@@ -1,5 +1,4 @@
 ghost use Rattle.std.specs.Prelude.{◌≡◌, ◌⊎◌, ◌≤◌, ◌<◌, ◌+◌, ◌∷◌, List, ℕ, length, drop, Ok, Some, IfOk, IfSome, true};
-ghost use Rattle.sync_journal.specs.Records.{lists};
 ghost use Rattle.sync_model.specs.Clients as model;
 ghost use Rattle.sync_model.specs.Files as files;
 ghost use Rattle.sync_exchange.specs.Seen.{read_client};
@@ -12,6 +11,7 @@ ghost use Rattle.sync_client.specs.Seen.{Past, seen};
 use crate::entries::changes_of;
 use crate::refusal::ClientRefusal;
 use crate::replica::Replica;
+use byte_lists::ByteLists;
 use std::alloc::Global;
 use sync_data::{Changeset, NoMemory};
 use sync_journal::{LONGEST, ReadRefusal};
@@ -137,16 +137,16 @@ impl Replica {
     fn run_from(
         &self,
         alloc: Global,
-        records: &[Vec<u8>],
+        records: &ByteLists,
         place: usize,
     ) -> Result<Vec<Changeset>, ReadRefusal>
         requires { place ≤ length records.now }
-        ensures run { FindsRun self.now.second (lists (drop place records.now)) (λ n. lists (drop (place + n) records.now)) place result }
+        ensures run { FindsRun self.now.second (drop place records.now) (λ n. drop (place + n) records.now) place result }
         ensures within { IfOk result (λ run. place + length run.items ≤ length records.now) }
     {
         let mut run = Vec::new(alloc);
         for index in place..records.len() {
-            match self.part_of(alloc, records[index].as_slice()) {
+            match self.part_of(alloc, records.at(index)) {
                 Ok(Found::Part(changes)) => match run.push(changes) {
                     Ok(()) => {}
                     Err(_) => return Err(ReadRefusal::NoMemory),
@@ -197,22 +197,19 @@ impl Replica {
     pub(crate) fn admit_state(
         &mut self,
         alloc: Global,
-        records: &[Vec<u8>],
+        records: &ByteLists,
         place: usize,
     ) -> Result<usize, ReadRefusal>
         requires there { place < length records.now }
-        requires of_state { (bytes : List ℕ) (rest : List (List ℕ)) → lists (drop place records.now) ≡ bytes ∷ rest → IsOfState (read_client bytes) }
-        ensures { (before : List model.ClientRecord) → Keeps before self.old → ReadsOn before self.new (lists (drop place records.now)) (λ n. lists (drop (place + n) records.now)) place result }
+        requires of_state { (bytes : List ℕ) (rest : List (List ℕ)) → drop place records.now ≡ bytes ∷ rest → IsOfState (read_client bytes) }
+        ensures { (before : List model.ClientRecord) → Keeps before self.old → ReadsOn before self.new (drop place records.now) (λ n. drop (place + n) records.now) place result }
     {
         if !self.is_blank() {
             return Err(ReadRefusal::BadRecord { place });
         }
-        let run = match self.run_from(alloc, records, place) {
-            Ok(run) => run,
-            Err(refusal) => return Err(refusal),
-        };
-        let behind = place + run.len();
-        if behind == records.len() {
+        let run = self.run_from(alloc, records, place)?;
+        let (count, behind) = (records.len(), place + run.len());
+        if behind == count {
             match end_of(alloc, run.as_slice()) {
                 Ok(number) => {
                     return Err(ReadRefusal::BadRecord {
@@ -222,7 +219,7 @@ impl Replica {
                 Err(NoMemory) => return Err(ReadRefusal::NoMemory),
             }
         }
-        match self.close(alloc, run.as_slice(), records[behind].as_slice()) {
+        match self.close(alloc, run.as_slice(), records.at(behind)) {
             Ok(None) => Ok(behind + 1),
             Ok(Some(number)) => Err(ReadRefusal::BadRecord {
                 place: place + number,

@@ -42,10 +42,7 @@ impl<D: Disk> Client<D> {
         if self.replica.id.is_some() {
             return Err(ClientRefusal::AlreadyBorn);
         }
-        match self.append(&ClientRecord::Born { id }) {
-            Ok(()) => {}
-            Err(refusal) => return Err(refusal),
-        }
+        self.append(&ClientRecord::Born { id })?;
         self.replica.id = Some(id);
         Ok(())
     }
@@ -90,10 +87,8 @@ impl<D: Disk> Client<D> {
             return Err(ClientRefusal::NoMemory);
         };
         let number = made.number;
-        match self.append(&ClientRecord::Made { number, ms, body }) {
-            Ok(()) => Ok(number),
-            Err(refusal) => Err(refusal),
-        }
+        self.append(&ClientRecord::Made { number, ms, body })?;
+        Ok(number)
     }
 
     /// From now on the file may hold changesets of version 2: true where it is new. Errors: Closed, NotBorn, DiskFault,
@@ -113,10 +108,7 @@ impl<D: Disk> Client<D> {
         if self.replica.second {
             return Ok(false);
         }
-        match self.append(&ClientRecord::Form) {
-            Ok(()) => {}
-            Err(refusal) => return Err(refusal),
-        }
+        self.append(&ClientRecord::Form)?;
         self.replica.second = true;
         Ok(true)
     }
@@ -145,10 +137,7 @@ impl<D: Disk> Client<D> {
             self.journal.close();
             return Err(ClientRefusal::NoMemory);
         };
-        match self.append(&ClientRecord::Subset { tables: copy }) {
-            Ok(()) => {}
-            Err(refusal) => return Err(refusal),
-        }
+        self.append(&ClientRecord::Subset { tables: copy })?;
         self.replica.subset = Some(tables);
         Ok(())
     }

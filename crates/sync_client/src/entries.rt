@@ -63,10 +63,7 @@ impl Replica {
         ensures cursor { OnOk result (self.new.cursor ≡ self.old.cursor + 1) }
         ensures step { (past : Past) → ClientLists the_profile (seen past self.old) → Takes (seen past self.old) (seen past self.new) (record { origin = origin; number = number; ms = ms; body = body.now }) result }
     {
-        let changes = match changes_of(alloc, self.cursor, ms, body) {
-            Ok(changes) => changes,
-            Err(refusal) => return Err(refusal),
-        };
+        let changes = changes_of(alloc, self.cursor, ms, body)?;
         if self.is_beyond(&changes) {
             return Err(ClientRefusal::OldEntry {
                 version: self.cursor,

@@ -39,17 +39,14 @@ impl<D: Disk> Client<D> {
         ensures fault { IfErr result (λ e. e.cause ≡ OpenCause.DiskFault → Rose (D.faults disk) (D.faults e.disk)) }
         ensures sound { Told (D.content disk) (λ b. IsSound (D.origin disk) → IfErr result (λ e. e.cause ≡ OpenCause.DiskFault → ⊥)) }
     {
-        let (journal, records) = match Journal::open(alloc, disk) {
-            Ok(opened) => opened,
-            Err(refusal) => return Err(refusal),
-        };
-        match Replica::of(alloc, records.as_slice()) {
+        let (journal, records) = Journal::open(alloc, disk)?;
+        match Replica::of(alloc, &records) {
             Ok(replica) => Ok(Client {
                 alloc,
                 journal,
                 replica,
             }),
-            Err(why) => Err(journal.unread(records.as_slice(), why)),
+            Err(why) => Err(journal.unread(&records, why)),
         }
     }
 

@@ -6,13 +6,13 @@ ghost use Rattle.sync_exchange.specs.Seen.{client_seen};
 ghost use Rattle.sync_client.specs.Keeping.{Keeps};
 ghost use Rattle.sync_client.specs.Opening.{Admits, IsEmpty, IsPast};
 ghost use Rattle.sync_client.specs.Reading.{ReadsFile, ReadsOn, ReadsOne};
-ghost use Rattle.sync_journal.specs.Records.{lists};
 ghost use Rattle.sync_client.specs.Seen.{Past, seen};
 
 use crate::beginning::is_of_state;
 use crate::entries::changes_of;
 use crate::refusal::ClientRefusal;
 use crate::replica::Replica;
+use byte_lists::ByteLists;
 use std::alloc::Global;
 use sync_data::{Ident, NoMemory};
 use sync_journal::{LONGEST, ReadRefusal};
@@ -154,8 +154,8 @@ impl Replica {
 impl Replica {
     /// What records stand for, read one after the other up to the first that a client wouldn't have written after those
     /// before it.
-    pub(crate) fn of(alloc: Global, records: &[Vec<u8>]) -> Result<Replica, ReadRefusal>
-        ensures { ReadsFile (lists records.now) result }
+    pub(crate) fn of(alloc: Global, records: &ByteLists) -> Result<Replica, ReadRefusal>
+        ensures { ReadsFile records.now result }
     {
         let Ok(mut replica) = Replica::new(alloc) else {
             return Err(ReadRefusal::NoMemory);
@@ -174,13 +174,14 @@ impl Replica {
     fn read_at(
         &mut self,
         alloc: Global,
-        records: &[Vec<u8>],
+        records: &ByteLists,
         place: usize,
     ) -> Result<usize, ReadRefusal>
-        requires { place < length records.now }
-        ensures { (before : List model.ClientRecord) → Keeps before self.old → ReadsOn before self.new (lists (drop place records.now)) (λ n. lists (drop (place + n) records.now)) place result }
+        requires there { place < length records.now }
+        requires few { place + 1 < 18446744073709551616 }
+        ensures { (before : List model.ClientRecord) → Keeps before self.old → ReadsOn before self.new (drop place records.now) (λ n. drop (place + n) records.now) place result }
     {
-        let bytes = records[place].as_slice();
+        let bytes = records.at(place);
         if is_of_state(bytes) {
             return self.admit_state(alloc, records, place);
         }

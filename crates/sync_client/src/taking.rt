@@ -104,10 +104,7 @@ impl<D: Disk> Client<D> {
                 got: ident,
             });
         }
-        match self.append(&ClientRecord::Named(Named::new(ident))) {
-            Ok(()) => {}
-            Err(refusal) => return Err(refusal),
-        }
+        self.append(&ClientRecord::Named(Named::new(ident)))?;
         self.replica.ident = ident;
         Ok(self.replica.cursor)
     }
@@ -143,10 +140,7 @@ impl<D: Disk> Client<D> {
         ensures disk { UsesDisk (IsErrOf result ClientRefusal.DiskFault) self.old self.new }
     {
         for sent in entries {
-            match self.take_sent(sent) {
-                Ok(()) => {}
-                Err(refusal) => return Err(refusal),
-            }
+            self.take_sent(sent)?;
         }
         Ok(self.replica.cursor)
     }

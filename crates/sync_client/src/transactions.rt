@@ -44,18 +44,9 @@ impl Replica {
         if self.count == u32::MAX {
             return Err(ClientRefusal::NumbersFull);
         }
-        match self.check_form(&changes) {
-            Ok(()) => {}
-            Err(refusal) => return Err(refusal),
-        }
-        match self.check_tables(&changes) {
-            Ok(()) => {}
-            Err(refusal) => return Err(refusal),
-        }
-        match self.act(&changes) {
-            Ok(()) => {}
-            Err(refusal) => return Err(refusal),
-        }
+        self.check_form(&changes)?;
+        self.check_tables(&changes)?;
+        self.act(&changes)?;
         let number = self.count + 1;
         let Ok(unsent) = Unsent::made(number, self.cursor, changes) else {
             return Err(ClientRefusal::NoMemory);

@@ -1,7 +1,7 @@
 -- Where the gate of a record stands.
 use Rattle.std.proofs.Common.{◌≡◌, ℕ, zero, suc, ◌+◌, ◌-◌, ◌<◌, ◌≤◌, ◌^◌, min, List, [], ◌∷◌, length, drop, get_or, drop-cons, Vec, Global, refl, ap, ap₂, ◌∙◌, sym, arith, add-one}
 use Rattle.std.proofs.Math.ListN.{drop_of_length-le}
-use Rattle.sync_journal.specs.Records.{lists}
+use Rattle.std.proofs.lemmas.List.{drop_more}
 use Rattle.sync_journal.specs.Gates.{gate_from, gate_of, told}
 
 told_sum : (a n : ℕ) → min (told a + n) (2 ^ 64 - 1) ≡ told (a + n)
@@ -48,8 +48,8 @@ pub gate_end : (file : List (List ℕ)) (number place index : ℕ) (left : List 
 gate_end file number place index left s is = s.place_is ∙ ap told (sym (s.same ∙ ap (λ l. gate_from s.exact l (number - index)) is))
 
 -- ---- the records at a place and behind it
-pub left_at : (files : List (Vec ℕ Global)) (i : ℕ) (v : Vec ℕ Global) → i < length files → v ≡ get_or files i v → lists (drop i files) ≡ v.items ∷ lists (drop (i + 1) files)
-left_at files i v h is = ap lists (drop-cons files i v h ∙ ap₂ (λ x j. x ∷ drop j files) (sym is) (sym (add-one i)))
+pub left_at : (file : List (List ℕ)) (i : ℕ) (r : List ℕ) → i < length file → r ≡ get_or file i [] → drop i file ≡ r ∷ drop (i + 1) file
+left_at file i r h is = drop_more file i [] h ∙ ap (λ x. x ∷ drop (i + 1) file) (sym is)
 
-pub none_left : (files : List (Vec ℕ Global)) (i : ℕ) → length files ≤ i → lists (drop i files) ≡ []
-none_left files i h = ap lists (drop_of_length-le files h)
+pub none_left : (file : List (List ℕ)) (i : ℕ) → length file ≤ i → drop i file ≡ []
+none_left file i h = drop_of_length-le file h

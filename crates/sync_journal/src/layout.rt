@@ -1,7 +1,8 @@
 // The bytes of a journal: docs/FORMATS.md, "The journal".
 ghost use Rattle.std.specs.Prelude.{◌≡◌};
 ghost use Rattle.sync_journal.specs.Gates.{gate_of, told};
-ghost use Rattle.sync_journal.specs.Records.{lists};
+
+use byte_lists::ByteLists;
 
 /// How a journal begins: RSYNCJ01.
 pub const MAGIC: [u8; 8] = [0x52, 0x53, 0x59, 0x4e, 0x43, 0x4a, 0x30, 0x31];
@@ -26,15 +27,15 @@ pub const LONGEST: usize = 67_108_864;
 
 /// The place of the gate of the record of that number, counted from 0, or 2^64 - 1 where it would be above. From the
 /// last record on it is that of the gate behind it.
-pub fn gate_of(records: &[Vec<u8>], number: usize) -> u64
-    ensures { result ≡ told (gate_of (lists records.now) number) }
+pub fn gate_of(records: &ByteLists, number: usize) -> u64
+    ensures { result ≡ told (gate_of records.now number) }
 {
     let mut place = MAGIC.len() as u64;
     for index in 0..records.len() {
         if index == number {
             return place;
         }
-        place = place.saturating_add(AROUND as u64 + records[index].len() as u64);
+        place = place.saturating_add(AROUND as u64 + records.at(index).len() as u64);
     }
     place
 }

@@ -1,7 +1,7 @@
 ghost use Rattle.std.specs.Prelude.{◌≡◌, ◌<◌, ◌≤◌, ℕ, List, length, Some, Ok, Err, IfOk, IfErr};
 ghost use Rattle.sync_disk.specs.Disk.{LeavesOnly, Rose, Told};
 ghost use Rattle.sync_io.specs.Faults.{HasRisen};
-ghost use Rattle.sync_journal.specs.Records.{lists, records_of};
+ghost use Rattle.sync_journal.specs.Records.{records_of};
 ghost use Rattle.sync_journal.specs.Records.Reading.{Good, BadAt};
 ghost use Rattle.sync_exchange.specs.Seen.{client_seen, read_client};
 ghost use Rattle.sync_node.specs.Commands.{TellsText};
@@ -12,6 +12,7 @@ ghost use Rattle.sync_node.specs.Texts.{IsTellStatus};
 use crate::opening::{Ended, unopened};
 use crate::sending::{Errand, write_of_client};
 use crate::server_text::{ServerText, write_of_server};
+use byte_lists::ByteLists;
 use std::alloc::Global;
 use sync_data::NoMemory;
 use sync_disk::Disk;
@@ -47,13 +48,13 @@ fn is_birth(alloc: Global, bytes: &[u8]) -> Result<bool, NoMemory>
 }
 
 /// Whether the first of the records is a client's birth.
-fn starts_born(alloc: Global, records: &[Vec<u8>]) -> Result<bool, NoMemory>
-    ensures { IfOk result (λ is. is ≡ starts_born (lists records.now)) }
+fn starts_born(alloc: Global, records: &ByteLists) -> Result<bool, NoMemory>
+    ensures { IfOk result (λ is. is ≡ starts_born records.now) }
 {
-    if records.is_empty() {
-        return Ok(false);
+    match records.get(0) {
+        Some(first) => is_birth(alloc, first),
+        None => Ok(false),
     }
-    is_birth(alloc, records[0].as_slice())
 }
 
 /// Looks whose file a disk holds.
@@ -78,7 +79,7 @@ fn sort<D: Disk>(alloc: Global, disk: D) -> Result<Sorted<D>, Ended<D>>
         Ok(opened) => opened,
         Err(refusal) => return Err(unopened(refusal)),
     };
-    match starts_born(alloc, records.as_slice()) {
+    match starts_born(alloc, &records) {
         Ok(is_client) => Ok(Sorted {
             is_client,
             disk: journal.into_disk(),

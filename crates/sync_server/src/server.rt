@@ -87,10 +87,7 @@ impl<D: Disk> Server<D> {
         ensures disk { UsesDisk (IsErrOf result ServerRefusal.DiskFault) self.old self.new }
     {
         if form {
-            match self.append(&ServerRecord::Form) {
-                Ok(()) => {}
-                Err(refusal) => return Err(refusal),
-            }
+            self.append(&ServerRecord::Form)?;
         }
         match entry_record(self.alloc, ident, change) {
             Ok(record) => self.append(&record),
@@ -130,10 +127,8 @@ impl<D: Disk> Server<D> {
                 return Err(ServerRefusal::NoMemory);
             }
         };
-        match self.append_entry(form, ident, change) {
-            Ok(()) => Ok(None),
-            Err(refusal) => Err(refusal),
-        }
+        self.append_entry(form, ident, change)?;
+        Ok(None)
     }
 
     /// Takes the changes of an Upload one by one, up to the first that is refused.
@@ -184,10 +179,8 @@ impl<D: Disk> Server<D> {
                 return Err(ServerRefusal::NoMemory);
             }
         };
-        match self.append(&ServerRecord::Client { id: uuid }) {
-            Ok(()) => Ok(Message::Ident(Given::new(uuid, ident))),
-            Err(refusal) => Err(refusal),
-        }
+        self.append(&ServerRecord::Client { id: uuid })?;
+        Ok(Message::Ident(Given::new(uuid, ident)))
     }
 
     /// Answers a question for the history, and keeps its settled number where it is new.
@@ -215,10 +208,8 @@ impl<D: Disk> Server<D> {
         }
         let (ident, settled) = (ask.ident(), ask.settled());
         self.kept.history.settle_at(ident, settled);
-        match self.append(&ServerRecord::Settled { ident, settled }) {
-            Ok(()) => Ok(reply),
-            Err(refusal) => Err(refusal),
-        }
+        self.append(&ServerRecord::Settled { ident, settled })?;
+        Ok(reply)
     }
 
     /// Retires an ident for another.
@@ -245,10 +236,8 @@ impl<D: Disk> Server<D> {
                 return Err(ServerRefusal::NoMemory);
             }
         }
-        match self.append(&ServerRecord::Retired { ident, by }) {
-            Ok(()) => Ok(reply),
-            Err(refusal) => Err(refusal),
-        }
+        self.append(&ServerRecord::Retired { ident, by })?;
+        Ok(reply)
     }
 
     /// Serves a message.

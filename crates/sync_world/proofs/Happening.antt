@@ -4,7 +4,6 @@ use Rattle.std.specs.Prelude.{IfOk, bytes_eq}
 use Rattle.sync_data.specs.declared.memory.NoMemory.{NoMemory}
 use Rattle.sync_data.specs.declared.instr.Instr.{Instr}
 use Rattle.sync_base.specs.States.{State}
-use Rattle.sync_journal.specs.Records.{lists}
 use Rattle.sync_model.specs.Bytes.{Name}
 use Rattle.sync_model.specs.Clients.{Client, ClientRecord, ClientRefusal, ClientStep, client_of}
 use Rattle.sync_model.specs.Each.{Each}
@@ -62,7 +61,7 @@ module _ (w : World) (old : CodeWorld) (h : Stands w old) (i : ℕ) (n : Node) (
         named = subst AreNames (sym (map_put (λ x. x.name) w.clients i n node here same)) h.named;
         server_fits = h.server_fits;
         clients_fit = each_put w.clients i node h.clients_fit fit;
-        messages = subst (λ ms. AreSpelled w.messages (lists ms.items)) (sym is.messages) h.messages;
+        messages = subst (λ ms. AreSpelled w.messages ms) (sym is.messages) h.messages;
         injected = ap (λ ids. ids.items) is.injected ∙ h.injected;
         unarmed = λ name none. unarmed_still name none;
       }
@@ -169,7 +168,7 @@ module _ (w : World) (old : CodeWorld) (h : Stands w old) (i : ℕ) (n : Node) (
     named = h.named;
     server_fits = h.server_fits;
     clients_fit = h.clients_fit;
-    messages = subst (λ ms. AreSpelled w.messages (lists ms.items)) (sym is.messages) h.messages;
+    messages = subst (λ ms. AreSpelled w.messages ms) (sym is.messages) h.messages;
     injected = ap (λ ids. ids.items) is.injected ∙ h.injected;
     unarmed = h.unarmed;
   }

@@ -4,7 +4,6 @@ use Rattle.std.specs.Prelude.{IfOk, OnOk}
 use Rattle.sync_data.specs.declared.memory.NoMemory.{NoMemory}
 use Rattle.sync_data.specs.declared.instr.Instr.{Instr}
 use Rattle.sync_base.specs.States.{State}
-use Rattle.sync_journal.specs.Records.{lists}
 use Rattle.sync_messages.specs.declared.message.Message.{Message as CodeMessage}
 use Rattle.sync_model.specs.Bytes.{Uuid}
 use Rattle.sync_model.specs.Clients.{Client, ClientRecord, ClientRefusal, ClientStep, NotNamed, answers, ask, bind, if_born, if_named, refuse, upload}
@@ -75,7 +74,7 @@ module _ (w : World) (old : CodeWorld) (h : Stands w old) (i : ℕ) (n : Node) (
       with_message : (m : CodeMessage) → Stands v mid → IsKept m Words.Messaged mid result new → OnOk result (Stands (record v { messages = v.messages ++ message_seen m ∷ [] }) new)
       with_message m stands kept = go result kept.kept
         where
-          go : (r : Result CodeOutcome NoMemory) → ((ms : List Message) → AreSpelled ms (lists mid.messages.items) → OnOk r (AreSpelled (ms ++ message_seen m ∷ []) (lists new.messages.items))) → OnOk r (Stands (record v { messages = v.messages ++ message_seen m ∷ [] }) new)
+          go : (r : Result CodeOutcome NoMemory) → ((ms : List Message) → AreSpelled ms mid.messages → OnOk r (AreSpelled (ms ++ message_seen m ∷ []) new.messages)) → OnOk r (Stands (record v { messages = v.messages ++ message_seen m ∷ [] }) new)
           go (Ok outcome) all = record {
             server = subst (λ hub. Rattle.sync_world.specs.Nodes.HoldsServer v.server (v.stops Rattle.sync_model.specs.Worlds.server_name) hub.stop hub.server) (sym kept.others.hub) stands.server;
             clients = subst (λ cs. Rattle.sync_world.specs.Holding.HoldsEach v.stops v.clients cs.items) (sym kept.others.clients) stands.clients;

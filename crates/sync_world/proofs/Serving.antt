@@ -1,7 +1,6 @@
 -- What the server's reply makes of an exchange.
 use Rattle.std.proofs.Common.{◌≡◌, suc, List, [], ◌∷◌, ◌++◌, length, Option, None, Some, Result, refl, sym, ◌∙◌, ap, subst}
 use Rattle.sync_data.specs.declared.memory.NoMemory.{NoMemory}
-use Rattle.sync_journal.specs.Records.{lists}
 use Rattle.sync_messages.specs.declared.message.Message.{Message as CodeMessage}
 use Rattle.sync_model.specs.Each.{Each}
 use Rattle.sync_model.specs.Messages.{Message}
@@ -23,7 +22,7 @@ use Rattle.sync_world.proofs.Moves.{armed_here, holds_others, new_name, not_serv
 module _ (w : World) (old : CodeWorld) (h : Stands w old) (did : ServerStep) (fit : Each FitsServer did.records) where
   -- the exchange with these server's records, and these messages
   pub served : (rs : List ServerRecord) (ms : List Message) (new : CodeWorld) → new.clients ≡ old.clients → new.injected ≡ old.injected → HoldsServer (w.server ++ rs) None new.hub.stop new.hub.server → Each FitsServer rs
-      → AreSpelled ms (lists new.messages.items) → Stands (record w { server = w.server ++ rs; messages = ms; stops = arm server_name None w.stops }) new
+      → AreSpelled ms new.messages → Stands (record w { server = w.server ++ rs; messages = ms; stops = arm server_name None w.stops }) new
   served rs ms new clients injected holds fits kept = record {
     server = subst (λ s. HoldsServer (w.server ++ rs) s new.hub.stop new.hub.server) (sym (armed_here server_name None w.stops server_name refl)) holds;
     clients = subst (λ cs. Rattle.sync_world.specs.Holding.HoldsEach (arm server_name None w.stops) w.clients cs.items) (sym clients) (holds_others server_name None w.stops w.clients old.clients.items (λ i n e. not_server w.clients i n h.named e) h.clients);
@@ -45,7 +44,7 @@ module _ (w : World) (old : CodeWorld) (h : Stands w old) (did : ServerStep) (fi
 
   -- it is replied to
   pub replied : (stand : Option (List ServerRecord)) (reply : CodeMessage) (result : Result CodeOutcome NoMemory) (new : CodeWorld) → ServeDone did w.server stand (Some reply) new.hub → new.clients ≡ old.clients → new.injected ≡ old.injected
-      → AreSpelled (w.messages ++ message_seen reply ∷ []) (lists new.messages.items) → ComesTo (Words.Replied (suc (length w.messages)) (message_seen reply)) result
+      → AreSpelled (w.messages ++ message_seen reply ∷ []) new.messages → ComesTo (Words.Replied (suc (length w.messages)) (message_seen reply)) result
       → IsReached the_profile (server_ends w did stand).world → Happens (server_ends w did stand) result new
   replied None reply result new done clients injected kept text reached =
       subst (λ a. IsReached the_profile (record (server_moved w did.records) { messages = w.messages ++ a ∷ [] }) → Happens (says (record (server_moved w did.records) { messages = w.messages ++ a ∷ [] }) (Words.Replied (suc (length w.messages)) a)) result new) (sym done.said)
@@ -61,7 +60,7 @@ module _ (w : World) (old : CodeWorld) (h : Stands w old) (did : ServerStep) (fi
   stops (Some rs) is result new done clients injected messages text reached =
       let cut = cut_by (w.stops server_name) did.records rs is in
       said_all (server_moved w rs) Words.Stopped result new text
-      (record { reached = reached; stands = served rs w.messages new clients injected done.server (subst (Each FitsServer) cut.1 (each_take cut.0 fit)) (subst (λ ms. AreSpelled w.messages (lists ms.items)) (sym messages) h.messages) })
+      (record { reached = reached; stands = served rs w.messages new clients injected done.server (subst (Each FitsServer) cut.1 (each_take cut.0 fit)) (subst (λ ms. AreSpelled w.messages ms) (sym messages) h.messages) })
 
 -- ---- a message from outside changes no record of the server
 pub named_server : (w : World) (m : Message) → (named_by w m).server ≡ w.server
@@ -86,7 +85,7 @@ hub_armed w old h s new clients injected messages holds = record {
   named = h.named;
   server_fits = h.server_fits;
   clients_fit = h.clients_fit;
-  messages = subst (λ ms. AreSpelled w.messages (lists ms.items)) (sym messages) h.messages;
+  messages = subst (λ ms. AreSpelled w.messages ms) (sym messages) h.messages;
   injected = ap (λ ids. ids.items) injected ∙ h.injected;
   unarmed = λ name none. Rattle.sync_world.proofs.Moves.armed_other server_name s w.stops name (new_name w name none).0 ∙ h.unarmed name none;
 }

@@ -1,7 +1,6 @@
 -- Messages that are kept as their bytes.
-use Rattle.std.proofs.Common.{◌≡◌, ℕ, zero, suc, ◌-◌, ◌<◌, ◌≤◌, List, [], ◌∷◌, ◌++◌, length, get_or, None, Some, Vec, Global, refl, sym, ◌∙◌, ap, subst, arith}
+use Rattle.std.proofs.Common.{◌≡◌, ℕ, zero, suc, ◌-◌, ◌<◌, ◌≤◌, List, [], ◌∷◌, ◌++◌, length, slice_get, None, Some, refl, sym, ◌∙◌, ap, subst, arith}
 use Rattle.std.specs.Option.{option_map}
-use Rattle.sync_journal.specs.Records.{lists}
 use Rattle.sync_messages.proofs.Messages.{is_read}
 use Rattle.sync_model.specs.Messages.{Message}
 use Rattle.sync_model.specs.Worlds.{World, at, message_at}
@@ -22,18 +21,18 @@ same_many (x ∷ ms) [] all = absurd all
 same_many (x ∷ ms) (c ∷ bs) all = ap suc (same_many ms bs all.1)
 
 -- the bytes of the message at a place
-pub spelled_at : (ms : List Message) (vs : List (Vec ℕ Global)) (i : ℕ) (v : Vec ℕ Global) → AreSpelled ms (lists vs) → i < length vs → v ≡ get_or vs i v → (m : Message) × (at ms i ≡ Some m) × IsSpelled m v.items
-spelled_at ms [] i v all lt is = absurd (omega arith)
-spelled_at [] (u ∷ vs) i v all lt is = absurd all
-spelled_at (m ∷ ms) (u ∷ vs) zero v all lt is = (m, refl, subst (λ x. IsSpelled m x.items) (sym is) all.0)
-spelled_at (m ∷ ms) (u ∷ vs) (suc i) v all lt is = spelled_at ms vs i v all.1 (omega arith) is
+pub spelled_at : (ms : List Message) (bs : List (List ℕ)) (i : ℕ) (b : List ℕ) → AreSpelled ms bs → slice_get bs i ≡ Some b → (m : Message) × (at ms i ≡ Some m) × IsSpelled m b
+spelled_at ms [] i b all is = cc
+spelled_at [] (c ∷ bs) i b all is = absurd all
+spelled_at (m ∷ ms) (c ∷ bs) zero b all is = (m, refl, (let same : c ≡ b = cc in subst (IsSpelled m) same all.0))
+spelled_at (m ∷ ms) (c ∷ bs) (suc i) b all is = spelled_at ms bs i b all.1 is
 
-pub none_at : (ms : List Message) (vs : List (Vec ℕ Global)) (i : ℕ) → AreSpelled ms (lists vs) → length vs ≤ i → at ms i ≡ None
-none_at [] [] i all le = refl
-none_at [] (u ∷ vs) i all le = absurd all
-none_at (m ∷ ms) [] i all le = absurd all
-none_at (m ∷ ms) (u ∷ vs) zero all le = absurd (omega arith)
-none_at (m ∷ ms) (u ∷ vs) (suc i) all le = none_at ms vs i all.1 (omega arith)
+pub none_at : (ms : List Message) (bs : List (List ℕ)) (i : ℕ) → AreSpelled ms bs → slice_get bs i ≡ None → at ms i ≡ None
+none_at [] [] i all is = refl
+none_at [] (c ∷ bs) i all is = absurd all
+none_at (m ∷ ms) [] i all is = absurd all
+none_at (m ∷ ms) (c ∷ bs) zero all is = cc
+none_at (m ∷ ms) (c ∷ bs) (suc i) all is = none_at ms bs i all.1 is
 
 -- and they are read as it
 pub reads_it : (m : Message) (b : List ℕ) → IsSpelled m b → message_read b ≡ Some m

@@ -3,7 +3,6 @@ use Rattle.std.specs.Prelude.{◌≡◌, ℕ, Bool, false, if◌then◌else◌, 
 use Rattle.std.specs.List.{list_any}
 use Rattle.std.specs.Option.{option_map}
 use Rattle.sync_data.specs.declared.memory.NoMemory.{NoMemory}
-use Rattle.sync_journal.specs.Records.{lists}
 use Rattle.sync_model.specs.Bytes.{Name}
 use Rattle.sync_model.specs.Each.{Each}
 use Rattle.sync_model.specs.Worlds.{IsReached, Node, Outcome, Stop, Words, World, has_name, is_node, seek, server_name}
@@ -66,7 +65,7 @@ pub record Stands (w : World) (self : CodeWorld) : Type 0 where
   pub named : AreNames (map (λ n. n.name) w.clients)
   pub server_fits : Each FitsServer w.server
   pub clients_fit : Each (λ n. Each FitsClient n.records) w.clients
-  pub messages : AreSpelled w.messages (lists self.messages.items)
+  pub messages : AreSpelled w.messages self.messages
   pub injected : self.injected.items ≡ w.injected
   -- only nodes are armed
   pub unarmed : (name : Name) → is_node w name ≡ false → w.stops name ≡ None

@@ -2,7 +2,6 @@
 use Rattle.std.specs.Prelude.{◌≡◌, ℕ, suc, List, [], ◌∷◌, ◌++◌, length, Option, None, Some, Result, Ok, Err, OnOk, IfOk}
 use Rattle.sync_data.specs.declared.memory.NoMemory.{NoMemory}
 use Rattle.sync_model.specs.Clients.{ClientRefusal}
-use Rattle.sync_journal.specs.Records.{lists}
 use Rattle.sync_messages.specs.declared.message.Message.{Message as CodeMessage}
 use Rattle.sync_model.specs.Messages.{Message}
 use Rattle.sync_model.specs.Worlds.{Words}
@@ -23,8 +22,8 @@ pub record SameButMessages (old new : CodeWorld) : Type 0 where
 -- the message has the next number, and is kept
 pub record IsKept (m : CodeMessage) (say : ℕ → Words) (old : CodeWorld) (result : Result CodeOutcome NoMemory) (new : CodeWorld) : Type 0 where
   pub others : SameButMessages old new
-  pub said : (ms : List Message) → AreSpelled ms (lists old.messages.items) → ComesTo (say (suc (length ms))) result
-  pub kept : (ms : List Message) → AreSpelled ms (lists old.messages.items) → OnOk result (AreSpelled (ms ++ message_seen m ∷ []) (lists new.messages.items))
+  pub said : (ms : List Message) → AreSpelled ms old.messages → ComesTo (say (suc (length ms))) result
+  pub kept : (ms : List Message) → AreSpelled ms old.messages → OnOk result (AreSpelled (ms ++ message_seen m ∷ []) new.messages)
 
 -- a refusal is told; one that isn't the model's ends the run
 abbrev pub Tells : Option ClientRefusal → Result CodeOutcome NoMemory → Type 0

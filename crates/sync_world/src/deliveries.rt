@@ -64,7 +64,7 @@ impl World {
     {
         if to.text() == "server" {
             worlds_read_back();
-            match messages::find(self.alloc, self.messages.as_slice(), number) {
+            match messages::find(self.alloc, &self.messages, number) {
                 Ok(Some(message)) => self.serve(message),
                 Ok(None) => Ok(Outcome::NoMessage),
                 Err(NoMemory) => Err(NoMemory),
@@ -81,7 +81,7 @@ impl World {
         let Some(place) = self.find(to) else {
             return Ok(Outcome::NoNode);
         };
-        let message = match messages::find(self.alloc, self.messages.as_slice(), number) {
+        let message = match messages::find(self.alloc, &self.messages, number) {
             Ok(Some(message)) => message,
             Ok(None) => return Ok(Outcome::NoMessage),
             Err(NoMemory) => return Err(NoMemory),

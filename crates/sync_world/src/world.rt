@@ -11,6 +11,7 @@ ghost use Rattle.sync_server.specs.Serving.{IsServerOf, IsStored};
 use crate::hub::Hub;
 use crate::laws::worlds_read_back;
 use crate::node::Node;
+use byte_lists::ByteLists;
 use std::alloc::Global;
 use sync_client::Client;
 use sync_data::{Id, Name, NoMemory};
@@ -26,7 +27,7 @@ pub struct World {
     pub(crate) alloc: Global,
     pub(crate) hub: Hub,
     pub(crate) clients: Vec<Node>,
-    pub(crate) messages: Vec<Vec<u8>>,
+    pub(crate) messages: ByteLists,
     pub(crate) injected: Vec<Id>,
 }
 
@@ -63,7 +64,7 @@ impl World {
             alloc,
             hub,
             clients: Vec::new(alloc),
-            messages: Vec::new(alloc),
+            messages: ByteLists::new(alloc),
             injected: Vec::new(alloc),
         })
     }

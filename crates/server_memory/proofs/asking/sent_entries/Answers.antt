@@ -20,11 +20,11 @@ loop-shared-preserved c =
     let fits = subst (λ r. option_map sent_seen r ≡ fits_next c.args.second c.loop-shared.room (restricted the_profile o (entry_of c.shared-item.result))) c.in-Ok-Some.field-0-is (c.in-Ok-Some.ensures ∙ ap (λ e. fits_next c.args.second c.loop-shared.room (restricted the_profile o (entry_of e))) c.entry.ensures) in
     let size = ap length c.body.ensures.value in
     let within = fits_room c.args.second c.loop-shared.room (restricted the_profile o (entry_of c.shared-item.result)) next fits in
-    let long = ap length c.in-Ok.ensures.ok ∙ length-append sent (next ∷ []) in
-    let more = ap bytes_of_entries c.in-Ok.ensures.ok ∙ bytes_more sent next in
+    let long = ap length c.in_ok-keep-in-Ok-Some.ensures.ok ∙ length-append sent (next ∷ []) in
+    let more = ap bytes_of_entries c.in_ok-keep-in-Ok-Some.ensures.ok ∙ bytes_more sent next in
     record {
       sent = ap (λ n. map sent_seen now ++ rest_at o c.args.second (4096 - length now) (c.loop-shared.room - n) c.args.entries.now (i + 1)) size
-          ∙ one_sent o c.args.second c.args.entries.now i c.shared-item.result sent now c.loop-shared.room next (sendable c.args.second (given_to o (map entry_of c.args.entries.now))) c.loop-shared-test.true c.shared-item.is few fits c.in-Ok.ensures.ok c.loop-shared.invariant.sent;
+          ∙ one_sent o c.args.second c.args.entries.now i c.shared-item.result sent now c.loop-shared.room next (sendable c.args.second (given_to o (map entry_of c.args.entries.now))) c.loop-shared-test.true c.shared-item.is few fits c.in_ok-keep-in-Ok-Some.ensures.ok c.loop-shared.invariant.sent;
       few = omega (arith, long, few);
       bytes = omega (arith, more, size, within, c.loop-shared.invariant.bytes);
       short = omega (arith, long, c.loop-shared.invariant.short);

@@ -6,4 +6,4 @@ pub push_shared-requires : goal.push_shared-requires
 push_shared-requires c = versions_before c.args.first c.args.entries.now c.loop-place.place c.loop-place.made (omega arith) c.loop-place.invariant
 
 pub loop-place-preserved : goal.loop-place-preserved
-loop-place-preserved c = versions_more c.args.first c.args.entries.now c.loop-place.place c.index-entries-place.result c.loop-place.made c.push_shared.new.self (omega arith) c.index-entries-place.is c.loop-place.invariant c.in-Ok.ensures.ok
+loop-place-preserved c = versions_more c.args.first c.args.entries.now c.loop-place.place c.index-entries-place.result c.loop-place.made c.push_shared.new.self (omega arith) c.index-entries-place.is c.loop-place.invariant c.in_ok-push_shared.ensures.ok

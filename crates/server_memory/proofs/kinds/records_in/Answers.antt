@@ -1,15 +1,11 @@
-use Rattle.std.proofs.Common.{ap, ◌∙◌, subst}
-use Rattle.std.specs.Option.{option_map}
-use Rattle.sync_exchange.specs.Seen.{read_server, server_seen}
-use Rattle.server_memory.specs.Fronting.{IsSpelled}
+use Rattle.std.proofs.Common.{arith}
 use Rattle.server_memory.proofs.Spelled.{read_more}
 use Rattle.server_memory.proofs.kinds.records_in.Goals as goal
 
-pub loop-bytes-preserved : goal.loop-bytes-preserved
-loop-bytes-preserved c =
-    let bytes = c.as_slice.ensures.value in
+pub loop-place-preserved : goal.loop-place-preserved
+loop-place-preserved c =
     let more =
-    read_more c.args.files.now c.loop-bytes.bytes-index c.bytes-item.result c.loop-bytes.found.items c.keep.new.items.items c.in-Ok.record c.loop-bytes-test.true c.bytes-item.is c.loop-bytes.invariant.read c.loop-bytes.invariant.spelled c.in-Ok-keep.ensures.ok
-    (c.in-Ok.ensures.read ∙ ap read_server bytes) (subst (IsSpelled (option_map server_seen c.in-Ok.record)) bytes c.in-Ok.ensures.spelled)
+    read_more c.args.files.now c.loop-place.place c.at.result.now c.loop-place.found.items c.keep.new.items.items c.in_ok-record.record (omega (arith, c.loop-place-test.true, c.len-place-end.ensures)) c.at.ensures c.loop-place.invariant.read c.loop-place.invariant.spelled c.in_ok-keep.ensures.ok
+    c.in_ok-record.ensures.read c.in_ok-record.ensures.spelled
     in
     record { read = more.read; spelled = more.spelled }

@@ -24,7 +24,7 @@ invariant_of-self c =
     let was = c.index_mut.ensures.value ∙ sym (here.here c.index_mut.result.now) in
     let new = c.settle-changes.ensures.settled ∙ ap (λ g. settled c.args.base (entries_of c.args.carried g.reciprocal) g) was in
     made.not_entered floor es bs c.self.inside.second gs qs c.args.ident c.args.number c.args.base c.args.carried given.given here c.self.invariant given.next given.small given.others c.settle-changes.new.self new
-    c.keep_entry.new.entries.items c.keep_entry.new.bases.items c.in-Err.ensures.unchanged c.in-Err.ensures.bases_unchanged
+    c.keep_entry.new.entries.items c.keep_entry.new.bases.items c.in_err-keep_entry.ensures.unchanged c.in_err-keep_entry.ensures.bases_unchanged
 
 pub extend_others-requires : goal.extend_others-requires
 extend_others-requires c =
@@ -62,7 +62,7 @@ invariant_of-self-2 c =
     let some =
     the_first c.extend_others.result (c.args.ident - 1) (floor + c.len-last.result) (entry_of c.index.result.now) c.deref_mut.result.now c.extend_others.new.idents c.extend_others.ensures.ok c.extend_others.ensures.part in
     made.entered floor es bs c.self.inside.second gs qs c.args.ident c.args.number c.args.base c.args.carried given.given here c.self.invariant given.next given.small given.others c.settle-changes.new.self new
-    (record { origin = c.args.ident; number = c.args.number; changes = c.settle-changes.result }) (ap (λ v. record { origin = c.args.ident; number = c.args.number; changes = v }) c.settle-changes.ensures.changes) c.keep_entry.new.entries.items c.in-Ok.ensures.ok c.keep_entry.new.bases.items c.in-Ok.ensures.based room c.index.result.now item
+    (record { origin = c.args.ident; number = c.args.number; changes = c.settle-changes.result }) (ap (λ v. record { origin = c.args.ident; number = c.args.number; changes = v }) c.settle-changes.ensures.changes) c.keep_entry.new.entries.items c.in_ok-keep_entry.ensures.ok c.keep_entry.new.bases.items c.in_ok-keep_entry.ensures.based room c.index.result.now item
     some.0 _ _ (ap length hs ∙ long) (hs ∙ some.1 ∙ (λ i. first_extended some.0 (c.args.ident - 1) (version i) (entry_of c.index.result.now) 0 (c.deref_mut.ensures.value i)))
 
 pub returns : goal.returns
@@ -85,6 +85,6 @@ returns c = λ g is.
     let one : given.given ≡ g = the_same (sym given.is_given ∙ is) in
     on_ok c.extend_others.result _ _ c.extend_others.ensures.ok (λ ok.
     made.whole floor es bs c.self.inside.second gs qs c.args.ident c.args.number c.args.base c.args.carried given.given here c.self.invariant given.next given.small given.others c.settle-changes.new.self new
-    (record { origin = c.args.ident; number = c.args.number; changes = c.settle-changes.result }) (ap (λ v. record { origin = c.args.ident; number = c.args.number; changes = v }) c.settle-changes.ensures.changes) c.keep_entry.new.entries.items c.in-Ok.ensures.ok c.keep_entry.new.bases.items c.in-Ok.ensures.based room c.index.result.now item
+    (record { origin = c.args.ident; number = c.args.number; changes = c.settle-changes.result }) (ap (λ v. record { origin = c.args.ident; number = c.args.number; changes = v }) c.settle-changes.ensures.changes) c.keep_entry.new.entries.items c.in_ok-keep_entry.ensures.ok c.keep_entry.new.bases.items c.in_ok-keep_entry.ensures.based room c.index.result.now item
     c.args.second _ (hs ∙ ok ∙ (λ i. first_extended (length (c.deref_mut.ensures.value i)) (c.args.ident - 1) (version i) (entry_of c.index.result.now) 0 (c.deref_mut.ensures.value i)))
     ∙ (λ i. with_entry (c.self.view_is i) c.args.ident c.args.base c.args.second (made_by c.args.ident c.args.number c.args.carried.changes) (entries_of c.args.carried (one i).reciprocal)))

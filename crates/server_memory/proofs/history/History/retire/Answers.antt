@@ -28,5 +28,5 @@ returns c =
     let was = c.index_mut.ensures.value ∙ sym (here.here c.index_mut.result.now) in
     let new = c.retire.ensures ∙ ap (given_up c.args.by) was in
     let all = retired_is ident gs given.0 here c.args.by c.retire.new.self new ∙ ap (λ (h : HistoryParts). idents_retired ident c.args.by 1 h.idents) c.self.view_is in
-    let listed = c.in-Ok.ensures.ok ∙ ap (λ (h : HistoryParts). h.retired ++ (ident, c.args.by) ∷ []) c.self.view_is in
+    let listed = c.in_ok-keep.ensures.ok ∙ ap (λ (h : HistoryParts). h.retired ++ (ident, c.args.by) ∷ []) c.self.view_is in
     λ i. record (c.self.view_is i) { idents = all i; retired = listed i }

@@ -11,7 +11,7 @@ returns-then-is_some c = client_known c.args.self.now c.args.id (sym (ap is_some
 pub returns-then-given : goal.returns-then-given
 returns-then-given c = client_full c.args.self.now c.args.id (sym c.given.ensures ∙ c.if-given.true)
 
-pub returns-in-Ok : goal.returns-in-Ok
-returns-in-Ok c =
+pub returns : goal.returns
+returns c =
     client_admitted c.args.self.now (record c.args.self.now { history = c.bind.new.self }) c.args.id (sym (ap is_some c.ident_of.ensures) ∙ sym c.is_some.ensures ∙ c.if-is_some.false) (λ e. c.if-given.false (c.given.ensures ∙ e))
-    (ap (λ (h : History). parts (record c.args.self.now { history = h })) c.in-Ok.ensures.bound)
+    (ap (λ (h : History). parts (record c.args.self.now { history = h })) c.in_ok-bind.ensures.bound)

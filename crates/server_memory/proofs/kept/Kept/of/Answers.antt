@@ -1,17 +1,20 @@
-use Rattle.sync_journal.specs.Records.{lists}
-use Rattle.std.proofs.Common.{drop}
-use Rattle.server_memory.proofs.Reading.{all_fails, all_read, front_fails, lists_drop}
+use Rattle.std.proofs.Common.{drop, refl}
+use Rattle.std.proofs.lemmas.Result.{err_from_is_err_and}
+use Rattle.server_memory.proofs.Reading.{all_fails, all_read, front_fails}
 use Rattle.server_memory.proofs.kept.Kept.of.Goals as goal
 
-pub returns-in-Ok-admit_all : goal.returns-in-Ok-admit_all
-returns-in-Ok-admit_all c =
-    let f = c.in-Ok.front in
-    all_read (lists c.args.files.now) f.1 f.0 c.admit_all.new.self (lists (drop f.1 c.args.files.now)) c.in-Ok.ensures (lists_drop f.1 c.args.files.now) c.in-Ok-admit_all.ensures
+pub returns : goal.returns
+returns c =
+    let size = c.in_ok-kept.size in
+    all_read c.args.files.now size c.in_ok-kept.kept c.admit_all.new.self (drop size c.args.files.now) c.in_ok-kept.ensures refl c.in_ok-admit_all.ensures
 
-pub returns-in-Err-admit_all : goal.returns-in-Err-admit_all
-returns-in-Err-admit_all c =
-    let f = c.in-Ok.front in
-    all_fails (lists c.args.files.now) f.1 f.0 c.admit_all.new.self (lists (drop f.1 c.args.files.now)) c.in-Err-admit_all.refusal c.in-Ok.ensures (lists_drop f.1 c.args.files.now) c.in-Err-admit_all.ensures
+pub returns-in_err-admit_all : goal.returns-in_err-admit_all
+returns-in_err-admit_all c =
+    let size = c.in_ok-kept.size in
+    let p = err_from_is_err_and c.from_residual-in_err-admit_all.result c.from_residual-in_err-admit_all.ensures.1 in
+    rw (p.1, p.2) (all_fails c.args.files.now size c.in_ok-kept.kept c.admit_all.new.self (drop size c.args.files.now) c.in_err-admit_all.field-0.0 c.in_ok-kept.ensures refl c.in_err-admit_all.ensures)
 
-pub returns-in-Err : goal.returns-in-Err
-returns-in-Err c = front_fails (lists c.args.files.now) c.in-Err.refusal c.in-Err.ensures
+pub returns-in_err-kept : goal.returns-in_err-kept
+returns-in_err-kept c =
+    let p = err_from_is_err_and c.from_residual.result c.from_residual.ensures.1 in
+    rw (p.1, p.2) (front_fails c.args.files.now c.in_err-kept.field-0.0 c.in_err-kept.ensures)

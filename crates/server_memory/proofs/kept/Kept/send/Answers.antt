@@ -13,10 +13,10 @@ pub sent_entries-requires : goal.sent_entries-requires
 sent_entries-requires c = (length c.args.self.now.history.idents, c.from-entries.ensures.each)
 
 pub new-requires-clause-within : goal.new-requires-clause-within
-new-requires-clause-within c = omega (arith, c.in-Ok.ensures.short, c.from-entries.ensures.short)
+new-requires-clause-within c = omega (arith, c.in_ok-sent.ensures.short, c.from-entries.ensures.short)
 
-pub returns-in-Ok : goal.returns-in-Ok
-returns-in-Ok c =
+pub returns : goal.returns
+returns c =
     let h = c.args.self.now.history in
     let o = option_copied c.args.tables in
     let xs = drop (c.args.cursor - h.floor) h.entries in
@@ -27,5 +27,5 @@ returns-in-Ok c =
     ]
     in
     ap (λ (s : DownloadParts). Message.Download s.ident s.from (map sent_seen s.entries)) c.new.ensures
-    ∙ ap (λ l. Message.Download c.args.ident c.args.cursor l) (c.in-Ok.ensures.sent ∙ ap (λ l. sendable c.args.second (given_to o l)) c.from-entries.ensures.entries)
+    ∙ ap (λ l. Message.Download c.args.ident c.args.cursor l) (c.in_ok-sent.ensures.sent ∙ ap (λ l. sendable c.args.second (given_to o l)) c.from-entries.ensures.entries)
     ∙ sym (downloaded o c.args.second c.args.ident c.args.cursor xs shown)

@@ -1,5 +1,4 @@
 use Rattle.std.proofs.Common.{ap, ◌∙◌, subst}
-use Rattle.sync_journal.specs.Records.{lists}
 use Rattle.sync_exchange.specs.Profile.{the_profile}
 use Rattle.sync_model.specs.Fronts.{front_of}
 use Rattle.server_memory.specs.Fronting.{Fronts, seen}
@@ -12,5 +11,5 @@ front_in-requires c = ap (λ l. is_trimmed (seen l)) c.as_slice.ensures.value �
 
 pub returns : goal.returns
 returns c =
-    fronts_read (lists c.args.files.now) c.in-Ok.records.items c.front_in.result c.in-Ok.ensures.read c.in-Ok.ensures.spelled
+    fronts_read c.args.files.now c.in-Ok.records.items c.front_in.result c.in-Ok.ensures.read c.in-Ok.ensures.spelled
     (subst (λ l. Fronts c.front_in.result (front_of the_profile (seen l))) c.as_slice.ensures.value c.front_in.ensures)

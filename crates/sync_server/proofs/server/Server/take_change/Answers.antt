@@ -1,4 +1,5 @@
 use Rattle.std.proofs.Common.{◌≡◌, ◌<◌, length, None, Some, Err, refl, sym, ap, ◌∙◌, subst, arith}
+use Rattle.std.proofs.lemmas.Result.{err_from_is_err_and}
 use Rattle.std.proofs.lemmas.Bool.{lt-leb}
 use Rattle.sync_data.specs.declared.instr.Instr.{Instr}
 use Rattle.sync_base.specs.States.{State}
@@ -64,8 +65,8 @@ returns-in-Err-Refused-clause-given g c =
     ap (λ (p : Parts Instr State). length p.idents) both.1
 
 -- where it is merged
-pub returns-in-Ok-append_entry-clause-taken : goal.returns-in-Ok-append_entry-clause-taken
-returns-in-Ok-append_entry-clause-taken g c = λ d is.
+pub returns-clause-taken : goal.returns-clause-taken
+returns-clause-taken g c = λ d is.
     let old = c.args.self.now.kept in
     let ident = c.args.ident in
     let h = change_seen c.args.change.now in
@@ -76,8 +77,8 @@ returns-in-Ok-append_entry-clause-taken g c = λ d is.
     is_taken None ident d h old c.append_entry.new.self.kept (lt-leb h.number d.count above)
     (record { records = records_of c.in-Ok.form ident h; parts = parts c.merge.new.self }, merged.0, ap parts c.append_entry.ensures.kept)
 
-pub returns-in-Ok-append_entry-clause-appends : goal.returns-in-Ok-append_entry-clause-appends
-returns-in-Ok-append_entry-clause-appends g c = λ d is.
+pub returns-clause-appends : goal.returns-clause-appends
+returns-clause-appends g c = λ d is.
     let old = c.args.self.now.kept in
     let ident = c.args.ident in
     let h = change_seen c.args.change.now in
@@ -85,14 +86,15 @@ returns-in-Ok-append_entry-clause-appends g c = λ d is.
     let same : c.in-Some.given.now ≡ d = the_same (c.in-Some.ensures.given ∙ is) in
     let above : d.count < h.number = omega (arith, c.count.ensures, ap (λ g. g.count) same, c.number.ensures.value, c.if-number-count.false) in
     let merged = merged_change old ident d h k above (λ i. change_of (c.of-head.ensures i) (c.body.ensures.value i)) c.in-Ok.form (parts c.merge.new.self) (c.in-Ok.ensures.merged d is) in
-    subst (λ l. JournalAppends l c.args.self.now.journal c.append_entry.new.self.journal None) (sym merged.1) c.in-Ok-append_entry.ensures.appends
+    subst (λ l. JournalAppends l c.args.self.now.journal c.append_entry.new.self.journal None) (sym merged.1) c.in_ok-append_entry.ensures.appends
 
-pub returns-in-Ok-append_entry-clause-given : goal.returns-in-Ok-append_entry-clause-given
-returns-in-Ok-append_entry-clause-given g c = ap (λ (k : Kept). length k.history.idents) c.append_entry.ensures.kept ∙ c.in-Ok.ensures.given
+pub returns-clause-given : goal.returns-clause-given
+returns-clause-given g c = ap (λ (k : Kept). length k.history.idents) c.append_entry.ensures.kept ∙ c.in-Ok.ensures.given
 
 -- where its record isn't added
-pub returns-in-Err-clause-appends : goal.returns-in-Err-clause-appends
-returns-in-Err-clause-appends g c = λ d is.
+pub returns-in_err-append_entry-clause-appends : goal.returns-in_err-append_entry-clause-appends
+returns-in_err-append_entry-clause-appends g c = λ d is.
+    let p = err_from_is_err_and c.from_residual.result c.from_residual.ensures.1 in
     let old = c.args.self.now.kept in
     let ident = c.args.ident in
     let h = change_seen c.args.change.now in
@@ -100,4 +102,4 @@ returns-in-Err-clause-appends g c = λ d is.
     let same : c.in-Some.given.now ≡ d = the_same (c.in-Some.ensures.given ∙ is) in
     let above : d.count < h.number = omega (arith, c.count.ensures, ap (λ g. g.count) same, c.number.ensures.value, c.if-number-count.false) in
     let merged = merged_change old ident d h k above (λ i. change_of (c.of-head.ensures i) (c.body.ensures.value i)) c.in-Ok.form (parts c.merge.new.self) (c.in-Ok.ensures.merged d is) in
-    subst (λ l. JournalAppends l c.args.self.now.journal c.append_entry.new.self.journal (Some c.in-Err.refusal)) (sym merged.1) c.in-Err.ensures.appends
+    rw (p.1, p.2) (subst (λ l. JournalAppends l c.args.self.now.journal c.append_entry.new.self.journal (Some c.in_err-append_entry.field-0.0)) (sym merged.1) c.in_err-append_entry.ensures.appends)

@@ -1,5 +1,4 @@
 use Rattle.std.proofs.Common.{◌≡◌, Option, sym, ◌∙◌, subst, rules}
-use Rattle.sync_journal.specs.Records.{lists}
 use Rattle.sync_messages.specs.declared.message.Message.{Message as CodeMessage}
 use Rattle.sync_model.specs.Bytes.{Name}
 use Rattle.sync_model.specs.Messages.{Message}
@@ -13,8 +12,7 @@ use Rattle.sync_world.proofs.world.World.deliver.Goals as goal
 pub returns-in-Ok-Some : goal.returns-in-Ok-Some
 returns-in-Ok-Some c w h =
     let n = c.args.number in
-    let spelled = subst (λ l. AreSpelled w.messages (lists l)) (sym c.as_slice.ensures.value) h.stands.messages in
-    let it = subst (λ (o : Option CodeMessage). IsIt (numbered w.messages n) o) c.in-Ok-Some.field-0-is (c.in-Ok-Some.ensures w.messages spelled) in
+    let it = subst (λ (o : Option CodeMessage). IsIt (numbered w.messages n) o) c.in-Ok-Some.field-0-is (c.in-Ok-Some.ensures w.messages h.stands.messages) in
     let is = message_numbered w n ∙ it.0 in
     let reached = subst (λ (o : Option Message). IsReached the_profile (delivers the_profile w server_name o).world) is (c.worlds_read_back.ensures.steps w (Delivers n server_name) h.reached) in
     let served = subst (λ (o : Option Message). Happens (delivers the_profile w server_name o) c.serve.result c.serve.new.self) (sym is) (c.serve.ensures w h.stands (c.worlds_read_back.ensures.opens w h.reached) it.1 reached) in

@@ -1,6 +1,5 @@
 use Rattle.std.proofs.Common.{◌≡◌, Bool, Option, Ok, if◌then◌else◌, refl, sym, ◌∙◌, ap, subst}
 use Rattle.std.specs.Vec.{with_item}
-use Rattle.sync_journal.specs.Records.{lists}
 use Rattle.sync_messages.specs.declared.message.Message.{Message as CodeMessage}
 use Rattle.sync_model.specs.Clients.{take as take_message}
 use Rattle.sync_model.specs.Worlds.{Delivers, IsReached, NoNode, Outcome, Took, client_calls, delivers, has_name, is_node, message_at, says, server_called, took_words}
@@ -23,8 +22,7 @@ returns-in-Ok c w h other =
     let to = c.args.to.now in
     let place = c.in-Some.place in
     let m = message_seen c.in-Ok-Some.message in
-    let spelled = subst (λ l. AreSpelled w.messages (lists l)) (sym c.as_slice.ensures.value) h.stands.messages in
-    let it = subst (λ (o : Option CodeMessage). IsIt (numbered w.messages n) o) c.in-Ok-Some.field-0-is (c.in-Ok-Some.ensures w.messages spelled) in
+    let it = subst (λ (o : Option CodeMessage). IsIt (numbered w.messages n) o) c.in-Ok-Some.field-0-is (c.in-Ok-Some.ensures w.messages h.stands.messages) in
     let f = c.in-Some.ensures.found w h.stands in
     let here = (seek_found (has_name to) w.clients (place, f.0) f.1).here in
     let held = held_at w.stops w.clients old.clients.items place f.0 c.index_mut.result.now h.stands.clients here c.index_mut.ensures.value c.in-Some.ensures.within in

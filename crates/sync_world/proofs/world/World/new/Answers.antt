@@ -1,5 +1,4 @@
 use Rattle.std.proofs.Common.{[], refl, sym, subst}
-use Rattle.sync_journal.specs.Records.{lists}
 use Rattle.sync_model.specs.Each.{no_more}
 use Rattle.sync_model.specs.Worlds.{empty_world}
 use Rattle.sync_world.specs.Holding.{HoldsEach}
@@ -15,7 +14,7 @@ returns c = record {
     named = tt;
     server_fits = no_more;
     clients_fit = no_more;
-    messages = subst (λ l. AreSpelled [] (lists l)) (sym c.new-3.ensures.items) tt;
+    messages = subst (AreSpelled []) (sym c.new-3.ensures) tt;
     injected = c.new-4.ensures.items;
     unarmed = λ name e. refl;
   };
