@@ -8,10 +8,11 @@ use Rattle.sync_data.specs.declared.entry.Stamp.{Stamp}
 use Rattle.sync_transform.specs.Places.{longer}
 use Rattle.sync_transform.specs.declared.places.Does.{Does}
 use Rattle.sync_transform.specs.declared.places.Does.TheVariants.{Inserts, Erases, Updates}
-use Rattle.list_lane.specs.Lanes.{length_at_end, slot_at}
+use Rattle.sync_theory.specs.Grid.{tail}
+use Rattle.list_lane.specs.Lanes.{first_slot, length_at_end, slot_at}
 use Rattle.list_lane.specs.Flat.{Placed}
 use Rattle.list_lane.specs.Ops.{lane_later}
-use Rattle.list_lane.specs.Bursts.{lift, lift_all, Leads, InFront, AllBehind, AllBefore, AllLater, pushed_all, AllFrom, width, AllPast, is_insertion, is_erasure, insertions, erasures, is_after, NoneBefore, NoneAfter, Bounded, earlier_of, later_of, with_op, with_slot}
+use Rattle.list_lane.specs.Bursts.{lift, lift_all, Leads, InFront, AllBehind, AllBefore, AllLater, pushed_all, AllFrom, width, AllPast, is_insertion, is_erasure, insertions, erasures, is_after, NoneBefore, NoneAfter, Bounded, IsBurst, earlier_of, later_of, with_op, with_slot, without_op, without_slot}
 use Rattle.list_lane.specs.declared.bounds.Bounds.{Bounds}
 use Rattle.list_lane.specs.declared.op.Op.{Op}
 use Rattle.list_lane.proofs.Stamps.{none_after, earlier_first, earlier_second, later_first, later_second, still_later, still_earlier}
@@ -128,6 +129,66 @@ bounded_slot None b ss h = record {
   latest = later_none ss b.latest h.latest;
 }
 bounded_slot (Some a) b ss h = bounded_op a b ss h
+
+-- ---- the slots behind the first
+bounded_behind : (a : Op) (b : Bounds) (ss : List (Option Op)) → Bounded b (Some a ∷ ss) → (d : Does) → a.does ≡ d → Bounded (without_op d b) ss
+bounded_behind a b ss h Inserts e = record {
+  low = h.low.1;
+  past = subst (λ d. AllPast false (longer d b.past) ss) e h.past.1;
+  edge = subst (λ d. AllPast true (longer d b.edge) ss) e h.edge.1;
+  inserted = (let n = h.inserted in let one = ap is_insertion e in omega (arith, n, one));
+  erased = (let n = h.erased in let none = ap is_erasure e in omega (arith, n, none));
+  earliest = h.earliest.1;
+  latest = h.latest.1;
+}
+bounded_behind a b ss h Erases e = record {
+  low = h.low.1;
+  past = subst (λ d. AllPast false (longer d b.past) ss) e h.past.1;
+  edge = subst (λ d. AllPast true (longer d b.edge) ss) e h.edge.1;
+  inserted = (let n = h.inserted in let none = ap is_insertion e in omega (arith, n, none));
+  erased = (let n = h.erased in let one = ap is_erasure e in omega (arith, n, one));
+  earliest = h.earliest.1;
+  latest = h.latest.1;
+}
+bounded_behind a b ss h Updates e = record {
+  low = h.low.1;
+  past = subst (λ d. AllPast false (longer d b.past) ss) e h.past.1;
+  edge = subst (λ d. AllPast true (longer d b.edge) ss) e h.edge.1;
+  inserted = (let n = h.inserted in let none = ap is_insertion e in omega (arith, n, none));
+  erased = (let n = h.erased in let none = ap is_erasure e in omega (arith, n, none));
+  earliest = h.earliest.1;
+  latest = h.latest.1;
+}
+
+bounded_rest : (s : Option Op) (b : Bounds) (ss : List (Option Op)) → Bounded b (s ∷ ss) → Bounded (without_slot s b) ss
+bounded_rest None b ss h = record { low = h.low; past = h.past; edge = h.edge; inserted = h.inserted; erased = h.erased; earliest = h.earliest; latest = h.latest }
+bounded_rest (Some a) b ss h = bounded_behind a b ss h a.does refl
+
+low_stays : (d : Does) (b : Bounds) → (without_op d b).low ≡ b.low
+low_stays Inserts b = refl
+low_stays Erases b = refl
+low_stays Updates b = refl
+
+rest_low : (s : Option Op) (b : Bounds) → (without_slot s b).low ≡ b.low
+rest_low None b = refl
+rest_low (Some a) b = low_stays a.does b
+
+-- what is kept of a burst without its first slot
+pub burst_rest : (up down : ℕ) (b : Bounds) (ss : List (Option Op)) (s : Option Op) → 0 < length ss → s ≡ get_or ss 0 s → IsBurst up down b ss → IsBurst up down (without_slot s b) (tail ss)
+burst_rest up down b [] s some is h = absurd (omega (arith, some))
+burst_rest up down b (x ∷ ss) s some is h = record {
+  bounded = subst (λ y. Bounded (without_slot y b) ss) (sym is) (bounded_rest x b ss h.bounded);
+  front = (let f = h.front in let low = rest_low s b in omega (arith, f, low));
+}
+
+-- and what it is
+pub lift_tail : (up down : ℕ) (ss : List (Option Op)) → lift_all up down (tail ss) ≡ tail (lift_all up down ss)
+lift_tail up down [] = refl
+lift_tail up down (s ∷ ss) = refl
+
+pub first_at : (ss : List (Option Op)) → slot_at 0 ss ≡ first_slot ss
+first_at [] = refl
+first_at (s ∷ ss) = refl
 
 -- a burst that wasn't moved back beyond the front stays so
 pub front_slot : (s : Option Op) (b : Bounds) (up down : ℕ) → IfSome s (λ a. down ≤ a.place + up) → down ≤ b.low + up → down ≤ (with_slot s b).low + up

@@ -146,6 +146,16 @@ abbrev pub with_slot : Option Op → Bounds → Bounds
 with_slot None b = b
 with_slot (Some a) b = with_op a b
 
+-- bounds without the first slot, which may be looser than they need be
+abbrev pub without_op : Does → Bounds → Bounds
+without_op Inserts b = record b { past = b.past + 1; edge = b.edge + 1; inserted = b.inserted - 1 }
+without_op Erases b = record b { past = b.past - 1; edge = b.edge - 1; erased = b.erased - 1 }
+without_op Updates b = b
+
+abbrev pub without_slot : Option Op → Bounds → Bounds
+without_slot None b = b
+without_slot (Some a) b = without_op a.does b
+
 -- what is kept of a burst: bounds of its slots as they were written, and it wasn't moved back beyond the front of the list
 pub record IsBurst (up down : ℕ) (b : Bounds) (ss : List (Option Op)) : Type 0 where
   pub bounded : Bounded b ss

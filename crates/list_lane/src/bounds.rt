@@ -1,5 +1,5 @@
-ghost use Rattle.std.specs.Prelude.{◌≡◌, ◌≤◌, ◌<◌, [], length};
-ghost use Rattle.list_lane.specs.Bursts.{Bounded, with_slot as with, earlier_of as earlier, later_of as later};
+ghost use Rattle.std.specs.Prelude.{◌≡◌, ◌≤◌, ◌<◌, [], length, IfSome};
+ghost use Rattle.list_lane.specs.Bursts.{Bounded, with_slot as with, without_slot as without, earlier_of as earlier, later_of as later};
 ghost use Rattle.sync_base.specs.Rules.{top};
 
 use super::op::Op;
@@ -82,6 +82,31 @@ pub(crate) fn with_slot(slot: Option<Op>, bounds: Bounds) -> Bounds
         erased: bounds.erased + erased,
         earliest: earlier_of(op.stamp, bounds.earliest),
         latest: later_of(op.stamp, bounds.latest),
+    }
+}
+
+/// The bounds without the first slot, if they can be told without a look at the others.
+#[inline(always)]
+pub(crate) fn without_slot(slot: Option<Op>, bounds: Bounds) -> Option<Bounds>
+    ensures { IfSome result (λ b. b ≡ without slot bounds) }
+{
+    let Some(op) = slot else {
+        return Some(bounds);
+    };
+    match op.does {
+        Does::Inserts => Some(Bounds {
+            past: bounds.past.checked_add(1)?,
+            edge: bounds.edge.checked_add(1)?,
+            inserted: bounds.inserted.saturating_sub(1),
+            ..bounds
+        }),
+        Does::Erases => Some(Bounds {
+            past: bounds.past.saturating_sub(1),
+            edge: bounds.edge.saturating_sub(1),
+            erased: bounds.erased.saturating_sub(1),
+            ..bounds
+        }),
+        Does::Updates => Some(bounds),
     }
 }
 

@@ -7,7 +7,7 @@ ghost use Rattle.list_lane.specs.Bursts.{lift, lift_all, pushed_all, AllBefore, 
 ghost use Rattle.sync_transform.specs.declared.places.Does.TheVariants.{Inserts};
 ghost use Rattle.sync_theory.specs.Grid.{tail};
 
-use super::bounds::{Bounds, bounds_of, no_bounds, with_slot};
+use super::bounds::{Bounds, bounds_of, no_bounds, with_slot, without_slot};
 use super::flat::{cross_slots, is_later_in, left_behind, length_in, lift_slots, lifted};
 use super::op::Op;
 use std::alloc::Global;
@@ -115,6 +115,23 @@ impl Burst {
 
     /// Takes the first slot out.
     pub(crate) fn pop_first(&mut self) -> Option<Op>
+        requires there { 0 < length self.old }
+        requires placed { Placed self.old }
+        requires room { length self.old ≤ top }
+        ensures rest { self.new ≡ tail self.old }
+        ensures slot { result ≡ first_slot self.old }
+    {
+        let Some(bounds) = without_slot(self.slots[0], self.bounds) else {
+            return self.pop_settled();
+        };
+        let first = self.slot(0);
+        let _written = self.slots.remove(0);
+        self.bounds = bounds;
+        first
+    }
+
+    /// The same, once all are written as they were lifted.
+    fn pop_settled(&mut self) -> Option<Op>
         requires there { 0 < length self.old }
         requires placed { Placed self.old }
         requires room { length self.old ≤ top }

@@ -74,19 +74,13 @@ pub struct Took<'a> {
     pub body: &'a [u8],
 }
 
-fn took_fields(bytes: &[u8]) -> Option<Took<'_>>
-    ensures { IfSome result (λ took. seen read_took took_in bytes.now ≡ Some (took_seen took)) }
+fn took_fields(bytes: &[u8]) -> Result<Took<'_>, RecordRefusal>
+    ensures { Gives took_seen result (seen read_took took_in bytes.now) }
 {
-    let Ok((origin, rest)) = number_of(bytes) else {
-        return None;
-    };
-    let Ok((number, rest)) = number_of(rest) else {
-        return None;
-    };
-    let Ok((ms, body)) = wide_of(rest) else {
-        return None;
-    };
-    Some(Took {
+    let (origin, rest) = number_of(bytes)?;
+    let (number, rest) = number_of(rest)?;
+    let (ms, body) = wide_of(rest)?;
+    Ok(Took {
         origin,
         number,
         ms,
@@ -98,7 +92,7 @@ fn took_all(bytes: &[u8]) -> Option<Took<'_>>
     ensures { IfSome result (λ took. record_in client_forms bytes.now ≡ Some (took_seen took)) }
 {
     match bytes {
-        [4, fields @ ..] => took_fields(fields),
+        [4, fields @ ..] => took_fields(fields).ok(),
         _ => None,
     }
 }
@@ -106,10 +100,13 @@ fn took_all(bytes: &[u8]) -> Option<Took<'_>>
 fn took_of(alloc: Global, bytes: &[u8]) -> Result<ClientRecord, RecordRefusal>
     ensures { Gives (λ x. x) result (seen read_took took_in bytes.now) }
 {
-    let (origin, rest) = number_of(bytes)?;
-    let (number, rest) = number_of(rest)?;
-    let (ms, rest) = wide_of(rest)?;
-    let body = body_of(alloc, rest)?;
+    let Took {
+        origin,
+        number,
+        ms,
+        body,
+    } = took_fields(bytes)?;
+    let body = body_of(alloc, body)?;
     Ok(ClientRecord::Took {
         origin,
         number,
