@@ -113,7 +113,9 @@ fn sent_entries(
     ensures small { IfOk result (λ sent. bytes_of_entries sent.items ≤ most_bytes) }
     ensures short { IfOk result (λ sent. length sent.items ≤ length entries.now) }
 {
-    let mut sent = Vec::new(alloc);
+    let Ok(mut sent) = Vec::with_capacity(alloc, entries.len().min(MOST_LISTED)) else {
+        return Err(NoMemory);
+    };
     let mut room = MOST_BYTES;
     for shared in entries {
         if sent.len() == MOST_LISTED {

@@ -1,4 +1,4 @@
-ghost use Rattle.std.specs.Prelude.{◌≡◌, map, string_bytes, position, IfSome, length, take};
+ghost use Rattle.std.specs.Prelude.{◌≡◌, false, None, map, string_bytes, position, IfSome, length, take};
 ghost use Rattle.std.specs.List.{IsDistinct};
 ghost use Rattle.std.specs.Str.{bytes_eq};
 ghost use Rattle.sync_intern.specs.FirstUses.{place_in};
@@ -8,6 +8,17 @@ use std::alloc::Global;
 
 /// Up to so many strings are looked through; of more an index tells the places.
 pub(crate) const FEW: usize = 16;
+
+/// Whether an index tells the places of so many strings, or will from now on.
+#[inline(always)]
+pub(crate) fn is_indexed(places: &Option<IndexSet<String>>, count: usize) -> bool
+    ensures { result ≡ false → places.now ≡ None }
+{
+    match places {
+        Some(_) => true,
+        None => count > FEW,
+    }
+}
 
 /// The place of a string among others, where it is one of them. It takes no memory.
 pub(crate) fn place_among(texts: &[&str], text: &str) -> Option<usize>

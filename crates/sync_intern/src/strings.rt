@@ -4,7 +4,7 @@ ghost use Rattle.std.specs.List.{IsDistinct};
 ghost use Rattle.std.specs.Str.{bytes_eq};
 ghost use Rattle.sync_intern.specs.FirstUses.{has_string, with_string, place_of, place_in, AreShort};
 
-use super::places::{FEW, place_among, places_with};
+use super::places::{FEW, is_indexed, place_among, places_with};
 use indexmap::IndexSet;
 use std::alloc::Global;
 use std::marker::Model;
@@ -137,8 +137,10 @@ impl<'a> Strings<'a> {
         let Ok(()) = self.texts.push(text) else {
             return Err(NoMemory);
         };
-        let before = self.places.take();
-        self.places = places_with(self.alloc, before, self.texts.as_slice());
+        if is_indexed(&self.places, self.texts.len()) {
+            let before = self.places.take();
+            self.places = places_with(self.alloc, before, self.texts.as_slice());
+        }
         Ok(place as u32)
     }
 }

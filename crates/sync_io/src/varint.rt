@@ -34,7 +34,8 @@ pub fn put_varint64(out: &mut Vec<u8>, number: u64) -> Result<(), NoMemory>
     Ok(())
 }
 
-/// The number at the front, of at most so many bytes and 64 bits, and the bytes behind it.
+/// The number at the front, of at most so many bytes and 64 bits, and the bytes behind it. Most have one byte.
+#[inline(always)]
 fn number_of(bytes: &[u8], room: u32) -> Result<(u64, &[u8]), VarintFault>
     ensures { Reads (λ x. (x.0, x.1.now)) result (below (2 ^ 64) (number_at room bytes.now)) }
 {
@@ -47,7 +48,25 @@ fn number_of(bytes: &[u8], room: u32) -> Result<(u64, &[u8]), VarintFault>
             if *byte < 128 {
                 return Ok((*byte as u64, rest));
             }
-            let (higher, rest) = number_of(rest, room - 1)?;
+            longer_number_of(bytes, room)
+        }
+    }
+}
+
+/// The same, byte by byte.
+fn longer_number_of(bytes: &[u8], room: u32) -> Result<(u64, &[u8]), VarintFault>
+    ensures { Reads (λ x. (x.0, x.1.now)) result (below (2 ^ 64) (number_at room bytes.now)) }
+{
+    if room == 0 {
+        return Err(VarintFault::Bad);
+    }
+    match bytes {
+        [] => Err(VarintFault::Truncated),
+        [byte, rest @ ..] => {
+            if *byte < 128 {
+                return Ok((*byte as u64, rest));
+            }
+            let (higher, rest) = longer_number_of(rest, room - 1)?;
             if higher == 0 {
                 return Err(VarintFault::Bad);
             }

@@ -29,7 +29,9 @@ pub struct Progress {
 fn one_edit(alloc: Global, edit: Instr) -> Result<Listed<Instr>, NoMemory>
     ensures { IfOk result (λ edits. edits ≡ edit ∷ []) }
 {
-    let mut edits = Vec::new(alloc);
+    let Ok(mut edits) = Vec::with_capacity(alloc, 1) else {
+        return Err(NoMemory);
+    };
     match edits.push(edit) {
         Ok(()) => Ok(Listed::of(edits)),
         Err(_) => Err(NoMemory),

@@ -45,9 +45,7 @@ fn put_clients(alloc: Global, out: &mut Vec<u8>, clients: &[Node]) -> Result<(),
 fn place_of(clients: &[Node], name: &Name) -> Option<usize>
     ensures { result ≡ position (named name.now) clients.now }
 {
-    clients
-        .iter()
-        .position(|node| name.text() == node.name.text())
+    clients.iter().position(|node| *name == node.name)
 }
 
 impl World {

@@ -16,11 +16,20 @@ places_with-requires-clause-distinct c =
     let fresh : has_string (texts c.self.inside.texts.items) c.args.text.now ≡ false = subst (λ (ss : List (List ℕ)). has_string ss c.args.text.now ≡ false) (sym c.self.view_is) c.requires.new_ in
     subst (IsDistinct bytes_eq) (sym more) (distinct_more _ c.args.text.now c.self.invariant.1 fresh)
 
-pub invariant_of-self-2 : goal.invariant_of-self-2
-invariant_of-self-2 c =
+pub invariant_of-self-then-is_indexed-2 : goal.invariant_of-self-then-is_indexed-2
+invariant_of-self-then-is_indexed-2 c =
     let more : texts c.push.new.self.items ≡ texts c.self.inside.texts.items ++ c.args.text.now ∷ [] = ap texts c.in-Ok.ensures.items ∙ append_bytes (λ (s : Bor (List ℕ)). s.now) c.self.inside.texts.items c.args.text in
     let fresh : has_string (texts c.self.inside.texts.items) c.args.text.now ≡ false = subst (λ (ss : List (List ℕ)). has_string ss c.args.text.now ≡ false) (sym c.self.view_is) c.requires.new_ in (
       subst AreShort (sym more) (short_more _ c.args.text.now c.self.invariant.0 c.requires.short),
       subst (IsDistinct bytes_eq) (sym more) (distinct_more _ c.args.text.now c.self.invariant.1 fresh),
       subst (λ (xs : List (Bor (List ℕ))). IfSome c.places_with.result (λ p. map (λ s. string_bytes s) p.keys ≡ texts xs)) c.as_slice.ensures.value c.places_with.ensures,
+    )
+
+pub invariant_of-self-else-is_indexed : goal.invariant_of-self-else-is_indexed
+invariant_of-self-else-is_indexed c =
+    let more : texts c.push.new.self.items ≡ texts c.self.inside.texts.items ++ c.args.text.now ∷ [] = ap texts c.in-Ok.ensures.items ∙ append_bytes (λ (s : Bor (List ℕ)). s.now) c.self.inside.texts.items c.args.text in
+    let fresh : has_string (texts c.self.inside.texts.items) c.args.text.now ≡ false = subst (λ (ss : List (List ℕ)). has_string ss c.args.text.now ≡ false) (sym c.self.view_is) c.requires.new_ in (
+      subst AreShort (sym more) (short_more _ c.args.text.now c.self.invariant.0 c.requires.short),
+      subst (IsDistinct bytes_eq) (sym more) (distinct_more _ c.args.text.now c.self.invariant.1 fresh),
+      rw (c.is_indexed.ensures c.if-is_indexed.false) tt,
     )

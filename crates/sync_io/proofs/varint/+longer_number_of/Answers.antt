@@ -1,7 +1,7 @@
 use Rattle.std.proofs.Common.{◌^◌, slice_index_or, ◌∙◌, arith}
 use Rattle.std.proofs.lemmas.Result.{err_from_is_err_and}
 use Rattle.sync_io.proofs.Numbers.{at_none, at_empty, at_last, at_more, none_higher, too_large, fitting}
-use Rattle.sync_io.proofs.varint.+number_of.Goals as goal
+use Rattle.sync_io.proofs.varint.+longer_number_of.Goals as goal
 
 pub returns-then-room-eq0 : goal.returns-then-room-eq0
 returns-then-room-eq0 t c = at_none c.args.room c.args.bytes.now (2 ^ 64) c.if-room-eq0.true
