@@ -9,3 +9,4 @@ mod table;
 pub use kinds::{is_of_kind, is_sound};
 pub use refusal::SchemaRefusal;
 pub use schema::Schema;
+pub use table::TableDef;

@@ -191,6 +191,13 @@ impl Schema {
         })
     }
 
+    /// The table of a name: the kind of its keys and its columns. It takes no memory.
+    pub fn definition(&self, name: &Name) -> Option<&TableDef>
+        ensures { option_copied result ≡ map.get self.now name.now }
+    {
+        self.tables.get(name)
+    }
+
     /// The kind of a table's keys. It takes no memory.
     pub fn table(&self, name: &Name) -> Option<KeyKind>
         ensures { result ≡ option_map (λ t. t.key) (map.get self.now name.now) }

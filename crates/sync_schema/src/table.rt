@@ -14,7 +14,7 @@ use sync_maps::next_key;
 
 /// A table: the kind of its keys, and its columns by name.
 #[derive(Drop)]
-pub(crate) struct TableDef {
+pub struct TableDef {
     alloc: Global,
     kind: KeyKind,
     columns: BTreeMap<Name, Column>,
@@ -44,15 +44,15 @@ impl TableDef {
         }
     }
 
-    /// The kind of its keys.
-    pub(crate) fn kind(&self) -> KeyKind
+    /// The kind of its keys. It takes no memory.
+    pub fn kind(&self) -> KeyKind
         ensures { result ≡ self.now.key }
     {
         self.kind
     }
 
-    /// The column of that name.
-    pub(crate) fn column(&self, name: &Name) -> Option<&Column>
+    /// The column of that name. It takes no memory.
+    pub fn column(&self, name: &Name) -> Option<&Column>
         ensures { option_copied result ≡ map.get self.now.columns name.now }
     {
         self.columns.get(name)

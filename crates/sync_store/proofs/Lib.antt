@@ -2,4 +2,5 @@ pub mod Acting
 pub mod Filling
 pub mod Ordered
 pub mod Small
+pub mod Standing
 pub mod Taking

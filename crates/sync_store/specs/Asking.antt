@@ -6,7 +6,7 @@ use Rattle.sync_data.specs.declared.column.Shape.{Shape}
 use Rattle.sync_data.specs.declared.column.Column.{Column}
 use Rattle.sync_base.specs.declared.answers.Break.{Break}
 use Rattle.sync_base.specs.declared.answers.Break.TheVariants as breaks
-use Rattle.sync_base.specs.Effects.{CellPath}
+use Rattle.sync_base.specs.Effects.{CellPath, ObjectName}
 use Rattle.sync_base.specs.States.{State, Tables, Cell, column_in, has, cell_at, fits, shape_rank}
 use Rattle.sync_base.specs.Checks.{object_checks, column_check, size}
 use Rattle.sync_store.specs.declared.wanted.Wanted.{Wanted}
@@ -17,9 +17,13 @@ abbrev pub verdict : Option Break → Result (Unit {0}) Break
 verdict None = Ok tt
 verdict (Some b) = Err b
 
+-- the object stands, and then the rest
+abbrev pub standing_checks : State → ObjectName → List (Bool × Break) → List (Bool × Break)
+standing_checks s o rest = object_checks s.tables o ++ (has s o, breaks.NoObject) ∷ rest
+
 -- its object and its column stand, and then the rest
 abbrev pub cell_checks : State → CellPath → List (Bool × Break) → List (Bool × Break)
-cell_checks s p rest = object_checks s.tables p.0 ++ (has s p.0, breaks.NoObject) ∷ (is_some (column_in s.tables p.0.0 p.1), breaks.NoColumn) ∷ rest
+cell_checks s p rest = standing_checks s p.0 ((is_some (column_in s.tables p.0.0 p.1), breaks.NoColumn) ∷ rest)
 
 -- the checks of a cell that is changed
 abbrev pub column_checks : State → CellPath → (Shape → Bool) → (Column → Bool) → (Cell → Bool) → List (Bool × Break)

@@ -1,24 +1,25 @@
-ghost use Rattle.std.specs.Prelude.{◌≡◌, ◌∷◌, ℕ, List, Bool, false, [], Some, None, IfOk, IfErr, OnOk};
+ghost use Rattle.std.specs.Prelude.{◌≡◌, ◌∷◌, ◌++◌, ℕ, List, Bool, true, false, [], is_some, Some, None, IfOk, IfErr, OnOk};
 ghost use Rattle.std.specs.Option.{option_copied, option_map_or};
 ghost use Rattle.sync_data.specs.declared.key.KeyKind.{KeyKind};
 ghost use Rattle.sync_base.specs.Effects.{NewTable, NewColumn, Erase, Change, effect_of, path_of};
 ghost use Rattle.sync_base.specs.Effects as effects;
 ghost use Rattle.std.specs.FinMap as map;
-ghost use Rattle.sync_base.specs.States.{column_in};
+ghost use Rattle.sync_base.specs.States.{IsState, column_in};
 ghost use Rattle.sync_base.specs.Checks.{break_of, first_failed, object_checks, size, is_int};
 ghost use Rattle.sync_base.specs.declared.answers.Break.{Break as BreakSeen};
-ghost use Rattle.sync_store.specs.Asking.{verdict, cell_checks, change_checks, is_wanted, takes, has_size};
+ghost use Rattle.sync_store.specs.Asking.{verdict, standing_checks, cell_checks, change_checks, is_wanted, takes, has_size};
 
 use super::object::Object;
 use super::parts::Parts;
 use super::wanted::Wanted;
 use sync_base::{AddColumn, Break, CellName, Column, Instr, Key, Kind, Name, Shape, Value as Held};
 use sync_cells::{Cell, Content};
-use sync_schema::is_sound;
+use sync_schema::{TableDef, is_of_kind, is_sound};
 
 impl Parts {
     /// Whether an instruction acts, or its first break. It takes no memory.
     pub(crate) fn check(&self, instr: &Instr) -> Result<(), Break>
+        requires { IsState self.now }
         ensures { result ≡ verdict (break_of self.now (effect_of instr.now)) }
     {
         match instr {
@@ -77,28 +78,51 @@ impl Parts {
     fn check_key(&self, table: &Name, key: &Key) -> Result<(), Break>
         ensures { result ≡ verdict (first_failed (object_checks self.now.tables (table.now, key.now))) }
     {
-        if self.schema.table(table).is_none() {
-            return Err(Break::NoTable);
+        match self.find_table(table, key) {
+            Ok(_) => Ok(()),
+            Err(cause) => Err(cause),
         }
-        if !self.schema.is_key_of(table, key) {
-            return Err(Break::WrongKeyKind);
-        }
-        Ok(())
     }
 
     fn check_object(&self, table: &Name, key: &Key) -> Result<(), Break>
         ensures { result ≡ verdict (break_of self.now (Erase (table.now, key.now))) }
     {
-        if self.schema.table(table).is_none() {
-            return Err(Break::NoTable);
+        match self.find_object(table, key) {
+            Ok(_) => Ok(()),
+            Err(cause) => Err(cause),
         }
-        if !self.schema.is_key_of(table, key) {
+    }
+
+    /// The table of that name, whose keys are of that key's kind.
+    fn find_table(&self, table: &Name, key: &Key) -> Result<&TableDef, Break>
+        ensures there { IfOk result (λ found. map.get self.now.tables table.now ≡ Some found.now) }
+        ensures passed { OnOk result ((rest : List (Bool × BreakSeen)) → first_failed (object_checks self.now.tables (table.now, key.now) ++ rest) ≡ first_failed rest) }
+        ensures cause { IfErr result (λ cause. (rest : List (Bool × BreakSeen)) → first_failed (object_checks self.now.tables (table.now, key.now) ++ rest) ≡ Some cause) }
+    {
+        let Some(found) = self.schema.definition(table) else {
+            return Err(Break::NoTable);
+        };
+        if !is_of_kind(found.kind(), key) {
             return Err(Break::WrongKeyKind);
         }
-        if self.objects.object(table, key).is_none() {
-            return Err(Break::NoObject);
+        Ok(found)
+    }
+
+    /// The table of an object, and the object, which stands.
+    fn find_object(&self, table: &Name, key: &Key) -> Result<(&TableDef, &Object), Break>
+        ensures there { IfOk result (λ found. map.get self.now.tables table.now ≡ Some found.0.now) }
+        ensures object { IfOk result (λ found. map.get self.now.objects (table.now, key.now) ≡ Some found.1.now) }
+        ensures passed { OnOk result ((rest : List (Bool × BreakSeen)) → first_failed (standing_checks self.now (table.now, key.now) rest) ≡ first_failed rest) }
+        ensures cause { IfErr result (λ cause. (rest : List (Bool × BreakSeen)) → first_failed (standing_checks self.now (table.now, key.now) rest) ≡ Some cause) }
+    {
+        let found = match self.find_table(table, key) {
+            Ok(found) => found,
+            Err(cause) => return Err(cause),
+        };
+        match self.objects.object(table, key) {
+            Some(object) => Ok((found, object)),
+            None => Err(Break::NoObject),
         }
-        Ok(())
     }
 
     /// The column of a cell, and its object, which stands.
@@ -108,16 +132,11 @@ impl Parts {
         ensures passed { OnOk result ((rest : List (Bool × BreakSeen)) → first_failed (cell_checks self.now (path_of cell.now) rest) ≡ first_failed rest) }
         ensures cause { IfErr result (λ cause. (rest : List (Bool × BreakSeen)) → first_failed (cell_checks self.now (path_of cell.now) rest) ≡ Some cause) }
     {
-        if self.schema.table(&cell.table).is_none() {
-            return Err(Break::NoTable);
-        }
-        if !self.schema.is_key_of(&cell.table, &cell.key) {
-            return Err(Break::WrongKeyKind);
-        }
-        let Some(object) = self.objects.object(&cell.table, &cell.key) else {
-            return Err(Break::NoObject);
+        let (table, object) = match self.find_object(&cell.table, &cell.key) {
+            Ok(found) => found,
+            Err(cause) => return Err(cause),
         };
-        match self.schema.column(&cell.table, &cell.column) {
+        match table.column(&cell.column) {
             Some(column) => Ok((column, object)),
             None => Err(Break::NoColumn),
         }
@@ -131,6 +150,7 @@ impl Parts {
         value: Option<&Held>,
         prior: Option<u32>,
     ) -> Result<(), Break>
+        requires { IsState self.now }
         ensures { result ≡ verdict (first_failed (change_checks self.now (path_of cell.now) (is_wanted shape) (takes self.now.tables (option_copied value.entry)) (has_size prior))) }
     {
         let (column, object) = match self.find_column(cell) {
@@ -144,6 +164,7 @@ impl Parts {
     }
 
     fn check_sum(&self, cell: &CellName) -> Result<(), Break>
+        requires { IsState self.now }
         ensures { result ≡ verdict (first_failed (change_checks self.now (path_of cell.now) (is_wanted Wanted.One) (λ c. is_int c.kind) (has_size None))) }
     {
         let (column, object) = match self.find_column(cell) {
@@ -157,6 +178,7 @@ impl Parts {
     }
 
     fn check_binding(&self, cell: &CellName, value: &Option<Held>) -> Result<(), Break>
+        requires { IsState self.now }
         ensures { (at : List ℕ) → result ≡ verdict (break_of self.now (Change (path_of cell.now) (effects.Bind at value.now))) }
     {
         match value {
@@ -175,12 +197,16 @@ impl Parts {
     }
 }
 
-/// Whether an object has the cell of a column, and it is a list of that length where one is wanted.
+/// Whether the cell of a column is a list of that length, where one is wanted. Else the cell, which stands, isn't looked for.
 fn has_size(object: &Object, column: &Name, prior: Option<u32>) -> bool
+    requires { is_some (map.get object.now column.now) ≡ true }
     ensures { result ≡ option_map_or (has_size prior) (map.get object.now column.now) false }
 {
+    let Some(prior) = prior else {
+        return true;
+    };
     match object.cell(column) {
-        Some(found) => is_size(found, prior),
+        Some(found) => prior as usize == size(found),
         None => false,
     }
 }
@@ -199,15 +225,6 @@ fn judge(has_shape: bool, fits: bool, has_size: bool) -> Result<(), Break>
         return Err(Break::BadPrior);
     }
     Ok(())
-}
-
-fn is_size(cell: &Cell, prior: Option<u32>) -> bool
-    ensures { result ≡ has_size prior cell.now }
-{
-    match prior {
-        Some(prior) => prior as usize == size(cell),
-        None => true,
-    }
 }
 
 /// The number of elements of a list; of another cell none.

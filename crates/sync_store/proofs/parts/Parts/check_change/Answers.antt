@@ -7,7 +7,11 @@ use Rattle.sync_base.specs.Effects.{path_of}
 use Rattle.sync_base.specs.States.{Cells}
 use Rattle.sync_base.specs.Checks.{first_failed, column_check}
 use Rattle.sync_store.specs.Asking.{verdict, column_checks, is_wanted, takes, has_size}
+use Rattle.sync_store.proofs.Standing.{has_cell}
 use Rattle.sync_store.proofs.parts.Parts.check_change.Goals as goal
+
+pub has_size-has_size-requires : goal.has_size-has_size-requires
+has_size-has_size-requires c = has_cell c.requires (path_of c.args.cell.now).0 c.args.cell.now.column c.in-Ok.ensures.object c.in-Ok.ensures.there
 
 pub returns-in-Err : goal.returns-in-Err
 returns-in-Err c = sym (ap verdict (c.in-Err.ensures.cause (column_checks c.args.self.now (path_of c.args.cell.now) (is_wanted c.args.shape) (takes c.args.self.now.tables (option_copied c.args.value)) (has_size c.args.prior))))
