@@ -94,7 +94,7 @@ fn walk(
             push(&mut crossed, Crossed::One { place, became })?;
             continue;
         }
-        if items.stays_apart(place, index) {
+        if items.stays(place, &changes, index) {
             continue;
         }
         match pass(

@@ -132,6 +132,16 @@ impl Items {
         unsent.stays_apart(index)
     }
 
+    /// Whether the changeset at a place and one of another, of which there is an index, are told to stay as they are. Neither is
+    /// copied.
+    pub(crate) fn stays(&self, place: usize, changes: &Shifted, index: &Index) -> bool
+        requires { place < length self.now }
+        ensures { IsTrue result → (u : clients.Unsent Instr) → IsAt place self.now u → Covers index.now changes.now.instrs → (later : Bool) → crossed (λ a b. meet a b later) u.current changes.now.instrs ≡ Ok (u.current, changes.now.instrs) }
+    {
+        let unsent = &self.items[place];
+        self.stays_apart(place, index) || unsent.stays(changes)
+    }
+
     /// What the changeset at a place and one of another do after they crossed, where each is one instruction of one list, and
     /// both stay. Where the place lies in the stretch, all of that is written, unless an index tells that they don't meet.
     #[inline(always)]

@@ -18,6 +18,7 @@ ghost use Rattle.sync_rebase.specs.Taking.{IsEntryOf};
 
 use super::carried::Became;
 use super::original::Original;
+use super::staying::ones_stay;
 use list_lane::{Op, action_left, action_of, parts_of};
 use std::alloc::Global;
 use std::marker::Model;
@@ -203,6 +204,15 @@ impl Unsent {
         ensures told { IsTrue result → (action : Action) → kind_in self.now.current ≡ Some (kind_of action) → (others : List Instr) → Covers index.now others → (later : Bool) → crossed (λ a b. meet a b later) (moved_first action self.now.current) others ≡ Ok (moved_first action self.now.current, others) }
     {
         stays_apart(self.spot, self.current.written(), index)
+    }
+
+    /// Whether it is plain that it and a changeset of another stay as they are, also where its one list instruction does the same
+    /// elsewhere.
+    pub(crate) fn stays(&self, changes: &Shifted) -> bool
+        ensures own { IsTrue result → (later : Bool) → crossed (λ a b. meet a b later) self.now.current changes.now.instrs ≡ Ok (self.now.current, changes.now.instrs) }
+        ensures told { IsTrue result → (action : Action) → kind_in self.now.current ≡ Some (kind_of action) → (later : Bool) → crossed (λ a b. meet a b later) (moved_first action self.now.current) changes.now.instrs ≡ Ok (moved_first action self.now.current, changes.now.instrs) }
+    {
+        ones_stay(self.current.written(), changes.written())
     }
 
     /// An equal one.

@@ -58,8 +58,8 @@ loop-from-preserved-in-Some c =
 pub moves-requires : goal.moves-requires
 moves-requires c = let same = ap length c.loop-from.invariant.same in omega (arith, c.if-place-end.false, c.len-end.ensures, same)
 
-pub stays_apart-requires : goal.stays_apart-requires
-stays_apart-requires c =
+pub stays-requires : goal.stays-requires
+stays-requires c =
     let same = ap length (c.moves.ensures.same ∙ c.loop-from.invariant.same) in
     omega (arith, c.if-place-end.false, c.len-end.ensures, same)
 
@@ -95,8 +95,8 @@ loop-from-preserved-in-Some-moves c =
       same = left;
     }
 
-pub loop-from-preserved-then-stays_apart : goal.loop-from-preserved-then-stays_apart
-loop-from-preserved-then-stays_apart c =
+pub loop-from-preserved-then-stays : goal.loop-from-preserved-then-stays
+loop-from-preserved-then-stays c =
     let all = c.args.items.now in
     let end : c.next-place.result ≤ length all = omega (arith, c.next-place.ensures.order.1, c.len-end.ensures) in
     let pass = c.next-place.ensures.pass c.loop-from.changes.instrs (currents all) c.loop-from.invariant.walked.served c.is_empty.ensures.0 c.requires.listed in
@@ -107,7 +107,7 @@ loop-from-preserved-then-stays_apart c =
     let left : c.moves.new.self ≡ all = c.moves.ensures.same ∙ same in
     record {
       walked = walk_stays c.args.index.now c.args.rivals.now c.args.codes.now c.args.own c.args.items.now c.args.entry c.next-place.result c.loop-from.crossed.items c.loop-from.changes there u.0 within u.1
-          (c.if-stays_apart.ensures refl u.0 (subst (λ l. IsAt c.next-place.result l u.0) (sym left) u.1) c.loop-from.changes.instrs c.loop-from.invariant.walked.indexed);
+          (c.if-stays.ensures refl u.0 (subst (λ l. IsAt c.next-place.result l u.0) (sym left) u.1) c.loop-from.invariant.walked.indexed);
       within = omega (arith, within);
       same = left;
     }

@@ -1,0 +1,135 @@
+-- Which instructions stay as they are when they meet, wherever those of lists stand.
+use Rattle.std.proofs.Common.{◌≡◌, Bool, true, not, List, [], ◌∷◌, Option, Some, None, Ok, refl, sym, ap, ◌∙◌, subst}
+use Rattle.std.specs.Ordering.{eq_by_cmp}
+use Rattle.sync_data.specs.Spot as places
+use Rattle.sync_data.specs.declared.instr.Instr.{Instr}
+use Rattle.sync_data.specs.declared.instr.Instr.TheVariants as instrs
+use Rattle.sync_data.specs.declared.instr.AddInteger.{AddInteger}
+use Rattle.sync_data.specs.declared.instr.SetInsert.{SetInsert}
+use Rattle.sync_data.specs.declared.instr.SetErase.{SetErase}
+use Rattle.sync_data.specs.declared.instr.CreateObject.{CreateObject}
+use Rattle.sync_base.specs.Effects.{CellPath, Effect, NewTable, NewColumn, Create, Erase, Change, effect_of}
+use Rattle.sync_base.specs.Merged.{path_cmp}
+use Rattle.sync_base.specs.Objects.{object_of, are_apart}
+use Rattle.sync_base.specs.Rules.{rule, meeting, outcome_of, kept}
+use Rattle.sync_base.specs.Lemmas.Objects.{apart_stay}
+use Rattle.sync_base.specs.Lemmas.Whole.{instr-effect}
+use Rattle.sync_theory.specs.Lists.{cross}
+use Rattle.sync_law.specs.Instrs.{as_pair, meet}
+use Rattle.sync_index.specs.Cells.{cell_in}
+use Rattle.sync_transform.specs.Moves.{inserted_at, erased_at, updated_at, moved, moved_first, kind_in, kind_of, shown, IsShown}
+use Rattle.sync_transform.specs.declared.moves.ListAction.{ListAction}
+use Rattle.sync_transform.specs.declared.moves.ListAction.TheVariants.{Insert, Erase, Update}
+use Rattle.sync_transform.proofs.Cells.{two_cells}
+use Rattle.sync_transform.proofs.Stands.{same_elsewhere}
+use Rattle.list_lane.proofs.Acting.{told_written}
+use Rattle.sync_rebase.specs.Staying.{creates, StayAnywhere}
+
+-- ---- lists of one
+abbrev Stay : Instr → Instr → Type 0
+Stay a b = (later : Bool) → meeting a b later ≡ Ok (record { left = Some a; right = Some b })
+
+ones_met : (l : Bool) (a b : Instr) → meet a b l ≡ Ok (Some a, Some b) → cross (λ a b. meet a b l) (a ∷ []) (b ∷ []) ≡ Ok (a ∷ [], b ∷ [])
+ones_met l a b h = rw h
+
+ones_cross : (l : Bool) (a b : Instr) → Stay a b → cross (λ a b. meet a b l) (a ∷ []) (b ∷ []) ≡ Ok (a ∷ [], b ∷ [])
+ones_cross l a b h = ones_met l a b (ap as_pair (h l))
+
+-- ---- where an instruction of a list may stand
+abbrev there : Option ListAction → Instr → Instr
+there None i = i
+there (Some x) i = moved x i
+
+shown_there : (x : Option ListAction) (i : Instr) → shown x (i ∷ []) ≡ there x i ∷ []
+shown_there None i = refl
+shown_there (Some x) i = refl
+
+anywhere : (a b : Instr) → ((x y : Option ListAction) → Stay (there x a) (there y b)) → StayAnywhere (a ∷ []) (b ∷ [])
+anywhere a b h = λ x y later.
+    subst (λ (is : List Instr). cross (λ a b. meet a b later) is (shown y (b ∷ [])) ≡ Ok (is, shown y (b ∷ []))) (sym (shown_there x a))
+    (subst (λ (js : List Instr). cross (λ a b. meet a b later) (there x a ∷ []) js ≡ Ok (there x a ∷ [], js)) (sym (shown_there y b))
+    (ones_cross later (there x a) (there y b) (h x y)))
+
+cell_there : (x : Option ListAction) (i : Instr) → cell_in (effect_of (there x i)) ≡ cell_in (effect_of i)
+cell_there None i = refl
+cell_there (Some x) i = same_elsewhere (λ i. cell_in (effect_of i)) (λ c v s t. refl) (λ c s t. refl) (λ c v s t. refl) x i
+
+object_there : (x : Option ListAction) (i : Instr) → object_of (effect_of (there x i)) ≡ object_of (effect_of i)
+object_there None i = refl
+object_there (Some x) i = same_elsewhere (λ i. object_of (effect_of i)) (λ c v s t. refl) (λ c s t. refl) (λ c v s t. refl) x i
+
+creates_there : (x : Option ListAction) (i : Instr) → creates (effect_of (there x i)) ≡ creates (effect_of i)
+creates_there None i = refl
+creates_there (Some x) i = same_elsewhere (λ i. creates (effect_of i)) (λ c v s t. refl) (λ c s t. refl) (λ c v s t. refl) x i
+
+-- ---- of two cells, or of two objects
+pub cells_stay : (a b : Instr) (p q : CellPath) → cell_in (effect_of a) ≡ Some p → cell_in (effect_of b) ≡ Some q → not (eq_by_cmp path_cmp p q) ≡ true → StayAnywhere (a ∷ []) (b ∷ [])
+cells_stay a b p q f g n = anywhere a b (λ x y. two_cells (there x a) (there y b) p q (cell_there x a ∙ f) (cell_there y b ∙ g) n)
+
+pub objects_stay : (a b : Instr) → are_apart (object_of (effect_of a)) (object_of (effect_of b)) ≡ true → StayAnywhere (a ∷ []) (b ∷ [])
+objects_stay a b e = anywhere a b (λ x y later. apart_stay (there x a) (there y b) later ((λ i. are_apart (object_there x a i) (object_there y b i)) ∙ e))
+
+-- ---- one creates an object, and the other changes a cell
+created_first : (l : Bool) (a b : Effect) (q : CellPath) → creates a ≡ true → cell_in b ≡ Some q → rule l a b ≡ kept a b
+created_first l (Create o) (Change p e) q h g = refl
+created_first l (Create o) (NewTable t k) q h g = cc
+created_first l (Create o) (NewColumn t c d) q h g = cc
+created_first l (Create o) (Create p) q h g = cc
+created_first l (Create o) (Erase p) q h g = cc
+created_first l (NewTable t k) b q h g = cc
+created_first l (NewColumn t c d) b q h g = cc
+created_first l (Erase o) b q h g = cc
+created_first l (Change p e) b q h g = cc
+
+created_then : (l : Bool) (a b : Effect) (p : CellPath) → cell_in a ≡ Some p → creates b ≡ true → rule l a b ≡ kept a b
+created_then l (Change q e) (Create o) p h g = refl
+created_then l (NewTable t k) (Create o) p h g = cc
+created_then l (NewColumn t c d) (Create o) p h g = cc
+created_then l (Create q) (Create o) p h g = cc
+created_then l (Erase q) (Create o) p h g = cc
+created_then l a (NewTable t k) p h g = cc
+created_then l a (NewColumn t c d) p h g = cc
+created_then l a (Erase o) p h g = cc
+created_then l a (Change q e) p h g = cc
+
+ruled : (l : Bool) (a b : Instr) → rule l (effect_of a) (effect_of b) ≡ kept (effect_of a) (effect_of b) → meeting a b l ≡ Ok (record { left = Some a; right = Some b })
+ruled l a b h = ap outcome_of h ∙ (λ i. Ok (record { left = Some (instr-effect a i); right = Some (instr-effect b i) }))
+
+pub creation_stays : (a b : Instr) (q : CellPath) → creates (effect_of a) ≡ true → cell_in (effect_of b) ≡ Some q → StayAnywhere (a ∷ []) (b ∷ [])
+creation_stays a b q h g = anywhere a b (λ x y later. ruled later (there x a) (there y b) (created_first later (effect_of (there x a)) (effect_of (there y b)) q (creates_there x a ∙ h) (cell_there y b ∙ g)))
+
+pub stays_by_creation : (a b : Instr) (p : CellPath) → cell_in (effect_of a) ≡ Some p → creates (effect_of b) ≡ true → StayAnywhere (a ∷ []) (b ∷ [])
+stays_by_creation a b p h g = anywhere a b (λ x y later. ruled later (there x a) (there y b) (created_then later (effect_of (there x a)) (effect_of (there y b)) p (cell_there x a ∙ h) (creates_there y b ∙ g)))
+
+-- ---- two of one kind, whatever they are of; neither is of a list
+fixed : (a : Instr) → ((s : places.Spot) → inserted_at s a ≡ a) → ((s : places.Spot) → erased_at s a ≡ a) → ((s : places.Spot) → updated_at s a ≡ a) → (x : Option ListAction) → there x a ≡ a
+fixed a f g h None = refl
+fixed a f g h (Some (Insert s)) = f s
+fixed a f g h (Some (Erase s)) = g s
+fixed a f g h (Some (Update s)) = h s
+
+fixed_stay : (a b : Instr) → ((x : Option ListAction) → there x a ≡ a) → ((y : Option ListAction) → there y b ≡ b) → Stay a b → StayAnywhere (a ∷ []) (b ∷ [])
+fixed_stay a b f g h = anywhere a b (λ x y. subst (λ (i : Instr). Stay i (there y b)) (sym (f x)) (subst (Stay a) (sym (g y)) h))
+
+pub additions_stay : (a b : AddInteger) → StayAnywhere (instrs.AddInteger a ∷ []) (instrs.AddInteger b ∷ [])
+additions_stay a b = fixed_stay (instrs.AddInteger a) (instrs.AddInteger b) (fixed (instrs.AddInteger a) (λ s. refl) (λ s. refl) (λ s. refl)) (fixed (instrs.AddInteger b) (λ s. refl) (λ s. refl) (λ s. refl)) (λ later. refl)
+
+pub inclusions_stay : (a b : SetInsert) → StayAnywhere (instrs.SetInsert a ∷ []) (instrs.SetInsert b ∷ [])
+inclusions_stay a b = fixed_stay (instrs.SetInsert a) (instrs.SetInsert b) (fixed (instrs.SetInsert a) (λ s. refl) (λ s. refl) (λ s. refl)) (fixed (instrs.SetInsert b) (λ s. refl) (λ s. refl) (λ s. refl)) (λ later. refl)
+
+pub exclusions_stay : (a b : SetErase) → StayAnywhere (instrs.SetErase a ∷ []) (instrs.SetErase b ∷ [])
+exclusions_stay a b = fixed_stay (instrs.SetErase a) (instrs.SetErase b) (fixed (instrs.SetErase a) (λ s. refl) (λ s. refl) (λ s. refl)) (fixed (instrs.SetErase b) (λ s. refl) (λ s. refl) (λ s. refl)) (λ later. refl)
+
+pub creations_stay : (a b : CreateObject) → StayAnywhere (instrs.CreateObject a ∷ []) (instrs.CreateObject b ∷ [])
+creations_stay a b = fixed_stay (instrs.CreateObject a) (instrs.CreateObject b) (fixed (instrs.CreateObject a) (λ s. refl) (λ s. refl) (λ s. refl)) (fixed (instrs.CreateObject b) (λ s. refl) (λ s. refl) (λ s. refl)) (λ later. refl)
+
+-- ---- lists that are shown by some action
+pub shown_stay : (was old is js : List Instr) → IsShown was is → IsShown old js → StayAnywhere was old → (later : Bool) → cross (λ a b. meet a b later) is js ≡ Ok (is, js)
+shown_stay was old is js f g h later =
+    subst (λ (l : List Instr). cross (λ a b. meet a b later) l js ≡ Ok (l, js)) f.stands
+    (subst (λ (l : List Instr). cross (λ a b. meet a b later) (shown f.action was) l ≡ Ok (shown f.action was, l)) g.stands (h f.action g.action later))
+
+pub moved_stay : (was old is js : List Instr) → IsShown was is → IsShown old js → StayAnywhere was old → (a : ListAction) → kind_in is ≡ Some (kind_of a) → (later : Bool) → cross (λ a b. meet a b later) (moved_first a is) js ≡ Ok (moved_first a is, js)
+moved_stay was old is js f g h a kind =
+    let same : shown (Some a) was ≡ moved_first a is = sym (told_written a f.action was (ap kind_in f.stands ∙ kind)) ∙ ap (moved_first a) f.stands in
+    shown_stay was old (moved_first a is) js (record { action = Some a; stands = same }) g h
