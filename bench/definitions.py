@@ -6,9 +6,11 @@ is reached counts whole, by its lines without comments, blank lines and imports;
 that are reached by crate and file, and the sum. Rust's own types, the standard library and lemmas aren't counted.
 
 usage: bench/definitions.py [--names] [--beside OTHER] [--since REVISION] ROOT ..
+       bench/definitions.py --own
 A ROOT is CRATE::NAME, of a function, a trait or a type that implements one; CRATE::NAME:CLAUSE,CLAUSE for these clauses alone;
 CRATE.specs.FILE.NAME, of a definition; or a list in this script, `older` or `requests`. --beside leaves out what OTHER, a root or a
 list, reaches. --since leaves out lines that a definition of that name had in a revision of git. --names prints the definitions too.
+--own counts instead the files that define client reset, subscriptions by tables and trimmed history, each whole.
 """
 import argparse
 import collections
@@ -54,6 +56,12 @@ ROOTS = {
         sync_node.specs.FileCommands.MakesFile sync_node.specs.Sending.text_of sync_node.specs.Runs.noting_runs
         """.split(),
 }
+
+# the files that define these three
+OWN = """
+    sync_theory/Restricting sync_exchange/Adapting sync_subset/Tables snapshot_law/Build sync_model/Snapshots sync_model/Cuts
+    sync_model/Resets sync_model/Recovery sync_model/Fronts sync_model/Trims sync_model/Trimmed sync_model/Starts sync_model/Later
+    """.split()
 
 WORD = re.compile(r"[^\s(){}\[\],;:\"|&]+")
 START = re.compile(r"(?P<kinds>(?:(?:abbrev|unfoldable|opaque|pub|private|record|data) +)*)(?P<name>[^\s:]+)")
@@ -249,13 +257,30 @@ def lines_before(revision):
     return before
 
 
+def count_of(name):
+    """How many lines of code a file of definitions has, imports left out."""
+    crate, file = name.split("/")
+    with open(os.path.join(TOP, "crates", crate, "specs", file + ".antt")) as it:
+        return sum(not line.lstrip().startswith(("use ", "ghost use ")) for line in code_of(it.read()))
+
+
+def print_own():
+    counts = {name: count_of(name) for name in OWN}
+    for name, count in counts.items():
+        print(f"{count:5} {name}")
+    print(f"{sum(counts.values()):5} lines of definitions")
+
+
 def main():
     words = argparse.ArgumentParser(usage=__doc__.split("usage: ")[1])
     words.add_argument("--names", action="store_true")
     words.add_argument("--beside")
     words.add_argument("--since")
-    words.add_argument("roots", nargs="+")
+    words.add_argument("--own", action="store_true")
+    words.add_argument("roots", nargs="*")
     asked = words.parse_args()
+    if asked.own or not asked.roots:
+        return print_own() if asked.own else words.error("no ROOT")
     specs, all_sources = current_specs(), list(sources())
 
     def reached(names):

@@ -1,3 +1,4 @@
+pub mod Anywhere
 pub mod Joined
 pub mod Passing
 pub mod Writing

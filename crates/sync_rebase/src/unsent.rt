@@ -18,7 +18,7 @@ ghost use Rattle.sync_rebase.specs.Taking.{IsEntryOf};
 
 use super::carried::Became;
 use super::original::Original;
-use super::staying::ones_stay;
+use list_blocks::ones_stay;
 use list_lane::{Op, action_left, action_of, parts_of};
 use std::alloc::Global;
 use std::marker::Model;

@@ -75,7 +75,7 @@ pub(crate) fn carry_over(
             };
             continue 'entries;
         }
-        if items.stays_apart(next, index) {
+        if items.stays(next, &left, index) {
             continue 'entries;
         }
         match cross_one(alloc, left.into_changes(), own, items, next) {

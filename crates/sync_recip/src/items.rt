@@ -185,6 +185,15 @@ impl Items {
         one.item.stays_apart(index)
     }
 
+    /// Whether a change, of which there is an index, and the entry at a place are told to stay as they are. Neither is copied.
+    pub(crate) fn stays(&self, place: usize, changes: &Shifted, index: &Index) -> bool
+        requires { place < length self.now }
+        ensures { IsTrue result → (k : KeptOne) → IsAt place self.now k → Covers index.now changes.now.instrs → (later : Bool) → crossed (λ a b. meet a b later) changes.now.instrs (instrs_in k) ≡ Ok (changes.now.instrs, instrs_in k) }
+    {
+        let one = &self.kept[place];
+        self.stays_apart(place, index) || one.item.stays(changes)
+    }
+
     /// What a change and the entry at a place do after they crossed, where each is one instruction of one list, and both stay.
     /// Where the place lies in the stretch, all of that is written, unless an index tells that they don't meet.
     #[inline(always)]

@@ -18,6 +18,7 @@ ghost use Rattle.sync_recip.specs.Stretches.{holding, IsOpOn};
 
 use super::carried::Became;
 use super::shared::SharedEntry;
+use list_blocks::ones_stay;
 use list_lane::{Op, action_left, action_of, parts_of};
 use std::alloc::Global;
 use std::marker::Model;
@@ -217,6 +218,17 @@ impl ShiftedEntry {
             return true;
         }
         stays_apart(self.spot, &self.shared.entry().changes, index)
+    }
+
+    /// Whether it is plain that a change and it stay as they are, also where its one list instruction does the same elsewhere.
+    pub(crate) fn stays(&self, changes: &Shifted) -> bool
+        ensures own { IsTrue result → (later : Bool) → crossed (λ a b. meet a b later) changes.now.instrs self.now.changes.instrs ≡ Ok (changes.now.instrs, self.now.changes.instrs) }
+        ensures told { IsTrue result → (action : Action) → kind_in self.now.changes.instrs ≡ Some (kind_of action) → (later : Bool) → crossed (λ a b. meet a b later) changes.now.instrs (moved_first action self.now.changes.instrs) ≡ Ok (changes.now.instrs, moved_first action self.now.changes.instrs) }
+    {
+        if self.fell {
+            return true;
+        }
+        ones_stay(changes.written(), &self.shared.entry().changes)
     }
 
     /// Its one list instruction does the same elsewhere. It takes no memory, and those who hold it too don't see it.

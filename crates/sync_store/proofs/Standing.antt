@@ -1,5 +1,5 @@
 -- In a state, an object has the cells of its table's columns.
-use Rattle.std.specs.Prelude.{◌≡◌, Bool, true, List, ℕ, Option, Some, is_some}
+use Rattle.std.specs.Prelude.{◌≡◌, ℕ, true, List, Option, Some, is_some}
 use Rattle.std.specs.Option.{option_and_then}
 use Rattle.std.specs.FinMap as map
 use Rattle.std.proofs.Common.{sym, ◌∙◌, ap}

@@ -67,8 +67,8 @@ moves-requires c =
     let same = ap length c.entries.invariant.same in
     omega (arith, c.if-next-end.false, c.len-end.ensures, same)
 
-pub stays_apart-requires : goal.stays_apart-requires
-stays_apart-requires c =
+pub stays-requires : goal.stays-requires
+stays-requires c =
     let same = ap length (c.moves.ensures.same ∙ c.entries.invariant.same) in
     omega (arith, c.if-next-end.false, c.len-end.ensures, same)
 
@@ -100,8 +100,8 @@ entries-preserved-in-Some-moves c =
       same = left;
     }
 
-pub entries-preserved-then-stays_apart : goal.entries-preserved-then-stays_apart
-entries-preserved-then-stays_apart c =
+pub entries-preserved-then-stays : goal.entries-preserved-then-stays
+entries-preserved-then-stays c =
     let all = c.args.items.now in
     let end : c.next-next.result ≤ length all = omega (arith, c.next-next.ensures.order.1, c.len-end.ensures) in
     let pass = c.next-next.ensures.pass c.entries.left.instrs (lists_in (map kept_entry all)) c.entries.invariant.walked.served c.is_empty.ensures.0 c.requires.listed in
@@ -113,7 +113,7 @@ entries-preserved-then-stays_apart c =
     let left : c.moves.new.self ≡ all = c.moves.ensures.same ∙ same in
     record {
       walked = goes_past c.args.index.now c.args.rivals.now c.args.codes.now c.args.own all c.args.first c.args.changes c.entries.crossed.items c.entries.left c.next-next.result after there k.0 within k.1
-          (c.if-stays_apart.ensures refl k.0 (subst (λ l. IsAt c.next-next.result l k.0) (sym left) k.1) c.entries.left.instrs c.entries.invariant.walked.indexed);
+          (c.if-stays.ensures refl k.0 (subst (λ l. IsAt c.next-next.result l k.0) (sym left) k.1) c.entries.invariant.walked.indexed);
       after = omega (arith, after);
       within = omega (arith, within);
       same = left;

@@ -1,5 +1,4 @@
 use Rattle.std.proofs.Common.{◌∙◌, ap, sym, is_some, ◌∷◌, if◌then◌else◌, Some}
-use Rattle.std.specs.Option.{option_copied}
 use Rattle.sync_base.specs.declared.answers.Break.TheVariants as breaks
 use Rattle.sync_base.specs.Checks.{first_failed}
 use Rattle.sync_base.specs.States.{State, has}

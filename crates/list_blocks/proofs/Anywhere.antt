@@ -8,12 +8,11 @@ use Rattle.sync_data.specs.declared.instr.AddInteger.{AddInteger}
 use Rattle.sync_data.specs.declared.instr.SetInsert.{SetInsert}
 use Rattle.sync_data.specs.declared.instr.SetErase.{SetErase}
 use Rattle.sync_data.specs.declared.instr.CreateObject.{CreateObject}
-use Rattle.sync_base.specs.Effects.{CellPath, Effect, NewTable, NewColumn, Create, Erase, Change, effect_of}
+use Rattle.sync_base.specs.Effects.{CellPath, effect_of}
 use Rattle.sync_base.specs.Merged.{path_cmp}
 use Rattle.sync_base.specs.Objects.{object_of, are_apart}
-use Rattle.sync_base.specs.Rules.{rule, meeting, outcome_of, kept}
+use Rattle.sync_base.specs.Rules.{meeting}
 use Rattle.sync_base.specs.Lemmas.Objects.{apart_stay}
-use Rattle.sync_base.specs.Lemmas.Whole.{instr-effect}
 use Rattle.sync_theory.specs.Lists.{cross}
 use Rattle.sync_law.specs.Instrs.{as_pair, meet}
 use Rattle.sync_index.specs.Cells.{cell_in}
@@ -23,7 +22,7 @@ use Rattle.sync_transform.specs.declared.moves.ListAction.TheVariants.{Insert, E
 use Rattle.sync_transform.proofs.Cells.{two_cells}
 use Rattle.sync_transform.proofs.Stands.{same_elsewhere}
 use Rattle.list_lane.proofs.Acting.{told_written}
-use Rattle.sync_rebase.specs.Staying.{creates, StayAnywhere}
+use Rattle.list_blocks.specs.Staying.{StayAnywhere}
 
 -- ---- lists of one
 abbrev Stay : Instr → Instr → Type 0
@@ -58,48 +57,12 @@ object_there : (x : Option ListAction) (i : Instr) → object_of (effect_of (the
 object_there None i = refl
 object_there (Some x) i = same_elsewhere (λ i. object_of (effect_of i)) (λ c v s t. refl) (λ c s t. refl) (λ c v s t. refl) x i
 
-creates_there : (x : Option ListAction) (i : Instr) → creates (effect_of (there x i)) ≡ creates (effect_of i)
-creates_there None i = refl
-creates_there (Some x) i = same_elsewhere (λ i. creates (effect_of i)) (λ c v s t. refl) (λ c s t. refl) (λ c v s t. refl) x i
-
 -- ---- of two cells, or of two objects
 pub cells_stay : (a b : Instr) (p q : CellPath) → cell_in (effect_of a) ≡ Some p → cell_in (effect_of b) ≡ Some q → not (eq_by_cmp path_cmp p q) ≡ true → StayAnywhere (a ∷ []) (b ∷ [])
 cells_stay a b p q f g n = anywhere a b (λ x y. two_cells (there x a) (there y b) p q (cell_there x a ∙ f) (cell_there y b ∙ g) n)
 
 pub objects_stay : (a b : Instr) → are_apart (object_of (effect_of a)) (object_of (effect_of b)) ≡ true → StayAnywhere (a ∷ []) (b ∷ [])
 objects_stay a b e = anywhere a b (λ x y later. apart_stay (there x a) (there y b) later ((λ i. are_apart (object_there x a i) (object_there y b i)) ∙ e))
-
--- ---- one creates an object, and the other changes a cell
-created_first : (l : Bool) (a b : Effect) (q : CellPath) → creates a ≡ true → cell_in b ≡ Some q → rule l a b ≡ kept a b
-created_first l (Create o) (Change p e) q h g = refl
-created_first l (Create o) (NewTable t k) q h g = cc
-created_first l (Create o) (NewColumn t c d) q h g = cc
-created_first l (Create o) (Create p) q h g = cc
-created_first l (Create o) (Erase p) q h g = cc
-created_first l (NewTable t k) b q h g = cc
-created_first l (NewColumn t c d) b q h g = cc
-created_first l (Erase o) b q h g = cc
-created_first l (Change p e) b q h g = cc
-
-created_then : (l : Bool) (a b : Effect) (p : CellPath) → cell_in a ≡ Some p → creates b ≡ true → rule l a b ≡ kept a b
-created_then l (Change q e) (Create o) p h g = refl
-created_then l (NewTable t k) (Create o) p h g = cc
-created_then l (NewColumn t c d) (Create o) p h g = cc
-created_then l (Create q) (Create o) p h g = cc
-created_then l (Erase q) (Create o) p h g = cc
-created_then l a (NewTable t k) p h g = cc
-created_then l a (NewColumn t c d) p h g = cc
-created_then l a (Erase o) p h g = cc
-created_then l a (Change q e) p h g = cc
-
-ruled : (l : Bool) (a b : Instr) → rule l (effect_of a) (effect_of b) ≡ kept (effect_of a) (effect_of b) → meeting a b l ≡ Ok (record { left = Some a; right = Some b })
-ruled l a b h = ap outcome_of h ∙ (λ i. Ok (record { left = Some (instr-effect a i); right = Some (instr-effect b i) }))
-
-pub creation_stays : (a b : Instr) (q : CellPath) → creates (effect_of a) ≡ true → cell_in (effect_of b) ≡ Some q → StayAnywhere (a ∷ []) (b ∷ [])
-creation_stays a b q h g = anywhere a b (λ x y later. ruled later (there x a) (there y b) (created_first later (effect_of (there x a)) (effect_of (there y b)) q (creates_there x a ∙ h) (cell_there y b ∙ g)))
-
-pub stays_by_creation : (a b : Instr) (p : CellPath) → cell_in (effect_of a) ≡ Some p → creates (effect_of b) ≡ true → StayAnywhere (a ∷ []) (b ∷ [])
-stays_by_creation a b p h g = anywhere a b (λ x y later. ruled later (there x a) (there y b) (created_then later (effect_of (there x a)) (effect_of (there y b)) p (cell_there x a ∙ h) (creates_there y b ∙ g)))
 
 -- ---- two of one kind, whatever they are of; neither is of a list
 fixed : (a : Instr) → ((s : places.Spot) → inserted_at s a ≡ a) → ((s : places.Spot) → erased_at s a ≡ a) → ((s : places.Spot) → updated_at s a ≡ a) → (x : Option ListAction) → there x a ≡ a
@@ -129,7 +92,8 @@ shown_stay was old is js f g h later =
     subst (λ (l : List Instr). cross (λ a b. meet a b later) l js ≡ Ok (l, js)) f.stands
     (subst (λ (l : List Instr). cross (λ a b. meet a b later) (shown f.action was) l ≡ Ok (shown f.action was, l)) g.stands (h f.action g.action later))
 
-pub moved_stay : (was old is js : List Instr) → IsShown was is → IsShown old js → StayAnywhere was old → (a : ListAction) → kind_in is ≡ Some (kind_of a) → (later : Bool) → cross (λ a b. meet a b later) (moved_first a is) js ≡ Ok (moved_first a is, js)
-moved_stay was old is js f g h a kind =
-    let same : shown (Some a) was ≡ moved_first a is = sym (told_written a f.action was (ap kind_in f.stands ∙ kind)) ∙ ap (moved_first a) f.stands in
-    shown_stay was old (moved_first a is) js (record { action = Some a; stands = same }) g h
+pub moved_shown : (was is : List Instr) → IsShown was is → (a : ListAction) → kind_in is ≡ Some (kind_of a) → IsShown was (moved_first a is)
+moved_shown was is f a kind = record {
+  action = Some a;
+  stands = sym (told_written a f.action was (ap kind_in f.stands ∙ kind)) ∙ ap (moved_first a) f.stands;
+}

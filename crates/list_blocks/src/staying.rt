@@ -1,13 +1,13 @@
 ghost use Rattle.std.specs.Prelude.{◌≡◌, ◌∷◌, [], IsTrue};
 ghost use Rattle.sync_base.specs.Effects.{effect_of};
-ghost use Rattle.sync_rebase.specs.Staying.{creates, StayAnywhere};
+ghost use Rattle.list_blocks.specs.Staying.{creates, StayAnywhere};
 
 use sync_base::{Changeset, Instr, same_cell};
 use sync_index::{are_apart, cell_of};
 
 /// Whether it is plain that two changesets of one instruction each stay as they are, whichever is later, also where those of
 /// lists do the same elsewhere. Both are only read.
-pub(crate) fn ones_stay(left: &Changeset, right: &Changeset) -> bool
+pub fn ones_stay(left: &Changeset, right: &Changeset) -> bool
     ensures { IsTrue result → StayAnywhere left.now.instrs right.now.instrs }
 {
     match (left.instrs(), right.instrs()) {
