@@ -1,4 +1,3 @@
-pub mod Anywhere
 pub mod Joined
 pub mod Passing
 pub mod Writing

@@ -6,8 +6,6 @@ mod action;
 mod crossing;
 mod lane;
 mod plan;
-mod staying;
 mod write;
 
 pub use crossing::{cross_blocks, cross_blocks_indexed};
-pub use staying::ones_stay;

@@ -7,12 +7,12 @@ use Rattle.sync_data.specs.declared.instr.Instr.{Instr}
 use Rattle.sync_data.specs.declared.instr.Instr.TheVariants as instrs
 use Rattle.sync_base.specs.Effects.{CellPath, path_of}
 use Rattle.sync_transform.specs.Places.{longer, place_after}
-use Rattle.sync_transform.specs.Moves.{instr_at, kind_of, action_at, action_in, kind_in, first_cell, moved, moved_first, shown}
+use Rattle.sync_transform.specs.Moves.{instr_at, kind_of, action_at, action_in, kind_in, first_cell, moved_first, shown}
 use Rattle.sync_transform.specs.declared.places.Does.{Does}
 use Rattle.sync_transform.specs.declared.places.Does.TheVariants.{Inserts, Erases, Updates}
 use Rattle.sync_transform.specs.declared.moves.ListAction.{ListAction}
 use Rattle.sync_transform.specs.declared.moves.ListAction.TheVariants.{Insert, Erase, Update}
-use Rattle.sync_transform.proofs.Stands.{shown_itself, shown_action, shown_kind, moved_over}
+use Rattle.sync_transform.proofs.Stands.{shown_itself, shown_action, shown_kind, told_written}
 use Rattle.list_lane.specs.Told.{action, place_in, prior_in, IsOne}
 use Rattle.list_lane.specs.Actions.{action_there, action_after}
 
@@ -51,47 +51,13 @@ pub told_action : (is : List Instr) (d : Does) (p n : ℕ) → kind_in is ≡ So
 told_action is d p n h = shown_action (Some (action d p n)) is (kind_there is d p n h)
 
 pub told_over : (is : List Instr) (d : Does) (p n q m : ℕ) → kind_in is ≡ Some d → moved_first (action d q m) (moved_first (action d p n) is) ≡ moved_first (action d q m) is
-told_over is d p n q m h = sym (moved_over (Some (action d p n)) (action d q m) is (kind_there is d p n h) (shown_kind (Some (action d p n)) is ∙ kind_there is d q m h))
+told_over is d p n q m h = told_written (action d q m) (Some (action d p n)) is (shown_kind (Some (action d p n)) is ∙ kind_there is d q m h)
 
 pub told_itself : (is : List Instr) (a : ListAction) → action_in is ≡ Some a → moved_first a is ≡ is
 told_itself is a h = ap (λ o. shown o is) (sym h) ∙ shown_itself is
 
 pub kind_known : (is : List Instr) (a : ListAction) → action_in is ≡ Some a → kind_in is ≡ Some (kind_of a)
 kind_known is a h = ap (option_map kind_of) h
-
--- ---- written elsewhere in between
-moved_twice : (a b : ListAction) (i : Instr) → option_map kind_of (action_at i) ≡ Some (kind_of a) → moved a (moved b i) ≡ moved a i
-moved_twice a b (instrs.AddTable i) e = cc
-moved_twice a b (instrs.AddColumn i) e = cc
-moved_twice a b (instrs.CreateObject i) e = cc
-moved_twice a b (instrs.EraseObject i) e = cc
-moved_twice a b (instrs.Update i) e = cc
-moved_twice a b (instrs.AddInteger i) e = cc
-moved_twice (Insert s) b (instrs.ListUpdate i) e = cc
-moved_twice (Erase s) b (instrs.ListUpdate i) e = cc
-moved_twice (Update s) (Insert t) (instrs.ListUpdate i) e = refl
-moved_twice (Update s) (Erase t) (instrs.ListUpdate i) e = refl
-moved_twice (Update s) (Update t) (instrs.ListUpdate i) e = refl
-moved_twice (Insert s) (Insert t) (instrs.ListInsert i) e = refl
-moved_twice (Insert s) (Erase t) (instrs.ListInsert i) e = refl
-moved_twice (Insert s) (Update t) (instrs.ListInsert i) e = refl
-moved_twice (Erase s) b (instrs.ListInsert i) e = cc
-moved_twice (Update s) b (instrs.ListInsert i) e = cc
-moved_twice (Insert s) b (instrs.ListErase i) e = cc
-moved_twice (Erase s) (Insert t) (instrs.ListErase i) e = refl
-moved_twice (Erase s) (Erase t) (instrs.ListErase i) e = refl
-moved_twice (Erase s) (Update t) (instrs.ListErase i) e = refl
-moved_twice (Update s) b (instrs.ListErase i) e = cc
-moved_twice a b (instrs.SetInsert i) e = cc
-moved_twice a b (instrs.SetErase i) e = cc
-moved_twice a b (instrs.DictUpdate i) e = cc
-moved_twice a b (instrs.Clear i) e = cc
-
-pub told_written : (a : ListAction) (o : Option ListAction) (is : List Instr) → kind_in (shown o is) ≡ Some (kind_of a) → moved_first a (shown o is) ≡ shown (Some a) is
-told_written a None is e = refl
-told_written a (Some b) [] e = refl
-told_written a (Some b) (i ∷ []) e = ap (λ j. j ∷ []) (moved_twice a b i (sym (shown_kind (Some b) (i ∷ [])) ∙ e))
-told_written a (Some b) (i ∷ j ∷ is) e = cc
 
 -- ---- the cell of a list instruction
 abbrev cell_name : CellPath → CellName

@@ -18,14 +18,13 @@ ghost use Rattle.sync_rebase.specs.Taking.{IsEntryOf};
 
 use super::carried::Became;
 use super::original::Original;
-use list_blocks::ones_stay;
 use list_lane::{Op, action_left, action_of, parts_of};
 use std::alloc::Global;
 use std::marker::Model;
 use sync_data::{Changeset, Entry, Ident, Instr, NoMemory, Stamp};
 use sync_index::{Index, shared_spot};
 use sync_transform::{
-    ListAction, Moves, Shifted, both_move, is_later, same_first_cell, stays_apart,
+    ListAction, Moves, Shifted, both_move, is_later, ones_stay, same_first_cell, stays_apart,
 };
 
 /// A changeset that the server hasn't acknowledged, as it was made and as it was rebased since.

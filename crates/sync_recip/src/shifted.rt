@@ -18,14 +18,14 @@ ghost use Rattle.sync_recip.specs.Stretches.{holding, IsOpOn};
 
 use super::carried::Became;
 use super::shared::SharedEntry;
-use list_blocks::ones_stay;
 use list_lane::{Op, action_left, action_of, parts_of};
 use std::alloc::Global;
 use std::marker::Model;
 use sync_base::{Changeset, Entry, Ident, Instr, NoMemory, Stamp};
 use sync_index::Index;
 use sync_transform::{
-    ListAction, Moves, Shifted, action_in, both_move, is_later, same_first_cell, shown, stays_apart,
+    ListAction, Moves, Shifted, action_in, both_move, is_later, ones_stay, same_first_cell, shown,
+    stays_apart,
 };
 
 /// An entry as one client's changes crossed it. Where it is one list instruction that was only shifted, or that fell, others

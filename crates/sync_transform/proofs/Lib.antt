@@ -6,3 +6,4 @@ pub mod Sizes
 pub mod Agreed
 pub mod Rows
 pub mod Stands
+pub mod Anywhere

@@ -162,6 +162,40 @@ shown_kind (Some a) [] = refl
 shown_kind (Some a) (i ∷ []) = same_elsewhere (λ i. option_map kind_of (action_at i)) (λ c v s t. refl) (λ c s t. refl) (λ c v s t. refl) a i
 shown_kind (Some a) (i ∷ j ∷ is) = refl
 
+-- ---- written elsewhere in between
+moved_twice : (a b : ListAction) (i : Instr) → option_map kind_of (action_at i) ≡ Some (kind_of a) → moved a (moved b i) ≡ moved a i
+moved_twice a b (instrs.AddTable i) e = cc
+moved_twice a b (instrs.AddColumn i) e = cc
+moved_twice a b (instrs.CreateObject i) e = cc
+moved_twice a b (instrs.EraseObject i) e = cc
+moved_twice a b (instrs.Update i) e = cc
+moved_twice a b (instrs.AddInteger i) e = cc
+moved_twice (Insert s) b (instrs.ListUpdate i) e = cc
+moved_twice (Erase s) b (instrs.ListUpdate i) e = cc
+moved_twice (Update s) (Insert t) (instrs.ListUpdate i) e = refl
+moved_twice (Update s) (Erase t) (instrs.ListUpdate i) e = refl
+moved_twice (Update s) (Update t) (instrs.ListUpdate i) e = refl
+moved_twice (Insert s) (Insert t) (instrs.ListInsert i) e = refl
+moved_twice (Insert s) (Erase t) (instrs.ListInsert i) e = refl
+moved_twice (Insert s) (Update t) (instrs.ListInsert i) e = refl
+moved_twice (Erase s) b (instrs.ListInsert i) e = cc
+moved_twice (Update s) b (instrs.ListInsert i) e = cc
+moved_twice (Insert s) b (instrs.ListErase i) e = cc
+moved_twice (Erase s) (Insert t) (instrs.ListErase i) e = refl
+moved_twice (Erase s) (Erase t) (instrs.ListErase i) e = refl
+moved_twice (Erase s) (Update t) (instrs.ListErase i) e = refl
+moved_twice (Update s) b (instrs.ListErase i) e = cc
+moved_twice a b (instrs.SetInsert i) e = cc
+moved_twice a b (instrs.SetErase i) e = cc
+moved_twice a b (instrs.DictUpdate i) e = cc
+moved_twice a b (instrs.Clear i) e = cc
+
+pub told_written : (a : ListAction) (o : Option ListAction) (is : List Instr) → kind_in (shown o is) ≡ Some (kind_of a) → moved_first a (shown o is) ≡ shown (Some a) is
+told_written a None is e = refl
+told_written a (Some b) [] e = refl
+told_written a (Some b) (i ∷ []) e = ap (λ j. j ∷ []) (moved_twice a b i (sym (shown_kind (Some b) (i ∷ [])) ∙ e))
+told_written a (Some b) (i ∷ j ∷ is) e = cc
+
 -- ---- one list instruction
 some_is : {A : Type 0} {x y : A} → ◌≡◌ {A = Option A} (Some x) (Some y) → x ≡ y
 some_is e = cc
@@ -251,18 +285,9 @@ shown_action (Some a) is e =
     let f = one is k.written k.told in
     ap action_in (moved_one is k.written a f k.kind) ∙ action_of f.cell f.value a
 
-pub moved_over : (o : Option ListAction) (b : ListAction) (is : List Instr) → kind_in is ≡ option_map kind_of o → kind_in (shown o is) ≡ Some (kind_of b) → moved_first b is ≡ moved_first b (shown o is)
-moved_over None b is e g = refl
-moved_over (Some a) b is e g =
-    let k = kinded is a (action_in is) refl e in
-    let f = one is k.written k.told in
-    let same : kind_of a ≡ kind_of b = some_is (sym (shown_kind (Some a) is ∙ e) ∙ g) in
-    moved_one is k.written b f (k.kind ∙ same)
-    ∙ sym (ap (moved_first b) (moved_one is k.written a f k.kind) ∙ ap (λ i. i ∷ []) (moved_acting f.cell f.value a b same))
-
 pub shown_twice : (o : Option ListAction) (is : List Instr) → kind_in is ≡ option_map kind_of o → shown o (shown o is) ≡ shown o is
 shown_twice None is e = refl
-shown_twice (Some a) is e = sym (moved_over (Some a) a is e (shown_kind (Some a) is ∙ e))
+shown_twice (Some a) is e = told_written a (Some a) is (shown_kind (Some a) is ∙ e)
 
 pub kind_told : (is : List Instr) (a b : ListAction) → action_in is ≡ Some a → kind_of b ≡ kind_of a → kind_in is ≡ Some (kind_of b)
 kind_told is a b e k = ap (option_map kind_of) e ∙ ap Some (sym k)

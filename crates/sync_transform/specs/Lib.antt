@@ -2,3 +2,4 @@ pub mod Indexes
 pub mod Sets
 pub mod Places
 pub mod Moves
+pub mod Staying

@@ -1,15 +1,11 @@
-ghost use Rattle.std.specs.Prelude.{◌≡◌, Bool, true, Some, Ok, Err};
-ghost use Rattle.std.specs.Option.{option_map};
+ghost use Rattle.std.specs.Prelude.{◌≡◌, Some, Ok, Err};
 ghost use Rattle.sync_data.specs.declared.instr.Instr.{Instr};
 ghost use Rattle.sync_base.specs.declared.answers.Mismatch.{Mismatch};
-ghost use Rattle.sync_base.specs.Effects.{CellPath, effect_of, path_of};
-ghost use Rattle.sync_base.specs.Rules.{meeting};
 ghost use Rattle.sync_law.specs.Instrs.{meet};
-ghost use Rattle.sync_index.specs.Cells.{cell_in};
 
+use super::staying::both_stay;
 use rule_list::{shift_erasure_and_insertion, shift_insertion_and_erasure, shift_insertions};
-use sync_base::{Instr, Mismatch, same_cell};
-use sync_index::{are_apart, cell_of};
+use sync_base::{Instr, Mismatch};
 
 /// What is told of two instructions that meet where they lie.
 pub(crate) enum InPlace {
@@ -52,28 +48,6 @@ fn list_instructions(left: &mut Instr, right: &mut Instr, left_later: bool) -> I
             told(shift_erasure_and_insertion(left, right, left_later))
         }
         _ => InPlace::Untold,
-    }
-}
-
-/// Whether it is plain that two instructions both stay as they are.
-fn both_stay(left: &Instr, right: &Instr) -> bool
-    ensures { result ≡ true → (later : Bool) → meeting left.now right.now later ≡ Ok (record { left = Some left.now; right = Some right.now }) }
-{
-    match (left, right) {
-        (Instr::AddInteger(_), Instr::AddInteger(_)) => true,
-        (Instr::SetInsert(_), Instr::SetInsert(_)) => true,
-        (Instr::SetErase(_), Instr::SetErase(_)) => true,
-        _ => stay_apart(left, right),
-    }
-}
-
-/// Whether two instructions are about two cells or two objects, or one is about an object and the other about a table.
-fn stay_apart(left: &Instr, right: &Instr) -> bool
-    ensures { result ≡ true → (later : Bool) → meeting left.now right.now later ≡ Ok (record { left = Some left.now; right = Some right.now }) }
-{
-    match (cell_of(left), cell_of(right)) {
-        (Some(cell), Some(other)) => !same_cell(cell, other),
-        _ => are_apart(left, right),
     }
 }
 

@@ -10,6 +10,7 @@ mod row;
 mod sets;
 mod shifted;
 mod slots;
+mod staying;
 
 pub use crossing::{CrossMismatch, cross, cross_indexed};
 pub use moves::{ListAction, Moves, action_in, both_move, put_action, same_first_cell, shown};
@@ -17,3 +18,4 @@ pub use pairs::meet;
 pub use places::{Does, length_after, place_after};
 pub use sets::{cross_sets, cross_sets_indexed, is_later, stays_apart};
 pub use shifted::Shifted;
+pub use staying::ones_stay;

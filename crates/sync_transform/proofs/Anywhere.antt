@@ -1,5 +1,5 @@
 -- Which instructions stay as they are when they meet, wherever those of lists stand.
-use Rattle.std.proofs.Common.{◌≡◌, Bool, true, not, List, [], ◌∷◌, Option, Some, None, Ok, refl, sym, ap, ◌∙◌, subst}
+use Rattle.std.proofs.Common.{◌≡◌, Bool, true, not, List, [], ◌∷◌, ◌++◌, Option, Some, None, Result, Ok, Err, refl, sym, ap, ◌∙◌, subst}
 use Rattle.std.specs.Ordering.{eq_by_cmp}
 use Rattle.sync_data.specs.Spot as places
 use Rattle.sync_data.specs.declared.instr.Instr.{Instr}
@@ -13,16 +13,15 @@ use Rattle.sync_base.specs.Merged.{path_cmp}
 use Rattle.sync_base.specs.Objects.{object_of, are_apart}
 use Rattle.sync_base.specs.Rules.{meeting}
 use Rattle.sync_base.specs.Lemmas.Objects.{apart_stay}
-use Rattle.sync_theory.specs.Lists.{cross}
+use Rattle.sync_theory.specs.Lists.{kept, met, row, rowed, cross}
 use Rattle.sync_law.specs.Instrs.{as_pair, meet}
 use Rattle.sync_index.specs.Cells.{cell_in}
 use Rattle.sync_transform.specs.Moves.{inserted_at, erased_at, updated_at, moved, moved_first, kind_in, kind_of, shown, IsShown}
 use Rattle.sync_transform.specs.declared.moves.ListAction.{ListAction}
 use Rattle.sync_transform.specs.declared.moves.ListAction.TheVariants.{Insert, Erase, Update}
 use Rattle.sync_transform.proofs.Cells.{two_cells}
-use Rattle.sync_transform.proofs.Stands.{same_elsewhere}
-use Rattle.list_lane.proofs.Acting.{told_written}
-use Rattle.list_blocks.specs.Staying.{StayAnywhere}
+use Rattle.sync_transform.proofs.Stands.{same_elsewhere, told_written}
+use Rattle.sync_transform.specs.Staying.{StayAnywhere}
 
 -- ---- lists of one
 abbrev Stay : Instr → Instr → Type 0
@@ -97,3 +96,25 @@ moved_shown was is f a kind = record {
   action = Some a;
   stands = sym (told_written a f.action was (ap kind_in f.stands ∙ kind)) ∙ ap (moved_first a) f.stands;
 }
+
+-- ---- as they are where they stand, they meet so
+one_kept : {I : Type 0} (x : Option I) (a : I) → kept x ++ [] ≡ a ∷ [] → x ≡ Some a
+one_kept None a e = cc
+one_kept (Some x) a e = cc
+
+abbrev lefts : {L R M : Type 0} → Result (List L × List R) M → List L
+lefts (Ok p) = p.0
+lefts (Err e) = []
+
+abbrev rights : {L R M : Type 0} → Result (List L × List R) M → List R
+rights (Ok p) = p.1
+rights (Err e) = []
+
+one_left : {L R M : Type 0} (m : L → R → Result (Option L × Option R) M) (r : Result (Option L × Option R) M) (a : L) (b : R)
+    → rowed (met r (λ x. row m x [])) (λ cs. cross m [] cs) ≡ Ok (a ∷ [], b ∷ []) → r ≡ Ok (Some a, Some b)
+one_left m (Err e) a b h = cc
+one_left m (Ok (None, y)) a b h = λ i. Ok (one_kept None a (ap lefts h) i, one_kept y b (ap rights h) i)
+one_left m (Ok (Some x, y)) a b h = λ i. Ok (one_kept (Some x) a (ap lefts h) i, one_kept y b (ap rights h) i)
+
+pub stay_met : (a b : Instr) (later : Bool) → StayAnywhere (a ∷ []) (b ∷ []) → meet a b later ≡ Ok (Some a, Some b)
+stay_met a b later h = one_left (λ a b. meet a b later) (meet a b later) a b (h None None later)

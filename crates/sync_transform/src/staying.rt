@@ -1,6 +1,6 @@
 ghost use Rattle.std.specs.Prelude.{◌≡◌, ◌∷◌, [], IsTrue};
 ghost use Rattle.sync_base.specs.Effects.{effect_of};
-ghost use Rattle.list_blocks.specs.Staying.{creates, StayAnywhere};
+ghost use Rattle.sync_transform.specs.Staying.{creates, StayAnywhere};
 
 use sync_base::{Changeset, Instr, same_cell};
 use sync_index::{are_apart, cell_of};
@@ -16,8 +16,9 @@ pub fn ones_stay(left: &Changeset, right: &Changeset) -> bool
     }
 }
 
+/// Whether it is plain that two instructions both stay as they are.
 #[tactic(auto, using(crate::proofs::Anywhere::additions_stay, crate::proofs::Anywhere::inclusions_stay, crate::proofs::Anywhere::exclusions_stay, crate::proofs::Anywhere::creations_stay))]
-fn both_stay(left: &Instr, right: &Instr) -> bool
+pub(crate) fn both_stay(left: &Instr, right: &Instr) -> bool
     ensures { IsTrue result → StayAnywhere (left.now ∷ []) (right.now ∷ []) }
 {
     match (left, right) {

@@ -1,7 +1,7 @@
 use Rattle.std.proofs.Common.{not, sym, ◌∙◌, ap}
 use Rattle.sync_base.specs.Effects.{path_of}
-use Rattle.list_blocks.proofs.Anywhere.{cells_stay, objects_stay}
-use Rattle.list_blocks.proofs.staying.stay_apart.Goals as goal
+use Rattle.sync_transform.proofs.Anywhere.{cells_stay, objects_stay}
+use Rattle.sync_transform.proofs.staying.stay_apart.Goals as goal
 
 pub returns-in-Some-Some : goal.returns-in-Some-Some
 returns-in-Some-Some c h =
