@@ -34,22 +34,14 @@ pub fn put_varint64(out: &mut Vec<u8>, number: u64) -> Result<(), NoMemory>
     Ok(())
 }
 
-/// The number at the front, of at most so many bytes and 64 bits, and the bytes behind it. Most have one byte.
+/// The number at the front, of at most so many bytes and 64 bits, and the bytes behind it. One of one byte is read at once.
 #[inline(always)]
 fn number_of(bytes: &[u8], room: u32) -> Result<(u64, &[u8]), VarintFault>
     ensures { Reads (λ x. (x.0, x.1.now)) result (below (2 ^ 64) (number_at room bytes.now)) }
 {
-    if room == 0 {
-        return Err(VarintFault::Bad);
-    }
     match bytes {
-        [] => Err(VarintFault::Truncated),
-        [byte, rest @ ..] => {
-            if *byte < 128 {
-                return Ok((*byte as u64, rest));
-            }
-            longer_number_of(bytes, room)
-        }
+        [byte, rest @ ..] if *byte < 128 && room > 0 => Ok((*byte as u64, rest)),
+        _ => longer_number_of(bytes, room),
     }
 }
 
