@@ -1,11 +1,14 @@
 #!/usr/bin/env python3
-"""retarget.py MODULE.bc OUT.wasm: compiles the LLVM module that the toolchain made for x86-64 to WebAssembly.
+"""retarget.py [--door] MODULE.bc OUT.wasm: compiles an LLVM module that the toolchain made for x86-64 to WebAssembly.
 
-The module is taken as text, what `main` never reaches is dropped, its target is changed from x86-64 to wasm64 (both are 64-bit
-little endian, with the same sizes and alignments), and it is compiled and linked with `heap.c`, `wide.c` and `start.c`. binaryen
-then lowers the 64-bit memory to a 32-bit one, so that any browser runs it. It stops at whatever it doesn't know: a foreign
-function, an intrinsic of x86, inline assembly, an indirect call.
+The module is that of the program, or with `--door` that of the C library (`sync_host_c`). It is taken as text, what its roots never
+reach is dropped, its target is changed from x86-64 to wasm64 (both are 64-bit little endian, with the same sizes and alignments), and it
+is compiled and linked with `heap.c`, `wide.c`, and `program.c` or `door.c`. binaryen then lowers the 64-bit memory to a 32-bit one, so
+that any browser runs it. It stops at whatever it doesn't know: a foreign function, an intrinsic of x86, inline assembly, an indirect
+call.
 """
+import argparse
+import dataclasses
 import os
 import re
 import subprocess
@@ -17,10 +20,39 @@ HERE = os.path.dirname(os.path.abspath(__file__))
 # What the page's host supplies (web/src/library.js). Of the calls on files it stops at those that the program never makes.
 HOST = "read write rattle_arg rattle_env rattle_env_at rattle_errno rattle_set_errno".split()
 FILES = "open close ftruncate fchmod fsync fdatasync flock statx lseek".split()
-# What `heap.c` and `start.c` define.
+# What `heap.c` defines.
 HEAP = "rattle_alloc rattle_realloc rattle_dealloc".split()
-START = ["__sysv_signal"]
-KNOWN = {*HOST, *FILES, *HEAP, *START}
+
+
+@dataclasses.dataclass(frozen=True)
+class Kind:
+    """A kind of module: the functions that are called from outside, those that it may call, and with what it is linked."""
+
+    roots: frozenset[str]
+    imports: tuple[str, ...]
+    defined: tuple[str, ...]
+    sources: tuple[str, ...]
+    exports: tuple[str, ...]
+
+    @property
+    def known(self):
+        return {*self.imports, *self.defined}
+
+
+PROGRAM = Kind(
+    roots=frozenset(["main"]),
+    imports=(*HOST, *FILES),
+    defined=(*HEAP, "__sysv_signal"),
+    sources=("heap", "wide", "program"),
+    exports=("program_main",),
+)
+DOOR = Kind(
+    roots=frozenset(["realm_node_new", "realm_node_free", "realm_node_turn"]),
+    imports=(),
+    defined=tuple(HEAP),
+    sources=("heap", "wide", "door"),
+    exports=("door_new", "door_free", "door_room", "door_let", "door_turn"),
+)
 
 LAYOUT = "e-m:e-p:64:64-p10:8:8-p20:8:8-i64:64-i128:128-n32:64-S128-ni:1:10:20"
 TARGET = "--target=wasm64-unknown-unknown -mcpu=lime1".split()
@@ -70,11 +102,11 @@ def named(text):
     return {quoted or plain for quoted, plain in re.findall(NAME, text)}
 
 
-def reachable(text):
-    """The module without the functions that neither `main` nor a variable reaches, and without their declarations: the toolchain puts
-    what starts threads into each module with an atomic operation."""
+def reachable(text, kind):
+    """The module without the functions that neither its roots nor a variable reaches, and without their declarations: the toolchain
+    puts what starts threads into each module with an atomic operation."""
     bodies = {name_of(it): it[0] for it in FUNCTION.finditer(text)}
-    found, new = set(), {"main"} | named(FUNCTION.sub("", DECLARED.sub("", text)))
+    found, new = set(), set(kind.roots) | named(FUNCTION.sub("", DECLARED.sub("", text)))
     while new:
         found |= new
         new = set().union(*(named(bodies[it]) for it in new if it in bodies)) - found
@@ -93,18 +125,17 @@ def line_at(text, place):
     return text[start : start + 200].split("\n")[0].strip()
 
 
-def refusals(text):
+def refusals(text, kind):
     """What the module has for which this script can't answer."""
     names = declared(text)
     intrinsics = {it for it in names if it.startswith("llvm.")}
-    found = [f"unknown foreign function: {it}" for it in sorted(names - intrinsics - KNOWN)]
+    found = [f"unknown foreign function: {it}" for it in sorted(names - intrinsics - kind.known)]
     found += [f"intrinsic of x86: {it}" for it in sorted(intrinsics) if it.startswith("llvm.x86.")]
     for what, form in FORMS.items():
         place = re.search(form, text, flags=re.M)
         found += [f"{what}: {line_at(text, place.start())}"] if place else []
-    if not re.search(r"^define [^@\n]*@main\(", text, flags=re.M):
-        found.append("no main")
-    return found
+    defined = {name_of(it) for it in FUNCTION.finditer(text)}
+    return [*found, *(f"no {it}" for it in sorted(kind.roots - defined))]
 
 
 def for_wasm(text):
@@ -117,15 +148,21 @@ def for_wasm(text):
     return re.sub(r'@"((?:[^"\\]|\\.)*)"', lambda it: "@" + short.setdefault(it[1], f"f{len(short)}"), text)
 
 
-def compile_module(clang, module, room):
-    """Compiles the module to an object file for wasm64, by way of its text."""
+def text_of(clang, module, kind, room):
+    """The module as text, without what its roots never reach."""
     run(clang, "-x", "ir", module, "-S", "-emit-llvm", "-Xclang", "-disable-llvm-passes", "-o", f"{room}/module.ll")
     with open(f"{room}/module.ll", encoding="utf-8") as it:
-        text = reachable(FENCE.sub("", it.read()))
-    if refusals(text):
-        stop("; ".join(refusals(text)))
+        text = reachable(FENCE.sub("", it.read()), kind)
+    if refusals(text, kind):
+        stop("; ".join(refusals(text, kind)))
     functions = len(re.findall(r"^define ", text, flags=re.M))
-    print(f"retarget: {functions} functions; foreign: {', '.join(sorted(declared(text) & KNOWN))}")
+    print(f"retarget: {functions} functions; foreign: {', '.join(sorted(declared(text) & kind.known))}")
+    return text
+
+
+def compile_module(clang, module, kind, room):
+    """Compiles the module to an object file for wasm64, by way of its text."""
+    text = text_of(clang, module, kind, room)
     with open(f"{room}/wasm.ll", "w", encoding="utf-8") as it:
         it.write(for_wasm(text))
     run(clang, *TARGET, *PASSES, "-O3", "-x", "ir", f"{room}/wasm.ll", "-S", "-o", f"{room}/wasm.s")
@@ -143,24 +180,64 @@ def compile_c(clang, room, name):
     return f"{room}/{name}.o"
 
 
+def link(bin_, objects, kind, room):
+    """Links the objects to a module with a memory of 64 bits."""
+    imports = f"{room}/imports"
+    with open(imports, "w", encoding="utf-8") as it:
+        it.write("".join(f"{name}\n" for name in kind.imports))
+    run(f"{bin_}/ld.lld", "-flavor", "wasm", "-mwasm64", "--no-entry", "--stack-first", "-z", f"stack-size={STACK}",
+        *[f"--export={it}" for it in kind.exports], f"--allow-undefined-file={imports}", "--gc-sections", "--strip-debug", "--threads=1",
+        "-o", f"{room}/linked.wasm", *objects)
+    with open(f"{room}/linked.wasm", "rb") as it:
+        linked = it.read()
+    with open(f"{room}/wide.wasm", "wb") as it:
+        it.write(without_table(linked))
+    return f"{room}/wide.wasm"
+
+
+def number_at(wasm, at):
+    """A number of a module, and where it ends."""
+    value = shift = 0
+    while True:
+        byte = wasm[at]
+        value, shift, at = value | (byte & 127) << shift, shift + 7, at + 1
+        if byte < 128:
+            return value, at
+
+
+def without_table(wasm):
+    """The module without its table and what fills it (sections 4 and 9): nothing calls by it, since an indirect call is refused above, and
+    binaryen 108 reads no table of a module with a 64-bit memory."""
+    kept, at = wasm[:8], 8
+    while at < len(wasm):
+        begin = at
+        length, body = number_at(wasm, at + 1)
+        at = body + length
+        if wasm[begin] not in (4, 9):
+            kept += wasm[begin:at]
+    return kept
+
+
+def lower(wide, out, room):
+    """Lowers the memory to one of 32 bits, and optimizes the module."""
+    features = "memory64 bulk-memory sign-ext nontrapping-float-to-int mutable-globals multivalue".split()
+    run("wasm-opt", *[f"--enable-{it}" for it in features], "--memory64-lowering", wide, "-o", f"{room}/narrow.wasm")
+    run("wasm-opt", *[f"--enable-{it}" for it in features[1:]], "-O2", f"{room}/narrow.wasm", "-o", out)
+
+
 def main():
-    if len(sys.argv) != 3:
-        stop("usage: retarget.py MODULE.bc OUT.wasm")
-    module, out = sys.argv[1:]
+    words = argparse.ArgumentParser(prog="retarget.py")
+    words.add_argument("--door", action="store_true", help="the module is that of the C library")
+    words.add_argument("module", metavar="MODULE.bc")
+    words.add_argument("out", metavar="OUT.wasm")
+    given = words.parse_args()
+    kind = DOOR if given.door else PROGRAM
     bin_ = toolchain()
     with tempfile.TemporaryDirectory(prefix="retarget-") as room:
-        objects = [compile_c(f"{bin_}/clang", room, it) for it in ("heap", "wide", "start")]
-        objects.append(compile_module(f"{bin_}/clang", module, room))
-        imports = f"{room}/imports"
-        with open(imports, "w", encoding="utf-8") as it:
-            it.write("\n".join([*HOST, *FILES]) + "\n")
-        run(f"{bin_}/ld.lld", "-flavor", "wasm", "-mwasm64", "--no-entry", "--stack-first", "-z", f"stack-size={STACK}",
-            "--export=program_main", f"--allow-undefined-file={imports}", "--gc-sections", "--strip-debug", "--threads=1",
-            "-o", f"{room}/wide.wasm", *objects)
-        features = "memory64 bulk-memory sign-ext nontrapping-float-to-int mutable-globals multivalue".split()
-        run("wasm-opt", *[f"--enable-{it}" for it in features], "--memory64-lowering", f"{room}/wide.wasm", "-o", f"{room}/narrow.wasm")
-        run("wasm-opt", *[f"--enable-{it}" for it in features[1:]], "-O2", f"{room}/narrow.wasm", "-o", out)
-    print(f"retarget: {out}: {os.path.getsize(out)} bytes")
+        objects = [compile_c(f"{bin_}/clang", room, it) for it in kind.sources]
+        objects.append(compile_module(f"{bin_}/clang", given.module, kind, room))
+        lower(link(bin_, objects, kind, room), given.out, room)
+    print(f"retarget: {given.out}: {os.path.getsize(given.out)} bytes")
 
 
 if __name__ == "__main__":

@@ -1,5 +1,5 @@
 #!/usr/bin/env python3
-"""Shows that `retarget.py` refuses what it can't answer for, and nothing else. `build.sh` runs it first."""
+"""Shows that `retarget.py` refuses what it can't answer for, and nothing else. `web/build.sh` runs it first."""
 import unittest
 
 import retarget
@@ -37,20 +37,20 @@ REFUSED = {
 
 class Refusals(unittest.TestCase):
     def test_a_known_module_passes(self):
-        self.assertEqual(retarget.refusals(PLAIN), [])
+        self.assertEqual(retarget.refusals(PLAIN, retarget.PROGRAM), [])
 
     def test_what_is_unknown_is_refused(self):
         for why, line in REFUSED.items():
             with self.subTest(line):
-                found = retarget.refusals(PLAIN + line + "\n")
+                found = retarget.refusals(PLAIN + line + "\n", retarget.PROGRAM)
                 self.assertEqual(len(found), 1)
                 self.assertTrue(found[0].startswith(why), found)
 
     def test_what_main_never_reaches_is_dropped(self):
         thread = 'declare i32 @fork()\ndefine internal void @"+threads::start"() {\n  %1 = call i32 @fork()\n  ret void\n}\n'
-        self.assertEqual(retarget.reachable(PLAIN + thread), PLAIN)
+        self.assertEqual(retarget.reachable(PLAIN + thread, retarget.PROGRAM), PLAIN)
         from_table = PLAIN.replace("[ptr @main,", '[ptr @"+threads::start",') + thread
-        self.assertEqual(retarget.reachable(from_table), from_table)
+        self.assertEqual(retarget.reachable(from_table, retarget.PROGRAM), from_table)
 
     def test_a_fence_of_the_compiler_is_no_instruction(self):
         fence = '  call void asm sideeffect "", "~{memory}"()\n'
@@ -59,7 +59,15 @@ class Refusals(unittest.TestCase):
         self.assertEqual(retarget.FENCE.sub("", other), other)
 
     def test_a_module_has_a_main(self):
-        self.assertEqual(retarget.refusals(PLAIN.replace("@main()", "@other()")), ["no main"])
+        self.assertEqual(retarget.refusals(PLAIN.replace("@main()", "@other()"), retarget.PROGRAM), ["no main"])
+
+    def test_the_door_calls_nothing_but_the_heap(self):
+        door = PLAIN.replace("@main(", "@realm_node_turn(").replace("ptr @main", "ptr @realm_node_turn")
+        self.assertEqual(retarget.refusals(door, retarget.DOOR), ["unknown foreign function: read", "no realm_node_free", "no realm_node_new"])
+
+    def test_a_table_is_dropped_and_nothing_else(self):
+        front, memory, table, fill = b"\0asm\1\0\0\0", b"\x05\x03\x01\x04\x01", b"\x04\x04\x01\x70\x00\x01", b"\x09\x81\x00\xff"
+        self.assertEqual(retarget.without_table(front + table + memory + fill), front + memory)
 
 
 if __name__ == "__main__":
