@@ -1,20 +1,46 @@
 // Files of a folder, in Node.
 import { createHash } from 'node:crypto';
 import * as fs from 'node:fs';
-import { createServer } from 'node:net';
+import { connect, createServer } from 'node:net';
+import { tmpdir } from 'node:os';
 import { join } from 'node:path';
 import { Busy } from './errors.js';
-/** Node has no lock of files. On Linux the folder is locked by an abstract socket of its name, which goes with the process. */
-async function lockFolder(folder) {
-    const name = createHash('sha256').update(fs.realpathSync(folder)).digest('hex');
-    const lock = createServer();
-    await new Promise((done, fail) => {
-        lock.once('error', (error) => fail(error.code === 'EADDRINUSE' ? new Busy(`another process has ${folder} open`) : error));
-        lock.once('listening', () => done(undefined));
-        lock.listen(`\0realm-sync-${name}`);
+/**
+ * Node has no lock of files: a folder is locked by a socket of its name, which goes with the process. On Linux that socket is in no folder, on
+ * Windows it is a pipe; elsewhere it is a file, and one that nobody listens on is taken away.
+ */
+function addressOf(folder) {
+    const name = `realm-sync-${createHash('sha256').update(fs.realpathSync(folder)).digest('hex').slice(0, 32)}`;
+    if (process.platform === 'linux')
+        return `\0${name}`;
+    return process.platform === 'win32' ? `\\\\.\\pipe\\${name}` : join(tmpdir(), name);
+}
+const hasListener = (address) => new Promise((done) => {
+    const socket = connect(address);
+    socket.once('connect', () => {
+        socket.destroy();
+        done(true);
     });
-    lock.unref();
-    return lock;
+    socket.once('error', () => done(false));
+});
+const listening = (lock, address) => new Promise((done, fail) => {
+    lock.once('error', (error) => (error.code === 'EADDRINUSE' ? done('taken') : fail(error)));
+    lock.once('listening', () => done(''));
+    lock.listen(address);
+});
+async function lockFolder(folder) {
+    const address = addressOf(folder);
+    for (let isAgain = false;; isAgain = true) {
+        const lock = createServer();
+        if ((await listening(lock, address)) === '') {
+            lock.unref();
+            return lock;
+        }
+        const isLeftBehind = !isAgain && address.startsWith('/') && !(await hasListener(address));
+        if (!isLeftBehind)
+            throw new Busy(`another process has ${folder} open`);
+        fs.unlinkSync(address);
+    }
 }
 export class NodeFiles {
     folder;
@@ -56,8 +82,7 @@ export class NodeFiles {
                     if (stroke === 'sync')
                         sync();
                     else
-                        for (let done = 0; done < stroke.bytes.length;)
-                            done += fs.writeSync(file, stroke.bytes, done, stroke.bytes.length - done, stroke.place + done);
+                        writeAll(file, stroke.bytes, stroke.place);
                 }
             },
             close: () => fs.closeSync(file),
@@ -75,4 +100,8 @@ export class NodeFiles {
     async close() {
         this.lock.close();
     }
+}
+function writeAll(file, bytes, place) {
+    for (let done = 0; done < bytes.length;)
+        done += fs.writeSync(file, bytes, done, bytes.length - done, place + done);
 }
