@@ -1,4 +1,5 @@
 // A database as an application has it in one tab: its objects to read at once, transactions, and the state of sync.
+import { call } from './call.js';
 import { Closed, SchemaConflict, errorOfForm } from './errors.js';
 import { HostGone } from './link.js';
 import { Mirror } from './mirror.js';
@@ -93,11 +94,11 @@ export class Database {
             case 'sync':
                 this.syncState = event.state;
                 for (const listener of this.syncListeners)
-                    listener(event.state);
+                    call(listener, event.state);
                 return;
             case 'recovered':
                 for (const listener of this.recoveryListeners)
-                    listener(event.recovery);
+                    call(listener, event.recovery);
                 return;
             case 'lost': return this.tellLost(event.lost);
             case 'token':
@@ -124,7 +125,7 @@ export class Database {
         const lost = forms.flatMap((it) => this.lostEdit(it));
         if (lost.length > 0)
             for (const listener of this.lossListeners)
-                listener(lost);
+                call(listener, lost);
     }
     /** None where the table or the column isn't one of the declared schema. */
     lostEdit({ table, key, column, why, ms, mine }) {
@@ -164,13 +165,13 @@ export class Database {
         }
         this.changed(changes);
         for (const listener of this.syncListeners)
-            listener(this.syncState);
+            call(listener, this.syncState);
     }
     changed(changes) {
         this.feed.tell(changes);
         if (changes.length > 0)
             for (const listener of this.changeListeners)
-                listener(changes);
+                call(listener, changes);
         const arrivals = this.arrivals;
         this.arrivals = [];
         for (const arrive of arrivals)

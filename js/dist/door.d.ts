@@ -41,9 +41,9 @@ export declare class Door {
     close(): void;
 }
 /**
- * Records that were added one after the other, as one write behind the closed gate and one that opens it: the strokes of docs/FORMATS.md, "The
- * records of a message", which leave the same bytes, and after a crash all of the records or none. Strokes of any other form stay as they are.
- * (The commands over files do so by a proved disk, `gathered_disk`; the door has a plain one, so that a Download of N entries asks for 2 N syncs.)
+ * Records that were added one after the other, as one write behind the closed gate and one that opens it: the records of a message, as
+ * docs/FORMATS.md, "The journal", has them. They leave the same bytes, and after a crash all of the records or none. Strokes of any other form stay
+ * as they are.
  */
 export declare function gathered(strokes: readonly Stroke[]): readonly Stroke[];
 /** The number of an answer: of a transaction, or a cursor. */

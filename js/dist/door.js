@@ -132,9 +132,9 @@ function strokesOf(outbox) {
     return strokes;
 }
 /**
- * Records that were added one after the other, as one write behind the closed gate and one that opens it: the strokes of docs/FORMATS.md, "The
- * records of a message", which leave the same bytes, and after a crash all of the records or none. Strokes of any other form stay as they are.
- * (The commands over files do so by a proved disk, `gathered_disk`; the door has a plain one, so that a Download of N entries asks for 2 N syncs.)
+ * Records that were added one after the other, as one write behind the closed gate and one that opens it: the records of a message, as
+ * docs/FORMATS.md, "The journal", has them. They leave the same bytes, and after a crash all of the records or none. Strokes of any other form stay
+ * as they are.
  */
 export function gathered(strokes) {
     if (strokes.length < 8 || strokes.length % 4 !== 0)

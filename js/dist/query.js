@@ -1,4 +1,5 @@
 // Queries over a tab's objects, and live ones: what changed is put into the result at its place, and the rest stays as it is.
+import { call } from './call.js';
 const rank = (it) => (it === null || it === undefined ? 0 : typeof it === 'boolean' ? 1 : typeof it === 'string' ? 3 : 2);
 export function compareValues(a, b) {
     const by = rank(a) - rank(b);
@@ -41,7 +42,7 @@ export class Feed {
             }
         }
         for (const tell of telling)
-            tell();
+            call(tell);
     }
 }
 export class Query {
@@ -217,7 +218,7 @@ class Live {
         this.rows = cut(this.all.slice(), this.plan.most);
         return () => {
             for (const listener of [...this.listeners])
-                listener(this.rows, { inserted, updated, removed });
+                call(listener, this.rows, { inserted, updated, removed });
         };
     }
     edit(out, into) {

@@ -14,14 +14,16 @@ export declare class TabLink implements Link {
     private found;
     private coming;
     private failed;
+    private wasFound;
     private release;
     private readonly stopWaiting;
     constructor(start: WorkerStart, makeWorker: () => Worker);
     get isHost(): boolean;
     private become;
-    private wasFound;
+    private tell;
     /** This tab has the lock: it keeps it until it is closed. */
     private lead;
+    /** The worker could not open the files: nobody else is kept from trying. */
     private fail;
     private takeAll;
     private takeMine;

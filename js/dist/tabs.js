@@ -15,6 +15,7 @@ export class TabLink {
     found = () => { };
     coming = new Promise((done) => { this.found = done; });
     failed = null;
+    wasFound = false;
     release = () => { };
     stopWaiting = new AbortController();
     constructor(start, makeWorker) {
@@ -38,11 +39,13 @@ export class TabLink {
         // Who asked the one before gets no answer any more.
         this.asking.fail(new HostGone('the tab that had the files ended'));
         if (this.wasFound)
-            for (const listener of this.listeners)
-                void this.call('snapshot').then((shot) => listener({ event: 'snapshot', ...shot }), () => { });
+            void this.call('snapshot').then((shot) => this.tell({ event: 'snapshot', ...shot }), () => { });
         this.wasFound = true;
     }
-    wasFound = false;
+    tell(event) {
+        for (const listener of this.listeners)
+            listener(event);
+    }
     /** This tab has the lock: it keeps it until it is closed. */
     lead() {
         return new Promise((done) => {
@@ -55,8 +58,7 @@ export class TabLink {
                 if (data.reply)
                     this.asking.take(data.reply);
                 else if (data.event)
-                    for (const listener of this.listeners)
-                        listener(data.event);
+                    this.tell(data.event);
                 else if (data.ready)
                     this.become({ worker });
                 else if (data.closed)
@@ -68,8 +70,10 @@ export class TabLink {
             worker.postMessage(this.start);
         });
     }
+    /** The worker could not open the files: nobody else is kept from trying. */
     fail(error) {
         this.failed = error;
+        this.release();
         this.found({ epoch: '' });
         this.asking.fail(error);
     }
@@ -79,8 +83,7 @@ export class TabLink {
         if (data.host)
             this.become({ epoch: data.host });
         else if (data.event)
-            for (const listener of this.listeners)
-                listener(data.event);
+            this.tell(data.event);
     }
     takeMine(data) {
         if (data.host && !this.host)
@@ -92,7 +95,13 @@ export class TabLink {
         const host = this.host ?? (await this.coming);
         if (this.failed)
             throw this.failed;
-        return this.asking.ask((ask) => ('worker' in host ? host.worker.postMessage({ ask }) : this.asked.postMessage({ from: this.id, ask })), method, words);
+        const post = (ask) => {
+            if ('worker' in host)
+                host.worker.postMessage({ ask });
+            else
+                this.asked.postMessage({ from: this.id, ask });
+        };
+        return this.asking.ask(post, method, words);
     }
     listen(listener) {
         this.listeners.add(listener);
@@ -110,6 +119,8 @@ export class TabLink {
             worker.postMessage({ close: true });
             await closed;
         }
+        else
+            this.release();
         this.asking.fail(this.failed);
         this.all.close();
         this.asked.close();
