@@ -1,6 +1,6 @@
 #!/usr/bin/env node
 // A server for tests and for work on the demo: the files of the repository, and one history over HTTP and WebSocket, as the service of this
-// repository answers (docs/SERVICE.md). A device is its token; any token but `refused` is taken. Nobody is authenticated: not for the network.
+// repository answers. A device is its token; any token but `refused` is taken. Nobody is authenticated: not for the network.
 //
 //     node js/test/server.mjs [--port 8123] [--folder FOLDER]
 import fs from 'node:fs';
