@@ -25,7 +25,8 @@ export interface LostEdit {
     readonly at: Date;
     /** What it had written: a value, or an element of a collection. */
     readonly mine: unknown;
-    /** The object as it is now. */
+    /** The object as this device had it before, and as it is now. */
+    readonly before: Row;
     readonly object: Row | undefined;
 }
 export declare class Database<T extends Tables> {

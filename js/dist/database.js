@@ -128,13 +128,14 @@ export class Database {
                 call(listener, lost);
     }
     /** None where the table or the column isn't one of the declared schema. */
-    lostEdit({ table, key, column, why, ms, mine }) {
+    lostEdit({ table, key, column, why, ms, mine, before }) {
         const rows = this.mirror.tables.get(table);
         const form = column === null ? null : rows?.form.column.get(column);
         if (!rows || form === undefined)
             return [];
         const name = rows.keyOf(key);
-        return [{ table, key: name, column, why, at: new Date(ms), mine: form && readElement(form, mine), object: rows.rows.get(name) }];
+        const value = form && readElement(form, mine);
+        return [{ table, key: name, column, why, at: new Date(ms), mine: value, before: rows.row(name, before), object: rows.rows.get(name) }];
     }
     async handToken(source, wasRefused) {
         try {

@@ -1,4 +1,6 @@
 import type { Engine } from './engine.js';
+/** An object's cells by their columns, in the core's JSON. */
+export declare type Cells = Readonly<Record<string, any>>;
 /** An edit of this device that isn't seen any more, in the core's JSON. */
 export interface LostForm {
     readonly table: string;
@@ -9,6 +11,8 @@ export interface LostForm {
     readonly why: 'overwritten' | 'erased';
     /** What this device had written: a value, an element, or the value at a key of a dictionary. */
     readonly mine: unknown;
+    /** The object's cells as this device had them before. */
+    readonly before: Cells;
 }
 /** Whether two values of the core are one. A link's `resolved` isn't of the value. */
 export declare function isSameValue(one: any, other: any): boolean;

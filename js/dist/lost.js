@@ -86,6 +86,9 @@ export class LostEdits {
     }
     /** What is lost now that the message was taken. */
     found() {
-        return this.seen.flatMap(({ mine, others, before }) => lostOf(mine, others, before, this.cells(mine[0])).map(({ edit, why }) => ({ table: edit.table, key: textOfKey(edit.key), column: edit.column ?? null, ms: edit.ms, why, mine: edit.value ?? null })));
+        return this.seen.flatMap(({ mine, others, before }) => lostOf(mine, others, before, this.cells(mine[0])).map(({ edit, why }) => {
+            const { table, column = null, ms, value = null } = edit;
+            return { table, key: textOfKey(edit.key), column, ms, why, mine: value, before };
+        }));
     }
 }

@@ -33,7 +33,8 @@ export interface LostEdit {
   readonly at: Date;
   /** What it had written: a value, or an element of a collection. */
   readonly mine: unknown;
-  /** The object as it is now. */
+  /** The object as this device had it before, and as it is now. */
+  readonly before: Row;
   readonly object: Row | undefined;
 }
 
@@ -154,12 +155,13 @@ export class Database<T extends Tables> {
   }
 
   /** None where the table or the column isn't one of the declared schema. */
-  private lostEdit({ table, key, column, why, ms, mine }: LostForm): LostEdit[] {
+  private lostEdit({ table, key, column, why, ms, mine, before }: LostForm): LostEdit[] {
     const rows = this.mirror.tables.get(table);
     const form = column === null ? null : rows?.form.column.get(column);
     if (!rows || form === undefined) return [];
     const name = rows.keyOf(key);
-    return [{ table, key: name, column, why, at: new Date(ms), mine: form && readElement(form, mine), object: rows.rows.get(name) }];
+    const value = form && readElement(form, mine);
+    return [{ table, key: name, column, why, at: new Date(ms), mine: value, before: rows.row(name, before), object: rows.rows.get(name) }];
   }
 
   private async handToken(source: (wasRefused: boolean) => string | Promise<string>, wasRefused: boolean): Promise<void> {

@@ -7,6 +7,9 @@ import { unsentOf } from './recovery.js';
 import { Status, textOf } from './door.js';
 import { parseLine, textOfKey } from './values.js';
 
+/** An object's cells by their columns, in the core's JSON. */
+export type Cells = Readonly<Record<string, any>>;
+
 /** An edit of this device that isn't seen any more, in the core's JSON. */
 export interface LostForm {
   readonly table: string;
@@ -17,6 +20,8 @@ export interface LostForm {
   readonly why: 'overwritten' | 'erased';
   /** What this device had written: a value, an element, or the value at a key of a dictionary. */
   readonly mine: unknown;
+  /** The object's cells as this device had them before. */
+  readonly before: Cells;
 }
 
 interface Edit {
@@ -28,8 +33,6 @@ interface Edit {
   readonly at?: string;
   readonly ms: number;
 }
-type Cells = Readonly<Record<string, any>>;
-
 /** Whether two values of the core are one. A link's `resolved` isn't of the value. */
 export function isSameValue(one: any, other: any): boolean {
   if (one === other) return true;
@@ -113,7 +116,9 @@ export class LostEdits {
   /** What is lost now that the message was taken. */
   found(): LostForm[] {
     return this.seen.flatMap(({ mine, others, before }) =>
-      lostOf(mine, others, before, this.cells(mine[0]!)).map(({ edit, why }) => (
-        { table: edit.table, key: textOfKey(edit.key), column: edit.column ?? null, ms: edit.ms, why, mine: edit.value ?? null })));
+      lostOf(mine, others, before, this.cells(mine[0]!)).map(({ edit, why }) => {
+        const { table, column = null, ms, value = null } = edit;
+        return { table, key: textOfKey(edit.key), column, ms, why, mine: value, before };
+      }));
   }
 }

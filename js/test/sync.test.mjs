@@ -164,5 +164,6 @@ test('what this device wrote and another one overruled is told, once, with what 
   assert.equal(told[0].object.quantity, 7);
   assert.ok(told[0].at instanceof Date);
   assert.equal(told[2].object, undefined);
+  assert.equal(told[2].before.title, 'still here?');
   await one.close(); await other.close();
 });

@@ -128,6 +128,7 @@ class Agreement(unittest.TestCase):
         title = next(it for it in told if it.column == "title")
         assert isinstance(title.object, Item)
         self.assertEqual((title.object.title, title.object.quantity), ("rye bread", 7))
+        self.assertEqual([it.before.title for it in told if it.why == "erased"], ["still here?"])
 
 
 class Recovering(unittest.TestCase):

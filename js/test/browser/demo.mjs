@@ -74,7 +74,7 @@ test('two devices go offline, edit, and agree, and who lost is told', async (ben
   bench.server.down(false);
   await agree(laptop, phone);
   const toast = await phone.evaluate(`document.getElementById('toast').textContent`);
-  assert.match(toast, /removed on another device/);
+  assert.match(toast, /“Olive oil”, which you changed, was removed on another device/);
   if (pictures) for (const [name, tab] of [['phone', phone], ['laptop', laptop]]) await tab.picture(`${pictures}/shopping_agreed_${name}.png`);
   const [one, other] = [await shown(phone), await shown(laptop)];
   assert.equal(one, other);

@@ -38,7 +38,7 @@ _log = logging.getLogger("realm_sync")
 class LostEdit:
     """An edit of this device that isn't seen any more, since a change of another device that it hadn't seen came: told as far as it can be seen from
     outside. It may also be that somebody who had seen this edit wrote over it later, before this device knew that it was in the history. `column` is
-    None where the whole object is gone; `mine` is what this device had written, a value or an element; `object` is what is there now."""
+    None where the whole object is gone; `mine` is what this device had written, a value or an element; `before` is the object as this device had it, `object` what is there now."""
 
     table: str
     key: Any
@@ -46,6 +46,7 @@ class LostEdit:
     why: Literal["overwritten", "erased"]
     at: datetime.datetime
     mine: Any
+    before: Any
     object: Any | None
 
 
@@ -319,7 +320,8 @@ class Database:
         key = read_key(form.key)
         at = datetime.datetime.fromtimestamp(form.ms / 1000, datetime.timezone.utc)
         mine = read_element(column, form.mine) if column else None
-        return [LostEdit(form.table, key, form.column, form.why, at, mine, rows.by_key.get(key))]
+        before = rows.read({"key": form.key, "cells": form.before})
+        return [LostEdit(form.table, key, form.column, form.why, at, mine, before, rows.by_key.get(key))]
 
     def on_lost(self, callback: Callable[[Sequence[LostEdit]], None]) -> Stop:
         """Calls back with edits of this device that aren't seen any more after changes of other devices came."""
