@@ -56,6 +56,11 @@ export declare class WrongKey extends RealmError {
 /** The server refuses this device or its token. */
 export declare class Unauthorized extends RealmError {
 }
+/** The server's history was restored, and is of another generation than this client says; which one, where the server told it. */
+export declare class Outdated extends RealmError {
+    readonly generation: number | null;
+    constructor(generation: number | null);
+}
 /** Sync stopped for this, and goes on once it is settled: `problem` says why. */
 export declare class NeedsAttention extends RealmError {
     readonly problem: Problem;

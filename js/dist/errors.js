@@ -99,6 +99,14 @@ export class WrongKey extends RealmError {
 /** The server refuses this device or its token. */
 export class Unauthorized extends RealmError {
 }
+/** The server's history was restored, and is of another generation than this client says; which one, where the server told it. */
+export class Outdated extends RealmError {
+    generation;
+    constructor(generation) {
+        super(`the history was restored on the server${generation === null ? '' : ` and is of generation ${generation}`}`);
+        this.generation = generation;
+    }
+}
 /** Sync stopped for this, and goes on once it is settled: `problem` says why. */
 export class NeedsAttention extends RealmError {
     problem;
@@ -127,7 +135,7 @@ export function storageError(error) {
 }
 const CLASSES = {
     RealmError, Refused, BrokenEdit, InvalidValue, SchemaConflict, StorageFailed, StorageFull, Busy, BadFile, WrongKey, Unauthorized,
-    NeedsAttention, Endless, OutOfMemory, Closed, BadRequest,
+    Outdated, NeedsAttention, Endless, OutOfMemory, Closed, BadRequest,
 };
 export function formOfError(error) {
     const isError = error instanceof Error;

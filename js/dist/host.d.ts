@@ -90,6 +90,7 @@ export declare class Host {
     /** Whether a new client took over since the last time that all was up to date. */
     private hasRecovered;
     private waitingForToken;
+    private serverGeneration;
     private constructor();
     static start(module: WebAssembly.Module, files: Files): Promise<Host>;
     private static opened;
@@ -131,6 +132,7 @@ export declare class Host {
     /** A token in place of one that was refused, or that ends soon. */
     renewToken(token: string): void;
     private onProblem;
+    private agreeOn;
     private exchange;
     /** A new client takes this one's place, and saves what this one has unsent. Until it has all, this one goes on; if it is cut off, it is
      * begun again with the same new client. */

@@ -3,7 +3,7 @@
 import { conflictIn } from './conflict.js';
 import { Status, expectDone, textOf, utf8 } from './door.js';
 import { Engine } from './engine.js';
-import { BadRequest, BrokenEdit, NeedsAttention, RealmError, Refused, StorageFailed, Unauthorized, formOfError, storageError } from './errors.js';
+import { BadRequest, BrokenEdit, NeedsAttention, Outdated, RealmError, Refused, StorageFailed, Unauthorized, formOfError, storageError } from './errors.js';
 import { LostEdits } from './lost.js';
 import { isTakenOverByItself } from './problems.js';
 import { Takeover, born } from './recovery.js';
@@ -13,14 +13,17 @@ import { parseLine, textOfKey } from './values.js';
 const nameOf = (generation) => `client-${generation}`;
 // Why a new client takes over is written down before it has a file: where it was cut off, it goes on for the same reason.
 const reasonName = (generation) => `reason-${generation}`;
-async function keepReason(files, generation, problem) {
-    const file = await files.open(reasonName(generation));
-    const text = JSON.stringify({ kind: problem.kind, text: problem.text, isRecoverable: true });
-    await file.apply([{ place: 0, bytes: utf8(text.padEnd(4096)) }, 'sync']);
+/** Of the server's history, where that isn't 1. */
+const SERVER_GENERATION = 'generation';
+const NOTE = 4096;
+/** Keeps something small beside the client's file. */
+async function keepNote(files, name, note) {
+    const file = await files.open(name);
+    await file.apply([{ place: 0, bytes: utf8(JSON.stringify(note).padEnd(NOTE)) }, 'sync']);
     await file.close();
 }
-async function reasonOf(files, generation) {
-    const file = await files.open(reasonName(generation));
+async function noteOf(files, name) {
+    const file = await files.open(name);
     const text = textOf(await file.read());
     await file.close();
     return JSON.parse(text);
@@ -47,6 +50,7 @@ export class Host {
     /** Whether a new client took over since the last time that all was up to date. */
     hasRecovered = false;
     waitingForToken = [];
+    serverGeneration = 1;
     constructor(module, files, engine, generation, 
     /** A client that has begun to take this one's place, and why. */
     heir, reason) {
@@ -73,7 +77,11 @@ export class Host {
         const engine = await Engine.open(module, await files.open(nameOf(generation)));
         await born(engine);
         const heir = found[1] ?? null;
-        return new Host(module, files, engine, generation, heir, heir === null ? null : await reasonOf(files, heir));
+        const reason = heir === null ? null : await noteOf(files, reasonName(heir));
+        const host = new Host(module, files, engine, generation, heir, reason);
+        if ((await files.names()).includes(SERVER_GENERATION))
+            host.serverGeneration = await noteOf(files, SERVER_GENERATION);
+        return host;
     }
     listen(listener) {
         this.listeners.add(listener);
@@ -246,6 +254,7 @@ export class Host {
     startSync(options) {
         this.loop?.stop();
         const transport = inTurn(options.transport);
+        transport.generation = this.serverGeneration;
         this.syncOptions = { ...options, transport };
         const whole = { pollEvery: transport.watch ? 300000 : 10000, ...DEFAULTS, ...options, transport };
         const node = {
@@ -295,6 +304,10 @@ export class Host {
     }
     // ---- recovery
     async onProblem(problem) {
+        if (problem.generation && this.engine.standing().ident === 0) {
+            await this.agreeOn(problem.generation); // a new client begins in the generation that the history has
+            return true;
+        }
         const isAsked = this.syncOptions?.onProblem === 'recover' ? problem.isRecoverable : isTakenOverByItself(problem);
         if (!isAsked || this.syncOptions?.onProblem === 'ask' || this.hasRecovered)
             return false;
@@ -303,12 +316,18 @@ export class Host {
                 return await this.recover(problem);
             }
             catch (error) {
-                if (error instanceof Refused || error instanceof StorageFailed || error instanceof NeedsAttention || error instanceof Unauthorized)
+                if (error instanceof Refused || error instanceof StorageFailed || error instanceof NeedsAttention || error instanceof Unauthorized || error instanceof Outdated)
                     return false;
                 await wait(pause);
             }
         }
         return false;
+    }
+    async agreeOn(generation) {
+        await keepNote(this.files, SERVER_GENERATION, generation);
+        this.serverGeneration = generation;
+        if (this.syncOptions)
+            this.syncOptions.transport.generation = generation;
     }
     exchange(message) {
         if (!this.syncOptions)
@@ -325,15 +344,22 @@ export class Host {
     }
     async takeOver(problem) {
         this.setState({ status: 'recovering', problem });
-        if (this.heir === null)
-            await keepReason(this.files, this.generation + 1, problem);
+        if (this.heir === null) {
+            const { kind, text, generation } = problem;
+            await keepNote(this.files, reasonName(this.generation + 1), { kind, text, isRecoverable: true, generation });
+        }
         this.heir ??= this.generation + 1;
         const heir = await Engine.open(this.module, await this.files.open(nameOf(this.heir)));
         const takeover = new Takeover(heir, (message) => this.exchange(message), problem);
+        const { transport } = this.syncOptions ?? {};
         try {
+            if (transport && problem.generation)
+                transport.generation = problem.generation;
             await takeover.join(this.engine.standing());
             const recovery = await this.alone(async () => {
                 const done = await takeover.inherit(this.engine);
+                if (problem.generation)
+                    await this.agreeOn(problem.generation);
                 await this.replaced(heir, problem);
                 return done;
             });
@@ -345,6 +371,8 @@ export class Host {
         catch (error) {
             if (this.engine !== heir)
                 await heir.close();
+            if (transport)
+                transport.generation = this.serverGeneration;
             throw error;
         }
     }

@@ -1,4 +1,4 @@
-import { Refused } from './errors.js';
+import { Refused, type Outdated } from './errors.js';
 /**
  * - `schema`: the application's tables or columns differ from those of the history.
  * - `retired`: another client has taken this one's place.
@@ -24,6 +24,8 @@ export interface Problem {
     readonly isRecoverable: boolean;
     /** Of a `schema`: which definition differs, where it is known. */
     readonly conflict?: Conflict | null;
+    /** Of an `otherServer`: the generation of its history, where it told one. */
+    readonly generation?: number | null;
 }
 export declare const problem: (kind: ProblemKind, text: string, isRecoverable: boolean) => Problem;
 /**
@@ -31,6 +33,8 @@ export declare const problem: (kind: ProblemKind, text: string, isRecoverable: b
  * is what a client sends next after any refusal.
  */
 export declare function problemOf(error: Refused, isRepeated: boolean): Problem | 'again' | 'upgrade';
+/** The problem of a server that says that its history was restored. */
+export declare const outdated: ({ message, generation }: Outdated) => Problem;
 /** The problems in which a new client takes over by itself. The others are left to a person: what is to be done with another server's
  * history, or with an application that declares another schema, nobody can know here. */
 export declare const isTakenOverByItself: ({ kind, isRecoverable }: Problem) => boolean;

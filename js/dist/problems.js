@@ -39,6 +39,8 @@ export function problemOf(error, isRepeated) {
         default: return isRepeated ? problem('damaged', error.message, true) : 'again';
     }
 }
+/** The problem of a server that says that its history was restored. */
+export const outdated = ({ message, generation }) => ({ kind: 'otherServer', text: message, isRecoverable: generation !== null, generation });
 /** The problems in which a new client takes over by itself. The others are left to a person: what is to be done with another server's
  * history, or with an application that declares another schema, nobody can know here. */
 export const isTakenOverByItself = ({ kind, isRecoverable }) => isRecoverable && (kind === 'retired' || kind === 'restored' || kind === 'damaged');

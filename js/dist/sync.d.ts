@@ -8,6 +8,8 @@ export interface Transport {
     watch?(callback: () => void): Stop;
     /** A token in place of the one before. */
     renew?(token: string): void;
+    /** In which generation of the server's history this client's file began: 1, unless the server said another one (`Outdated`). */
+    generation?: number;
     close?(): void;
 }
 export declare type SyncState = {

@@ -1,6 +1,6 @@
 // The background loop of sync: what there is to say is said, what came is taken, and the state is told.
-import { Endless, Refused, Unauthorized, errorOfProblem } from './errors.js';
-import { problem, problemOf } from './problems.js';
+import { Endless, Outdated, Refused, Unauthorized, errorOfProblem } from './errors.js';
+import { outdated, problem, problemOf } from './problems.js';
 /** So many messages in a row may leave a client as it was: an Upload and a question do where they are repeated. */
 const MOST_IDLE = 16;
 /** Ends after so long, or with the signal. */
@@ -25,6 +25,8 @@ export function inTurn(transport) {
         ...(transport.watch && { watch: (callback) => transport.watch(callback) }),
         ...(transport.renew && { renew: (token) => transport.renew(token) }),
         ...(transport.close && { close: () => transport.close() }),
+        get generation() { return transport.generation ?? 1; },
+        set generation(generation) { transport.generation = generation; },
     };
 }
 export class SyncLoop {
@@ -129,6 +131,8 @@ export class SyncLoop {
     async failed(error) {
         if (error instanceof Unauthorized)
             return this.stopFor(problem('unauthorized', error.message, false));
+        if (error instanceof Outdated)
+            return this.stopFor(outdated(error));
         if (error instanceof Refused) {
             const what = problemOf(error, this.isRepeated);
             const wasRepeated = this.isRepeated;

@@ -5,6 +5,7 @@ export declare type TokenSource = string | ((wasRefused: boolean) => string | Pr
 /** A server over HTTP: a POST of the message, its reply in the body. `url` is the history's own address. */
 export declare class HttpTransport implements Transport {
     private readonly url;
+    generation: number;
     private readonly token;
     private readonly isWatching;
     /** With `news: false` the server isn't asked to tell by itself when the history has grown. */
@@ -22,6 +23,7 @@ export declare class HttpTransport implements Transport {
 export declare class WebSocketTransport implements Transport {
     private readonly url;
     private readonly Socket;
+    generation: number;
     private readonly token;
     private socket;
     private waiting;

@@ -1,5 +1,5 @@
 // Transports: one message there, one reply back.
-import { RealmError, Unauthorized } from './errors.js';
+import { Outdated, RealmError, Unauthorized } from './errors.js';
 /** The token of a transport: asked for anew once it was refused. */
 class Token {
     source;
@@ -32,11 +32,25 @@ const headersOf = (token) => (token ? { authorization: `Bearer ${token}` } : {})
 /** What a server says by these it says for good. */
 const isForGood = (status) => status === 401 || status === 403 || status === 404;
 const refusal = (status) => status === 401 ? 'the server refuses the token' : status === 404 ? 'the server has no such history' : `the server refuses this device (${status})`;
+const OUTDATED = 410;
+/** An address, with the generation in which the client's file began. */
+const addressOf = (url, generation) => (generation === 1 ? url : `${url}${url.includes('?') ? '&' : '?'}generation=${generation}`);
+const newsAt = (url, generation, after, wait) => {
+    const at = new URL(addressOf(url, generation));
+    at.pathname += '/news';
+    at.searchParams.set('after', String(after));
+    at.searchParams.set('wait', String(wait));
+    return String(at);
+};
+function generationIn(headers) {
+    const told = Number(headers.get('realm-generation') ?? 0);
+    return told > 0 ? told : null;
+}
 /** Waits for a history to grow: `GET URL/news?after=N&wait=S` is answered by `{"news":LENGTH}`, or by 204 after S seconds. */
-async function* newsOf(url, token, signal) {
+async function* newsOf(at, token, signal) {
     for (let length = -1, seconds = 0; !signal.aborted; seconds = 25) {
         try {
-            const response = await fetch(`${url}/news?after=${Math.max(0, length)}&wait=${seconds}`, { headers: headersOf(await token.get()), signal });
+            const response = await fetch(at(Math.max(0, length), seconds), { headers: headersOf(await token.get()), signal });
             if (response.status === 200) {
                 const { news } = (await response.json());
                 if (length >= 0)
@@ -64,6 +78,7 @@ const later = (ms, signal) => new Promise((done) => {
 /** A server over HTTP: a POST of the message, its reply in the body. `url` is the history's own address. */
 export class HttpTransport {
     url;
+    generation = 1;
     token;
     isWatching;
     /** With `news: false` the server isn't asked to tell by itself when the history has grown. */
@@ -75,7 +90,9 @@ export class HttpTransport {
     async exchange(message, signal) {
         for (;;) {
             const headers = { 'content-type': 'application/octet-stream', ...headersOf(await this.token.get()) };
-            const response = await fetch(this.url, { method: 'POST', body: message, signal, headers });
+            const response = await fetch(addressOf(this.url, this.generation), { method: 'POST', body: message, signal, headers });
+            if (response.status === OUTDATED)
+                throw new Outdated(generationIn(response.headers));
             if (response.status === 401) {
                 this.token.refused(refusal(401));
                 continue;
@@ -90,8 +107,9 @@ export class HttpTransport {
     }
     watch(callback) {
         const stopped = new AbortController();
+        const at = (after, seconds) => newsAt(this.url, this.generation, after, seconds);
         if (this.isWatching)
-            void (async () => { for await (const _ of newsOf(this.url, this.token, stopped.signal))
+            void (async () => { for await (const _ of newsOf(at, this.token, stopped.signal))
                 callback(); })();
         return () => stopped.abort();
     }
@@ -106,6 +124,7 @@ export class HttpTransport {
 export class WebSocketTransport {
     url;
     Socket;
+    generation = 1;
     token;
     socket = null;
     waiting = null;
@@ -123,7 +142,7 @@ export class WebSocketTransport {
         if (!this.Socket)
             throw new Unauthorized('this platform has no WebSocket: hand a class of them over, or use HTTP');
         const token = await this.token.get();
-        const socket = new this.Socket(this.url, token ? ['realm', `bearer.${token}`] : ['realm']);
+        const socket = new this.Socket(addressOf(this.url, this.generation), token ? ['realm', `bearer.${token}`] : ['realm']);
         socket.binaryType = 'arraybuffer';
         const code = await new Promise((done) => {
             socket.onopen = () => done(0);
@@ -141,12 +160,13 @@ export class WebSocketTransport {
     }
     /** Why there is no connection. A page isn't told the status with which one was refused, so it is asked for by HTTP. */
     async unconnected(code, token) {
-        let status = code >= 4000 ? code - 4000 : 0;
-        if (status === 0) {
-            const asked = `${this.url.replace(/^ws/, 'http')}/news?after=4294967295&wait=0`;
-            status = await fetch(asked, { headers: headersOf(token) }).then((it) => it.status, () => 0);
-        }
-        return this.refused(status) ?? new RealmError('the server cannot be reached');
+        if (code >= 4000 && code !== 4000 + OUTDATED)
+            return this.refused(code - 4000) ?? new RealmError(`the server ended the connection (${code})`);
+        const asked = newsAt(this.url.replace(/^ws/, 'http'), this.generation, 0xffffffff, 0);
+        const response = await fetch(asked, { headers: headersOf(token) }).catch(() => null);
+        if (response?.status === OUTDATED)
+            return new Outdated(generationIn(response.headers));
+        return this.refused(response?.status ?? 0) ?? new RealmError('the server cannot be reached');
     }
     refused(status) {
         if (status === 401) {

@@ -83,6 +83,12 @@ export class BadFile extends RealmError {
 export class WrongKey extends RealmError {}
 /** The server refuses this device or its token. */
 export class Unauthorized extends RealmError {}
+/** The server's history was restored, and is of another generation than this client says; which one, where the server told it. */
+export class Outdated extends RealmError {
+  constructor(readonly generation: number | null) {
+    super(`the history was restored on the server${generation === null ? '' : ` and is of generation ${generation}`}`);
+  }
+}
 /** Sync stopped for this, and goes on once it is settled: `problem` says why. */
 export class NeedsAttention extends RealmError {
   constructor(readonly problem: Problem) {
@@ -108,7 +114,7 @@ export function storageError(error: unknown): RealmError {
 export interface ErrorForm { name: string; message: string; fields: Record<string, unknown> }
 const CLASSES: Record<string, new (...words: never[]) => RealmError> = {
   RealmError, Refused, BrokenEdit, InvalidValue, SchemaConflict, StorageFailed, StorageFull, Busy, BadFile, WrongKey, Unauthorized,
-  NeedsAttention, Endless, OutOfMemory, Closed, BadRequest,
+  Outdated, NeedsAttention, Endless, OutOfMemory, Closed, BadRequest,
 };
 export function formOfError(error: unknown): ErrorForm {
   const isError = error instanceof Error;
