@@ -36,8 +36,9 @@ _log = logging.getLogger("realm_sync")
 
 @dataclasses.dataclass(frozen=True)
 class LostEdit:
-    """An edit of this device that isn't seen any more, since a change of another device that it hadn't seen came: told as far as it can be seen from
-    outside. It may also be that somebody who had seen this edit wrote over it later, before this device knew that it was in the history. `column` is
+    """An edit of this device that isn't seen any more, since a change of another device that it hadn't seen came. It is told of edits that this device
+    hadn't got back from the history: where its own change came into the history first, and the other one's then won, the device that lost isn't told. It
+    may also be that somebody who had seen this edit wrote over it later, before this device knew that it was in the history. `column` is
     None where the whole object is gone; `mine` is what this device had written, a value or an element; `before` is the object as this device had it, `object` what is there now."""
 
     table: str
