@@ -17,7 +17,7 @@ from typing import Any, Literal, TypeVar
 
 from .client import DatabaseClient
 from .door import to_json
-from .errors import BrokenEdit, Closed, Endless, Error, NeedsAttention, Reason, Refused, SchemaConflict, StorageFailed, Unauthorized
+from .errors import BrokenEdit, Closed, Endless, Error, NeedsAttention, Outdated, Reason, Refused, SchemaConflict, StorageFailed, Unauthorized
 from .lost import LostForm
 from .problems import Problem
 from .query import Callback, Live, Query, RowChange, Rows, Stop, Table
@@ -243,6 +243,7 @@ class Database:
         """Syncs with this server from now on: the address of a history (`wss://host/v1/histories/NAME`, or `https:`), or a transport."""
         self.stop_sync()
         self._transport = transport_of(sync, token) if isinstance(sync, str) else sync
+        self._transport.generation = self._client.generation
         self._loop = SyncLoop(_Syncing(self), self._transport, options, self._tell_sync, self._recovered)
         self._loop.start()
         reason = self._client.pending_reason()
@@ -332,6 +333,10 @@ class Database:
 
     def _recovered(self, problem: Problem) -> bool:
         """Whether a new client took over for this problem: by itself, with pauses where the network fails."""
+        if problem.generation and self._transport and self._client.standing().ident == 0:
+            self._client.agree_on(problem.generation)  # a new client begins in the generation that the history has
+            self._transport.generation = problem.generation
+            return True
         is_asked = problem.is_recoverable if self._on_problem == "recover" else problem.recovers_by_itself
         if not is_asked or self._on_problem == "ask" or self._has_recovered:
             return False
@@ -342,7 +347,7 @@ class Database:
                     if self._recoveries == before:
                         self.recover(problem)
                 return True
-            except (Refused, StorageFailed, NeedsAttention, Unauthorized, Closed, Endless):
+            except (Refused, StorageFailed, NeedsAttention, Outdated, Unauthorized, Closed, Endless):
                 return False
             except Exception:  # the network: tried again
                 time.sleep(pause)
@@ -367,6 +372,7 @@ class Database:
     def _take_over(self, transport: Transport, problem: Problem) -> Recovery:
         takeover = self._client.takeover(transport.exchange, problem)
         try:
+            transport.generation = problem.generation or transport.generation
             takeover.join()
             with self._lock:
                 recovery = takeover.replace()
@@ -376,6 +382,7 @@ class Database:
                 return recovery
         except BaseException:
             takeover.close()
+            transport.generation = self._client.generation
             raise
 
     def on_recovered(self, callback: Callable[[Recovery], None]) -> Stop:
