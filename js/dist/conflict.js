@@ -4,7 +4,8 @@ import { unsentOf } from './recovery.js';
 /** A column as errors say it. */
 export const wordsOfColumn = ({ kind, nullable, shape, target }) => `${kind}${nullable ? ' nullable' : ''} ${shape}${target ? ` of ${target}` : ''}`;
 const wordsOf = (it) => (it.op === 'AddTable' ? `keys of ${it.key}` : wordsOfColumn(it));
-const definitionsIn = (body) => editsOf(body).filter((it) => it.startsWith('{"op":"AddTable"') || it.startsWith('{"op":"AddColumn"')).map((it) => JSON.parse(it));
+const isDefinition = (edit) => edit.startsWith('{"op":"AddTable"') || edit.startsWith('{"op":"AddColumn"');
+const definitionsIn = (body) => editsOf(body).filter(isDefinition).map((it) => JSON.parse(it));
 /** The first definition that the unsent change `number` and the entry at `version` of this Download give in two ways. */
 export function conflictIn(engine, message, version, number) {
     const entry = entriesOf(message)?.find((it) => it.version === version);

@@ -12,8 +12,10 @@ export declare type Realm<T extends Tables> = Database<T> & {
     readonly [N in keyof T]: Table<T[N]>;
 };
 /**
- * An edit of this device that isn't seen any more, since a change of another device that it hadn't seen came: told as far as it can be seen from
- * outside. It may also be that somebody who had seen this edit wrote over it later, before this device knew that it was in the history.
+ * An edit of this device that isn't seen any more, since a change of another device that it hadn't seen came. It is told of edits that
+ * this device hadn't got back from the history: where its own change came into the history first, and the other one's then won, the device
+ * that lost isn't told. It may also be that somebody who had seen this edit wrote over it later, before this device knew that it was in the
+ * history.
  */
 export interface LostEdit {
     readonly table: string;

@@ -79,7 +79,8 @@ export class Database {
     async applySchema() {
         while (this.mirror.lacking.length > 0) {
             const edits = this.mirror.lackingEdits();
-            const { answers, epoch, version } = (await this.link.call('commit', this.epoch, this.version, [{ ms: Date.now(), edits, isBlind: false }]));
+            const list = [{ ms: Date.now(), edits, isBlind: false }];
+            const { answers, epoch, version } = (await this.link.call('commit', this.epoch, this.version, list));
             const [answer] = answers;
             if (answer && answer !== 'stale' && 'error' in answer)
                 throw errorOfForm(answer.error);

@@ -42,8 +42,8 @@ export declare class Door {
 }
 /**
  * Records that were added one after the other, as one write behind the closed gate and one that opens it: the records of a message, as
- * docs/FORMATS.md, "The journal", has them. They leave the same bytes, and after a crash all of the records or none. Strokes of any other form stay
- * as they are.
+ * docs/FORMATS.md, "The journal", has them. They leave the same bytes, and after a crash all of the records or none. Strokes of any other
+ * form stay as they are.
  */
 export declare function gathered(strokes: readonly Stroke[]): readonly Stroke[];
 /** The number of an answer: of a transaction, or a cursor. */

@@ -133,8 +133,8 @@ function strokesOf(outbox) {
 }
 /**
  * Records that were added one after the other, as one write behind the closed gate and one that opens it: the records of a message, as
- * docs/FORMATS.md, "The journal", has them. They leave the same bytes, and after a crash all of the records or none. Strokes of any other form stay
- * as they are.
+ * docs/FORMATS.md, "The journal", has them. They leave the same bytes, and after a crash all of the records or none. Strokes of any other
+ * form stay as they are.
  */
 export function gathered(strokes) {
     if (strokes.length < 8 || strokes.length % 4 !== 0)

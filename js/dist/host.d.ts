@@ -64,8 +64,8 @@ export interface SyncOptions extends Partial<Omit<LoopOptions, 'transport'>> {
     transport: Transport;
     /**
      * What is done where a new client can take over: `recover` (it does, and saves what is unsent) or `ask` (sync needs attention, until
-     * `db.recover()`). By default it recovers where this device's client is retired, restored or damaged, and asks where the schemas differ or the
-     * server is another one.
+     * `db.recover()`). By default it recovers where this device's client is retired, restored or damaged, and asks where the schemas differ
+     * or the server is another one.
      */
     onProblem?: 'recover' | 'ask';
 }

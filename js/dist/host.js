@@ -3,7 +3,7 @@
 import { conflictIn } from './conflict.js';
 import { Status, expectDone, textOf, utf8 } from './door.js';
 import { Engine } from './engine.js';
-import { BadRequest, BrokenEdit, NeedsAttention, Outdated, RealmError, Refused, StorageFailed, Unauthorized, formOfError, storageError } from './errors.js';
+import { BadRequest, BrokenEdit, NeedsAttention, Outdated, RealmError, Refused, StorageFailed, Unauthorized, formOfError, storageError, } from './errors.js';
 import { LostEdits } from './lost.js';
 import { isTakenOverByItself } from './problems.js';
 import { Takeover, born } from './recovery.js';
@@ -28,6 +28,8 @@ async function noteOf(files, name) {
     await file.close();
     return JSON.parse(text);
 }
+/** What ends a recovery: any other error, as of the network, is tried again. */
+const FINAL = [Refused, StorageFailed, NeedsAttention, Unauthorized, Outdated];
 const DEFAULTS = { retryFrom: 500, retryMost: 60000, timeout: 60000, mostMessages: 100000 };
 const wait = (ms) => new Promise((done) => setTimeout(done, ms));
 export class Host {
@@ -316,7 +318,7 @@ export class Host {
                 return await this.recover(problem);
             }
             catch (error) {
-                if (error instanceof Refused || error instanceof StorageFailed || error instanceof NeedsAttention || error instanceof Unauthorized || error instanceof Outdated)
+                if (FINAL.some((it) => error instanceof it))
                     return false;
                 await wait(pause);
             }

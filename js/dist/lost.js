@@ -21,7 +21,7 @@ function isLost(edit, before, after, others) {
     switch (edit.op) {
         // A number to which others added has changed too, and nothing is lost.
         case 'Update':
-            return isSameValue(before, edit.value) && !isSameValue(after, edit.value) && others.some((it) => it.op === 'Update' || it.op === 'CreateObject');
+            return isSameValue(before, edit.value) && !isSameValue(after, edit.value) && others.some(({ op }) => op === 'Update' || op === 'CreateObject');
         case 'ListInsert':
         case 'ListUpdate': return countOf(after, edit.value) < countOf(before, edit.value);
         case 'SetInsert': return has(before, edit.value) && !has(after, edit.value);
@@ -42,10 +42,12 @@ function lostOf(edits, others, before, after) {
     if (!after)
         return edits.some((it) => it.op === 'EraseObject') ? [] : [{ edit: { ...last, column: undefined }, why: 'erased' }];
     const bySpot = new Map(edits.filter((it) => it.column !== undefined).map((it) => [spotOf(it), it]));
-    return [...bySpot.values()]
-        .filter(({ column }) => column in before && column in after)
-        .filter((edit) => isLost(edit, before[edit.column], after[edit.column], others.filter((it) => it.column === undefined || it.column === edit.column)))
-        .map((edit) => ({ edit, why: 'overwritten' }));
+    const lost = [...bySpot.values()].filter((edit) => {
+        const column = edit.column;
+        const touched = others.filter((it) => it.column === undefined || it.column === column);
+        return column in before && column in after && isLost(edit, before[column], after[column], touched);
+    });
+    return lost.map((edit) => ({ edit, why: 'overwritten' }));
 }
 const nameOf = ({ table, key }) => JSON.stringify([table, key]);
 function byObject(edits) {

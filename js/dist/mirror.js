@@ -1,4 +1,5 @@
-// The objects as one tab has them: what the core says, as values of code. Nothing is merged here; an object that may have changed is read anew.
+// The objects as one tab has them: what the core says, as values of code. Nothing is merged here; an object that may have changed is read
+// anew.
 import { SchemaConflict } from './errors.js';
 import { wordsOfColumn } from './conflict.js';
 import { parseLine, readCell, readKey } from './values.js';
@@ -164,13 +165,15 @@ export class Mirror {
         // A link's target has to be there first, so links come behind all tables (`lackingEdits`).
         const columns = form.columns.filter((it) => !have?.has(it.name)).map(({ name, field: { kind, nullable, target }, shape }) => {
             const more = target ? `,"target":${JSON.stringify(target)}` : '';
-            return `{"op":"AddColumn","table":${table},"column":${JSON.stringify(name)},"kind":"${kind}","nullable":${nullable},"shape":"${shape}"${more}}`;
+            const head = `{"op":"AddColumn","table":${table},"column":${JSON.stringify(name)}`;
+            return `${head},"kind":"${kind}","nullable":${nullable},"shape":"${shape}"${more}}`;
         });
         return edits.concat(columns);
     }
     /** What the schema lacks, tables first. */
     lackingEdits() {
-        return [...this.lacking.filter((it) => it.startsWith('{"op":"AddTable"')), ...this.lacking.filter((it) => !it.startsWith('{"op":"AddTable"'))];
+        const isTable = (edit) => edit.startsWith('{"op":"AddTable"');
+        return [...this.lacking.filter(isTable), ...this.lacking.filter((it) => !isTable(it))];
     }
     /** Objects anew. */
     put(puts) {
@@ -180,7 +183,8 @@ export class Mirror {
             if (!rows)
                 continue;
             const key = rows.keyOf(keyText);
-            const change = replace(rows, key, line === null ? undefined : rows.row(key, parseLine(line).cells));
+            const found = line === null ? null : parseLine(line);
+            const change = replace(rows, key, found ? rows.row(key, found.cells) : undefined);
             if (change)
                 changes.push(change);
         }

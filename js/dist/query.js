@@ -45,13 +45,14 @@ export class Feed {
             call(tell);
     }
 }
+const EVERYTHING = { equal: [], tests: [], orders: [], most: Infinity };
 export class Query {
     rows;
     feed;
     plan;
     live = null;
     cached = null;
-    constructor(rows, feed, plan = { equal: [], tests: [], orders: [], most: Infinity }) {
+    constructor(rows, feed, plan = EVERYTHING) {
         this.rows = rows;
         this.feed = feed;
         this.plan = plan;
@@ -84,8 +85,10 @@ export class Query {
         if (this.live)
             return this.live.rows;
         const version = this.feed.versions.get(this.rows.form.name) ?? 0;
-        if (this.cached?.version !== version)
-            this.cached = { version, rows: cut(find(this.rows, this.plan, comparing(this.rows, this.plan)), this.plan.most) };
+        if (this.cached?.version !== version) {
+            const found = find(this.rows, this.plan, comparing(this.rows, this.plan));
+            this.cached = { version, rows: cut(found, this.plan.most) };
+        }
         return this.cached.rows;
     }
     first() {

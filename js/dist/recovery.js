@@ -68,9 +68,9 @@ export class Takeover {
         throw new NeedsAttention(problemFor('retired', 'another device has taken this one\'s place', false));
     }
     /**
-     * Commits in the new client what the old one has unsent, in order. A change is in the history where it belongs to the longest beginning of
-     * the unsent ones whose numbers and times stand there under the old ident. The number alone doesn't say it: a file that was restored from a
-     * backup gives numbers anew.
+     * Commits in the new client what the old one has unsent, in order. A change is in the history where it belongs to the longest beginning
+     * of the unsent ones whose numbers and times stand there under the old ident. The number alone doesn't say it: a file that was restored
+     * from a backup gives numbers anew.
      */
     async inherit(old) {
         const dropped = [];

@@ -68,10 +68,11 @@ export declare type KeyOf<T> = ReadOf<T[Named<T, 'key' | 'autoKey'>]>;
 export declare type Patch<T> = {
     [C in Named<T, 'one' | 'counter'>]?: ReadOf<T[C]> | undefined;
 };
+declare type Given<F> = RoleOf<F> extends 'dict' ? {
+    readonly [at: string]: ElementOf<F>;
+} : Iterable<ElementOf<F>>;
 declare type Collections<T> = {
-    [C in Named<T, 'list' | 'set' | 'dict'>]?: (RoleOf<T[C]> extends 'dict' ? {
-        readonly [at: string]: ElementOf<T[C]>;
-    } : Iterable<ElementOf<T[C]>>) | undefined;
+    [C in Named<T, 'list' | 'set' | 'dict'>]?: Given<T[C]> | undefined;
 };
 /** What `create` takes: a key that it can't draw, and any columns. */
 export declare type New<T> = Patch<T> & Collections<T> & {

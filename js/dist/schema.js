@@ -1,5 +1,5 @@
 // The schema, declared once in code: tables, their keys and their columns. It is applied as additions alone.
-const field = (role, kind, more = {}) => ({ role, kind, nullable: more.nullable ?? false, big: more.big ?? false, target: more.target ?? null });
+const field = (role, kind, { nullable: may = false, big = false, target } = {}) => ({ role, kind, nullable: may, big, target: target ?? null });
 /** The key of a table. */
 export const key = {
     /** A uuid, which `create` draws where none is given. */
@@ -23,10 +23,12 @@ export const counter = () => field('counter', 'Int');
 export const link = (table) => field('one', 'Link', { nullable: true, target: table });
 /** A column of one value that may be null. */
 export const nullable = (of) => ({ ...of, nullable: true });
-export const list = (of) => ({ ...of, role: 'list', nullable: of.kind !== 'Link' && of.nullable });
+/** A column of many values, each as this one. Links in it are never null. */
+const many = (of, role) => ({ ...of, role, nullable: of.kind !== 'Link' && of.nullable });
+export const list = (of) => many(of, 'list');
 /** Of numbers, texts, flags, uuids and links. */
-export const set = (of) => ({ ...of, role: 'set', nullable: of.kind !== 'Link' && of.nullable });
-export const dict = (of) => ({ ...of, role: 'dict', nullable: of.kind !== 'Link' && of.nullable });
+export const set = (of) => many(of, 'set');
+export const dict = (of) => many(of, 'dict');
 const isKey = ({ role }) => role === 'key' || role === 'autoKey';
 const SHAPES = { one: 'One', counter: 'One', list: 'List', set: 'Set', dict: 'Dict' };
 const bytesIn = (name) => new TextEncoder().encode(name).length;
@@ -39,26 +41,28 @@ export class Schema {
     tables;
     constructor(declared) {
         this.declared = declared;
-        const forms = new Map();
-        for (const [name, fields] of Object.entries(declared)) {
-            const entries = Object.entries(fields);
-            const keys = entries.filter(([, it]) => isKey(it));
-            if (keys.length !== 1)
-                throw new TypeError(`table ${name} needs one key`);
-            const [keyName, keyField] = keys[0];
-            const columns = entries.filter(([, it]) => !isKey(it)).map(([column, it]) => ({ name: column, field: it, shape: SHAPES[it.role] }));
-            for (const it of [name, ...columns.map((column) => column.name)]) {
-                if (it === '__proto__')
-                    throw new TypeError('a name cannot be __proto__');
-                if (bytesIn(it) < 1 || bytesIn(it) > 63)
-                    throw new TypeError(`the name ${JSON.stringify(it)} has not 1 to 63 bytes`);
-            }
+        this.tables = new Map(Object.entries(declared).map(([name, fields]) => [name, formOf(name, fields)]));
+        for (const { name, columns } of this.tables.values()) {
             for (const { name: column, field: { target } } of columns) {
-                if (target !== null && !(target in declared))
+                if (target !== null && !this.tables.has(target))
                     throw new TypeError(`${name}.${column} links to ${target}, which is no table here`);
             }
-            forms.set(name, { name, keyName, keyKind: keyField.kind, columns, column: new Map(columns.map((it) => [it.name, it])) });
         }
-        this.tables = forms;
     }
+}
+function formOf(name, fields) {
+    const entries = Object.entries(fields);
+    const keys = entries.filter(([, it]) => isKey(it));
+    if (keys.length !== 1)
+        throw new TypeError(`table ${name} needs one key`);
+    const [keyName, keyField] = keys[0];
+    const plain = entries.filter(([, it]) => !isKey(it));
+    const columns = plain.map(([column, it]) => ({ name: column, field: it, shape: SHAPES[it.role] }));
+    for (const it of [name, ...columns.map((column) => column.name)]) {
+        if (it === '__proto__')
+            throw new TypeError('a name cannot be __proto__');
+        if (bytesIn(it) < 1 || bytesIn(it) > 63)
+            throw new TypeError(`the name ${JSON.stringify(it)} has not 1 to 63 bytes`);
+    }
+    return { name, keyName, keyKind: keyField.kind, columns, column: new Map(columns.map((it) => [it.name, it])) };
 }

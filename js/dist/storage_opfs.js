@@ -1,5 +1,5 @@
 // Files in the origin private file system, by synchronous handles: in a dedicated worker alone. Such a handle is exclusive.
-import { Busy, StorageFailed } from './errors.js';
+import { Busy, StorageFailed, StorageFull } from './errors.js';
 import { textOf, utf8 } from './door.js';
 const NOTE = 96;
 export class OpfsFiles {
@@ -11,7 +11,9 @@ export class OpfsFiles {
         this.durability = durability;
     }
     static isHere() {
-        return typeof FileSystemFileHandle !== 'undefined' && 'createSyncAccessHandle' in FileSystemFileHandle.prototype && !!navigator.storage?.getDirectory;
+        if (typeof FileSystemFileHandle === 'undefined')
+            return false;
+        return 'createSyncAccessHandle' in FileSystemFileHandle.prototype && !!navigator.storage?.getDirectory;
     }
     static async at(name, durability) {
         const root = await navigator.storage.getDirectory();
@@ -46,7 +48,7 @@ export class OpfsFiles {
                     if (stroke === 'sync')
                         flush();
                     else if (handle.write(stroke.bytes, { at: stroke.place }) !== stroke.bytes.length)
-                        throw Object.assign(new Error('the disk is full'), { name: 'QuotaExceededError' });
+                        throw new StorageFull('the storage is full: make room, and try again');
                 }
             },
             noted: () => {

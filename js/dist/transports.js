@@ -31,10 +31,16 @@ class Token {
 const headersOf = (token) => (token ? { authorization: `Bearer ${token}` } : {});
 /** What a server says by these it says for good. */
 const isForGood = (status) => status === 401 || status === 403 || status === 404;
-const refusal = (status) => status === 401 ? 'the server refuses the token' : status === 404 ? 'the server has no such history' : `the server refuses this device (${status})`;
+function refusal(status) {
+    if (status === 401)
+        return 'the server refuses the token';
+    return status === 404 ? 'the server has no such history' : `the server refuses this device (${status})`;
+}
 const OUTDATED = 410;
 /** An address, with the generation in which the client's file began. */
-const addressOf = (url, generation) => (generation === 1 ? url : `${url}${url.includes('?') ? '&' : '?'}generation=${generation}`);
+function addressOf(url, generation) {
+    return generation === 1 ? url : `${url}${url.includes('?') ? '&' : '?'}generation=${generation}`;
+}
 const newsAt = (url, generation, after, wait) => {
     const at = new URL(addressOf(url, generation));
     at.pathname += '/news';

@@ -3,7 +3,7 @@ import type { ColumnForm, Field, Key, KeyKind, TableForm } from './schema.js';
 export declare function quote(value: string): string;
 /** The key as code has it everywhere: a uuid in lower case, a small bigint as a number. */
 export declare function plainKey(kind: KeyKind, value: unknown, where: string): Key;
-export declare const keyJson: (kind: KeyKind, value: Key) => string;
+export declare function keyJson(kind: KeyKind, value: Key): string;
 /** A value of a column as JSON. */
 export declare function valueJson(field: Field<unknown, any>, tables: ReadonlyMap<string, TableForm>, value: unknown, where: string): string;
 export declare const atJson: (at: string, where: string) => string;

@@ -16,8 +16,9 @@ function int(value, where) {
             throw new InvalidValue(`${where}: ${value} has more than 64 bits`);
         return value.toString();
     }
-    if (typeof value !== 'number' || !Number.isSafeInteger(value))
+    if (typeof value !== 'number' || !Number.isSafeInteger(value)) {
         throw new InvalidValue(`${where}: ${String(value)} is no integer that a number has exactly`);
+    }
     return (value + 0).toString() === '-0' ? '0' : value.toString();
 }
 function uuidText(value, where) {
@@ -50,7 +51,11 @@ export function plainKey(kind, value, where) {
         throw new InvalidValue(`${where}: a text key has at most 255 bytes`);
     return value;
 }
-export const keyJson = (kind, value) => (kind === 'Uuid' ? `{"uuid":"${value}"}` : kind === 'Int' ? value.toString() : quote(value));
+export function keyJson(kind, value) {
+    if (kind === 'Uuid')
+        return `{"uuid":"${value}"}`;
+    return kind === 'Int' ? value.toString() : quote(value);
+}
 /** A value of a column as JSON. */
 export function valueJson(field, tables, value, where) {
     if (value === null || value === undefined) {
@@ -138,8 +143,11 @@ export function readCell(form, it) {
     const { field } = form;
     switch (form.shape) {
         case 'One': return readValue(field, it);
-        case 'List': return Object.freeze(field.kind === 'Text' || (field.kind === 'Bool') ? it : it.map((element) => readValue(field, element)));
+        case 'List': return Object.freeze(field.kind === 'Text' || field.kind === 'Bool' ? it : it.map((element) => readValue(field, element)));
         case 'Set': return new Set(it.map((element) => readValue(field, element)));
-        case 'Dict': return Object.freeze(Object.assign(Object.create(null), Object.fromEntries(Object.entries(it).map(([at, element]) => [at, readValue(field, element)]))));
+        case 'Dict': {
+            const entries = Object.entries(it).map(([at, element]) => [at, readValue(field, element)]);
+            return Object.freeze(Object.assign(Object.create(null), Object.fromEntries(entries)));
+        }
     }
 }

@@ -20,9 +20,10 @@ import { readElement } from './values.js';
 export type Realm<T extends Tables> = Database<T> & { readonly [N in keyof T]: Table<T[N]> };
 
 /**
- * An edit of this device that isn't seen any more, since a change of another device that it hadn't seen came. It is told of edits that this device
- * hadn't got back from the history: where its own change came into the history first, and the other one's then won, the device that lost isn't told.
- * It may also be that somebody who had seen this edit wrote over it later, before this device knew that it was in the history.
+ * An edit of this device that isn't seen any more, since a change of another device that it hadn't seen came. It is told of edits that
+ * this device hadn't got back from the history: where its own change came into the history first, and the other one's then won, the device
+ * that lost isn't told. It may also be that somebody who had seen this edit wrote over it later, before this device knew that it was in the
+ * history.
  */
 export interface LostEdit {
   readonly table: string;
@@ -115,7 +116,8 @@ export class Database<T extends Tables> {
   private async applySchema(): Promise<void> {
     while (this.mirror.lacking.length > 0) {
       const edits = this.mirror.lackingEdits();
-      const { answers, epoch, version } = (await this.link.call('commit', this.epoch, this.version, [{ ms: Date.now(), edits, isBlind: false }])) as Answers;
+      const list = [{ ms: Date.now(), edits, isBlind: false }];
+      const { answers, epoch, version } = (await this.link.call('commit', this.epoch, this.version, list)) as Answers;
       const [answer] = answers;
       if (answer && answer !== 'stale' && 'error' in answer) throw errorOfForm(answer.error);
       await this.reach(epoch, version);

@@ -4,7 +4,9 @@
 import { conflictIn } from './conflict.js';
 import { Status, expectDone, textOf, utf8, type Reply, type Standing } from './door.js';
 import { Engine } from './engine.js';
-import { BadRequest, BrokenEdit, NeedsAttention, Outdated, RealmError, Refused, StorageFailed, Unauthorized, formOfError, storageError, type ErrorForm } from './errors.js';
+import {
+  BadRequest, BrokenEdit, NeedsAttention, Outdated, RealmError, Refused, StorageFailed, Unauthorized, formOfError, storageError, type ErrorForm,
+} from './errors.js';
 import { LostEdits, type LostForm } from './lost.js';
 import type { Put } from './mirror.js';
 import { isTakenOverByItself, type Problem } from './problems.js';
@@ -58,8 +60,8 @@ export interface SyncOptions extends Partial<Omit<LoopOptions, 'transport'>> {
   transport: Transport;
   /**
    * What is done where a new client can take over: `recover` (it does, and saves what is unsent) or `ask` (sync needs attention, until
-   * `db.recover()`). By default it recovers where this device's client is retired, restored or damaged, and asks where the schemas differ or the
-   * server is another one.
+   * `db.recover()`). By default it recovers where this device's client is retired, restored or damaged, and asks where the schemas differ
+   * or the server is another one.
    */
   onProblem?: 'recover' | 'ask';
 }
@@ -85,6 +87,8 @@ async function noteOf<T>(files: Files, name: string): Promise<T> {
   return JSON.parse(text) as T;
 }
 
+/** What ends a recovery: any other error, as of the network, is tried again. */
+const FINAL = [Refused, StorageFailed, NeedsAttention, Unauthorized, Outdated];
 const DEFAULTS = { retryFrom: 500, retryMost: 60_000, timeout: 60_000, mostMessages: 100_000 };
 const wait = (ms: number): Promise<void> => new Promise((done) => setTimeout(done, ms));
 
@@ -379,7 +383,7 @@ export class Host {
       try {
         return await this.recover(problem);
       } catch (error) {
-        if (error instanceof Refused || error instanceof StorageFailed || error instanceof NeedsAttention || error instanceof Unauthorized || error instanceof Outdated) return false;
+        if (FINAL.some((it) => error instanceof it)) return false;
         await wait(pause);
       }
     }

@@ -50,7 +50,7 @@ function isLost(edit: Edit, before: any, after: any, others: readonly Edit[]): b
   switch (edit.op) {
     // A number to which others added has changed too, and nothing is lost.
     case 'Update':
-      return isSameValue(before, edit.value) && !isSameValue(after, edit.value) && others.some((it) => it.op === 'Update' || it.op === 'CreateObject');
+      return isSameValue(before, edit.value) && !isSameValue(after, edit.value) && others.some(({ op }) => op === 'Update' || op === 'CreateObject');
     case 'ListInsert':
     case 'ListUpdate': return countOf(after, edit.value) < countOf(before, edit.value);
     case 'SetInsert': return has(before, edit.value) && !has(after, edit.value);
@@ -67,14 +67,21 @@ const spotOf = ({ op, column, value, at }: Edit): string => {
   return `${column}@${at ?? ''}`;
 };
 
-function lostOf(edits: readonly Edit[], others: readonly Edit[], before: Cells, after: Cells | null): { edit: Edit; why: LostForm['why'] }[] {
+interface Lost {
+  readonly edit: Edit;
+  readonly why: LostForm['why'];
+}
+
+function lostOf(edits: readonly Edit[], others: readonly Edit[], before: Cells, after: Cells | null): Lost[] {
   const last = edits[edits.length - 1]!;
   if (!after) return edits.some((it) => it.op === 'EraseObject') ? [] : [{ edit: { ...last, column: undefined }, why: 'erased' }];
   const bySpot = new Map(edits.filter((it) => it.column !== undefined).map((it) => [spotOf(it), it]));
-  return [...bySpot.values()]
-    .filter(({ column }) => column! in before && column! in after)
-    .filter((edit) => isLost(edit, before[edit.column!], after[edit.column!], others.filter((it) => it.column === undefined || it.column === edit.column)))
-    .map((edit) => ({ edit, why: 'overwritten' as const }));
+  const lost = [...bySpot.values()].filter((edit) => {
+    const column = edit.column!;
+    const touched = others.filter((it) => it.column === undefined || it.column === column);
+    return column in before && column in after && isLost(edit, before[column], after[column], touched);
+  });
+  return lost.map((edit) => ({ edit, why: 'overwritten' }));
 }
 
 const nameOf = ({ table, key }: Edit): string => JSON.stringify([table, key]);

@@ -38,12 +38,16 @@ class Token {
 const headersOf = (token: string): Record<string, string> => (token ? { authorization: `Bearer ${token}` } : {});
 /** What a server says by these it says for good. */
 const isForGood = (status: number): boolean => status === 401 || status === 403 || status === 404;
-const refusal = (status: number): string =>
-  status === 401 ? 'the server refuses the token' : status === 404 ? 'the server has no such history' : `the server refuses this device (${status})`;
+function refusal(status: number): string {
+  if (status === 401) return 'the server refuses the token';
+  return status === 404 ? 'the server has no such history' : `the server refuses this device (${status})`;
+}
 
 const OUTDATED = 410;
 /** An address, with the generation in which the client's file began. */
-const addressOf = (url: string, generation: number): string => (generation === 1 ? url : `${url}${url.includes('?') ? '&' : '?'}generation=${generation}`);
+function addressOf(url: string, generation: number): string {
+  return generation === 1 ? url : `${url}${url.includes('?') ? '&' : '?'}generation=${generation}`;
+}
 const newsAt = (url: string, generation: number, after: number, wait: number): string => {
   const at = new URL(addressOf(url, generation));
   at.pathname += '/news';
