@@ -1,16 +1,17 @@
--- What goes wrong in shorter files than these, and with files that were put back from a backup: computed.
-use Rattle.std.proofs.Common.{◌≡◌, inl, ℕ, true, Ok, Err, List, [], ◌∷◌, ◌++◌, refl}
+-- Short files that are one, and that are none; what goes wrong in still shorter ones; files that were put back from a backup. All of it is computed.
+use Rattle.std.proofs.Common.{◌≡◌, inl, ℕ, Bool, true, false, Ok, Err, List, [], ◌∷◌, ◌++◌, refl}
 use Rattle.sync_theory.specs.Toy.{Add, Sheet}
 use Rattle.sync_model.specs.Bytes.{Uuid}
 use Rattle.sync_model.specs.Messages.{Change, Upload, Download, Stored, Retired}
-use Rattle.sync_model.specs.Clients.{ClientRecord, Born, Named, Made, Took, Part, Floor, TooLate, Forked, no_client, client_of, commit, subscribe, take, to_upload}
+use Rattle.sync_model.specs.Clients.{ClientRecord, Born, Named, Made, Took, Form, Subset, Part, Floor, TooLate, Forked, no_client, client_of, commit, subscribe, take, to_upload}
 use Rattle.sync_model.specs.Files.{client_opens}
 use Rattle.sync_model.specs.Servers as servers
 use Rattle.sync_model.specs.Servers.{ServerRecord, server_of, server_objects, serve, count, entries_from, no_server}
 use Rattle.sync_model.specs.Rescues.{LivesOn}
 use Rattle.sync_model.specs.Resets.{recover, IsHeir, Handled, Integrated, SavedAs}
 use Rattle.sync_model.specs.Toy.{toy}
-use Rattle.shrink_law.specs.Short.{Plain, Resumed, Waits, short_records, short_of}
+use Rattle.shrink_law.specs.Openings.{Outside, short_opens}
+use Rattle.shrink_law.specs.Short.{ShortRecord, Plain, Resumed, Waits, short_records, short_of}
 
 abbrev uuid : ℕ → Uuid
 uuid n = 0 ∷ 0 ∷ 0 ∷ 0 ∷ 0 ∷ 0 ∷ 64 ∷ 0 ∷ 128 ∷ 0 ∷ 0 ∷ 0 ∷ 0 ∷ 0 ∷ 0 ∷ n ∷ []
@@ -97,6 +98,65 @@ forgot_current = refl
 
 own_entry_taken : (take toy (short_of toy (short_records toy (client_of toy waiting))) (Download 1 1 (record { origin = 1; number = 1; ms = 10; body = [] } ∷ []))).answer ≡ Ok 2
 own_entry_taken = refl
+
+-- ---- what is no short file
+
+-- opening accepts these records
+abbrev opens : List ShortRecord → Bool
+opens rs = short_opens toy Outside (no_client toy) rs
+
+-- the file above, and what may stand behind it
+abbrev short : List ShortRecord → List ShortRecord
+short rest = Plain (Born (uuid 1)) ∷ Resumed 0 1 ∷ Waits 1 0 10 (0 ∷ 5 ∷ []) [] ∷ Plain (Part (0 ∷ 9 ∷ [])) ∷ Plain (Floor 1) ∷ rest
+
+is_one : opens (short (Plain (Named 1) ∷ Plain (Made 2 30 (1 ∷ 4 ∷ [])) ∷ [])) ≡ true
+is_one = refl
+
+-- the next transaction has the next number
+number_again : opens (short (Plain (Named 1) ∷ Plain (Made 1 30 (1 ∷ 4 ∷ [])) ∷ [])) ≡ false
+number_again = refl
+
+-- a front comes once, and right behind the uuid and the form
+second_front : opens (short (Resumed 0 0 ∷ Plain (Floor 1) ∷ [])) ≡ false
+second_front = refl
+
+front_without_uuid : opens (Resumed 0 0 ∷ Plain (Floor 1) ∷ []) ≡ false
+front_without_uuid = refl
+
+front_behind_made : opens (Plain (Born (uuid 1)) ∷ Plain (Made 1 10 (0 ∷ 5 ∷ [])) ∷ Resumed 0 0 ∷ Plain (Floor 1) ∷ []) ≡ false
+front_behind_made = refl
+
+form_within : opens (Plain (Born (uuid 1)) ∷ Resumed 0 0 ∷ Plain Form ∷ Plain (Floor 1) ∷ []) ≡ false
+form_within = refl
+
+-- as many unsent changesets as were told, in order, and then the parts and the cursor
+one_missing : opens (Plain (Born (uuid 1)) ∷ Resumed 0 2 ∷ Waits 1 0 10 (0 ∷ 5 ∷ []) [] ∷ Plain (Part (0 ∷ 9 ∷ [])) ∷ Plain (Floor 1) ∷ []) ≡ false
+one_missing = refl
+
+one_more : opens (Plain (Born (uuid 1)) ∷ Resumed 0 0 ∷ Waits 1 0 10 (0 ∷ 5 ∷ []) [] ∷ Plain (Part (0 ∷ 9 ∷ [])) ∷ Plain (Floor 1) ∷ []) ≡ false
+one_more = refl
+
+number_left_out : opens (Plain (Born (uuid 1)) ∷ Resumed 0 1 ∷ Waits 2 0 10 (0 ∷ 5 ∷ []) [] ∷ Plain (Part (0 ∷ 9 ∷ [])) ∷ Plain (Floor 1) ∷ []) ≡ false
+number_left_out = refl
+
+base_beyond : opens (Plain (Born (uuid 1)) ∷ Resumed 0 1 ∷ Waits 1 2 10 (0 ∷ 5 ∷ []) [] ∷ Plain (Part (0 ∷ 9 ∷ [])) ∷ Plain (Floor 1) ∷ []) ≡ false
+base_beyond = refl
+
+tables_between : opens (Plain (Born (uuid 1)) ∷ Resumed 0 1 ∷ Waits 1 0 10 (0 ∷ 5 ∷ []) [] ∷ Plain (Subset []) ∷ Plain (Part (0 ∷ 9 ∷ [])) ∷ Plain (Floor 1) ∷ []) ≡ false
+tables_between = refl
+
+waits_alone : opens (Plain (Born (uuid 1)) ∷ Waits 1 0 10 (0 ∷ 5 ∷ []) [] ∷ []) ≡ false
+waits_alone = refl
+
+-- no file ends within a front
+ends_behind_counts : opens (Plain (Born (uuid 1)) ∷ Resumed 0 1 ∷ []) ≡ false
+ends_behind_counts = refl
+
+ends_behind_waits : opens (Plain (Born (uuid 1)) ∷ Resumed 0 1 ∷ Waits 1 0 10 (0 ∷ 5 ∷ []) [] ∷ []) ≡ false
+ends_behind_waits = refl
+
+ends_behind_parts : opens (Plain (Born (uuid 1)) ∷ Resumed 0 1 ∷ Waits 1 0 10 (0 ∷ 5 ∷ []) [] ∷ Plain (Part (0 ∷ 9 ∷ [])) ∷ []) ≡ false
+ends_behind_parts = refl
 
 -- ---- a file that was put back from a backup
 
