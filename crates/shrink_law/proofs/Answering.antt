@@ -1,4 +1,5 @@
 -- Clients of which all that a call reads is the same answer alike.
+pub use Rattle.shrink_law.specs.Short.{IsPlain}
 use Rattle.std.proofs.Common.{◌≡◌, ℕ, suc, ◌-◌, Bool, true, false, ◌&&◌, ◌||◌, not, List, [], ◌∷◌, ◌++◌, Option, Some, None, Result, Ok, Err, refl, sym, ap, ◌∙◌, subst, if◌then◌else◌, ◌==◌, length, map, drop, nat_lt}
 use Rattle.std.specs.Prelude.{bytes_eq}
 use Rattle.sync_theory.specs.Lists.{run}
@@ -10,7 +11,6 @@ use Rattle.sync_model.specs.Bytes.{Uuid, Tables}
 use Rattle.sync_model.specs.Profile.{Profile, Stuck, act, apply_all, act_changeset, cross_changesets, is_small, needs, first_need, all_admitted, first_outside, fitting}
 use Rattle.sync_model.specs.Messages.{Sent, Message, Bind, Ident, Upload, Ask, Download, Refused, Stored, Ask2, Retire, Retired, AskTables}
 use Rattle.sync_model.specs.Clients.{Client, ClientRecord, Born, Named, Made, Took, Form, Subset, Part, Floor, Original, as_made, changeset_of, carried_to, state_or, ok_list, TooLarge, NumbersFull, OldForm, NotSubscribed, NotMine, NotNamed, TooLate, IdentDiffers, Gap, BadBody, OldEntry, Mismatch, WasRefused, refuse, answers, appends, if_born, born, born_once, subscribed_once, is_late, has_floor, settled_from, unsent_above, question, number_at, applied_refusal, sent_changeset, took, take_one, commit, commit_applied, upgrade, subscribe, bind, upload, upload_from, ask, own_refusal, crossed_refusal, read_refusal, entry_refusal, take_entries, take_born, take as take_message, change_of, makes, crossed, takes_entry, after_record}
-pub use Rattle.shrink_law.specs.Short.{IsPlain}
 use Rattle.shrink_law.specs.Short.{Alike}
 
 pub suc_not : (n : ℕ) → not (suc n == 0) ≡ true

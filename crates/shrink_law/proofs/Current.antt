@@ -1,23 +1,23 @@
 -- A client that took the whole history of a server has nothing unsent that the server would take for a repeat.
-use Rattle.std.proofs.Common.{◌≡◌, ◌≢◌, ℕ, zero, suc, ◌+◌, ◌≤◌, ◌<◌, Bool, true, false, ◌&&◌, ◌||◌, not, List, [], ◌∷◌, ◌++◌, Option, Some, None, Result, Ok, Err, refl, sym, ap, ◌∙◌, subst, arith, if◌then◌else◌, ◌==◌, length, map, eqb-true, ◌-◌, nat_le}
+use Rattle.std.proofs.Common.{◌≡◌, ◌≢◌, ℕ, zero, suc, ◌+◌, ◌≤◌, ◌<◌, Bool, true, false, ◌&&◌, ◌||◌, not, List, [], ◌∷◌, ◌++◌, Option, Some, None, Result, Ok, Err, refl, sym, ap, ◌∙◌, subst, arith, if◌then◌else◌, ◌==◌, length, map, eqb-true, ◌-◌, nat_le, append_assoc, append-nil, ap₂, nat_lt}
 use Rattle.sync_theory.specs.Grid.{Meet, rebase, rebase_put, rebase_one, tail}
 use Rattle.sync_theory.specs.Changesets.{Changeset}
 use Rattle.sync_theory.proofs.Logs.{length_snoc}
 use Rattle.sync_theory.proofs.Server.{test_true}
 use Rattle.sync_model.specs.Profile.{Profile, Stuck, Lawful, cross_changesets, needs, restricted, fitting}
-use Rattle.sync_model.specs.Messages.{Change, Sent}
+use Rattle.sync_model.specs.Messages.{Change, Sent, Stored, Upload}
 use Rattle.sync_model.specs.Each.{Each, no_more, and_each}
 use Rattle.sync_model.specs.Clients.{Client, ClientRecord, Born, Named, Made, Took, Form, Subset, Part, Floor, Original, Unsent, as_made, changeset_of, carried_to, ok_list, Forked, OldEntry, sent_changeset, own_refusal, crossed_refusal, read_refusal, entry_refusal, takes_entry, crossed, makes, tooks_of, change_of, to_upload, no_client, client_of, after_record, after_records}
-use Rattle.sync_model.specs.Servers.{Server, ServerRecord, no_server, server_of, count, sent_of}
+use Rattle.sync_model.specs.Servers.{Server, ServerRecord, no_server, server_of, count, sent_of, NoSuchIdent, is_given, refuses, replies, serve}
 use Rattle.sync_model.specs.Files.{client_admits, client_opens, is_growing, made_acts, server_opens}
 use Rattle.sync_model.specs.Recovery.{numbers_from, numbers_of, whole_history}
 use Rattle.sync_model.specs.Worlds.{is_there}
 use Rattle.sync_model.proofs.Alone.{opened_first, opened_more}
 use Rattle.sync_model.proofs.Final.{history_numbers}
 use Rattle.shrink_law.specs.Short.{taken}
-use Rattle.std.proofs.Common.{append_assoc, append-nil, ap₂}
 use Rattle.std.specs.Prelude.{bytes_eq}
 use Rattle.shrink_law.specs.Current.{own_numbers, own_stamps, stamps_of, stamp_of, Follow, none_follows, one_follows, HasWhole, HasPart, HasTold}
+use Rattle.sync_model.specs.Bytes.{Tables}
 
 both : (a b : Bool) → (a && b) ≡ true → (a ≡ true) × (b ≡ true)
 both true b e = (refl, e)
@@ -164,7 +164,7 @@ module _ {I S : Type 0} (p : Profile I S) where
       on (Took origin number ms body) b i go =
           let t : Sent = record { origin = origin; number = number; ms = ms; body = body } in
           let a = both (not (c.ident == 0)) _ b.0 in
-          let fine = none_there (entry_refusal p c t) (both (not (number == 0)) _ (both (not (origin == 0)) _ (both (Rattle.std.proofs.Common.nat_lt c.cursor p.full) _ a.1).1).1).1 in
+          let fine = none_there (entry_refusal p c t) (both (not (number == 0)) _ (both (not (origin == 0)) _ (both (nat_lt c.cursor p.full) _ a.1).1).1).1 in
           let same : c.ident ≡ d = sym (all_keep rs (after_record p c (Took origin number ms body)) b.1 (λ z. named c.ident a.0 (sym (takes_ident c (sent_changeset t (ok_list (p.unspell body)))) ∙ z)) ∙ takes_ident c (sent_changeset t (ok_list (p.unspell body)))) ∙ i in
           let one = go (more (origin == c.ident) n) (read_next n c t (p.unspell body) fine h) in
           subst (λ k. Next k (after_records p (after_record p c (Took origin number ms body)) rs)) (ap (λ z. more (origin == z) n + length (own_numbers d (tooks_of rs))) same ∙ tells (origin == d) number) one
@@ -247,7 +247,7 @@ module _ {I S : Type 0} (p : Profile I S) where
       on (Took origin number ms body) b i go =
           let t : Sent = record { origin = origin; number = number; ms = ms; body = body } in
           let a = both (not (c.ident == 0)) _ b.0 in
-          let fine = none_there (entry_refusal p c t) (both (not (number == 0)) _ (both (not (origin == 0)) _ (both (Rattle.std.proofs.Common.nat_lt c.cursor p.full) _ a.1).1).1).1 in
+          let fine = none_there (entry_refusal p c t) (both (not (number == 0)) _ (both (not (origin == 0)) _ (both (nat_lt c.cursor p.full) _ a.1).1).1).1 in
           let same : c.ident ≡ d = sym (all_keep rs (after_record p c (Took origin number ms body)) b.1 (λ z. named c.ident a.0 (sym (takes_ident c (sent_changeset t (ok_list (p.unspell body)))) ∙ z)) ∙ takes_ident c (sent_changeset t (ok_list (p.unspell body)))) ∙ i in
           let one = go (and_sent (origin == c.ident) sent t) (read_told sent c t (p.unspell body) fine h) in
           subst (λ l. Told l (after_records p (after_record p c (Took origin number ms body)) rs)) (ap (λ z. and_sent (origin == z) sent t ++ own_stamps d (tooks_of rs)) same ∙ tells (origin == d) t) one
@@ -263,7 +263,7 @@ module _ {I S : Type 0} (p : Profile I S) where
       on (Part body) b i go = go sent h
       on (Floor version) b i go = go sent h
 
-  stamps_sent : (o : Option Rattle.sync_model.specs.Bytes.Tables) (c : ℕ) (xs : List (Changeset I)) → own_stamps c (map (λ x. sent_of p (restricted p o x)) xs) ≡ stamps_of c xs
+  stamps_sent : (o : Option Tables) (c : ℕ) (xs : List (Changeset I)) → own_stamps c (map (λ x. sent_of p (restricted p o x)) xs) ≡ stamps_of c xs
   stamps_sent o c [] = refl
   stamps_sent o c (x ∷ xs) = on (x.origin == c) (stamps_sent o c xs)
     where
@@ -283,7 +283,7 @@ module _ {I S : Type 0} (p : Profile I S) where
 
   -- ---- the server's history
 
-  own_sent : (o : Option Rattle.sync_model.specs.Bytes.Tables) (c : ℕ) (xs : List (Changeset I)) → own_numbers c (map (λ x. sent_of p (restricted p o x)) xs) ≡ numbers_of c xs
+  own_sent : (o : Option Tables) (c : ℕ) (xs : List (Changeset I)) → own_numbers c (map (λ x. sent_of p (restricted p o x)) xs) ≡ numbers_of c xs
   own_sent o c [] = refl
   own_sent o c (x ∷ xs) = on (x.origin == c) (own_sent o c xs)
     where
@@ -315,8 +315,8 @@ module _ {I S : Type 0} (p : Profile I S) where
       let c = client_of p rs in
       fitting_each (λ h. n < h.number) (λ h. length h.body) p.most p.room (map (λ u. change_of p u.original) c.unsent) (follow_above (omega (arith, e)) (made_and_next rs open_))
 
-  pub probe : (s : Server I) (c : ℕ) → Rattle.sync_model.specs.Servers.is_given s c ≡ true → Rattle.sync_model.specs.Servers.serve p s (Rattle.sync_model.specs.Messages.Upload c []) ≡ Rattle.sync_model.specs.Servers.replies (Rattle.sync_model.specs.Messages.Stored c (count s c))
-  probe s c e = ap (λ b. if b then Rattle.sync_model.specs.Servers.replies (Rattle.sync_model.specs.Messages.Stored c (count s c)) else Rattle.sync_model.specs.Servers.refuses c 0 (Rattle.sync_model.specs.Servers.NoSuchIdent (length s.ids))) e
+  pub probe : (s : Server I) (c : ℕ) → is_given s c ≡ true → serve p s (Upload c []) ≡ replies (Stored c (count s c))
+  probe s c e = ap (λ b. if b then replies (Stored c (count s c)) else refuses c 0 (NoSuchIdent (length s.ids))) e
 
   module _ {Fits : S → Type 0} (law : Lawful p Fits) where
     numbers_append : (c : ℕ) (xs ys : List (Changeset I)) → length (numbers_of c (xs ++ ys)) ≡ length (numbers_of c xs) + length (numbers_of c ys)

@@ -1,11 +1,11 @@
 -- Short files that are one, and that are none; what goes wrong in still shorter ones; files that were put back from a backup. All of it is computed.
+use Rattle.sync_model.specs.Servers as servers
 use Rattle.std.proofs.Common.{◌≡◌, inl, ℕ, Bool, true, false, Ok, Err, List, [], ◌∷◌, ◌++◌, refl}
 use Rattle.sync_theory.specs.Toy.{Add, Sheet}
 use Rattle.sync_model.specs.Bytes.{Uuid}
 use Rattle.sync_model.specs.Messages.{Change, Upload, Download, Stored, Retired}
 use Rattle.sync_model.specs.Clients.{ClientRecord, Born, Named, Made, Took, Form, Subset, Part, Floor, TooLate, Forked, no_client, client_of, commit, subscribe, take, to_upload}
 use Rattle.sync_model.specs.Files.{client_opens}
-use Rattle.sync_model.specs.Servers as servers
 use Rattle.sync_model.specs.Servers.{ServerRecord, server_of, server_objects, serve, count, entries_from, no_server}
 use Rattle.sync_model.specs.Rescues.{LivesOn}
 use Rattle.sync_model.specs.Resets.{recover, IsHeir, Handled, Integrated, SavedAs}

@@ -3,10 +3,10 @@ use Rattle.std.proofs.Common.{◌≡◌, ℕ, zero, suc, ◌+◌, ◌≤◌, Boo
 use Rattle.std.proofs.lemmas.Bool.{le-leb}
 use Rattle.sync_theory.proofs.Server.{test_true}
 use Rattle.sync_model.specs.Bytes.{Uuid, Tables}
-use Rattle.sync_model.specs.Profile.{Profile, Lawful, is_small, needs, all_admitted, apply_all}
+use Rattle.sync_model.specs.Profile.{Profile, Lawful, is_small, needs, all_admitted, apply_all, Stuck, cross_changesets}
 use Rattle.sync_model.specs.Snapshots.{Buildable, grown}
 use Rattle.sync_model.specs.Each.{Each, no_more, and_each}
-use Rattle.sync_model.specs.Clients.{Client, ClientRecord, Born, Named, Made, Took, Form, Subset, Part, Floor, Original, Unsent, grown_or, ok_list, entry_refusal, is_late, no_client, client_of, after_record, after_records}
+use Rattle.sync_model.specs.Clients.{Client, ClientRecord, Born, Named, Made, Took, Form, Subset, Part, Floor, Original, Unsent, grown_or, ok_list, entry_refusal, is_late, no_client, client_of, after_record, after_records, changeset_of, crossed, takes_entry}
 use Rattle.sync_model.specs.Files.{is_fine, is_empty, is_place, is_growing, readable, read_parts, part_and, bodies_ahead, parts_grow, made_acts, client_admits, client_opens}
 use Rattle.sync_model.specs.Worlds.{is_there}
 use Rattle.sync_model.proofs.Starting.{grown_build}
@@ -17,6 +17,9 @@ use Rattle.shrink_law.proofs.Answering.{IsPlain, record_alike, refusal_alike}
 use Rattle.shrink_law.proofs.Staying.{ArePlain}
 use Rattle.shrink_law.proofs.Files.{Small, IsFresh}
 use Rattle.shrink_law.proofs.Shrinking.{alike_refl, len_blanks, shrunk_alike}
+use Rattle.sync_theory.specs.Changesets.{Changeset}
+use Rattle.sync_theory.specs.Grid.{rebase, tail}
+use Rattle.sync_theory.proofs.Logs.{length_snoc}
 
 join : (a b : Bool) → a ≡ true → b ≡ true → (a && b) ≡ true
 join true b e f = f
@@ -59,14 +62,14 @@ module _ {I S : Type 0} (p : Profile I S) where
   growing_stays c (Made number ms body) h = refl
   growing_stays c (Took origin number ms body) h = took_same (record { origin = origin; number = number; ms = ms; instrs = ok_list (p.unspell body) })
     where
-      took_same : (x : Rattle.sync_theory.specs.Changesets.Changeset I) → is_growing (Rattle.sync_model.specs.Clients.takes_entry p c x) ≡ is_growing c
-      took_same x = go (x.origin == c.ident) (Rattle.sync_theory.specs.Grid.rebase (Rattle.sync_model.specs.Profile.cross_changesets p) (map (Rattle.sync_model.specs.Clients.changeset_of c.ident) c.unsent) x)
+      took_same : (x : Changeset I) → is_growing (takes_entry p c x) ≡ is_growing c
+      took_same x = go (x.origin == c.ident) (rebase (cross_changesets p) (map (changeset_of c.ident) c.unsent) x)
         where
-          on : (r : Result (List (Rattle.sync_theory.specs.Changesets.Changeset I) × Rattle.sync_theory.specs.Changesets.Changeset I) (ℕ × Rattle.sync_model.specs.Profile.Stuck)) → is_growing (Rattle.sync_model.specs.Clients.crossed p c r) ≡ is_growing c
+          on : (r : Result (List (Changeset I) × Changeset I) (ℕ × Stuck)) → is_growing (crossed p c r) ≡ is_growing c
           on (Ok q) = refl
           on (Err f) = refl
 
-          go : (b : Bool) (r : Result (List (Rattle.sync_theory.specs.Changesets.Changeset I) × Rattle.sync_theory.specs.Changesets.Changeset I) (ℕ × Rattle.sync_model.specs.Profile.Stuck)) → is_growing (if b then record c { cursor = suc c.cursor; unsent = Rattle.sync_theory.specs.Grid.tail c.unsent } else Rattle.sync_model.specs.Clients.crossed p c r) ≡ is_growing c
+          go : (b : Bool) (r : Result (List (Changeset I) × Changeset I) (ℕ × Stuck)) → is_growing (if b then record c { cursor = suc c.cursor; unsent = tail c.unsent } else crossed p c r) ≡ is_growing c
           go true r = refl
           go false r = on r
   growing_stays c Form h = refl
@@ -145,7 +148,7 @@ module _ {I S : Type 0} (p : Profile I S) where
     waits_open (u ∷ us) (and_each small f) d (one_follows e g) rest some h =
         let first : p.unspell (p.spell u.original.instrs) ≡ Ok u.original.instrs = law.spelled u.original.instrs small.0 in
         let second : p.unspell (p.spell u.current) ≡ Ok u.current = law.spelled u.current small.1 in
-        let longer : length (d.made ++ u.original ∷ []) ≡ suc (length d.made) = Rattle.sync_theory.proofs.Logs.length_snoc d.made u.original in
+        let longer : length (d.made ++ u.original ∷ []) ≡ suc (length d.made) = length_snoc d.made u.original in
         let after = waits_open us f (and_waits d u) (subst (λ k. Follow k us) (sym longer) g) rest some (ap₂ (λ m l. short_opens p (Owes 0) (record d { made = m; unsent = l }) rest) (append_assoc d.made (u.original ∷ []) (map (λ u. u.original) us)) (append_assoc d.unsent (u ∷ []) us) ∙ h) in
         join ((u.original.number == suc (length d.made)) && (not (is_empty (map (λ (q : ShortRecord). Some q) (map (waits p) us ++ rest))) && (is_fine (p.unspell (p.spell u.original.instrs)) && is_fine (p.unspell (p.spell u.current))))) _
         (join (u.original.number == suc (length d.made)) _ (ap (λ k. k == suc (length d.made)) e ∙ same_number (length d.made)) (join (not (is_empty (map (λ (q : ShortRecord). Some q) (map (waits p) us ++ rest)))) _ (some_more us) (join (is_fine (p.unspell (p.spell u.original.instrs))) _ (ap is_fine first) (ap is_fine second))))

@@ -1,11 +1,10 @@
 -- Of a client of an exchange as many transactions are verified as the server has of it.
-use Rattle.std.proofs.Common.{◌≡◌, ◌≢◌, ℕ, zero, suc, ◌+◌, ◌-◌, Bool, true, false, ◌&&◌, List, [], ◌∷◌, ◌++◌, Some, None, refl, sym, ap, ap₂, ◌∙◌, subst, arith, append_assoc, if◌then◌else◌, ◌==◌, length, map, drop, take}
+use Rattle.std.proofs.Common.{◌≡◌, ◌≢◌, ℕ, zero, suc, ◌+◌, ◌-◌, Bool, true, false, ◌&&◌, List, [], ◌∷◌, ◌++◌, Some, None, refl, sym, ap, ap₂, ◌∙◌, subst, arith, append_assoc, if◌then◌else◌, ◌==◌, length, map, drop, take, ⊎_elim}
 use Rattle.sync_theory.specs.Changesets.{Changeset}
 use Rattle.sync_theory.specs.Logs.{Made as LogMade, Entry as LogEntry, of_origin}
 use Rattle.sync_theory.proofs.Logs.{origin_append}
 use Rattle.sync_theory.proofs.Server.{test_true, test_false}
 use Rattle.sync_theory.proofs.World.{same_or_not}
-use Rattle.std.proofs.Common.{⊎_elim}
 use Rattle.sync_model.specs.Profile.{Profile, Lawful}
 use Rattle.sync_model.specs.Snapshots.{Buildable}
 use Rattle.sync_model.specs.Clients.{Original, Unsent, client_of}

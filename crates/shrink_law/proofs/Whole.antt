@@ -4,7 +4,7 @@ use Rattle.std.proofs.lemmas.Bool.{le-leb}
 use Rattle.sync_model.specs.Profile.{Profile, Lawful}
 use Rattle.sync_model.specs.Snapshots.{Buildable}
 use Rattle.sync_model.specs.Each.{Each, no_more, and_each}
-use Rattle.sync_model.specs.Clients.{Client, ClientRecord, Unsent, no_client, client_of, after_records}
+use Rattle.sync_model.specs.Clients.{Client, ClientRecord, Unsent, no_client, client_of, after_records, after_record}
 use Rattle.sync_model.specs.Files.{client_opens}
 use Rattle.sync_model.specs.Limits.{IsClientRecord, IsUnsent}
 use Rattle.sync_model.specs.Worlds.{is_there}
@@ -12,7 +12,7 @@ use Rattle.sync_model.proofs.Limits.{numbers_first, numbers_records}
 use Rattle.sync_model.proofs.Opening.{calm}
 use Rattle.sync_model.proofs.Own.{after_append}
 use Rattle.sync_model.proofs.Small.{client_lists}
-use Rattle.shrink_law.specs.Short.{ShortRecord, Plain, plains, IsPlain, Alike, taken, shrunk, short_records, after_all_short, short_of}
+use Rattle.shrink_law.specs.Short.{ShortRecord, Plain, plains, IsPlain, Alike, taken, shrunk, short_records, after_all_short, short_of, after_short}
 use Rattle.shrink_law.specs.Openings.{all_behind}
 use Rattle.shrink_law.proofs.Current.{made_and_next}
 use Rattle.shrink_law.proofs.Files.{fresh, short_gives}
@@ -51,11 +51,11 @@ module _ {I S : Type 0} (p : Profile I S) where
 
     pub plains_are : (rs : List ClientRecord) (c : Client I S) → after_all_short p c (plains rs) ≡ after_records p c rs
     plains_are [] c = refl
-    plains_are (r ∷ rs) c = plains_are rs (Rattle.sync_model.specs.Clients.after_record p c r)
+    plains_are (r ∷ rs) c = plains_are rs (after_record p c r)
 
     short_append : (xs ys : List ShortRecord) (c : Client I S) → after_all_short p c (xs ++ ys) ≡ after_all_short p (after_all_short p c xs) ys
     short_append [] ys c = refl
-    short_append (x ∷ xs) ys c = short_append xs ys (Rattle.shrink_law.specs.Short.after_short p c x)
+    short_append (x ∷ xs) ys c = short_append xs ys (after_short p c x)
 
     -- the file and what was appended to it since
     pub goes_on : (rs more : List ClientRecord) → client_opens p (no_client p) rs ≡ true → ArePlain more → Alike (client_of p (rs ++ more)) (short_of p (short_records p (client_of p rs) ++ plains more))

@@ -5,7 +5,7 @@ use Rattle.std.specs.Option.{option_map_or}
 use Rattle.sync_model.specs.Bytes.{Name, Uuid}
 use Rattle.sync_model.specs.Profile.{Profile}
 use Rattle.sync_model.specs.Messages.{Message, Bind, Ident, Upload, Ask, Download, Refused, Stored, Ask2, Retire, Retired, AskTables}
-use Rattle.sync_model.specs.Clients.{Client, ClientRecord, Born, ClientRefusal, ClientStep, no_client, client_of, after_records, commit, upgrade, subscribe, bind, upload, ask, take as take_message}
+use Rattle.sync_model.specs.Clients.{Client, ClientRecord, Born, ClientRefusal, ClientStep, no_client, client_of, after_records, commit, upgrade, subscribe, bind, upload, ask, take as take_message, NotNamed, answers, if_born, question, refuse, to_upload}
 use Rattle.sync_model.specs.Servers.{ServerRecord}
 use Rattle.sync_model.specs.Parts.{Parts, serve_by}
 use Rattle.sync_model.specs.Starts.{started}
@@ -222,7 +222,7 @@ module _ {I S : Type 0} (p : Profile I S) where
       bind_plain : (c : Client I S) → ArePlain (bind c).records
       bind_plain c = nothing c.id
         where
-          nothing : (o : Option Uuid) → ArePlain (Rattle.sync_model.specs.Clients.if_born o (λ id. Rattle.sync_model.specs.Clients.answers (Bind id))).records
+          nothing : (o : Option Uuid) → ArePlain (if_born o (λ id. answers (Bind id))).records
           nothing None = no_more
           nothing (Some id) = no_more
   event_same l f (Uploads name) = calls_same l f name (upload p) message_words messages_same (λ c d a. upload_alike p c d a) named_plain
@@ -230,7 +230,7 @@ module _ {I S : Type 0} (p : Profile I S) where
       named_plain : (c : Client I S) → ArePlain (upload p c).records
       named_plain c = nothing c.id (c.ident == 0)
         where
-          nothing : (o : Option Uuid) (b : Bool) → ArePlain (Rattle.sync_model.specs.Clients.if_born o (λ id. if b then Rattle.sync_model.specs.Clients.refuse Rattle.sync_model.specs.Clients.NotNamed else Rattle.sync_model.specs.Clients.answers (Upload c.ident (Rattle.sync_model.specs.Clients.to_upload p c)))).records
+          nothing : (o : Option Uuid) (b : Bool) → ArePlain (if_born o (λ id. if b then refuse NotNamed else answers (Upload c.ident (to_upload p c)))).records
           nothing None b = no_more
           nothing (Some id) true = no_more
           nothing (Some id) false = no_more
@@ -239,7 +239,7 @@ module _ {I S : Type 0} (p : Profile I S) where
       named_plain : (c : Client I S) → ArePlain (ask c).records
       named_plain c = nothing c.id (c.ident == 0)
         where
-          nothing : (o : Option Uuid) (b : Bool) → ArePlain (Rattle.sync_model.specs.Clients.if_born o (λ id. if b then Rattle.sync_model.specs.Clients.refuse Rattle.sync_model.specs.Clients.NotNamed else Rattle.sync_model.specs.Clients.answers (Rattle.sync_model.specs.Clients.question c c.subset))).records
+          nothing : (o : Option Uuid) (b : Bool) → ArePlain (if_born o (λ id. if b then refuse NotNamed else answers (question c c.subset))).records
           nothing None b = no_more
           nothing (Some id) true = no_more
           nothing (Some id) false = no_more

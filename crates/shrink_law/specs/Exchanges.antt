@@ -62,7 +62,7 @@ module _ {I S : Type 0} (p : Profile I S) where
   pub record StaysAlike (c d : Client I S) : Type 0 where
     pub commits : (ms : ℕ) (edits : List I) (n : ℕ) → Alike (after_records p c (take n (commit p c ms edits).records)) (after_records p d (take n (commit p c ms edits).records))
     pub upgrades : (n : ℕ) → Alike (after_records p c (take n (upgrade c).records)) (after_records p d (take n (upgrade c).records))
-    pub subscribes : (tables : Rattle.sync_model.specs.Bytes.Tables) (n : ℕ) → Alike (after_records p c (take n (subscribe c tables).records)) (after_records p d (take n (subscribe c tables).records))
+    pub subscribes : (tables : Tables) (n : ℕ) → Alike (after_records p c (take n (subscribe c tables).records)) (after_records p d (take n (subscribe c tables).records))
     pub takes : (m : Message) (n : ℕ) → Alike (after_records p c (take n (take_message p c m).records)) (after_records p d (take n (take_message p c m).records))
     pub recovers : (frames : List Message) (n : ℕ) → Alike (after_records p c (take n (recover p c frames).records)) (after_records p d (take n (recover p c frames).records))
 
