@@ -1,0 +1,17 @@
+pub mod Lists
+pub mod Lives
+pub mod Readers
+pub mod Instances
+pub mod Uploads
+pub mod Downloads
+pub mod Growing
+pub mod Servers
+pub mod Histories
+pub mod Pair
+pub mod Passing
+pub mod Arriving
+pub mod Converse
+pub mod Taking
+pub mod Roaming
+pub mod UpToDate
+pub mod Heirs
