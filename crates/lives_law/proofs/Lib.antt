@@ -13,5 +13,5 @@ pub mod Arriving
 pub mod Converse
 pub mod Taking
 pub mod Roaming
-pub mod UpToDate
+pub mod Converging
 pub mod Heirs
