@@ -1,22 +1,39 @@
 -- The headline of a server's file and a client's file that go together, whether the client's ident is given up or not.
-use Rattle.std.proofs.Common.{◌≡◌, ◌≢◌, ◌⊎◌, ⊎_elim, ℕ, zero, suc, ◌≤◌, ◌<◌, Bool, true, false, ◌&&◌, ◌==◌, not, List, [], ◌∷◌, ◌++◌, Option, Some, None, Result, Ok, Err, refl, sym, ap, ap₂, ◌∙◌, subst, arith, length, map, drop, take, if◌then◌else◌}
+use Rattle.std.proofs.Common.{◌≡◌, ◌⊎◌, ⊎_elim, ℕ, zero, suc, ◌≤◌, ◌<◌, Bool, true, false, ◌&&◌, ◌==◌, not, List, [], ◌∷◌, ◌++◌, Option, Some, None, Result, Err, refl, sym, ap, ap₂, ◌∙◌, subst, arith, length, map, drop, take, if◌then◌else◌, eqb-true}
 use Rattle.sync_theory.specs.Lists.{run, and_then}
 use Rattle.sync_theory.specs.Changesets.{Changeset}
 use Rattle.sync_theory.specs.Logs.{of_origin}
 use Rattle.sync_model.specs.Profile.{Profile, Lawful, act_changeset, only_by}
 use Rattle.sync_model.specs.Snapshots.{Buildable}
 use Rattle.sync_model.specs.Messages.{Sent, Change}
-use Rattle.sync_model.specs.Clients.{Client as ClientState, ClientRecord, Original, Unsent, as_made, changeset_of, no_client, client_of, start_of, floor_of, tooks_of}
-use Rattle.sync_model.specs.Servers.{Server, ServerRecord, Client, Entry, Form, Retired, Settled, Part, Floor, Count, Carried, Past, ServerRefusal, IdentRetired, no_server, server_of, after_server, after_all, server_objects, history_of, state_of, heir_of, is_retired, is_given, count, merge}
+use Rattle.sync_model.specs.Clients.{Client as ClientState, ClientRecord, Original, Unsent, as_made, changeset_of, no_client, client_of, floor_of}
+use Rattle.sync_model.specs.Servers.{Server, ServerRecord, Client, Entry, Form, Retired, Settled, Part, Floor, Count, Carried, Past, ServerRefusal, IdentRetired, no_server, place_of, server_of, after_server, after_all, server_objects, history_of, state_of, heir_of, is_retired, is_given, count, merge}
 use Rattle.sync_model.specs.Files.{is_fine, is_second, server_admits, server_opens}
-use Rattle.sync_model.specs.Worlds.{Node, World, at}
-use Rattle.sync_model.specs.Log.{WorldFacts, NamedFacts, UnnamedFacts, as_log, ident_of, state_in, pending_in}
+use Rattle.sync_model.specs.Bytes.{Uuid}
+use Rattle.sync_model.specs.Worlds.{Node, World, is_there}
+use Rattle.sync_model.specs.Log.{WorldFacts, NamedFacts, UnnamedFacts, as_log, ident_by, state_in}
 use Rattle.sync_model.proofs.Alone.{both_true}
-use Rattle.lives_law.specs.Pair.{IsEntry, Fit, IsActive, PairHolds, Converge, ident_for, ident_at, pair_world, without_retired}
-use Rattle.lives_law.proofs.Pair.{floors_stay, pairs_hold}
+use Rattle.sync_model.proofs.Sim.{Agrees, Given, no_change}
+use Rattle.sync_model.proofs.Serving.{objects_of}
+use Rattle.lives_law.specs.Pair.{IsEntry, Fit, IsActive, PairHolds, OneExchange, Converge, ident_for, pair_world, without_retired}
+use Rattle.lives_law.proofs.Pair.{floors_stay, pairs_hold, together, given_of}
 
 some_is : {A : Type 0} {x y : A} → Some x ≡ Some y → x ≡ y
 some_is e = cc
+
+-- the own idents are those of the client
+agrees : (o : Option Uuid) (ids : List Uuid) → Agrees (λ i. i == ident_by ids o) ids (o ∷ [])
+agrees None ids i ne le = zero_not (i == 0) refl
+  where
+    zero_not : (b : Bool) → (i == 0) ≡ b → b ≡ false
+    zero_not true is = absurd (ne (eqb-true i 0 is))
+    zero_not false is = refl
+agrees (Some u) ids i ne le = on (i == place_of u ids) (i == 0) refl
+  where
+    on : (a b : Bool) → (i == 0) ≡ b → a ≡ is_there {A = ℕ × Option Uuid} (if a && not b then Some (0, Some u) else None)
+    on true true is = absurd (ne (eqb-true i 0 is))
+    on true false is = refl
+    on false b is = refl
 
 module _ {I S : Type 0} (p : Profile I S) {Fits Bounded Old : S → Type 0} (law : Lawful p Fits) (built : Buildable p Fits Bounded Old) where
   module _ (f : List ServerRecord) (g : List ClientRecord) (fit : Fit p f g) (active : IsActive p f g) where
@@ -34,6 +51,22 @@ module _ {I S : Type 0} (p : Profile I S) {Fits Bounded Old : S → Type 0} (law
 
     facts : WorldFacts p Fits (pair_world p f [] g)
     facts = pairs_hold p law built f g fit active [] []
+
+    -- the exchange of the theory beneath
+    active_exchange : OneExchange p (server_of p f) (client_of p g)
+    active_exchange =
+        let a = together p law f g fit active [] in
+        record {
+          any = no_change;
+          nodes = a.n;
+          reached = a.sim.reached (λ i. i == ident_for p (server_of p f) (client_of p g)) (agrees (client_of p g).id (server_of p f).ids);
+          log = a.sim.log_is;
+          objects = sym (objects_of p law (node ∷ []) (server_of p f).ids (server_of p f) a.n a.sim);
+          client = λ ne.
+              let place : place_of fit.id (server_of p f).ids ≡ ident_for p (server_of p f) (client_of p g) = sym (ap (ident_by (server_of p f).ids) fit.born) in
+              let v = subst (λ c. Given p a.n c (client_of p g)) place (given_of p law f g fit active [] f g fit.born a (λ z. ne (sym place ∙ z))) in
+              record { made = v.mades; cursor = v.cursor; unsent = v.unsent; objects = v.objects };
+        }
 
     -- the state at a version, by the log alone
     state_is : (k : ℕ) → k ≤ length (server_of p f).log → state_of p (server_of p f).log k ≡ state_in p (pair_world p f [] g) k
@@ -155,10 +188,10 @@ module _ {I S : Type 0} (p : Profile I S) {Fits Bounded Old : S → Type 0} (law
       whole = fit.whole;
       id = fit.id;
       born = fit.born;
-      ident = subst (λ s. ((client_of p g).ident ≡ 0) ⊎ ((client_of p g).ident ≡ Rattle.sync_model.specs.Servers.place_of fit.id s.ids)) (sym same) fit.ident;
+      ident = subst (λ s. ((client_of p g).ident ≡ 0) ⊎ ((client_of p g).ident ≡ place_of fit.id s.ids)) (sym same) fit.ident;
       took = λ k e h. entry_without k e (fit.took k e h);
       rest = fit.rest;
-      made = subst (λ s. map (as_log (Rattle.sync_model.specs.Servers.place_of fit.id s.ids)) (client_of p g).made ≡ of_origin (Rattle.sync_model.specs.Servers.place_of fit.id s.ids) s.log ++ fit.rest) (sym same) fit.made;
+      made = subst (λ s. map (as_log (place_of fit.id s.ids)) (client_of p g).made ≡ of_origin (place_of fit.id s.ids) s.log ++ fit.rest) (sym same) fit.made;
     }
 
     active_without : IsActive p (without_retired f) g
@@ -167,6 +200,12 @@ module _ {I S : Type 0} (p : Profile I S) {Fits Bounded Old : S → Type 0} (law
     -- so all that holds of worlds holds of the two, whoever was given up
     pub pairs_hold_without : PairHolds p Fits (without_retired f) g
     pairs_hold_without = pairs_hold p law built (without_retired f) g fit_without active_without
+
+    pub one_exchange : OneExchange p (server_of p f) (client_of p g)
+    one_exchange = back (subst (λ s. OneExchange p s (client_of p g)) same (active_exchange (without_retired f) g fit_without active_without))
+      where
+        back : OneExchange p (forget (server_of p f)) (client_of p g) → OneExchange p (server_of p f) (client_of p g)
+        back e = record { any = e.any; nodes = e.nodes; reached = e.reached; log = e.log; objects = e.objects; client = e.client }
 
     pub files_converge : Converge p (server_of p f) (client_of p g)
     files_converge = back (subst (λ s. Converge p s (client_of p g)) same (active_converge (without_retired f) g fit_without active_without))
