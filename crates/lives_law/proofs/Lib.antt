@@ -14,4 +14,5 @@ pub mod Converse
 pub mod Taking
 pub mod Roaming
 pub mod Converging
+pub mod Notes
 pub mod Heirs

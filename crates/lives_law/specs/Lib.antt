@@ -6,4 +6,5 @@ pub mod Pair
 pub mod Passing
 pub mod Arriving
 pub mod Roaming
+pub mod Stored
 pub mod Heirs
