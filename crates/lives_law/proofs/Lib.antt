@@ -15,4 +15,6 @@ pub mod Taking
 pub mod Roaming
 pub mod Converging
 pub mod Notes
+pub mod Passages
+pub mod Stored
 pub mod Heirs
