@@ -10,18 +10,15 @@ mod phone;
 use drawing::print_note;
 use failure::Failure;
 use phone::Phone;
-use std::process::ExitCode;
 use sync_disk::MemoryDisk;
 use sync_server::{Server, ServerRefusal};
 
-fn main(rt: HostRuntime) -> ExitCode {
-    match run(&rt) {
-        Ok(()) => ExitCode::SUCCESS,
-        Err(_) => ExitCode::FAILURE,
-    }
+/// Runs the application. Whether it came to its end.
+pub fn run(rt: &HostRuntime) -> bool {
+    run_phones(rt).is_ok()
 }
 
-fn run(rt: &HostRuntime) -> Result<(), Failure> {
+fn run_phones(rt: &HostRuntime) -> Result<(), Failure> {
     let alloc = rt.alloc();
     let Ok(mut server) = Server::open(alloc, MemoryDisk::new(alloc)?) else {
         return Err(Failure::Server(ServerRefusal::DiskFault));
