@@ -31,11 +31,6 @@ fn try_cases(rt: &HostRuntime) -> bool {
     all &= format_cases::try_all(rt);
     all &= merge_cases::try_all(rt);
     all &= notes_example::run(rt);
-    all &= tell(
-        rt,
-        "disks of nodes",
-        &node_tests::cases_of_disks(rt.alloc()),
-    );
     all &= tell(rt, "nodes", &node_tests::cases(rt.alloc()));
     all &= tell(
         rt,
