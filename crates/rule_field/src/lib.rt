@@ -84,23 +84,14 @@ fn takes_additions(value: &Value) -> bool
     matches!(value, Value::Null | Value::Int(_))
 }
 
-/// The update to the sum.
+/// The update to the sum, modulo 2^64.
+#[tactic(auto, using(std::proofs::lemmas::Int::wrapping_add_is))]
 fn increased(update: Update, amount: i64) -> Update
     ensures { result ≡ record { cell = update.cell; value = added amount update.value } }
 {
-    Update {
-        cell: update.cell,
-        value: sum(update.value, amount),
+    let mut update = update;
+    if let Value::Int(n) = update.value {
+        update.value = Value::Int(n.wrapping_add(amount));
     }
-}
-
-/// The value after the addition, modulo 2^64.
-#[tactic(auto, using(std::proofs::lemmas::Int::wrapping_add_is))]
-fn sum(value: Value, amount: i64) -> Value
-    ensures { result ≡ added amount value }
-{
-    match value {
-        Value::Int(n) => Value::Int(n.wrapping_add(amount)),
-        other => other,
-    }
+    update
 }
