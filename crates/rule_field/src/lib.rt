@@ -5,8 +5,6 @@ ghost use Rattle.std.specs.Prelude.{◌≡◌};
 ghost use Rattle.sync_base.specs.After.{added};
 ghost use Rattle.sync_base.specs.Rules.{is_summed};
 
-mod apart;
-
 use sync_base::{
     AddInteger, EraseObject, Meets, Mismatch, Outcome, Update, Value, erases, is_erased, keep_both,
     keep_left, keep_right, later_wins, left_wins, right_wins, same_cell,
@@ -68,12 +66,6 @@ impl Meets<AddInteger, Update> for FieldRules {
         } else {
             keep_right(right)
         }
-    }
-}
-
-impl Meets<AddInteger, AddInteger> for FieldRules {
-    fn meet(left: AddInteger, right: AddInteger, _: bool) -> Result<Outcome, Mismatch> {
-        keep_both(left, right)
     }
 }
 
