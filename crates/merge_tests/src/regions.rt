@@ -2,13 +2,13 @@
 
 ghost use Rattle.std.specs.Prelude.{◌+◌, ◌<◌, IsTrue, length};
 ghost use Rattle.sync_base.specs.Rules.{top};
-ghost use Rattle.sync_transform.specs.Places.{Within};
+ghost use Rattle.list_places.specs.Places.{Within};
 
 use list_lane::{Lane, Op};
+use list_places::Does;
 use list_regions::Regions;
 use std::alloc::Global;
 use sync_data::Stamp;
-use sync_transform::Does;
 
 fn is_within(op: Op, length: u32) -> bool
     ensures { IsTrue result → Within op.does op.place length }

@@ -4,14 +4,13 @@ ghost use Rattle.sync_data.specs.declared.value.Value.{Value};
 ghost use Rattle.sync_data.specs.declared.instr.CellName.{CellName};
 ghost use Rattle.sync_base.specs.Effects.{CellPath, path_of};
 ghost use Rattle.sync_base.specs.Rules.{top};
-ghost use Rattle.sync_transform.specs.Places.{Within};
-ghost use Rattle.sync_transform.specs.Moves.{acting, instr_at, kind_of, action_at, action_in, first_cell, moved, moved_first, moved_changes, shown_changes, Move};
+ghost use Rattle.list_places.specs.Places.{Within};
+ghost use Rattle.list_places.specs.Moves.{acting, instr_at, kind_of, action_at, action_in, first_cell, moved, moved_first, moved_changes, shown_changes, Move};
 
 use super::places::{Does, length_after, place_after};
 use std::alloc::Global;
 use std::mem;
-use sync_base::{Between, CellName, Changeset, Inside, Instr, NoMemory, same_cell};
-use sync_index::cell_of;
+use sync_base::{Between, CellName, Changeset, Inside, Instr, NoMemory, cell_of, same_cell};
 
 /// What an instruction of a list does, and where: in a gap of the list, or at an element.
 #[derive(Clone, Copy)]
@@ -124,7 +123,7 @@ pub fn shown(changes: &Changeset, action: Option<ListAction>) -> Result<Changese
 }
 
 /// The changeset with its first instruction doing this, where that does it elsewhere. It takes no memory.
-pub(crate) fn moved_to(changes: Changeset, action: ListAction) -> Changeset
+pub fn moved_to(changes: Changeset, action: ListAction) -> Changeset
     ensures { result ≡ moved_changes action changes }
 {
     let ms = changes.ms();
@@ -133,8 +132,8 @@ pub(crate) fn moved_to(changes: Changeset, action: ListAction) -> Changeset
     Changeset::checked(ms, instrs).unwrap()
 }
 
-/// The same where it is.
-pub(crate) fn write(alloc: Global, changes: &mut Changeset, action: Option<ListAction>)
+/// The changeset where it is, with its first instruction doing this, where an action is told. It takes no memory.
+pub fn write(alloc: Global, changes: &mut Changeset, action: Option<ListAction>)
     ensures { changes.new ≡ shown_changes action changes.old }
 {
     if let Some(action) = action {

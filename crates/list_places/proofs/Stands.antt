@@ -1,5 +1,5 @@
 -- Where two list instructions stand after they met.
-use Rattle.std.proofs.Common.{◌≡◌, ℕ, ◌+◌, ◌-◌, ◌<◌, ◌≤◌, Bool, true, false, cond, not, ◌&&◌, ◌||◌, List, [], ◌∷◌, length, get_or, set, Option, Some, None, Ok, IfSome, refl, sym, ap, ◌∙◌, subst, arith}
+use Rattle.std.proofs.Common.{◌≡◌, ℕ, ◌+◌, ◌-◌, ◌<◌, ◌≤◌, Bool, true, false, cond, not, ◌&&◌, ◌||◌, List, [], ◌∷◌, length, get_or, set, Option, Some, None, Ok, refl, sym, ap, ◌∙◌, subst, arith}
 use Rattle.std.specs.Prelude.{◌==◌, nat_lt, nat_le}
 use Rattle.std.specs.Option.{option_map}
 use Rattle.std.proofs.lemmas.Bool.{ltb-true, ltb-false, leb-true, eqb-false}
@@ -11,26 +11,19 @@ use Rattle.sync_data.specs.declared.value.Value.TheVariants as values
 use Rattle.sync_data.specs.declared.instr.CellName.{CellName}
 use Rattle.sync_data.specs.declared.instr.Instr.{Instr}
 use Rattle.sync_data.specs.declared.instr.Instr.TheVariants as instrs
-use Rattle.sync_data.specs.Payload.{Changes, payload, IsSmall}
+use Rattle.sync_data.specs.Payload.{payload, IsSmall}
 use Rattle.sync_base.specs.Effects.{path_of, CellPath, effect_of}
-use Rattle.sync_base.specs.Objects.{object_of}
+use Rattle.sync_base.specs.Objects.{object_of, cell_in}
 use Rattle.sync_base.specs.Rules.{top}
-use Rattle.sync_theory.specs.Lists.{cross}
-use Rattle.sync_theory.specs.Changesets.{cross_sets, with_lists, later_stamp}
 use Rattle.sync_law.specs.Instrs.{meet}
-use Rattle.sync_index.specs.Cells.{cell_in}
-use Rattle.sync_index.specs.Touched.{Touched, touches, may_touch, Covers}
-use Rattle.sync_index.specs.Filters.{spot_of}
-use Rattle.sync_index.specs.Spots.{AllAt, LieAt, Misses}
-use Rattle.sync_transform.specs.Sets.{made_by}
-use Rattle.sync_transform.specs.Places.{longer, Within, place_after}
-use Rattle.sync_transform.specs.Moves.{instr_at, instr_left, acting, kind_of, action_at, action_in, kind_in, first_cell, moved, moved_first, moved_changes, shown, Move}
-use Rattle.sync_transform.specs.declared.places.Does.{Does}
-use Rattle.sync_transform.specs.declared.places.Does.TheVariants.{Inserts, Erases, Updates}
-use Rattle.sync_transform.specs.declared.moves.ListAction.{ListAction}
-use Rattle.sync_transform.specs.declared.moves.ListAction.TheVariants.{Insert, Erase, Update}
-use Rattle.sync_transform.specs.declared.moves.Moves.{Moves}
-use Rattle.sync_transform.proofs.Rows.{grows, pair}
+use Rattle.list_places.specs.Places.{longer, Within, place_after}
+use Rattle.list_places.specs.Moves.{instr_at, instr_left, acting, kind_of, action_at, action_in, kind_in, first_cell, moved, moved_first, shown}
+use Rattle.list_places.specs.declared.places.Does.{Does}
+use Rattle.list_places.specs.declared.places.Does.TheVariants.{Inserts, Erases, Updates}
+use Rattle.list_places.specs.declared.moves.ListAction.{ListAction}
+use Rattle.list_places.specs.declared.moves.ListAction.TheVariants.{Insert, Erase, Update}
+use Rattle.list_places.specs.declared.moves.Moves.{Moves}
+use Rattle.list_places.proofs.Rows.{grows, pair}
 
 -- ---- what is left lies in the list after the other
 abbrev pub WithinIf : Does → ℕ → Option ℕ → Type 0
@@ -60,7 +53,7 @@ within_some l d e p q n r f g h = subst (WithinIf d (longer e n)) h (within_afte
 abbrev cell_of : CellPath → CellName
 cell_of p = record { table = p.0.0; key = p.0.1; column = p.1 }
 
-one_cell : (c k : CellName) → path_of c ≡ path_of k → c ≡ k
+pub one_cell : (c k : CellName) → path_of c ≡ path_of k → c ≡ k
 one_cell c k e = ap cell_of e
 
 below_top : (d e : Does) (n : ℕ) → n < top → (grows d e && (n == top)) ≡ false
@@ -129,27 +122,8 @@ moved_small a (i ∷ is) h =
     let e = same_elsewhere payload (λ c v s t. refl) (λ c s t. refl) (λ c v s t. refl) a i in
     (h.0, omega (arith, h.1, e, sum_by-cons payload i is, sum_by-cons payload (moved a i) is))
 
-object_stays : (a : ListAction) (i : Instr) → object_of (effect_of (moved a i)) ≡ object_of (effect_of i)
+pub object_stays : (a : ListAction) (i : Instr) → object_of (effect_of (moved a i)) ≡ object_of (effect_of i)
 object_stays = same_elsewhere (λ i. object_of (effect_of i)) (λ c v s t. refl) (λ c s t. refl) (λ c v s t. refl)
-
-pub shown_covered : (t : Touched) (o : Option ListAction) (is : List Instr) → Covers t is → Covers t (shown o is)
-shown_covered t None is h = h
-shown_covered t (Some a) [] h = h
-shown_covered t (Some a) (i ∷ is) h = (ap (touches t) (object_stays a i) ∙ h.0, h.1)
-
-pub shown_missed : (t : Touched) (o : Option ListAction) (is : List Instr) → Misses t is → Misses t (shown o is)
-shown_missed t None is h = h
-shown_missed t (Some a) [] h = h
-shown_missed t (Some a) (i ∷ is) h = (ap (touches t) (object_stays a i) ∙ h.0, h.1)
-
-all_back : (t : ℕ) (o : Option ListAction) (is : List Instr) → AllAt t (shown o is) → AllAt t is
-all_back t None is h = h
-all_back t (Some a) [] h = h
-all_back t (Some a) (i ∷ is) h = (ap (option_map (λ o. spot_of o.1)) (sym (object_stays a i)) ∙ h.0, h.1)
-
-pub lie_back : (t : Option ℕ) (o : Option ListAction) (is : List Instr) → LieAt t (shown o is) → LieAt t is
-lie_back None o is h = tt
-lie_back (Some t) o is h = all_back t o is h
 
 pub shown_cell : (o : Option ListAction) (is : List Instr) → first_cell (shown o is) ≡ first_cell is
 shown_cell None is = refl
@@ -197,7 +171,7 @@ told_written a (Some b) (i ∷ []) e = ap (λ j. j ∷ []) (moved_twice a b i (s
 told_written a (Some b) (i ∷ j ∷ is) e = cc
 
 -- ---- one list instruction
-some_is : {A : Type 0} {x y : A} → ◌≡◌ {A = Option A} (Some x) (Some y) → x ≡ y
+pub some_is : {A : Type 0} {x y : A} → ◌≡◌ {A = Option A} (Some x) (Some y) → x ≡ y
 some_is e = cc
 
 record Acted (i : Instr) (a : ListAction) : Type 0 where
@@ -222,12 +196,12 @@ acted (instrs.SetErase i) a e = cc
 acted (instrs.DictUpdate i) a e = cc
 acted (instrs.Clear i) a e = cc
 
-record One (list : List Instr) (a : ListAction) : Type 0 where
-  cell : CellName
-  value : Value
-  is : list ≡ acting cell value a ∷ []
+pub record One (list : List Instr) (a : ListAction) : Type 0 where
+  pub cell : CellName
+  pub value : Value
+  pub is : list ≡ acting cell value a ∷ []
 
-one : (is : List Instr) (a : ListAction) → action_in is ≡ Some a → One is a
+pub one : (is : List Instr) (a : ListAction) → action_in is ≡ Some a → One is a
 one [] a e = cc
 one (i ∷ []) a e = let f = acted i a e in record { cell = f.cell; value = f.value; is = ap (λ j. j ∷ []) (f.is ∙ ap (acting f.cell f.value) f.same) }
 one (i ∷ j ∷ is) a e = cc
@@ -248,12 +222,12 @@ action_of c v (Insert s) = refl
 action_of c v (Erase s) = refl
 action_of c v (Update s) = refl
 
-cell_there : (c : CellName) (v : Value) (a : ListAction) → cell_in (effect_of (acting c v a)) ≡ Some (path_of c)
+pub cell_there : (c : CellName) (v : Value) (a : ListAction) → cell_in (effect_of (acting c v a)) ≡ Some (path_of c)
 cell_there c v (Insert s) = refl
 cell_there c v (Erase s) = refl
 cell_there c v (Update s) = refl
 
-moved_one : (is : List Instr) (a b : ListAction) (f : One is a) → kind_of a ≡ kind_of b → moved_first b is ≡ acting f.cell f.value b ∷ []
+pub moved_one : (is : List Instr) (a b : ListAction) (f : One is a) → kind_of a ≡ kind_of b → moved_first b is ≡ acting f.cell f.value b ∷ []
 moved_one is a b f e = ap (moved_first b) f.is ∙ ap (λ i. i ∷ []) (moved_acting f.cell f.value a b e)
 
 -- ---- shown as it stands
@@ -291,33 +265,6 @@ shown_twice (Some a) is e = told_written a (Some a) is (shown_kind (Some a) is �
 
 pub kind_told : (is : List Instr) (a b : ListAction) → action_in is ≡ Some a → kind_of b ≡ kind_of a → kind_in is ≡ Some (kind_of b)
 kind_told is a b e k = ap (option_map kind_of) e ∙ ap Some (sym k)
-
--- ---- lists of one
-ones_cross : (l : Bool) (a b x y : Instr) → meet a b l ≡ Ok (Some x, Some y) → cross (λ a b. meet a b l) (a ∷ []) (b ∷ []) ≡ Ok (x ∷ [], y ∷ [])
-ones_cross l a b x y h = rw h
-
-pub lists_cross : (l : Bool) (x y : ListAction) (m : Moves) (is js : List Instr) → Move x y l m → action_in is ≡ Some x → action_in js ≡ Some y → first_cell is ≡ first_cell js
-    → cross (λ a b. meet a b l) is js ≡ Ok (moved_first m.left is, moved_first m.right js)
-lists_cross l x y m is js move is_x is_y same =
-    let f = one is x is_x in
-    let g = one js y is_y in
-    let paths : path_of f.cell ≡ path_of g.cell = some_is (sym (ap first_cell f.is ∙ cell_there f.cell f.value x) ∙ same ∙ ap first_cell g.is ∙ cell_there g.cell g.value y) in
-    let cell = one_cell f.cell g.cell paths in
-    let is_g : js ≡ acting f.cell g.value y ∷ [] = g.is ∙ ap (λ c. acting c g.value y ∷ []) (sym cell) in
-    (λ i. cross (λ a b. meet a b l) (f.is i) (is_g i))
-    ∙ ones_cross l (acting f.cell f.value x) (acting f.cell g.value y) (acting f.cell f.value m.left) (acting f.cell g.value m.right) (move.met f.cell f.value g.value)
-    ∙ (λ i. Ok (sym (moved_one is x m.left f (sym move.left)) i, (acting (cell i) g.value m.right) ∷ []))
-    ∙ (λ i. Ok (moved_first m.left is, sym (moved_one js y m.right g (sym move.right)) i))
-
-pub some_map : {A : Type 0} {P Q : A → Type 0} → ((a : A) → P a → Q a) → (r : Option A) → IfSome r P → IfSome r Q
-some_map f None h = tt
-some_map f (Some a) h = f a h
-
--- changesets of one list instruction each
-pub moves_cross : (r : Option Moves) (x y : ListAction) (own other : ℕ) (p q : Changes) (l : Bool) → l ≡ later_stamp p.ms own q.ms other → action_in p.instrs ≡ Some x → action_in q.instrs ≡ Some y → first_cell p.instrs ≡ first_cell q.instrs → IfSome r (Move x y l)
-    → IfSome r (λ s. (m n : ℕ) → cross_sets meet (made_by own m p) (made_by other n q) ≡ Ok (made_by own m (moved_changes s.left p), made_by other n (moved_changes s.right q)))
-moves_cross r x y own other p q l later is_x is_y same h =
-    some_map (λ s move m n. ap (with_lists (made_by own m p) (made_by other n q)) ((λ i. cross (λ a b. meet a b (sym later i)) p.instrs q.instrs) ∙ lists_cross l x y s p.instrs q.instrs move is_x is_y same)) r h
 
 -- ---- the first of a list, where there is one, is written
 pub first_moved : (a : ListAction) (xs : List Instr) (x y : Instr) → 0 < length xs → x ≡ get_or xs 0 x → y ≡ moved a x → set xs 0 y ≡ moved_first a xs

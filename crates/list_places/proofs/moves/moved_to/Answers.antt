@@ -1,8 +1,8 @@
 use Rattle.std.proofs.Common.{sym, ap, ◌∙◌, subst}
 use Rattle.sync_data.specs.Payload.{IsSmall}
-use Rattle.sync_transform.specs.Moves.{moved_first}
-use Rattle.sync_transform.proofs.Stands.{moved_small}
-use Rattle.sync_transform.proofs.moves.moved_to.Goals as goal
+use Rattle.list_places.specs.Moves.{moved_first}
+use Rattle.list_places.proofs.Stands.{moved_small}
+use Rattle.list_places.proofs.moves.moved_to.Goals as goal
 
 pub unwrap-requires : goal.unwrap-requires
 unwrap-requires c =

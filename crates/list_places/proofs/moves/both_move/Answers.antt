@@ -1,8 +1,8 @@
 use Rattle.std.proofs.Common.{◌≡◌, not, sym, ap, ◌∙◌, subst, arith}
-use Rattle.sync_transform.specs.Places.{Within}
-use Rattle.sync_transform.specs.Moves.{instr_at}
-use Rattle.sync_transform.proofs.Stands.{within_some, both_stand}
-use Rattle.sync_transform.proofs.moves.both_move.Goals as goal
+use Rattle.list_places.specs.Places.{Within}
+use Rattle.list_places.specs.Moves.{instr_at}
+use Rattle.list_places.proofs.Stands.{within_some, both_stand}
+use Rattle.list_places.proofs.moves.both_move.Goals as goal
 
 pub action_of-requires : goal.action_of-requires
 action_of-requires c =

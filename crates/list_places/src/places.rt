@@ -1,6 +1,6 @@
 ghost use Rattle.std.specs.Prelude.{◌≡◌, ◌<◌};
 ghost use Rattle.sync_base.specs.Rules.{top};
-ghost use Rattle.sync_transform.specs.Places.{place_after as after, longer};
+ghost use Rattle.list_places.specs.Places.{place_after as after, longer};
 
 /// What an instruction does at its place of a list.
 #[derive(Clone, Copy, Debug, PartialEq, Eq)]

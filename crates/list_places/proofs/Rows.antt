@@ -15,10 +15,10 @@ use Rattle.sync_base.specs.Lemmas.Apart.{changes_there}
 use Rattle.sync_base.specs.Lemmas.Looks.{path_total}
 use Rattle.std.specs.Cmp.{eq_by_cmp_equiv}
 use Rattle.sync_law.specs.Instrs.{as_pair, meet}
-use Rattle.sync_transform.specs.Places.{longer, place_after}
-use Rattle.sync_transform.specs.Moves.{instr_at, instr_left}
-use Rattle.sync_transform.specs.declared.places.Does.{Does}
-use Rattle.sync_transform.specs.declared.places.Does.TheVariants.{Inserts, Erases, Updates}
+use Rattle.list_places.specs.Places.{longer, place_after}
+use Rattle.list_places.specs.Moves.{instr_at, instr_left}
+use Rattle.list_places.specs.declared.places.Does.{Does}
+use Rattle.list_places.specs.declared.places.Does.TheVariants.{Inserts, Erases, Updates}
 
 -- ---- edits
 abbrev pub edit_at : Value → Does → ℕ → ℕ → Edit

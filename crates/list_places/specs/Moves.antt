@@ -10,12 +10,12 @@ use Rattle.sync_data.specs.declared.instr.Instr.TheVariants as instrs
 use Rattle.sync_base.specs.Effects.{CellPath, effect_of}
 use Rattle.sync_base.specs.Rules.{spot}
 use Rattle.sync_law.specs.Instrs.{meet}
-use Rattle.sync_index.specs.Cells.{cell_in}
-use Rattle.sync_transform.specs.declared.places.Does.{Does}
-use Rattle.sync_transform.specs.declared.places.Does.TheVariants.{Inserts, Erases, Updates}
-use Rattle.sync_transform.specs.declared.moves.ListAction.{ListAction}
-use Rattle.sync_transform.specs.declared.moves.ListAction.TheVariants.{Insert, Erase, Update}
-use Rattle.sync_transform.specs.declared.moves.Moves.{Moves}
+use Rattle.sync_base.specs.Objects.{cell_in}
+use Rattle.list_places.specs.declared.places.Does.{Does}
+use Rattle.list_places.specs.declared.places.Does.TheVariants.{Inserts, Erases, Updates}
+use Rattle.list_places.specs.declared.moves.ListAction.{ListAction}
+use Rattle.list_places.specs.declared.moves.ListAction.TheVariants.{Insert, Erase, Update}
+use Rattle.list_places.specs.declared.moves.Moves.{Moves}
 
 -- ---- an instruction of a list by what it does, and the value that it bears
 abbrev pub instr_at : CellName → Value → Does → ℕ → ℕ → Instr
