@@ -12,6 +12,7 @@ usage: bench/gate.py [--save FILE] [--log FILE] [--into DOCUMENT] -- COMMAND WOR
 
     bench/gate.py --save gate.json --log gate.log -- rt ci --anew
     bench/gate.py --read gate.json --into docs/ARCHITECTURE.md  # between the lines <!-- gate --> and <!-- end of gate -->
+    bench/gate.py -- ./realm_sync gen 1 0                       # what a first run takes, where nothing is built
 """
 import argparse
 import collections
@@ -83,7 +84,7 @@ class Watch:
     """What was seen of all processes below one, until it ends."""
 
     def __init__(self, root):
-        self.root, self.seen = root, {}
+        self.root, self.seen, self.most = root, {}, 0
 
     def look(self):
         parents, now = {}, {}
@@ -94,9 +95,10 @@ class Watch:
             if len(fields) > 21:
                 parents[int(name)] = int(fields[1])
                 now[int(name)] = fields
-        for number, fields in now.items():
-            if self.is_below(number, parents):
-                self.take(number, fields)
+        below = [it for it in now.items() if self.is_below(it[0], parents)]
+        self.most = max(self.most, sum(int(fields[21]) for _, fields in below) * PAGE)
+        for number, fields in below:
+            self.take(number, fields)
 
     def is_below(self, number, parents):
         while number in parents:
@@ -165,6 +167,7 @@ def measure(words, log):
         "whole": usage.ru_utime + usage.ru_stime,
         "seen": seen,
         "others": others,
+        "most": watch.most,
         "crates": crates,
     }
 
@@ -226,7 +229,7 @@ def table(measured):
         "",
         f"Processor seconds of `{measured['command']}`, {measured['date']}, on {measured['processors']} processors"
         f" ({measured['machine']}): {minutes(measured['whole'])} minutes of processor time in {minutes(measured['clock'])}"
-        f" minutes on the clock. Beside the rows, `rt` itself took {measured['others']:.0f} seconds, and {unseen:.0f} weren't seen.",
+        f" minutes on the clock, and at most {measured.get('most', 0) / 1e9:.1f} GB of memory at once. Beside the rows, `rt` itself took {measured['others']:.0f} seconds, and {unseen:.0f} weren't seen.",
     ]
     for text in told(measured):
         lines += ["", text]
