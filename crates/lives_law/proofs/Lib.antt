@@ -17,4 +17,5 @@ pub mod Converging
 pub mod Notes
 pub mod Passages
 pub mod Stored
+pub mod Standing
 pub mod Heirs

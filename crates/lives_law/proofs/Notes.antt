@@ -1,5 +1,5 @@
 -- Of files with notes.
-use Rattle.std.proofs.Common.{◌≡◌, ◌≢◌, ◌⊎◌, inl, inr, ⊎_elim, ℕ, zero, suc, ◌+◌, Bool, true, false, List, [], ◌∷◌, ◌++◌, Option, Some, None, refl, sym, ap, ap₂, ◌∙◌, subst, arith, append-nil, length, take, drop, length-append, if◌then◌else◌, ◌==◌, eqb-true}
+use Rattle.std.proofs.Common.{◌≡◌, ⊎_elim, ℕ, zero, suc, ◌+◌, Bool, true, false, List, [], ◌∷◌, ◌++◌, Option, Some, None, refl, sym, ap, ap₂, ◌∙◌, subst, arith, append-nil, length, take, length-append, if◌then◌else◌, ◌==◌, eqb-true}
 use Rattle.sync_theory.specs.World.{put_at}
 use Rattle.sync_theory.specs.Changesets.{Changeset}
 use Rattle.sync_theory.specs.Logs.{Made as LogMade, of_origin}

@@ -1,21 +1,20 @@
 -- A message that passes the test by what is stored is one that passes the test of marks.
-use Rattle.std.proofs.Common.{◌≡◌, ◌≢◌, ◌⊎◌, inl, inr, ⊎_elim, ℕ, zero, suc, ◌+◌, ◌-◌, ◌<◌, ◌≤◌, Bool, true, false, ◌&&◌, ◌||◌, List, [], ◌∷◌, ◌++◌, Option, Some, None, refl, sym, ap, ap₂, ◌∙◌, subst, arith, length, take, drop, if◌then◌else◌, ◌==◌, eqb-true, nat_le, sum_by}
+use Rattle.std.proofs.Common.{◌≡◌, ◌⊎◌, inl, inr, ⊎_elim, ℕ, zero, suc, ◌+◌, ◌-◌, ◌≤◌, Bool, true, false, ◌&&◌, ◌||◌, List, [], ◌∷◌, ◌++◌, Option, Some, None, refl, sym, ap, ap₂, ◌∙◌, subst, arith, length, take, drop, if◌then◌else◌, ◌==◌, eqb-true, nat_le, sum_by}
 use Rattle.std.specs.Prelude.{nat_lt}
 use Rattle.std.proofs.lemmas.List.Sums.{sum_by-cons}
 use Rattle.std.proofs.lemmas.Bool.{leb-true, le-leb, le-ltb}
 use Rattle.sync_theory.specs.Changesets.{Changeset}
-use Rattle.sync_model.specs.Bytes.{Uuid}
-use Rattle.sync_model.specs.Profile.{Profile, restricted}
+use Rattle.sync_model.specs.Profile.{Profile}
 use Rattle.sync_model.specs.Each.{Each, and_each}
 use Rattle.sync_model.specs.Limits.{IsMessage}
 use Rattle.sync_model.specs.Messages.{Change, Sent, Download}
 use Rattle.sync_model.specs.Clients.{Client, ClientRecord, ClientStep, Gap, NotMine, refuse, if_born, client_of, tooks_of, take_entries, take as take_message}
-use Rattle.sync_model.specs.Servers.{Server, ServerRecord, ServerRefusal, server_of, after_all, count, merge, merged, serve_changes, sent_of}
+use Rattle.sync_model.specs.Servers.{Server, ServerRecord, server_of, after_all, count, merge, merged, serve_changes}
 use Rattle.sync_model.specs.Worlds.{at}
 use Rattle.lives_law.specs.Lives.{Written, Files, Among, Mark, Reached}
-use Rattle.lives_law.specs.Readers.{Piece, AreLives, IsOf, end_of}
+use Rattle.lives_law.specs.Readers.{Piece, AreLives, IsOf}
 use Rattle.lives_law.specs.Instances.{is_entry, is_made}
-use Rattle.lives_law.specs.Uploads.{InOrder, none, one, changes_of, HasLine}
+use Rattle.lives_law.specs.Uploads.{InOrder, one, changes_of, HasLine}
 use Rattle.lives_law.specs.Passing.{history_told, HasHistory, AreOf}
 use Rattle.lives_law.specs.Pair.{IsWhole}
 use Rattle.lives_law.specs.Roaming.{TakesUpload, TakesDownload}

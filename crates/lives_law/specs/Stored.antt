@@ -1,7 +1,6 @@
 -- Files that keep the lives of what they took: a server of each ident's numbers, a client of the history's. The same worlds as
 -- `Roaming`, where each node tests by what stands in its own file and in the message alone.
 use Rattle.std.specs.Prelude.{◌≡◌, ◌⊎◌, ◌≤◌, ◌+◌, ◌-◌, ℕ, suc, Bool, true, false, ◌&&◌, ◌||◌, nat_le, ◌==◌, if◌then◌else◌, List, [], ◌∷◌, ◌++◌, Option, Some, None, length, take, drop}
-use Rattle.sync_theory.specs.Changesets.{Changeset}
 use Rattle.sync_model.specs.Bytes.{Uuid}
 use Rattle.sync_model.specs.Profile.{Profile}
 use Rattle.sync_model.specs.Messages.{Change, Sent, Download}
