@@ -102,6 +102,11 @@ pub record HasLives {R X : Type 0} (counts : R → Bool) (f : List (Written R)) 
 abbrev pub passes : {X : Type 0} → Option ℕ → ℕ → Passage X → Bool
 passes last n m = nat_le m.from n && (nat_le n (m.from + length m.tells) && ((n == 0) || is_life last (at m.lives (n - m.from))))
 
+-- what it lets through: who has nothing, from the start; and who has so many of the file, where the last in it has the life that is kept
+pub record LetsThrough {R X : Type 0} (counts : R → Bool) (f : List (Written R)) (m : Passage X) : Type 0 where
+  pub none : (last : Option ℕ) → m.from ≡ 0 → passes last 0 m ≡ true
+  pub some : (n life : ℕ) → m.from ≤ suc n → suc n ≤ m.from + length m.tells → Mark counts f n life → passes (Some life) (suc n) m ≡ true
+
 -- ---- the two steps, and worlds of such files
 
 -- the files of all servers, and those of all clients
