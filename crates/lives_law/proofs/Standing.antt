@@ -15,7 +15,7 @@ use Rattle.lives_law.specs.Uploads.{HasLine}
 use Rattle.lives_law.specs.Passing.{HasHistory}
 use Rattle.lives_law.specs.Pair.{IsWhole, Fit, ident_at}
 use Rattle.lives_law.specs.Roaming.{Both, nobody, written_all, NoEntry, NoTook, Happens, Roams, TakesUpload, TakesDownload, AllFollow, Meets}
-use Rattle.lives_law.specs.Stored.{Noted, it, Kept, entry_by, took_by, bare, bare_file, bare_node, kept_of, with_notes, Passage, passes, Stores, no_stores, upload_records, download_records, IsUploadOf, IsDownloadOf, Occurs, server_opens, client_opens, server_writes, client_writes, server_takes, client_takes, Stands, Agree, SameFiles, SameStores}
+use Rattle.lives_law.specs.Stored.{Noted, it, Kept, entry_by, took_by, bare, bare_file, open_by, kept_of, with_notes, Passage, passes, Stores, no_stores, upload_records, download_records, IsUploadOf, IsDownloadOf, Occurs, server_opens, client_opens, server_writes, client_writes, server_takes, client_takes, Stands, Agree, SameStores}
 use Rattle.lives_law.proofs.Lists.{take_nil}
 use Rattle.lives_law.proofs.Notes.{bare_both, plain_bare, same_opened, same_written, count_by, cut_bare, quiet, keeps_both, tooks_are}
 use Rattle.lives_law.proofs.Roaming.{OpenKept, some_is, all_open, opened_open, all_new, cut_cut, log_cut, own_cut, has_same, only_empty, all_follow, meeting_fits}
@@ -99,10 +99,10 @@ module _ {I S : Type 0} (p : Profile I S) where
     follows = all_follow p k.beneath k.roams
 
     server_there : (n : ℕ) (o : Open (Noted ServerRecord)) → b.servers.nodes n ≡ Some o → k.beneath.servers.nodes n ≡ Some (bare_open o)
-    server_there n o e = k.same.servers.nodes n ∙ ap bare_node e
+    server_there n o e = k.same.servers.nodes n ∙ ap (open_by bare_file) e
 
     client_there : (n : ℕ) (o : Open (Noted ClientRecord)) → b.clients.nodes n ≡ Some o → k.beneath.clients.nodes n ≡ Some (bare_open o)
-    client_there n o e = k.same.clients.nodes n ∙ ap bare_node e
+    client_there n o e = k.same.clients.nodes n ∙ ap (open_by bare_file) e
 
     -- a server took an Upload
     module _ (n c j : ℕ) (m : Passage Change) (f : List (Written (Noted ClientRecord))) (o : Open (Noted ServerRecord)) (e : b.servers.nodes n ≡ Some o) (given : is_given (server_of p (bare (plain o.file))) c ≡ true) (kept : Among f b.clients.kept) (u : IsUploadOf p (bare_file f) m) where
@@ -201,7 +201,7 @@ module _ {I S : Type 0} (p : Profile I S) where
     step_knows d (server_opens n l f q fresh) = record {
       beneath = record k.beneath { servers = opened k.beneath.servers n l (bare_file f) };
       roams = Rattle.lives_law.specs.Roaming.Roams.by_step k.roams (Rattle.lives_law.specs.Roaming.Happens.server_opens n l (bare_file f) (k.same.servers.kept f q) (λ u. fresh (subst (λ x. Among l x) k.same.servers.used u)));
-      same = record { servers = same_opened b.servers k.beneath.servers n l f k.same.servers q; clients = k.same.clients };
+      same = record { servers = same_opened bare_file b.servers k.beneath.servers n l f k.same.servers q; clients = k.same.clients };
       lines = λ g a c. k.lines g a c;
       histories = λ g a. history_opens p k.beneath.servers n l (bare_file f) (plain g) (k.histories g a);
       servers_open = opened_open b.servers n l f q k.servers_open;
@@ -210,7 +210,7 @@ module _ {I S : Type 0} (p : Profile I S) where
     step_knows d (client_opens n l f q fresh) = record {
       beneath = record k.beneath { clients = opened k.beneath.clients n l (bare_file f) };
       roams = Rattle.lives_law.specs.Roaming.Roams.by_step k.roams (Rattle.lives_law.specs.Roaming.Happens.client_opens n l (bare_file f) (k.same.clients.kept f q) (λ u. fresh (subst (λ x. Among l x) k.same.clients.used u)));
-      same = record { servers = k.same.servers; clients = same_opened b.clients k.beneath.clients n l f k.same.clients q };
+      same = record { servers = k.same.servers; clients = same_opened bare_file b.clients k.beneath.clients n l f k.same.clients q };
       lines = λ g a c. line_opens p k.beneath.clients n l (bare_file f) (plain g) c (k.lines g a c);
       histories = λ g a. k.histories g a;
       servers_open = k.servers_open;

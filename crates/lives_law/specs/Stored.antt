@@ -172,17 +172,18 @@ module _ {I S : Type 0} (p : Profile I S) where
     pub reads : (tooks_of (bare (plain g)) ≡ []) ⊎ ((number life : ℕ) × (length (tooks_of (bare (plain g))) ≡ suc number) × ((kept_of took_by 0 (plain g)).last ≡ Some life) × Mark is_entry (bare_file f) number life)
     pub is_read : (count (server_of p (bare (plain f))) (ident_at p (bare (plain f)) id) ≡ 0) ⊎ ((number life : ℕ) × (count (server_of p (bare (plain f))) (ident_at p (bare (plain f)) id) ≡ suc number) × ((kept_of entry_by (ident_at p (bare (plain f)) id) (plain f)).last ≡ Some life) × Mark is_made (bare_file g) number life)
 
--- a node has the same open, but for the notes
-abbrev pub bare_node : {R : Type 0} → Option (Open (Noted R)) → Option (Open R)
-bare_node None = None
-bare_node (Some o) = Some (record { file = bare_file o.file; life = o.life })
+-- what a node has open, read so
+abbrev pub open_by : {R Q : Type 0} → (List (Written R) → List (Written Q)) → Option (Open R) → Option (Open Q)
+open_by read None = None
+open_by read (Some o) = Some (record { file = read o.file; life = o.life })
 
--- the same files, but for the notes
-pub record SameFiles {R : Type 0} (w : Files (Noted R)) (v : Files R) : Type 0 where
-  pub kept : (f : List (Written (Noted R))) → Among f w.kept → Among (bare_file f) v.kept
-  pub nodes : (n : ℕ) → v.nodes n ≡ bare_node (w.nodes n)
+-- the same files, read so
+pub record SameBy {R Q : Type 0} (read : List (Written R) → List (Written Q)) (w : Files R) (v : Files Q) : Type 0 where
+  pub kept : (f : List (Written R)) → Among f w.kept → Among (read f) v.kept
+  pub nodes : (n : ℕ) → v.nodes n ≡ open_by read (w.nodes n)
   pub used : v.used ≡ w.used
 
+-- the same, but for the notes
 pub record SameStores (b : Stores) (a : Both) : Type 0 where
-  pub servers : SameFiles b.servers a.servers
-  pub clients : SameFiles b.clients a.clients
+  pub servers : SameBy bare_file b.servers a.servers
+  pub clients : SameBy bare_file b.clients a.clients
