@@ -19,3 +19,4 @@ pub mod Passages
 pub mod Stored
 pub mod Standing
 pub mod Heirs
+pub mod Acting
