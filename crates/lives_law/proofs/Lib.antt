@@ -20,3 +20,4 @@ pub mod Stored
 pub mod Standing
 pub mod Heirs
 pub mod Acting
+pub mod Telling
