@@ -8,3 +8,4 @@ pub mod Arriving
 pub mod Roaming
 pub mod Stored
 pub mod Heirs
+pub mod Saving
