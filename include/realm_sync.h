@@ -316,7 +316,7 @@ REALM_SYNC_API const char *realm_text_of_status(int status) {
     case REALM_BAD_REQUEST: return "no such line, message or request: nothing changed";
     case REALM_ABSENT: return "there is no such object";
     case REALM_CLOSED: return "the node is closed: close it, and open its file again";
-    case REALM_BAD_FILE: return "the file is another one's, or damaged: it is as it was";
+    case REALM_BAD_FILE: return "the file is another one's, or damaged: it is as it was; give another path";
     case REALM_NO_MEMORY: return "out of memory: close the node, and open its file again";
     case REALM_BUSY: return "another open holds the file: try again later";
     case REALM_FORKED_PROCESS: return "another process opened this node, and fork copied it: close it here, and open a file in this process";
@@ -348,7 +348,7 @@ REALM_SYNC_API const char *realm_text_of_reason(int reason) {
         "a sync failed, so that what wasn't answered may be lost: close the node, look after the disk, and open the file again",
         "the file can't be read: close the node, and look after the disk",
         "memory ran out: close the node, and open its file again",
-        "the file is another one's, or damaged: close the node; the file is as it was",
+        "the file is another one's, or damaged: close the node, and give another path; the file is as it was",
     };
     return reason >= 0 && (size_t)reason < sizeof texts / sizeof texts[0] ? texts[reason] : "unknown";
 }
@@ -441,7 +441,8 @@ REALM_SYNC_API void realm_refusal_words(realm_refused why, char *text, size_t ro
     };
     uint32_t numbers[3] = {why.first, why.second, why.third};
     bool is_known = why.number < sizeof names / sizeof names[0];
-    snprintf(text, room, "%s", realm_text_of(why.number));
+    bool is_message = why.number == REALM_WAS_REFUSED && why.first == 0;
+    snprintf(text, room, "%s", is_message ? "the server refused a message of this client" : realm_text_of(why.number));
     for (int i = 0; i < 3 && is_known && names[why.number][i]; i++) {
         const char *name = names[why.number][i];
         size_t at = strlen(text);
@@ -459,6 +460,8 @@ REALM_SYNC_API const char *realm_words(const realm_node *node, int status, char 
         realm_refusal_words(why, text, room);
     else if (status == REALM_BAD_REQUEST && node->wrong)
         snprintf(text, room, "%s: nothing changed", node->wrong);
+    else if (status == REALM_BAD_FILE)
+        snprintf(text, room, "from byte %" PRIu64 " on %s", realm_bad_place(node), realm_text_of_status(status));
     else if (status == REALM_STALE)
         snprintf(text, room, "%s", realm_text_of_stale(node->stale));
     else if (status == REALM_CLOSED && node->reason && node->error)
@@ -492,8 +495,8 @@ REALM_SYNC_API int realm_line(realm_node *node, const char *json, size_t len) {
 REALM_SYNC_API int realm_born(realm_node *node, const char *uuid) {
     static const char expected[] = "uuid: expected 32 hexadecimal digits, as in 00000000-0000-4000-8000-000000000001";
     char line[128];
-    if (!uuid || strlen(uuid) > 64 || strpbrk(uuid, "\"\\")) return realm_expect(node, expected);
-    int len = snprintf(line, sizeof line, "{\"uuid\":\"%s\"}", uuid);
+    int len = uuid && !strpbrk(uuid, "\"\\") ? snprintf(line, sizeof line, "{\"uuid\":\"%s\"}", uuid) : -1;
+    if (len < 0 || (size_t)len >= sizeof line) return realm_expect(node, expected);
     return realm_ask_client(node, 'L', line, (size_t)len, expected);
 }
 

@@ -51,6 +51,14 @@ refused() {
     echo "found: $what"
 }
 
+# A new folder for files.
+folder() {
+    chmod -R u+w "$out/folder" 2>/dev/null || true
+    rm -rf "$out/folder"
+    mkdir "$out/folder"
+    echo "$out/folder"
+}
+
 files() {
     rm -f "$out/first" "$out/second" "$out/server"
     echo "$out/first $out/second $out/server"
@@ -90,12 +98,24 @@ if command -v valgrind >/dev/null; then
     ran c/two_phones "under valgrind" valgrind -q --leak-check=full --show-leak-kinds=all --error-exitcode=1 "$out/two_phones" $(files)
 fi
 
-# Each refusal, and a disk that is full.
+# Each refusal, a file that may not grow, and what else can happen to an application.
 built refusals refusals $sanitizers
 ran c/refusals "each refusal, with sanitizers" "$out/refusals"
 built full_disk full_disk $sanitizers
 rm -f "$out/full"
 ran c/full_disk "full_disk in C, with sanitizers" "$out/full_disk" "$out/full"
+built situations situations -g -O1
+built situations situations_sanitized $sanitizers
+ran c/situations "what can happen to an application, with sanitizers" "$out/situations_sanitized" "$(folder)"
+if command -v valgrind >/dev/null; then
+    ran c/situations "the same, under valgrind" valgrind -q --leak-check=full --show-leak-kinds=all --error-exitcode=1 --child-silent-after-fork=yes \
+        "$out/situations" "$(folder)"
+fi
+
+# A crash at each write and each sync.
+built crashes crashes $sanitizers
+ran c/crashes "what a crash leaves, with sanitizers" "$out/crashes" "$out/crashed"
+refused "a disk that syncs nothing" "$out/crashes" "$out/crashed" unsynced
 
 # Nodes that go from thread to thread. A use that no lock orders is found, so the tools see what they are asked for.
 built threads threads -g -O1 -pthread

@@ -126,7 +126,7 @@ class BadFile(Error):
     """The file is another one's, or damaged. `place` is where it is no journal of such a node."""
 
     def __init__(self, text, place):
-        super().__init__(f"{text}; from byte {place} on")
+        super().__init__(text)
         self.place = place
 
 
