@@ -1,13 +1,13 @@
 #!/bin/sh
 # Builds the C library and the examples over it, runs them, and compares what they print with the files beside them.
 #
-#     examples/c/build.sh [FOLDER]        (what is built goes to FOLDER, or to build/ at the top)
+#     examples/c/build.sh [FOLDER]        (what is built goes to FOLDER, or to out/ at the top)
 #
-# It takes `rt`, the command of the Rattle toolchain, a C and a C++ compiler, and Python. The first run proves the library, crate after
-# crate. Valgrind is used where it is installed.
+# It takes `rt`, the command of the Rattle toolchain, a C and a C++ compiler, and Python. What isn't built yet of the library is proved and built first
+# (with REALM_SYNC_TRIAL=1 without any proof). Valgrind is used where it is installed.
 set -eu
 top=$(cd "$(dirname "$(readlink -f "$0")")/../.." && pwd)
-out=${1:-$top/build}
+out=${1:-$top/out}
 mkdir -p "$out"
 out=$(cd "$out" && pwd)
 library=$("$top/examples/c/library.sh" "$out")
