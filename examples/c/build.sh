@@ -29,7 +29,7 @@ built() {
     name=$1 made=$2
     shift 2
     # shellcheck disable=SC2086
-    cc -std=c11 -D_GNU_SOURCE $warnings "$@" -I"$top/include" "$top/examples/c/$name.c" $library -o "$out/$made"
+    cc -std=c11 $warnings "$@" -I"$top/include" "$top/examples/c/$name.c" $library -o "$out/$made"
 }
 
 # ran NAME WHAT COMMAND..: what a command prints is that of NAME.out.
@@ -51,13 +51,40 @@ refused() {
     echo "found: $what"
 }
 
+# A new folder for files.
+folder() {
+    chmod -R u+w "$out/folder" 2>/dev/null || true
+    rm -rf "$out/folder"
+    mkdir "$out/folder"
+    echo "$out/folder"
+}
+
 files() {
     rm -f "$out/first" "$out/second" "$out/server"
     echo "$out/first $out/second $out/server"
 }
 
-# The header as C++.
-printf '#include "realm_sync.h"\nint main() { realm_node node; return realm_open_client(&node, nullptr); }\n' >"$out/header.cc"
+# The header by itself, as each C and C++ that it is for, by each compiler that is there; also where a header of the system came before it,
+# and without flock. Windows' part is compiled where its compiler is, and not run.
+printf '#include "realm_sync.h"\nint main(void) { realm_node node; return realm_open_client(&node, NULL); }\n' >"$out/header.c"
+cp "$out/header.c" "$out/header.cc"
+header() {
+    compiler=$1 language=$2
+    shift 2
+    command -v "$compiler" >/dev/null || return 0
+    case $compiler in *++*) file=$out/header.cc ;; *) file=$out/header.c ;; esac
+    # shellcheck disable=SC2086
+    "$compiler" "-std=$language" $warnings "$@" -I"$top/include" -c "$file" -o "$out/header.o"
+    echo "compiles: $compiler -std=$language $*"
+}
+for language in c99 c11 gnu11; do
+    for compiler in gcc clang x86_64-w64-mingw32-gcc aarch64-linux-gnu-gcc; do header $compiler $language; done
+done
+for language in c++11 c++17; do
+    for compiler in g++ clang++ x86_64-w64-mingw32-g++; do header $compiler $language; done
+done
+for compiler in gcc clang; do header $compiler c11 -include stdio.h -include unistd.h; done
+header gcc c11 -DREALM_SYNC_NO_FLOCK
 # shellcheck disable=SC2086
 c++ -std=c++17 $warnings -I"$top/include" "$out/header.cc" $library -o "$out/header"
 
@@ -71,12 +98,24 @@ if command -v valgrind >/dev/null; then
     ran c/two_phones "under valgrind" valgrind -q --leak-check=full --show-leak-kinds=all --error-exitcode=1 "$out/two_phones" $(files)
 fi
 
-# Each refusal, and a disk that is full.
+# Each refusal, a file that may not grow, and what else can happen to an application.
 built refusals refusals $sanitizers
 ran c/refusals "each refusal, with sanitizers" "$out/refusals"
 built full_disk full_disk $sanitizers
 rm -f "$out/full"
 ran c/full_disk "full_disk in C, with sanitizers" "$out/full_disk" "$out/full"
+built situations situations -g -O1
+built situations situations_sanitized $sanitizers
+ran c/situations "what can happen to an application, with sanitizers" "$out/situations_sanitized" "$(folder)"
+if command -v valgrind >/dev/null; then
+    ran c/situations "the same, under valgrind" valgrind -q --leak-check=full --show-leak-kinds=all --error-exitcode=1 --child-silent-after-fork=yes \
+        "$out/situations" "$(folder)"
+fi
+
+# A crash at each write and each sync.
+built crashes crashes $sanitizers
+ran c/crashes "what a crash leaves, with sanitizers" "$out/crashes" "$out/crashed"
+refused "a disk that syncs nothing" "$out/crashes" "$out/crashed" unsynced
 
 # Nodes that go from thread to thread. A use that no lock orders is found, so the tools see what they are asked for.
 built threads threads -g -O1 -pthread
@@ -91,3 +130,5 @@ fi
 # From Python: two phones, and a server with eight clients over sockets.
 ran python/two_phones "two_phones in Python" "$python" "$top/examples/python/two_phones.py"
 ran python/serve_sockets "a server and eight clients over sockets" "$python" "$top/examples/python/serve_sockets.py"
+"$python" "$top/examples/python/test_realm_sync.py" 2>"$out/printed" || { cat "$out/printed" >&2; exit 1; }
+echo "tests of the module in Python: all pass"
