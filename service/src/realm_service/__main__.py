@@ -18,18 +18,17 @@ WORDS = """Serves histories of realm_sync over WebSocket and HTTP. Without any w
 
 
 def _words() -> argparse.ArgumentParser:
-    common = argparse.ArgumentParser(add_help=False)
+    common = argparse.ArgumentParser(add_help=False, argument_default=argparse.SUPPRESS)  # a command's doesn't undo the one before it
     common.add_argument("--config", metavar="FILE", help="a TOML file")
+    common.add_argument("--folder", help="of histories, in place of the configuration's")
     words = argparse.ArgumentParser(prog="realm_service", description=WORDS, parents=[common])
     words.add_argument("--listen", metavar="HOST:PORT", help="in place of the configuration's")
-    words.add_argument("--folder", help="of histories, in place of the configuration's")
     commands = words.add_subparsers(dest="command", metavar="COMMAND")
     token = commands.add_parser("token", parents=[common], help="prints a token", description="Prints a token by the configuration's secret.")
     token.add_argument("user")
     token.add_argument("grants", nargs="+", metavar="PATTERN=LEVEL[:TABLE,TABLE]", help="read, write or rule")
     token.add_argument("--seconds", type=float, default=86400, help="how long it holds (a day)")
     token.add_argument("--device", metavar="UUID", help="of one device alone")
-    token.add_argument("--folder", help=argparse.SUPPRESS)
     raised = commands.add_parser("raise-generation", parents=[common], help="says that histories were restored")
     raised.add_argument("names", nargs="*", metavar="NAME")
     raised.add_argument("--all", action="store_true", help="all of the store")
@@ -40,11 +39,9 @@ def _words() -> argparse.ArgumentParser:
 
 
 def _config(given: argparse.Namespace) -> Config:
-    config = configs.read(given.config)
-    if getattr(given, "listen", None):
-        config.service.listen = given.listen
-    if getattr(given, "folder", None):
-        config.store.folder = given.folder
+    config = configs.read(getattr(given, "config", None))
+    config.service.listen = given.listen or config.service.listen
+    config.store.folder = getattr(given, "folder", config.store.folder)
     return config
 
 
@@ -55,7 +52,7 @@ def _do(given: argparse.Namespace) -> None:
             import uvloop
 
             uvloop.install()
-        asyncio.run(run(config, given.config is None))
+        asyncio.run(run(config, not hasattr(given, "config")))
     elif given.command == "token":
         print(operating.token(config, given.user, given.grants, given.seconds, given.device))
     elif given.command == "raise-generation":

@@ -1,6 +1,8 @@
 """Commands of an operator: tokens, the generation of a restored history, and moving a history to another store."""
 
+import asyncio
 import contextlib
+import time
 import typing
 from collections.abc import AsyncIterator
 
@@ -33,12 +35,23 @@ async def _started(config: Config) -> AsyncIterator[Store]:
         await store.stop()
 
 
+async def _taken(store: Store, name: str, create: bool, seconds: float) -> Lease:
+    """Waits for the lease of a worker that is gone, which a backup may have brought back too."""
+    ends = time.monotonic() + seconds + 1
+    while True:
+        try:
+            return await store.acquire(name, create)
+        except Absent:
+            raise Unable(f"there is no history {name}") from None
+        except Elsewhere:
+            if time.monotonic() > ends:
+                raise
+            await asyncio.sleep(0.2)
+
+
 @contextlib.asynccontextmanager
-async def _held(store: Store, name: str, create: bool = False) -> AsyncIterator[Lease]:
-    try:
-        lease = await store.acquire(name, create)
-    except Absent:
-        raise Unable(f"there is no history {name}") from None
+async def _held(store: Store, config: Config, name: str, create: bool = False) -> AsyncIterator[Lease]:
+    lease = await _taken(store, name, create, config.store.lease_seconds)
     try:
         yield lease
     finally:
@@ -49,7 +62,7 @@ async def raise_generation(config: Config, names: list[str], is_all: bool) -> No
     """Says of histories that they were restored: devices that began before are refused from now on."""
     async with _started(config) as store:
         for name in await store.names() if is_all else names:
-            async with _held(store, name) as lease:
+            async with _held(store, config, name) as lease:
                 await store.raise_generation(lease)
                 print(f"{name}: generation {lease.generation}")
 
@@ -60,7 +73,7 @@ async def move(config: Config, target: Config, names: list[str]) -> None:
         for name in names:
             if name in await there.names():
                 raise Unable(f"{name} is there already")
-            async with _held(here, name) as lease, _held(there, name, create=True) as copy:
+            async with _held(here, config, name) as lease, _held(there, target, name, create=True) as copy:
                 await _moved(here, there, lease, copy)
             print(f"{name}: moved, {copy.length} bytes")
 

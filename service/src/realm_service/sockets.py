@@ -12,7 +12,7 @@ from . import metrics
 from .devices import Caller, Forbidden
 from .history import History
 from .messages import BadMessage
-from .refusals import RESTART, refusal_of, response_of
+from .refusals import RESTART, Refused, refusal_of, response_of
 from .stores import Fenced
 from .tokens import BadToken
 from .visits import Visit, Visits
@@ -92,6 +92,8 @@ class Sockets:
                     await socket.send_bytes(await self.visits.answer(history, visit.caller, message.data, news))
                 elif message.type == WSMsgType.TEXT:
                     visit.caller, visit.until = self._renewed(message.data, visit)
+                elif history.gone or not self.visits.is_open:
+                    raise Refused(503, "the worker stops, or has the history no more", RESTART)
                 else:
                     return
         except ConnectionError:
