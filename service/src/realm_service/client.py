@@ -48,6 +48,8 @@ class Client(typing.Protocol):
 class Link:
     """One client and one history. `patience` is how many seconds a reply may take."""
 
+    longest_pause = 30.0  # seconds between two attempts to connect
+
     def __init__(self, client: Client, base: str, history: str, token: str, generation: int = 1, patience: float = 30):
         self.client, self.base, self.history, self.token = client, base, history, token
         self.generation, self.patience = generation, patience
@@ -89,7 +91,7 @@ class Link:
             except LOST:
                 await self._drop()
                 await asyncio.sleep(self.pause * random.uniform(0.5, 1.5))
-                self.pause = min(30, self.pause * 2)
+                self.pause = min(self.longest_pause, self.pause * 2)
 
     async def live(self) -> AsyncIterator[list[typing.Any]]:
         """The places that may have changed, whenever there is news."""
