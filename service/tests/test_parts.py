@@ -31,10 +31,10 @@ class Messages(unittest.TestCase):
     def test_heads(self):
         self.assertEqual(head(bytes([1]) + A), Head(1, uuid=A))
         self.assertEqual(head(bytes.fromhex("04010000")), Head(4, ident=1))
-        self.assertEqual(head(bytes.fromhex("0805ac02ac02")), Head(8, ident=5))
+        self.assertEqual(head(bytes.fromhex("0805ac02ac02")), Head(8, ident=5, version=300))
         self.assertEqual(head(bytes.fromhex("090201")), Head(9, ident=1, retired=2))
         self.assertEqual(head(bytes.fromhex("0b020000010101") + b"q"), Head(11, ident=2, tables=frozenset({"q"})))
-        self.assertEqual(head(bytes.fromhex("03ac0202" + "01ac02" + "0003010000")), Head(3, ident=300, changes=2, base=300))
+        self.assertEqual(head(bytes.fromhex("03ac0202" + "01ac02" + "0003010000")), Head(3, ident=300, version=300, changes=2))
         self.assertEqual(head(bytes.fromhex("030100")), Head(3, ident=1))
 
     def test_what_is_none(self):

@@ -179,7 +179,8 @@ class Doors:
         if key is not None and table is not None and seen is not None and table not in seen:
             raise Forbidden("the token isn't for this table")
         asked = DUMP if key is None else OBJECT + _named(table, key)
-        status, told = await asyncio.wait_for(visit.history.read(asked), self.config.limits.message_seconds)
+        async with asyncio.timeout(self.config.limits.message_seconds):
+            status, told = await visit.history.read(asked)
         if status == ABSENT:
             raise Refused(404, "there is no such object")
         if status != DONE:

@@ -107,7 +107,8 @@ class Entries:
         seconds = self.visits.limits.config.message_seconds
         await self.visits.limits.admit(visit.caller.user, 0)
         try:
-            return _Page(await asyncio.wait_for(history.entries(version, visit.caller.tables), seconds), history)
+            async with asyncio.timeout(seconds):
+                return _Page(await history.entries(version, visit.caller.tables), history)
         except NoEntries as refusal:
             raise _refused(refusal) from refusal
 

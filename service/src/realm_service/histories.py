@@ -58,15 +58,14 @@ class Histories:
                 over -= self.nodes[history]
                 self._close_node(history)
 
-    def opened(self, history: History, journal_bytes: int) -> None:
-        history.bytes = 0
+    def opened(self, history: History) -> None:
         self.nodes[history] = 0
-        self.grew(history, journal_bytes)
+        self.grew(history)
 
-    def grew(self, history: History, more: int) -> None:
-        history.bytes += more
-        self.held += weight(history.bytes) - self.nodes[history]
-        self.nodes[history] = weight(history.bytes)
+    def grew(self, history: History) -> None:
+        now = weight(history.sizes.size)
+        self.held += now - self.nodes[history]
+        self.nodes[history] = now
         self.nodes.move_to_end(history)
 
     def closed(self, history: History) -> None:

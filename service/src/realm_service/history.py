@@ -14,8 +14,9 @@ from collections.abc import Callable
 from . import metrics
 from .devices import Caller, Devices, Forbidden, Outdated, TooMuch
 from .messages import AHEAD, BIND, NAMES, UPLOAD, BadMessage, Head, NoEntries, head, question
-from .node import BAD_REQUEST, DONE, STANDING, TAKE, Damaged, Node, NodeFailed, Reply, Written
+from .node import BAD_REQUEST, DONE, STANDING, TAKE, Damaged, Node, NodeFailed, Reply, Written, length_of
 from .stores import Fenced, Lease, StoreDown
+from .weights import Sizes
 
 if typing.TYPE_CHECKING:
     from .histories import Histories
@@ -54,7 +55,7 @@ class History:
         self.devices: Devices | None = None
         self.runner: asyncio.Task[None] | None = None
         self.length: int | None = None  # entries; None until the node was open once
-        self.bytes = 0  # of the journal
+        self.sizes = Sizes(0, 0)
         self.waiting: collections.deque[_Work] = collections.deque()
         self.listeners: set[Listener] = set()
         self.used = time.monotonic()
@@ -161,8 +162,11 @@ class History:
             return
         requests = [work.request or b"" if work.caller is None else TAKE + (work.request or b"") for work in admitted]
         with metrics.TURNS.time():
-            replies, written = await self.histories.work(self._turns, requests)
-        await self._store(written, list(claims.items()))
+            if all(self._is_light(work) for work in admitted):
+                replies, written, length = self._turns(requests)
+            else:
+                replies, written, length = await self.histories.work(self._turns, requests)
+        await self._store(written, list(claims.items()), length)
         self._reply(admitted, replies)
 
     def _admit(self, work: _Work, claims: dict[bytes, str]) -> bool:
@@ -184,17 +188,21 @@ class History:
 
     def _is_bearable(self, given: Head) -> None:
         """A call into the node can't be stopped, so a message that would be at work too long isn't begun."""
-        behind = max(0, (self.length or 0) - given.base)
+        behind = max(0, (self.length or 0) - given.version)
         most = self.histories.most_pairs
         if given.changes * behind > most:
             raise TooMuch(f"{given.changes} changes meet {behind} entries, and at most {most} pairs are merged at once: send less")
 
-    def _turns(self, requests: list[bytes]) -> tuple[list[Reply], Written]:
-        """In a thread of its own."""
-        assert self.node is not None
-        return self.node.ask_all(requests), self.node.written()
+    def _is_light(self, work: _Work) -> bool:
+        return work.head is not None and self.sizes.is_light(work.head, len(work.request or b""))
 
-    async def _store(self, written: Written, claims: list[tuple[bytes, str]]) -> None:
+    def _turns(self, requests: list[bytes]) -> tuple[list[Reply], Written, int]:
+        """The replies, what is to be stored before they are told, and the length of the history then."""
+        assert self.node is not None
+        *replies, standing = self.node.ask_all([*requests, STANDING])
+        return replies, self.node.written(), length_of(standing)
+
+    async def _store(self, written: Written, claims: list[tuple[bytes, str]], length: int) -> None:
         """Stores what the node wrote; then, and not before, replies may be told."""
         assert self.node is not None
         if not written.tail and not claims:
@@ -203,8 +211,9 @@ class History:
         with metrics.STORING.time():
             await self.histories.store.append(self.lease, written.gate, written.tail, claims)
         metrics.STORED_BYTES.inc(len(written.tail))
-        self.histories.grew(self, len(written.tail))
         self.node.emptied()
+        self.sizes.grew(length, len(written.tail))
+        self.histories.grew(self)
 
     def _reply(self, admitted: list[_Work], replies: list[Reply]) -> None:
         uploaders: set[Listener | None] = set()
@@ -227,9 +236,8 @@ class History:
             self._tell_news(uploaders)
 
     def _tell_news(self, but: set[Listener | None]) -> None:
-        assert self.node is not None and self.length is not None
-        length = self.node.length()
-        if length > self.length:
+        length = self.sizes.length
+        if self.length is not None and length > self.length:
             metrics.ENTRIES.inc(length - self.length)
             self.length = length
             for listener in list(self.listeners - but):
@@ -242,13 +250,14 @@ class History:
             journal, devices = await self.histories.store.read(self.lease)
             self.histories.make_room(len(journal))
             self.node = Node()
-            self.histories.opened(self, len(journal))
+            self.sizes = Sizes(0, len(journal))
+            self.histories.opened(self)
             try:
                 self.devices = Devices(devices, self.lease.generation, self.histories.most_devices)
                 await self.histories.work(self.node.open, journal)
-                await self._store(self.node.written(), [])
+                await self._store(self.node.written(), [], 0)
                 await self.histories.work(self._learn, list(devices))
-                await self._store(self.node.written(), [])
+                await self._store(self.node.written(), [], self.sizes.length)
             except BaseException:
                 self.let_go()
                 raise
@@ -257,9 +266,11 @@ class History:
     def _learn(self, uuids: list[bytes]) -> None:
         """Whose each ident is, and how long the history is: a Bind that is repeated answers the same ident."""
         assert self.node is not None and self.devices is not None
-        for reply in self.node.ask_all([TAKE + bytes([BIND]) + uuid for uuid in uuids]) if uuids else ():
+        *replies, standing = self.node.ask_all([*(TAKE + bytes([BIND]) + uuid for uuid in uuids), STANDING])
+        for reply in replies:
             self.devices.named(reply.told)
-        self.length = self.node.length()
+        self.length = length_of(standing)
+        self.sizes = Sizes(self.length, self.sizes.size)
 
     async def _trim(self) -> tuple[int, int]:
         """The node is opened again from what is left."""

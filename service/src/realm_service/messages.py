@@ -48,15 +48,15 @@ class Reader:
 @dataclasses.dataclass(frozen=True)
 class Head:
     """Of a message to a server: its tag, and as it has them the uuid, the ident that it speaks for, the ident that it gives up, the tables,
-    and of an Upload how many changes it has and which version of the history the first of them was made on."""
+    the version from which on it asks, or on which the first of its changes was made, and how many changes it has."""
 
     tag: int
     uuid: bytes = b""
     ident: int = 0
     retired: int = 0
     tables: frozenset[str] | None = None
+    version: int = 0
     changes: int = 0
-    base: int = 0
 
 
 def head(message: bytes) -> Head:
@@ -68,19 +68,17 @@ def head(message: bytes) -> Head:
         return Head(tag, uuid=message[1:])
     read = Reader(message, 1)
     if tag in (ASK, ASK2):
-        return Head(tag, ident=read.number())
+        return Head(tag, ident=read.number(), version=read.number())
     if tag == UPLOAD:
         ident, changes = read.number(), read.number()
-        base = (read.number(), read.number())[1] if changes else 0
-        return Head(tag, ident=ident, changes=changes, base=base)
+        version = (read.number(), read.number())[1] if changes else 0
+        return Head(tag, ident=ident, version=version, changes=changes)
     if tag == RETIRE:
         retired = read.number()
         return Head(tag, ident=read.number(), retired=retired)
     if tag == ASK_TABLES:
-        ident = read.number()
-        for _ in ("cursor", "settled", "form"):
-            read.number()
-        return Head(tag, ident=ident, tables=read.tables())
+        ident, version, _, _ = (read.number() for _ in ("ident", "cursor", "settled", "form"))
+        return Head(tag, ident=ident, version=version, tables=read.tables())
     raise BadMessage("no message for a server")
 
 

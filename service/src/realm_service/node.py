@@ -84,11 +84,6 @@ class Node:
         """All that was written is stored."""
         self.ask(EMPTIED)
 
-    def length(self) -> int:
-        """How many entries the history has."""
-        status, told = self.ask(STANDING)
-        return int.from_bytes(told[4:8], "little") if status == DONE else 0
-
     @contextlib.contextmanager
     def _buffer(self) -> Iterator[Buffer]:
         buffer = Buffer()
@@ -96,6 +91,11 @@ class Node:
             yield buffer
         finally:
             self._library.free_buffer(ctypes.byref(buffer))
+
+
+def length_of(standing: Reply) -> int:
+    """How many entries the history has, by the reply to STANDING."""
+    return int.from_bytes(standing.told[4:8], "little")
 
 
 def _unpacked(told: bytes) -> list[Reply]:

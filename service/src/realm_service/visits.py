@@ -89,4 +89,5 @@ class Visits:
         """The reply to a message, within the caller's limits."""
         await self.limits.admit(caller.user, len(message))
         with self.limits.flight(len(message)), metrics.REPLYING.time():
-            return await asyncio.wait_for(history.ask(caller, message, listener), self.limits.config.message_seconds)
+            async with asyncio.timeout(self.limits.config.message_seconds):
+                return await history.ask(caller, message, listener)
