@@ -1,0 +1,91 @@
+// What a message took from the changes of this device that weren't in the history yet, as far as it can be seen from outside: by comparing
+// what the core says of an object before the message and after it. Nothing is merged here.
+import { editsOf, entriesOf } from './messages.js';
+import { unsentOf } from './recovery.js';
+import { Status, textOf } from './door.js';
+import { parseLine, textOfKey } from './values.js';
+/** Whether two values of the core are one. A link's `resolved` isn't of the value. */
+export function isSameValue(one, other) {
+    if (one === other)
+        return true;
+    if (typeof one !== 'object' || typeof other !== 'object' || one === null || other === null)
+        return false;
+    const names = new Set([...Object.keys(one), ...Object.keys(other)]);
+    names.delete('resolved');
+    return [...names].every((name) => isSameValue(one[name], other[name]));
+}
+const countOf = (list, value) => list.filter((it) => isSameValue(it, value)).length;
+const has = (list, value) => list.some((it) => isSameValue(it, value));
+/** Whether an edit was seen in its cell before, and isn't after. `others` are what other devices did to the cell. */
+function isLost(edit, before, after, others) {
+    switch (edit.op) {
+        // A number to which others added has changed too, and nothing is lost.
+        case 'Update':
+            return isSameValue(before, edit.value) && !isSameValue(after, edit.value) && others.some((it) => it.op === 'Update' || it.op === 'CreateObject');
+        case 'ListInsert':
+        case 'ListUpdate': return countOf(after, edit.value) < countOf(before, edit.value);
+        case 'SetInsert': return has(before, edit.value) && !has(after, edit.value);
+        case 'SetErase': return !has(before, edit.value) && has(after, edit.value);
+        case 'DictUpdate': return isSameValue(before[edit.at], edit.value) && !isSameValue(after[edit.at], edit.value);
+        case 'DictErase': return !(edit.at in before) && edit.at in after;
+        default: return false;
+    }
+}
+/** Where an edit acts: the last one of a place is the one that was seen. */
+const spotOf = ({ op, column, value, at }) => {
+    if (op.startsWith('Set') || op === 'ListInsert' || op === 'ListUpdate')
+        return `${column}=${JSON.stringify(value)}`;
+    return `${column}@${at ?? ''}`;
+};
+function lostOf(edits, others, before, after) {
+    const last = edits[edits.length - 1];
+    if (!after)
+        return edits.some((it) => it.op === 'EraseObject') ? [] : [{ edit: { ...last, column: undefined }, why: 'erased' }];
+    const bySpot = new Map(edits.filter((it) => it.column !== undefined).map((it) => [spotOf(it), it]));
+    return [...bySpot.values()]
+        .filter(({ column }) => column in before && column in after)
+        .filter((edit) => isLost(edit, before[edit.column], after[edit.column], others.filter((it) => it.column === undefined || it.column === edit.column)))
+        .map((edit) => ({ edit, why: 'overwritten' }));
+}
+const nameOf = ({ table, key }) => JSON.stringify([table, key]);
+function byObject(edits) {
+    const found = new Map();
+    for (const edit of edits) {
+        if (edit.key === undefined || edit.op.startsWith('Add') && edit.op !== 'AddInteger')
+            continue;
+        const same = found.get(nameOf(edit));
+        if (same)
+            same.push(edit);
+        else
+            found.set(nameOf(edit), [edit]);
+    }
+    return found;
+}
+const editsAt = (body, ms) => editsOf(body).map((text) => ({ ...parseLine(text), ms: Number(ms) }));
+/** Looks at a Download before it is taken, and at the objects that it and this client's unsent changes both touch. */
+export class LostEdits {
+    engine;
+    seen = [];
+    constructor(engine, message) {
+        this.engine = engine;
+        const { ident, unsent } = engine.standing();
+        const entries = unsent > 0 ? (entriesOf(message) ?? []).filter((it) => it.origin !== ident) : [];
+        if (entries.length === 0)
+            return;
+        const others = byObject(entries.flatMap(({ body, ms }) => editsAt(body, ms)));
+        for (const [name, mine] of byObject([...unsentOf(engine)].flatMap(({ body, ms }) => editsAt(body, ms)))) {
+            const theirs = others.get(name);
+            const before = theirs && this.cells(mine[0]);
+            if (theirs && before)
+                this.seen.push({ name, mine, others: theirs, before });
+        }
+    }
+    cells(edit) {
+        const { status, bytes } = this.engine.reply('O', `{"table":${JSON.stringify(edit.table)},"key":${textOfKey(edit.key)}}`);
+        return status === Status.Done ? parseLine(textOf(bytes)).cells : null;
+    }
+    /** What is lost now that the message was taken. */
+    found() {
+        return this.seen.flatMap(({ mine, others, before }) => lostOf(mine, others, before, this.cells(mine[0])).map(({ edit, why }) => ({ table: edit.table, key: textOfKey(edit.key), column: edit.column ?? null, ms: edit.ms, why, mine: edit.value ?? null })));
+    }
+}
