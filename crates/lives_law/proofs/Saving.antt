@@ -1,13 +1,11 @@
 -- Worlds of heirs over files that keep lives are worlds of heirs.
-use Rattle.std.proofs.Common.{◌≡◌, ◌≢◌, ◌⊎◌, inl, inr, ⊎_elim, ℕ, zero, suc, ◌+◌, ◌-◌, ◌<◌, ◌≤◌, Bool, true, false, ◌&&◌, not, List, [], ◌∷◌, ◌++◌, Option, Some, None, refl, sym, ap, ap₂, ◌∙◌, subst, arith, append-nil, length, take, drop, length-append, if◌then◌else◌, ◌==◌, eqb-true}
+use Rattle.std.proofs.Common.{◌≡◌, ◌⊎◌, inl, inr, ⊎_elim, ℕ, zero, suc, ◌+◌, ◌-◌, ◌≤◌, Bool, true, false, ◌&&◌, not, List, [], ◌∷◌, ◌++◌, Option, Some, None, refl, sym, ap, ap₂, ◌∙◌, subst, arith, append-nil, length, take, drop, length-append, if◌then◌else◌, ◌==◌, eqb-true}
 use Rattle.sync_theory.specs.World.{put_at}
 use Rattle.sync_model.specs.Profile.{Profile}
-use Rattle.sync_model.specs.Each.{Each}
-use Rattle.sync_model.specs.Limits.{IsMessage}
+use Rattle.sync_model.specs.Each.{Each, no_more}
 use Rattle.sync_model.specs.Messages.{Change, Sent, Download}
 use Rattle.sync_model.specs.Clients.{ClientRecord, client_of, tooks_of, take as take_message}
 use Rattle.sync_model.specs.Servers.{Server, ServerRecord, Client, Entry, Form, Retired, Settled, Part, Floor, Count, Carried, Past, no_server, server_of, after_server, after_all, count, is_given, merge, serve_changes}
-use Rattle.sync_model.specs.Worlds.{at}
 use Rattle.sync_model.specs.Files.{is_fine, is_second, server_admits, server_opens as server_opens_by}
 use Rattle.sync_model.proofs.Alone.{both_true}
 use Rattle.sync_model.proofs.Lists.{take_all}
@@ -22,13 +20,13 @@ use Rattle.lives_law.proofs.Lists.{take_nil, at_long}
 use Rattle.lives_law.proofs.Taking.{at_dropped}
 use Rattle.lives_law.proofs.Uploads.{long_drop}
 use Rattle.lives_law.proofs.Heirs.{among_right}
-use Rattle.lives_law.proofs.Notes.{bare_both, plain_bare, same_opened, count_by, count_is, cut_bare}
+use Rattle.lives_law.proofs.Notes.{plain_bare, same_opened, count_by, count_is, cut_bare}
 use Rattle.lives_law.proofs.Passages.{Passed, passed}
-use Rattle.lives_law.proofs.Roaming.{OpenKept, all_new, only_empty, all_follow}
+use Rattle.lives_law.proofs.Roaming.{all_new, only_empty, all_follow}
 use Rattle.lives_law.proofs.Stored.{LineKept, server_on, taken}
 use Rattle.lives_law.proofs.Standing.{Knows, all_know, one_bare}
 use Rattle.lives_law.proofs.Acting.{act_mark, act_one, acts_written, honest_more, takes_none, each_take}
-use Rattle.lives_law.proofs.Telling.{entries_in, told_both, told_none, noted_same, log_long, all_own, Ran, none_ran, Before, run}
+use Rattle.lives_law.proofs.Telling.{entries_in, told_both, told_none, noted_same, log_long, all_own, Ran, none_ran, run}
 
 module _ {I S : Type 0} (p : Profile I S) (label : ℕ → ℕ → Act) (is : IsLabel label) where
   -- ---- the last entry of an ident in a history
@@ -221,15 +219,137 @@ module _ {I S : Type 0} (p : Profile I S) (label : ℕ → ℕ → Act) (is : Is
   history_both : (xs ys : List (Noted ServerRecord)) → history label (xs ++ ys) ≡ history label xs ++ told_from label (noted_by nothing_noted xs) ys
   history_both xs ys = told_both label xs ys nothing_noted
 
-  module _ (a b : Stores) (k : Saves a) where
-    abbrev Went : (o : Occurs p a b) → Type 0
-    Went o = IsDone label p o → Saves b
+  all_both : (xs ys : List (Noted ServerRecord)) → All xs → length (told_from label (noted_by nothing_noted xs) ys) ≡ entries_in (bare ys) → All (xs ++ ys)
+  all_both xs ys e told =
+      let a = ap length (history_both xs ys) in
+      let b = length-append (history label xs) (told_from label (noted_by nothing_noted xs) ys) in
+      let c = ap (λ (s : Server I). length s.log) (server_on p xs ys) in
+      let d = log_long p (bare ys) (server_of p (bare xs)) in
+      omega arith
 
+  -- a record that is no entry
+  none_in : (r : ServerRecord) → NoEntry r → (i : ℕ) → entries_in (take i (r ∷ [])) ≡ 0
+  none_in r h zero = refl
+  none_in r h (suc i) = ap (λ l. entries_in (r ∷ l)) (take_nil i) ∙ one r h
+    where
+      one : (r : ServerRecord) → NoEntry r → entries_in (r ∷ []) ≡ 0
+      one (Client id) h = refl
+      one (Entry origin number base ms body) h = absurd h
+      one Form h = refl
+      one (Retired c by_) h = refl
+      one (Settled c n) h = refl
+      one (Part body) h = refl
+      one (Floor version) h = refl
+      one (Count c n b m) h = refl
+      one (Carried o n b m body) h = refl
+      one (Past c v m body) h = refl
+
+  module _ (a : Stores) (k : Saves a) where
     knows : Knows p a
     knows = all_know p a k.stands
 
     follows : AllFollow p knows.beneath
     follows = all_follow p knows.beneath knows.roams
 
+    server_kept : (n : ℕ) (o : Open (Noted ServerRecord)) → a.servers.nodes n ≡ Some o → Among o.file a.servers.kept
+    server_kept n o e = knows.servers_open n o e
+
     opened_file : (n : ℕ) (o : Open (Noted ServerRecord)) → a.servers.nodes n ≡ Some o → server_opens_by p no_server (bare (plain o.file)) ≡ true
-    opened_file n o e = subst (λ l. server_opens_by p no_server l ≡ true) (plain_bare o.file) (follows.servers_fine (bare_file o.file) (knows.same.servers.kept o.file (knows.servers_open n o e)))
+    opened_file n o e = subst (λ l. server_opens_by p no_server l ≡ true) (plain_bare o.file) (follows.servers_fine (bare_file o.file) (knows.same.servers.kept o.file (server_kept n o e)))
+
+    -- a server's file goes on by records that tell so many entries
+    gone_on : (ns : List (Noted ServerRecord)) (n : ℕ) (o : Open (Noted ServerRecord)) (u : World) → a.servers.nodes n ≡ Some o → ((g : List Told) → Among g k.world.hists → Among g u.hists) → ((i : ℕ) → Among (history label (plain o.file) ++ told_from label (noted_by nothing_noted (plain o.file)) (take i ns)) u.hists)
+        → (g : List (Written (Noted ServerRecord))) → Among g (written_all a.servers n o ns).kept → Among (history label (plain g)) u.hists
+    gone_on ns n o u e old new g q = ⊎_elim (λ was. old (history label (plain g)) (k.histories g was))
+        (λ late. subst (λ l. Among (history label l) u.hists) (sym late.1) (subst (λ z. Among z u.hists) (sym (history_both (plain o.file) (take late.0 ns))) (new late.0)))
+        (all_new ns a.servers n o g q)
+
+    all_gone_on : (ns : List (Noted ServerRecord)) (n : ℕ) (o : Open (Noted ServerRecord)) → a.servers.nodes n ≡ Some o → ((i : ℕ) → length (told_from label (noted_by nothing_noted (plain o.file)) (take i ns)) ≡ entries_in (bare (take i ns)))
+        → (g : List (Written (Noted ServerRecord))) → Among g (written_all a.servers n o ns).kept → All (plain g)
+    all_gone_on ns n o e whole g q = ⊎_elim (λ was. k.all g was)
+        (λ late. subst All (sym late.1) (all_both (plain o.file) (take late.0 ns) (k.all o.file (server_kept n o e)) (whole late.0)))
+        (all_new ns a.servers n o g q)
+
+    module _ (n c j : ℕ) (m : Passage Change) (f : List (Written (Noted ClientRecord))) (o : Open (Noted ServerRecord)) (e : a.servers.nodes n ≡ Some o) (given : is_given (server_of p (bare (plain o.file))) c ≡ true) (kept : Among f a.clients.kept) (u : IsUploadOf p (bare_file f) m) (done : AllNew label (history label (plain o.file)) (told_from label (noted_by nothing_noted (plain o.file)) (take j (upload_records p (plain o.file) c m)))) where
+      went : Ran p label is c (bare_file f) k.world (history label (plain o.file)) (noted_by nothing_noted (plain o.file)) (take j (upload_records p (plain o.file) c m))
+      went = ran knows.beneath.clients follows.clients (plain o.file) (λ d. knows.lines o.file (server_kept n o e) d) (opened_file n o e) c given m (bare_file f) (knows.same.clients.kept f kept) u k.world k.comes (k.histories o.file (server_kept n o e)) (k.same.kept f kept) j done
+
+      server_saves : Saves (record a { servers = written_all a.servers n o (take j (upload_records p (plain o.file) c m)) })
+      server_saves = record {
+        stands = Rattle.lives_law.specs.Stored.Stands.by_step k.stands (server_takes n c j m f o e given kept u);
+        world = went.world;
+        comes = went.comes;
+        same = subst (λ v. SameBy (acts label) a.clients v) (sym went.files) k.same;
+        histories = gone_on (take j (upload_records p (plain o.file) c m)) n o went.world e went.old went.new;
+        all = all_gone_on (take j (upload_records p (plain o.file) c m)) n o e went.whole;
+      }
+
+    -- what a client takes is no transaction
+    none_made : (o : Open (Noted ClientRecord)) (ident j : ℕ) (m : Passage Sent) → Each (λ r. is_made r ≡ false) (bare (take j (download_records p (plain o.file) ident m)))
+    none_made o ident j m = on (passes (kept_of took_by 0 (plain o.file)).last (length (tooks_of (bare (plain o.file)))) m)
+      where
+        on : (b : Bool) → Each (λ r. is_made r ≡ false) (bare (take j (if b then with_notes took_by 0 (kept_of took_by 0 (plain o.file)).noted (drop (suc (length (tooks_of (bare (plain o.file))) - m.from)) m.lives) (take_message p (client_of p (bare (plain o.file))) (Download ident m.from m.tells)).records else [])))
+        on true =
+            let cut = cut_bare took_by 0 (take_message p (client_of p (bare (plain o.file))) (Download ident m.from m.tells)).records (drop (suc (length (tooks_of (bare (plain o.file))) - m.from)) m.lives) (kept_of took_by 0 (plain o.file)).noted j in
+            subst (λ l. Each (λ r. is_made r ≡ false) l) (sym cut.1) (each_take cut.0 (take_message p (client_of p (bare (plain o.file))) (Download ident m.from m.tells)).records (takes_none p (client_of p (bare (plain o.file))) ident m.from m.tells))
+        on false = subst (λ l. Each (λ r. is_made r ≡ false) (bare l)) (sym (take_nil j)) no_more
+
+    step_saves : (d : Stores) (o : Occurs p a d) → IsDone label p o → Saves d
+    step_saves d (server_opens n l f q fresh) done = record {
+      stands = Rattle.lives_law.specs.Stored.Stands.by_step k.stands (server_opens n l f q fresh);
+      world = k.world;
+      comes = k.comes;
+      same = k.same;
+      histories = k.histories;
+      all = k.all;
+    }
+    step_saves d (client_opens n l f q fresh) done = record {
+      stands = Rattle.lives_law.specs.Stored.Stands.by_step k.stands (client_opens n l f q fresh);
+      world = record k.world { files = Rattle.lives_law.specs.Lives.opened k.world.files n l (acts label f) };
+      comes = by k.comes (Rattle.lives_law.specs.Heirs.Happens.client (reopens n l (acts label f) (k.same.kept f q) (λ u. fresh (subst (λ x. Among l x) k.same.used u))));
+      same = same_opened (acts label) a.clients k.world.files n l f k.same q;
+      histories = k.histories;
+      all = k.all;
+    }
+    step_saves d (server_writes n o r e may ok) done =
+        let told : (i : ℕ) → told_from label (noted_by nothing_noted (plain o.file)) (take i (it r ∷ [])) ≡ [] = told_none label r may (noted_by nothing_noted (plain o.file)) in
+        record {
+          stands = Rattle.lives_law.specs.Stored.Stands.by_step k.stands (server_writes n o r e may ok);
+          world = k.world;
+          comes = k.comes;
+          same = k.same;
+          histories = gone_on (it r ∷ []) n o k.world e (λ g q. q) (λ i. subst (λ z. Among z k.world.hists) (sym (ap (λ x. history label (plain o.file) ++ x) (told i) ∙ append-nil (history label (plain o.file)))) (k.histories o.file (server_kept n o e)));
+          all = all_gone_on (it r ∷ []) n o e (λ i. ap length (told i) ∙ sym (none_in r may i) ∙ ap entries_in (sym (one_bare p r i)));
+        }
+    step_saves d (client_writes n o r e may ok) done =
+        let one = act_one label is a.clients k.world n o r k.comes k.same e (honest_more label is a.clients k.world.files k.same (act_of label o.life (tally is_made (bare_file o.file)) r) done) in
+        record {
+          stands = Rattle.lives_law.specs.Stored.Stands.by_step k.stands (client_writes n o r e may ok);
+          world = one.0;
+          comes = one.1.comes;
+          same = one.1.same;
+          histories = λ g q. subst (λ h. Among (history label (plain g)) h) (sym one.1.hists) (k.histories g q);
+          all = k.all;
+        }
+    step_saves d (server_takes n c j m f o e given kept u) done = server_saves n c j m f o e given kept u done
+    step_saves d (client_takes n ident j m f o e ok kept u) done =
+        let some = acts_written label is (take j (download_records p (plain o.file) ident m)) a.clients k.world n o k.comes k.same e (knows.clients_open n o e) (none_made o ident j m) in
+        record {
+          stands = Rattle.lives_law.specs.Stored.Stands.by_step k.stands (client_takes n ident j m f o e ok kept u);
+          world = some.0;
+          comes = some.1.comes;
+          same = some.1.same;
+          histories = λ g q. subst (λ h. Among (history label (plain g)) h) (sym some.1.hists) (k.histories g q);
+          all = k.all;
+        }
+
+  all_save : (b : Stores) → Saving label p b → Saves b
+  all_save b Rattle.lives_law.specs.Saving.Saving.at_first = first_saves
+  all_save b (Rattle.lives_law.specs.Saving.Saving.by_step {a = a} s o done) = step_saves a (all_save a s) b o done
+
+  pub heirs_beneath : (b : Stores) → Saving label p b → HeirsBeneath label p b
+  heirs_beneath b s = let k = all_save b s in record { world = k.world; comes = k.comes; files = k.same.kept; histories = k.histories; all = k.all }
+
+  -- and these are worlds as in `Stored`
+  pub all_stand : (b : Stores) → Saving label p b → Stands p b
+  all_stand b s = (all_save b s).stands

@@ -1,10 +1,9 @@
 -- What a server appends and lets through is what a server of `Heirs` takes.
-use Rattle.std.proofs.Common.{◌≡◌, ◌⊎◌, inl, inr, ⊎_elim, ℕ, zero, suc, ◌+◌, ◌-◌, ◌<◌, ◌≤◌, Bool, true, false, ◌&&◌, not, List, [], ◌∷◌, ◌++◌, Option, Some, None, Result, Ok, Err, refl, sym, ap, ap₂, ◌∙◌, subst, arith, append_assoc, append-nil, length, take, drop, length-append, if◌then◌else◌, ◌==◌, eqb-true, nat_le}
+use Rattle.std.proofs.Common.{◌≡◌, ◌⊎◌, inl, inr, ⊎_elim, ℕ, zero, suc, ◌+◌, ◌≤◌, Bool, true, false, ◌&&◌, not, List, [], ◌∷◌, ◌++◌, Option, Some, None, Result, Ok, Err, refl, sym, ap, ap₂, ◌∙◌, subst, arith, append_assoc, append-nil, length, take, length-append, if◌then◌else◌, ◌==◌, eqb-true, nat_le}
 use Rattle.sync_theory.specs.World.{put_at}
-use Rattle.sync_theory.specs.Logs.{Entry as LogEntry}
 use Rattle.sync_theory.proofs.World.{put_same}
 use Rattle.sync_theory.proofs.Server.{test_true}
-use Rattle.sync_model.specs.Profile.{Profile, Lawful, needs}
+use Rattle.sync_model.specs.Profile.{Profile, needs}
 use Rattle.sync_model.specs.Each.{Each, no_more, and_each}
 use Rattle.sync_model.specs.Messages.{Change}
 use Rattle.sync_model.specs.Clients.{ClientRecord}
@@ -13,13 +12,13 @@ use Rattle.sync_model.specs.Worlds.{at}
 use Rattle.sync_model.specs.Files.{is_fine, is_second, server_admits, server_opens}
 use Rattle.sync_model.proofs.Alone.{both_true}
 use Rattle.sync_model.proofs.Serving.{merging}
-use Rattle.lives_law.specs.Lives.{Written, Files, Among, here, there, Mark, Reached}
+use Rattle.lives_law.specs.Lives.{Written, Among, here, there, Mark}
 use Rattle.lives_law.specs.Instances.{is_made}
 use Rattle.lives_law.specs.Roaming.{NoEntry}
 use Rattle.lives_law.specs.Heirs.{Token, Act, own, saves, other, is_act, token_at, Behind, Admits, AdmitsByNumbers, World, Happens, Comes, by, Clock, reached, Entry as Told}
 use Rattle.lives_law.specs.Stored.{Noted, it, note, Kept, entry_by, is_by, is_life, bare, keeps, keeps_all, noted_one, with_notes}
 use Rattle.lives_law.specs.Saving.{IsLabel, acts_from, token_of, one_told, told_from, noted_by, IsNew, AllNew}
-use Rattle.lives_law.proofs.Lists.{take_nil, at_long}
+use Rattle.lives_law.proofs.Lists.{take_nil}
 use Rattle.lives_law.proofs.Heirs.{among_right, files_reached, holds, numbers_admit}
 use Rattle.lives_law.proofs.Notes.{count_by, count_is}
 use Rattle.lives_law.proofs.Acting.{act_mark}

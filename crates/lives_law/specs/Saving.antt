@@ -6,7 +6,7 @@ use Rattle.sync_theory.specs.World.{put_at}
 use Rattle.sync_model.specs.Profile.{Profile}
 use Rattle.sync_model.specs.Clients.{ClientRecord, Made}
 use Rattle.sync_model.specs.Servers.{ServerRecord, Entry, server_of}
-use Rattle.lives_law.specs.Lives.{Written, Files, Open, Among, tally}
+use Rattle.lives_law.specs.Lives.{Written, Files, Among, tally}
 use Rattle.lives_law.specs.Instances.{plain, is_made}
 use Rattle.lives_law.specs.Heirs.{Token, Act, saves, other, is_act, Honest, Clock, reached, Comes, World, Entry as Told}
 use Rattle.lives_law.specs.Stored.{Noted, it, note, bare, bare_file, open_by, Stores, no_stores, upload_records, Occurs, server_opens, client_opens, server_writes, client_writes, server_takes, client_takes}
