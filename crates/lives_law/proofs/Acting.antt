@@ -1,5 +1,5 @@
 -- Clients' files with their labels are files of heirs.
-use Rattle.std.proofs.Common.{◌≡◌, ℕ, zero, suc, ◌+◌, ◌-◌, Bool, true, false, List, [], ◌∷◌, ◌++◌, Option, Some, None, refl, sym, ap, ap₂, ◌∙◌, subst, arith, append-nil, length, map, take, drop, if◌then◌else◌, ◌==◌}
+use Rattle.std.proofs.Common.{◌≡◌, ℕ, zero, suc, ◌+◌, ◌-◌, Bool, true, false, List, [], ◌∷◌, ◌++◌, Option, Some, None, refl, sym, ap, ap₂, ◌∙◌, subst, arith, map, take, drop, if◌then◌else◌, ◌==◌}
 use Rattle.std.specs.Prelude.{nat_lt}
 use Rattle.sync_theory.proofs.World.{put_same}
 use Rattle.sync_model.specs.Bytes.{Uuid}

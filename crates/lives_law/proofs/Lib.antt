@@ -21,3 +21,4 @@ pub mod Standing
 pub mod Heirs
 pub mod Acting
 pub mod Telling
+pub mod Saving

@@ -27,14 +27,14 @@ module _ {I S : Type 0} (p : Profile I S) where
     pub beneath : Both
     pub roams : Roams p beneath
     pub same : SameStores b beneath
-    lines : (f : List (Written (Noted ServerRecord))) → Among f b.servers.kept → (c : ℕ) → LineKept p beneath.clients (plain f) c
-    histories : (g : List (Written (Noted ClientRecord))) → Among g b.clients.kept → HistoryKept p beneath.servers (plain g)
-    servers_open : OpenKept b.servers
-    clients_open : OpenKept b.clients
+    pub lines : (f : List (Written (Noted ServerRecord))) → Among f b.servers.kept → (c : ℕ) → LineKept p beneath.clients (plain f) c
+    pub histories : (g : List (Written (Noted ClientRecord))) → Among g b.clients.kept → HistoryKept p beneath.servers (plain g)
+    pub servers_open : OpenKept b.servers
+    pub clients_open : OpenKept b.clients
 
   -- ---- a node's own records
 
-  one_bare : {R : Type 0} (r : R) (i : ℕ) → bare (take i (it r ∷ [])) ≡ take i (r ∷ [])
+  pub one_bare : {R : Type 0} (r : R) (i : ℕ) → bare (take i (it r ∷ [])) ≡ take i (r ∷ [])
   one_bare r zero = refl
   one_bare r (suc i) = ap (λ l. r ∷ l) (ap bare (take_nil i) ∙ sym (take_nil i))
 

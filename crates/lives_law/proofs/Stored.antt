@@ -52,7 +52,7 @@ module _ {I S : Type 0} (p : Profile I S) where
 
   -- ---- a server's file goes on
 
-  server_on : (xs ys : List (Noted ServerRecord)) → server_of p (bare (xs ++ ys)) ≡ after_all p (server_of p (bare xs)) (bare ys)
+  pub server_on : (xs ys : List (Noted ServerRecord)) → server_of p (bare (xs ++ ys)) ≡ after_all p (server_of p (bare xs)) (bare ys)
   server_on xs ys = ap (server_of p) (bare_both xs ys) ∙ all_on p no_server (bare xs) (bare ys)
 
   -- by records of others

@@ -1,10 +1,9 @@
 -- What a server appends and lets through is what a server of `Heirs` takes.
-use Rattle.std.proofs.Common.{◌≡◌, ◌⊎◌, inl, inr, ⊎_elim, ℕ, zero, suc, ◌+◌, ◌-◌, ◌<◌, ◌≤◌, Bool, true, false, ◌&&◌, not, List, [], ◌∷◌, ◌++◌, Option, Some, None, Result, Ok, Err, refl, sym, ap, ap₂, ◌∙◌, subst, arith, append_assoc, append-nil, length, take, drop, length-append, if◌then◌else◌, ◌==◌, eqb-true, nat_le}
+use Rattle.std.proofs.Common.{◌≡◌, ◌⊎◌, inl, inr, ⊎_elim, ℕ, zero, suc, ◌+◌, ◌≤◌, Bool, true, false, ◌&&◌, not, List, [], ◌∷◌, ◌++◌, Option, Some, None, Result, Ok, Err, refl, sym, ap, ap₂, ◌∙◌, subst, arith, append_assoc, append-nil, length, take, length-append, if◌then◌else◌, ◌==◌, eqb-true, nat_le}
 use Rattle.sync_theory.specs.World.{put_at}
-use Rattle.sync_theory.specs.Logs.{Entry as LogEntry}
 use Rattle.sync_theory.proofs.World.{put_same}
 use Rattle.sync_theory.proofs.Server.{test_true}
-use Rattle.sync_model.specs.Profile.{Profile, Lawful, needs}
+use Rattle.sync_model.specs.Profile.{Profile, needs}
 use Rattle.sync_model.specs.Each.{Each, no_more, and_each}
 use Rattle.sync_model.specs.Messages.{Change}
 use Rattle.sync_model.specs.Clients.{ClientRecord}
@@ -13,13 +12,13 @@ use Rattle.sync_model.specs.Worlds.{at}
 use Rattle.sync_model.specs.Files.{is_fine, is_second, server_admits, server_opens}
 use Rattle.sync_model.proofs.Alone.{both_true}
 use Rattle.sync_model.proofs.Serving.{merging}
-use Rattle.lives_law.specs.Lives.{Written, Files, Among, here, there, Mark, Reached}
+use Rattle.lives_law.specs.Lives.{Written, Among, here, there, Mark}
 use Rattle.lives_law.specs.Instances.{is_made}
 use Rattle.lives_law.specs.Roaming.{NoEntry}
 use Rattle.lives_law.specs.Heirs.{Token, Act, own, saves, other, is_act, token_at, Behind, Admits, AdmitsByNumbers, World, Happens, Comes, by, Clock, reached, Entry as Told}
 use Rattle.lives_law.specs.Stored.{Noted, it, note, Kept, entry_by, is_by, is_life, bare, keeps, keeps_all, noted_one, with_notes}
 use Rattle.lives_law.specs.Saving.{IsLabel, acts_from, token_of, one_told, told_from, noted_by, IsNew, AllNew}
-use Rattle.lives_law.proofs.Lists.{take_nil, at_long}
+use Rattle.lives_law.proofs.Lists.{take_nil}
 use Rattle.lives_law.proofs.Heirs.{among_right, files_reached, holds, numbers_admit}
 use Rattle.lives_law.proofs.Notes.{count_by, count_is}
 use Rattle.lives_law.proofs.Acting.{act_mark}
@@ -33,11 +32,11 @@ entries_in (Entry origin number base ms body ∷ rs) = suc (entries_in rs)
 entries_in (r ∷ rs) = entries_in rs
 
 module _ (label : ℕ → ℕ → Act) where
-  pub told_both : (xs ys : List (Noted ServerRecord)) (noted : ℕ → Option ℕ) → told_from label noted (xs ++ ys) ≡ told_from label noted xs ++ told_from label (noted_by label noted xs) ys
+  pub told_both : (xs ys : List (Noted ServerRecord)) (noted : ℕ → Option ℕ) → told_from label noted (xs ++ ys) ≡ told_from label noted xs ++ told_from label (noted_by noted xs) ys
   told_both [] ys noted = refl
   told_both (note c l ∷ xs) ys noted = told_both xs ys (put_at c (Some l) noted)
   told_both (it (Client id) ∷ xs) ys noted = told_both xs ys noted
-  told_both (it (Entry origin number base ms body) ∷ xs) ys noted = ap (λ l. one_told label (noted origin) number ++ l) (told_both xs ys noted) ∙ sym (append_assoc (one_told label (noted origin) number) (told_from label noted xs) (told_from label (noted_by label noted xs) ys))
+  told_both (it (Entry origin number base ms body) ∷ xs) ys noted = ap (λ l. one_told label (noted origin) number ++ l) (told_both xs ys noted) ∙ sym (append_assoc (one_told label (noted origin) number) (told_from label noted xs) (told_from label (noted_by noted xs) ys))
   told_both (it Form ∷ xs) ys noted = told_both xs ys noted
   told_both (it (Retired c by_) ∷ xs) ys noted = told_both xs ys noted
   told_both (it (Settled c n) ∷ xs) ys noted = told_both xs ys noted
@@ -65,7 +64,7 @@ module _ (label : ℕ → ℕ → Act) where
       one (Past c v m body) h = refl
 
   -- the life that is noted of an ident is the one that the file keeps
-  pub noted_same : (c : ℕ) (xs : List (Noted ServerRecord)) (k : Kept) (noted : ℕ → Option ℕ) → k.noted ≡ noted c → (keeps_all entry_by c k xs).noted ≡ noted_by label noted xs c
+  pub noted_same : (c : ℕ) (xs : List (Noted ServerRecord)) (k : Kept) (noted : ℕ → Option ℕ) → k.noted ≡ noted c → (keeps_all entry_by c k xs).noted ≡ noted_by noted xs c
   noted_same c [] k noted e = e
   noted_same c (note d l ∷ xs) k noted e = noted_same c xs (keeps entry_by c k (note d l)) (put_at d (Some l) noted) (on (c == d))
     where
@@ -146,7 +145,7 @@ module _ {I S : Type 0} (p : Profile I S) where
       pub whole : (i : ℕ) → length (told_from label noted (take i ns)) ≡ entries_in (bare (take i ns))
 
     -- nothing is appended
-    none_ran : (w : World) (h : List Told) (noted : ℕ → Option ℕ) → Comes w → Among h w.hists → Ran w h noted []
+    pub none_ran : (w : World) (h : List Told) (noted : ℕ → Option ℕ) → Comes w → Among h w.hists → Ran w h noted []
     none_ran w h noted comes a = record {
       world = w;
       comes = comes;
@@ -242,3 +241,81 @@ module _ {I S : Type 0} (p : Profile I S) where
         whole : (i : ℕ) → length (told_from label noted (take i (it (Entry origin number base ms body) ∷ ns))) ≡ entries_in (bare (take i (it (Entry origin number base ms body) ∷ ns)))
         whole zero = refl
         whole (suc i) = ap (λ x. length (x ++ told_from label noted (take i ns))) told_is ∙ ap suc (r.whole i)
+
+    -- what a server appends, wherever it is stopped
+    pub run : (rs : List ServerRecord) (ls : List ℕ) (j : ℕ) (k : Option ℕ) (noted : ℕ → Option ℕ) (s : Server I) (h : List Told) (w : World) → Before s h w ls (count_by entry_by c rs) → noted c ≡ k → server_opens p s rs ≡ true → Each (IsOwn c) rs → AllNew label h (told_from label noted (take j (with_notes entry_by c k ls rs)))
+        → Ran w h noted (take j (with_notes entry_by c k ls rs))
+    run [] ls j k noted s h w b e opens each new = subst (λ l. Ran w h noted l) (sym (take_nil j)) (none_ran w h noted b.comes b.known)
+    run (Client id ∷ rs) ls j k noted s h w b e opens (and_each x xs) new = absurd x
+    run (Retired d by_ ∷ rs) ls j k noted s h w b e opens (and_each x xs) new = absurd x
+    run (Settled d n ∷ rs) ls j k noted s h w b e opens (and_each x xs) new = absurd x
+    run (Part body ∷ rs) ls j k noted s h w b e opens (and_each x xs) new = absurd x
+    run (Floor version ∷ rs) ls j k noted s h w b e opens (and_each x xs) new = absurd x
+    run (Count d n base m ∷ rs) ls j k noted s h w b e opens (and_each x xs) new = absurd x
+    run (Carried o n base m body ∷ rs) ls j k noted s h w b e opens (and_each x xs) new = absurd x
+    run (Past d v m body ∷ rs) ls j k noted s h w b e opens (and_each x xs) new = absurd x
+    run (Form ∷ rs) [] zero k noted s h w b e opens (and_each x xs) new = none_ran w h noted b.comes b.known
+    run (Form ∷ rs) [] (suc j) k noted s h w b e opens (and_each x xs) new =
+        form_ran w h noted (take j (with_notes entry_by c k [] rs)) b.known
+        (run rs [] j k noted (after_server p s Form) h w (record { comes = b.comes; known = b.known; kept = b.kept; marks = b.marks; enough = b.enough; line = b.line }) e (both_true (server_admits p s Form) (server_opens p (after_server p s Form) rs) opens).1 xs new)
+    run (Form ∷ rs) (l ∷ ls) zero k noted s h w b e opens (and_each x xs) new = none_ran w h noted b.comes b.known
+    run (Form ∷ rs) (l ∷ ls) (suc j) k noted s h w b e opens (and_each x xs) new =
+        form_ran w h noted (take j (with_notes entry_by c k (l ∷ ls) rs)) b.known
+        (run rs (l ∷ ls) j k noted (after_server p s Form) h w (record { comes = b.comes; known = b.known; kept = b.kept; marks = b.marks; enough = b.enough; line = b.line }) e (both_true (server_admits p s Form) (server_opens p (after_server p s Form) rs) opens).1 xs new)
+    run (Entry origin number base ms body ∷ rs) [] j k noted s h w b e opens (and_each x xs) new =
+        let mine : (c == origin) ≡ true = test_true c origin (sym x) in
+        let counted : count_by entry_by c (Entry origin number base ms body ∷ rs) ≡ suc (count_by entry_by c rs) = ap (λ q. if q then suc (count_by entry_by c rs) else count_by entry_by c rs) mine in
+        let many = b.enough in
+        absurd (omega arith)
+    run (Entry origin number base ms body ∷ rs) (l ∷ ls) j k noted s h w b e opens (and_each x xs) new =
+        subst (λ z. AllNew label h (told_from label noted (take j z)) → Ran w h noted (take j z)) (sym split) (go (is_life k (Some l)) refl j (λ i n u g bb ne nn. run rs ls i (Some l) n (after_server p s (Entry origin number base ms body)) g u bb ne admits.1 xs nn)) new
+      where
+        mine : (c == origin) ≡ true
+        mine = test_true c origin (sym x)
+
+        admits : (server_admits p s (Entry origin number base ms body) ≡ true) × (server_opens p (after_server p s (Entry origin number base ms body)) rs ≡ true)
+        admits = both_true (server_admits p s (Entry origin number base ms body)) (server_opens p (after_server p s (Entry origin number base ms body)) rs) opens
+
+        number_is : number ≡ suc (count s c)
+        number_is =
+            let a = both_true (is_given s origin) ((number == suc (count s origin)) && (not (is_second p (p.unspell body) && not s.second) && is_fine (merge p s origin (record { number = number; base = base; ms = ms; body = body })))) admits.0 in
+            let d = both_true (number == suc (count s origin)) (not (is_second p (p.unspell body) && not s.second) && is_fine (merge p s origin (record { number = number; base = base; ms = ms; body = body }))) a.1 in
+            eqb-true number (suc (count s origin)) d.0 ∙ ap (λ o. suc (count s o)) x
+
+        split : with_notes entry_by c k (l ∷ ls) (Entry origin number base ms body ∷ rs) ≡ noted_one entry_by c k l (Entry origin number base ms body) ++ with_notes entry_by c (Some l) ls rs
+        split = ap (λ q. if q then noted_one entry_by c k l (Entry origin number base ms body) ++ with_notes entry_by c (Some l) ls rs else it (Entry origin number base ms body) ∷ with_notes entry_by c k (l ∷ ls) rs) mine
+
+        Rest : Type 0
+        Rest = (i : ℕ) (n : ℕ → Option ℕ) (u : World) (g : List Told) → Before (after_server p s (Entry origin number base ms body)) g u ls (count_by entry_by c rs) → n c ≡ Some l → AllNew label g (told_from label n (take i (with_notes entry_by c (Some l) ls rs))) → Ran u g n (take i (with_notes entry_by c (Some l) ls rs))
+
+        counted : count (after_server p s (Entry origin number base ms body)) c ≡ suc (count s c)
+        counted =
+            let a = count_is p (Entry origin number base ms body ∷ []) s c in
+            let d : count_by entry_by c (Entry origin number base ms body ∷ []) ≡ 1 = ap (λ q. if q then 1 else 0) mine in
+            omega arith
+
+        after : (u : World) → Comes u → u.files ≡ w.files → Among (h ++ next_told s l ∷ []) u.hists → Before (after_server p s (Entry origin number base ms body)) (h ++ next_told s l ∷ []) u ls (count_by entry_by c rs)
+        after u comes files known = record {
+          comes = comes;
+          known = known;
+          kept = subst (λ v. Among file v.kept) (sym files) b.kept;
+          marks = λ i m t. let one = counted in let z : count s c + suc i ≡ count (after_server p s (Entry origin number base ms body)) c + i = omega arith in subst (λ v. Mark is_made f v m) z (b.marks (suc i) m t);
+          enough = (let a = b.enough in let d : count_by entry_by c (Entry origin number base ms body ∷ rs) ≡ suc (count_by entry_by c rs) = ap (λ q. if q then suc (count_by entry_by c rs) else count_by entry_by c rs) mine in omega arith);
+          line = inr (next_told s l, among_right h (next_told s l ∷ []) (next_told s l) here, sym counted, (act_mark label is f (count s c) l (let z : count s c + 0 ≡ count s c = omega arith in subst (λ v. Mark is_made f v l) z (b.marks 0 l refl))).mark);
+        }
+
+        go : (q : Bool) → is_life k (Some l) ≡ q → (j : ℕ) → ((i : ℕ) (n : ℕ → Option ℕ) (u : World) (g : List Told) → Before (after_server p s (Entry origin number base ms body)) g u ls (count_by entry_by c rs) → n c ≡ Some l → AllNew label g (told_from label n (take i (with_notes entry_by c (Some l) ls rs))) → Ran u g n (take i (with_notes entry_by c (Some l) ls rs)))
+            → AllNew label h (told_from label noted (take j ((if q then it (Entry origin number base ms body) ∷ [] else note c l ∷ it (Entry origin number base ms body) ∷ []) ++ with_notes entry_by c (Some l) ls rs)))
+            → Ran w h noted (take j ((if q then it (Entry origin number base ms body) ∷ [] else note c l ∷ it (Entry origin number base ms body) ∷ []) ++ with_notes entry_by c (Some l) ls rs))
+        go true same zero rest nn = none_ran w h noted b.comes b.known
+        go true same (suc j) rest nn =
+            let n : noted c ≡ Some l = e ∙ life_is k l same in
+            entry_ran s h w l ls (count_by entry_by c (Entry origin number base ms body ∷ rs)) noted origin number base ms body (take j (with_notes entry_by c (Some l) ls rs)) b x n number_is nn
+            (λ u comes files known more. rest j noted u (h ++ next_told s l ∷ []) (after u comes files known) n more)
+        go false same zero rest nn = none_ran w h noted b.comes b.known
+        go false same (suc zero) rest nn = note_ran w h noted c l [] b.known (none_ran w h (put_at c (Some l) noted) b.comes b.known)
+        go false same (suc (suc j)) rest nn =
+            let n : put_at c (Some l) noted c ≡ Some l = put_same c (Some l) noted in
+            note_ran w h noted c l (it (Entry origin number base ms body) ∷ take j (with_notes entry_by c (Some l) ls rs)) b.known
+            (entry_ran s h w l ls (count_by entry_by c (Entry origin number base ms body ∷ rs)) (put_at c (Some l) noted) origin number base ms body (take j (with_notes entry_by c (Some l) ls rs)) b x n number_is nn
+            (λ u comes files known more. rest j (put_at c (Some l) noted) u (h ++ next_told s l ∷ []) (after u comes files known) n more))

@@ -6,10 +6,19 @@ use Rattle.sync_theory.specs.World.{put_at}
 use Rattle.sync_model.specs.Profile.{Profile}
 use Rattle.sync_model.specs.Clients.{ClientRecord, Made}
 use Rattle.sync_model.specs.Servers.{ServerRecord, Entry, server_of}
-use Rattle.lives_law.specs.Lives.{Written, Files, Open, Among, tally}
+use Rattle.lives_law.specs.Lives.{Written, Files, Among, tally}
 use Rattle.lives_law.specs.Instances.{plain, is_made}
 use Rattle.lives_law.specs.Heirs.{Token, Act, saves, other, is_act, Honest, Clock, reached, Comes, World, Entry as Told}
 use Rattle.lives_law.specs.Stored.{Noted, it, note, bare, bare_file, open_by, Stores, no_stores, upload_records, Occurs, server_opens, client_opens, server_writes, client_writes, server_takes, client_takes}
+
+-- the lives that a server's file notes of idents
+abbrev pub noted_by : (ℕ → Option ℕ) → List (Noted ServerRecord) → ℕ → Option ℕ
+noted_by noted [] = noted
+noted_by noted (note c l ∷ xs) = noted_by (put_at c (Some l) noted) xs
+noted_by noted (it r ∷ xs) = noted_by noted xs
+
+abbrev pub nothing_noted : ℕ → Option ℕ
+nothing_noted c = None
 
 -- ---- a client's file as one of `Heirs`
 
@@ -49,15 +58,6 @@ module _ (label : ℕ → ℕ → Act) where
   told_from noted (note c l ∷ xs) = told_from (put_at c (Some l) noted) xs
   told_from noted (it (Entry origin number base ms body) ∷ xs) = one_told (noted origin) number ++ told_from noted xs
   told_from noted (it r ∷ xs) = told_from noted xs
-
-  -- the lives that a file notes
-  abbrev pub noted_by : (ℕ → Option ℕ) → List (Noted ServerRecord) → ℕ → Option ℕ
-  noted_by noted [] = noted
-  noted_by noted (note c l ∷ xs) = noted_by (put_at c (Some l) noted) xs
-  noted_by noted (it r ∷ xs) = noted_by noted xs
-
-  abbrev pub nothing_noted : ℕ → Option ℕ
-  nothing_noted c = None
 
   abbrev pub history : List (Noted ServerRecord) → List Told
   history xs = told_from nothing_noted xs
