@@ -173,7 +173,7 @@ class _Place(ctypes.Structure):
 
 
 def _load():
-    beside = os.path.join(os.path.dirname(os.path.abspath(__file__)), "..", "..", "build", "librealm_sync.so")
+    beside = os.path.join(os.path.dirname(os.path.abspath(__file__)), "..", "..", "out", "librealm_sync.so")
     path = os.environ.get("REALM_SYNC_LIBRARY", beside)
     if not os.path.exists(path):
         raise ImportError(f"no {os.path.normpath(path)}: examples/c/library.sh builds it, or REALM_SYNC_LIBRARY names it")
