@@ -1,7 +1,7 @@
 #!/bin/sh
 # The service's tests, over files, SQLite and a private PostgreSQL that they start and stop: docs/SERVICE.md, "Tests".
 #
-#     service/test.sh --quick                 all suites, one round of each fault, hostile callers: under three minutes
+#     service/test.sh --quick [--quiet]       all suites, one round of each fault, hostile callers: under three minutes
 #     service/test.sh PROGRAM [WORD..]        a program of service/tests: faults.py, attacks.py, load.py, many.py, heavy.py, bare.py
 #
 # As root it installs by apt-get what it lacks; else it says what to install. REALM_SYNC_LIBRARY names another library than the one that
@@ -48,7 +48,7 @@ for suite in $suites; do
         failed=1
         echo "$suite failed:"
         cat "$out/$suite"
-    else
+    elif [ "$2" != --quiet ]; then
         echo "$suite: $(grep '^Ran ' "$out/$suite")$(sed -n 's/^OK//p' "$out/$suite")"
     fi
 done

@@ -141,6 +141,26 @@ class Suite:
             fields[name] = value
         return fields["id"], json.loads(fields["data"])
 
+    async def test_who_may_not_make_a_history_holds_up_nobody_who_may(self):
+        bind = b"\x01" + b"u" * 16
+        for number in range(10):
+            url = f"{self.service.base}/v1/histories/new-{number}"
+            reader, writer = (authorized("ann", {"*": level}) for level in ("read", "write"))
+            asked = fetched(self.session, "GET", url + "/objects", reader), fetched(self.session, "POST", url, writer, bind)
+            (_, (status, _)) = await asyncio.gather(*asked)
+            self.assertEqual(status, 200)
+
+    async def test_trimming_without_a_program(self):
+        other = Service(stores(self.kind), histories={"program": "/nowhere/realm_sync"}).start().ready()
+        async with Device(other.base, HISTORY) as phone:
+            phone.note("milk", "buy milk")
+            await phone.sync()
+            url = f"{other.base}/v1/histories/{HISTORY}"
+            self.assertEqual((await fetched(self.session, "POST", url + "/trim", authorized("boss", {"*": "rule"})))[0], 501)
+            phone.note("bread", "buy bread")
+            await phone.sync()
+        other.stop()
+
     @unittest.skipUnless(os.environ.get("REALM_SYNC"), "REALM_SYNC names no program to trim with")
     async def test_trimming_while_devices_change(self):
         async with Device(self.service.base, HISTORY) as phone, Device(self.service.base, HISTORY) as tablet:

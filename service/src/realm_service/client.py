@@ -22,6 +22,7 @@ import aiohttp
 from .messages import ASK, ASK2, ASK_TABLES
 from .refusals import GENERATION, TOO_BIG
 
+HEARTBEAT = 20.0  # seconds
 LARGEST = 1 << 26  # bytes of a reply
 QUESTIONS = (ASK, ASK2, ASK_TABLES)
 FINAL = (400, 401, 403, 404, 410, 413)  # statuses after which trying again is of no use
@@ -125,7 +126,8 @@ class Link:
         while self.socket is None or self.socket.closed:
             url = f"{self.base}/v1/histories/{self.history}?generation={self.generation}"
             try:
-                self.socket = await self.session.ws_connect(url, headers={"Authorization": "Bearer " + self.token}, max_msg_size=LARGEST)
+                headers = {"Authorization": "Bearer " + self.token}
+                self.socket = await self.session.ws_connect(url, headers=headers, max_msg_size=LARGEST, heartbeat=HEARTBEAT)
             except aiohttp.WSServerHandshakeError as error:
                 self._turned(error)
         return self.socket

@@ -19,7 +19,7 @@ from .limits import Guarded, Guards, Limits
 from .messages import BadMessage
 from .node import ABSENT, DONE, DUMP, OBJECT
 from .openapi import PAGE, described
-from .owners import WORKER, Owners
+from .owners import LONGEST_WAIT, WORKER, Owners
 from .refusals import GENERATION, Refused, response_of
 from .sockets import Sockets
 from .stores import Fenced
@@ -28,7 +28,6 @@ from .visits import Visits
 
 log = logging.getLogger("realm_service")
 NO_LOG: dict[str, typing.Any] = {"access_log": None}
-LONGEST_WAIT = 60.0  # seconds that a question for news may wait
 Handler = Callable[["Doors", web.Request], Awaitable[web.StreamResponse]]
 
 
@@ -186,7 +185,7 @@ class Doors:
         if status != DONE:
             raise BadMessage("table is a name, and key a key in JSON")
         if key is None and (table is not None or seen is not None):
-            told = _lines_of(told, table, seen)
+            told = await self.histories.work(_lines_of, told, table, seen)
         return web.Response(body=told, content_type="application/x-ndjson")
 
     @_answered

@@ -12,7 +12,7 @@ from . import metrics
 from .config import HistoriesConfig
 from .history import History
 from .library import give_back
-from .stores import Fenced, Store
+from .stores import Absent, Fenced, Store
 
 log = logging.getLogger("realm_service")
 # What a node takes by its journal, as docs/SERVICE.md measures it: some for itself, and so many bytes for each byte.
@@ -32,7 +32,7 @@ class Histories:
         self.idle_seconds, self.most_bytes = config.idle_seconds, config.open_bytes
         self.most_waiting, self.most_devices, self.most_pairs = config.waiting, config.user_devices, config.merge_pairs
         self.owned: dict[str, History] = {}
-        self.coming: dict[str, asyncio.Task[History]] = {}
+        self.coming: dict[str, tuple[asyncio.Task[History], bool]] = {}  # and whether it makes the history
         self.nodes: collections.OrderedDict[History, int] = collections.OrderedDict()  # the weights, the least recently used first
         self.held = 0
         self.let_go = 0  # nodes since memory was last given back
@@ -80,13 +80,24 @@ class Histories:
 
     async def get(self, name: str, create: bool = False, suspect: object = None) -> History:
         """The history, which this worker takes where nobody has it; else Elsewhere."""
-        history = self.owned.get(name)
-        if history is not None and not history.gone:
-            return history
-        if name not in self.coming:
-            self.coming[name] = asyncio.create_task(self._take(name, create, suspect))
-            self.coming[name].add_done_callback(lambda _: self.coming.pop(name, None))
-        return await asyncio.shield(self.coming[name])
+        while True:
+            history = self.owned.get(name)
+            if history is not None and not history.gone:
+                return history
+            if name not in self.coming:
+                self.coming[name] = asyncio.create_task(self._take(name, create, suspect)), create
+                self.coming[name][0].add_done_callback(lambda task: self._came(name, task))
+            task, makes = self.coming[name]
+            try:
+                return await asyncio.shield(task)
+            except Absent:
+                if makes or not create:  # else somebody who may only read asked at the same time
+                    raise
+
+    def _came(self, name: str, task: asyncio.Task[History]) -> None:
+        del self.coming[name]
+        if not task.cancelled():
+            task.exception()  # which nobody may wait for any more
 
     async def _take(self, name: str, create: bool, suspect: object) -> History:
         old = self.owned.get(name)

@@ -16,6 +16,7 @@ from .devices import Caller, Devices, Forbidden, Outdated, TooMuch
 from .messages import AHEAD, BIND, NAMES, UPLOAD, BadMessage, Head, NoEntries, head, question
 from .node import BAD_REQUEST, DONE, STANDING, TAKE, Damaged, Node, NodeFailed, Reply, Written, length_of
 from .stores import Fenced, Lease, StoreDown
+from .trimming import CantTrim
 from .weights import Sizes
 
 if typing.TYPE_CHECKING:
@@ -141,10 +142,10 @@ class History:
             self.histories.forget(self)
         else:
             metrics.FAILED.labels(type(error).__name__).inc()
-            if not isinstance(error, (StoreDown, NodeFailed)):
+            if not isinstance(error, (StoreDown, NodeFailed, CantTrim)):
                 log.error("%s: a batch failed", self.name, exc_info=error)
         for work in batch:
-            work.fail(error if isinstance(error, (Fenced, Damaged)) else StoreDown(str(error)))
+            work.fail(error if isinstance(error, (Fenced, Damaged, CantTrim)) else StoreDown(str(error)))
 
     async def _answer(self, batch: list[_Work]) -> None:
         if not batch:

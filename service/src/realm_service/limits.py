@@ -38,20 +38,23 @@ class Limits:
     def __init__(self, config: LimitsConfig):
         self.config = config
         self.sockets: collections.Counter[str] = collections.Counter()  # by user
+        self.open_sockets = 0
         self.buckets: dict[str, tuple[Bucket, Bucket]] = {}  # of messages and of bytes, by user
         self.in_flight = 0
-        metrics.CONNECTIONS.set_function(lambda: sum(self.sockets.values()))
+        metrics.CONNECTIONS.set_function(lambda: self.open_sockets)
         metrics.IN_FLIGHT.set_function(lambda: self.in_flight)
 
     @contextlib.contextmanager
     def socket(self, user: str) -> Iterator[None]:
         """A socket of a user as long as it is open."""
-        if sum(self.sockets.values()) >= self.config.connections or self.sockets[user] >= self.config.user_connections:
+        if self.open_sockets >= self.config.connections or self.sockets[user] >= self.config.user_connections:
             raise Refused(429, "too many connections")
         self.sockets[user] += 1
+        self.open_sockets += 1
         try:
             yield
         finally:
+            self.open_sockets -= 1
             self.sockets[user] -= 1
             if not self.sockets[user]:
                 del self.sockets[user]

@@ -1,6 +1,8 @@
 """The way to the worker that owns a history: this one, which takes it where nobody has it, or another one that answers."""
 
 import asyncio
+import contextlib
+import dataclasses
 import logging
 import time
 
@@ -18,6 +20,9 @@ from .stores import Elsewhere, StoreDown
 log = logging.getLogger("realm_service")
 HOP, WORKER = "Realm-Hop", "Realm-Worker"
 PASSED = ("Content-Type", "Retry-After", "WWW-Authenticate", GENERATION)
+HANDSHAKE_SECONDS, HEARTBEAT = 5.0, 20.0
+LONGEST_WAIT = 60.0  # seconds that a question for news may wait
+LATE_SECONDS = 1.0  # after which a reply is late, and this worker tries to take the history
 HEARD_SECONDS = 0.5  # how long it counts that a worker answered, or didn't
 
 
@@ -28,8 +33,7 @@ class Owners:
         self.session: aiohttp.ClientSession | None = None
 
     async def start(self) -> None:
-        seconds = self.limits.config.message_seconds
-        self.session = aiohttp.ClientSession(timeout=aiohttp.ClientTimeout(total=None, connect=1, sock_read=seconds + 60))
+        self.session = aiohttp.ClientSession()
 
     async def stop(self) -> None:
         if self.session is not None:
@@ -75,8 +79,10 @@ class Owners:
         metrics.RELAYED.inc()
         assert self.session is not None
         headers = self._headers(request, token)
+        seconds = self.limits.config.message_seconds
+        limit = aiohttp.ClientTimeout(total=None if body is None else seconds + HANDSHAKE_SECONDS, connect=1, sock_read=seconds + LONGEST_WAIT)
         try:
-            async with self.session.request(request.method, address + request.path_qs, data=body, headers=headers) as answer:
+            async with self.session.request(request.method, address + request.path_qs, data=body, headers=headers, timeout=limit) as answer:
                 kept = {name: answer.headers[name] for name in PASSED if name in answer.headers}
                 if answer.content_length is not None:
                     return web.Response(status=answer.status, body=await answer.read(), headers=kept)
@@ -104,41 +110,64 @@ class Owners:
         url = address.replace("http", "ws", 1) + request.path_qs
         most = self.limits.config.message_bytes
         try:
-            return await self.session.ws_connect(url, headers=self._headers(request, token), max_msg_size=most, heartbeat=20)
+            async with asyncio.timeout(HANDSHAKE_SECONDS):
+                return await self.session.ws_connect(url, headers=self._headers(request, token), max_msg_size=most, heartbeat=HEARTBEAT)
         except aiohttp.WSServerHandshakeError as error:
             generation = int(error.headers.get(GENERATION, 0)) if error.headers else 0
             raise Refused(error.status, "the owner refuses", generation=generation) from error
         except (aiohttp.ClientError, asyncio.TimeoutError) as error:
             raise StoreDown(f"the owner doesn't answer: {error}") from error
 
-    async def relay(self, socket: web.WebSocketResponse, other: aiohttp.ClientWebSocketResponse, caller: Caller) -> None:
-        """Between a client and the owner, until one of them ends."""
-        pumps = [asyncio.create_task(self._from_client(socket, other, caller)), asyncio.create_task(self._from_owner(other, socket))]
+    async def relay(self, socket: web.WebSocketResponse, other: aiohttp.ClientWebSocketResponse, name: str, caller: Caller) -> None:
+        """Between a client and the owner, until one of them ends, or this worker has the history since the owner hangs."""
+        open_ = _Relayed(socket, other)
+        tasks = [asyncio.create_task(it) for it in (self._from_client(open_, caller), self._from_owner(open_), self._taken(name, caller, open_))]
         try:
-            done, _ = await asyncio.wait(pumps, return_when=asyncio.FIRST_COMPLETED)
-            refusals = [it.exception() for it in done if isinstance(it.exception(), Refused)]
-            if refusals:
-                raise refusals[0] or Refused(500, "failed")
+            done, _ = await asyncio.wait(tasks, return_when=asyncio.FIRST_COMPLETED)
+            for it in done:
+                error = it.exception()
+                if isinstance(error, Refused):
+                    raise error
             if not socket.closed:
                 await socket.close(code=other.close_code or RESTART)
         finally:
-            for pump in pumps:
-                pump.cancel()
-            await asyncio.gather(*pumps, return_exceptions=True)
+            for task in tasks:
+                task.cancel()
+            await asyncio.gather(*tasks, return_exceptions=True)
             await other.close()
 
-    async def _from_client(self, socket: web.WebSocketResponse, other: aiohttp.ClientWebSocketResponse, caller: Caller) -> None:
-        async for message in socket:
+    async def _taken(self, name: str, caller: Caller, open_: "_Relayed") -> None:
+        """Ends when this worker has taken the history, for which it tries while a reply is late."""
+        while True:
+            await asyncio.sleep(LATE_SECONDS)
+            if open_.waits_since is not None and time.monotonic() - open_.waits_since > LATE_SECONDS:
+                with contextlib.suppress(StoreDown):
+                    if not isinstance(await self.find(name, caller, False), str):
+                        return
+
+    async def _from_client(self, open_: "_Relayed", caller: Caller) -> None:
+        async for message in open_.socket:
             if message.type == WSMsgType.BINARY:
                 await self.limits.admit(caller.user, len(message.data))
-                await other.send_bytes(message.data)
+                open_.waits_since = open_.waits_since or time.monotonic()
+                await open_.other.send_bytes(message.data)
             elif message.type == WSMsgType.TEXT:
-                await other.send_str(message.data)
+                await open_.other.send_str(message.data)
 
     @staticmethod
-    async def _from_owner(other: aiohttp.ClientWebSocketResponse, socket: web.WebSocketResponse) -> None:
-        async for message in other:
+    async def _from_owner(open_: "_Relayed") -> None:
+        async for message in open_.other:
             if message.type == WSMsgType.BINARY:
-                await socket.send_bytes(message.data)
+                open_.waits_since = None
+                await open_.socket.send_bytes(message.data)
             elif message.type == WSMsgType.TEXT:
-                await socket.send_str(message.data)
+                await open_.socket.send_str(message.data)
+
+
+@dataclasses.dataclass
+class _Relayed:
+    """A client's socket and the one to the owner; and since when a reply is awaited."""
+
+    socket: web.WebSocketResponse
+    other: aiohttp.ClientWebSocketResponse
+    waits_since: float | None = None

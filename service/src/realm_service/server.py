@@ -1,6 +1,7 @@
 """The service from its start to its end."""
 
 import asyncio
+import contextlib
 import logging
 import signal
 import typing
@@ -18,6 +19,7 @@ from .tokens import Tokens
 from .trimming import Trimmer
 
 log = logging.getLogger("realm_service")
+STOP_SECONDS = 20.0
 DAYS = 30  # of the token that is printed
 
 
@@ -69,7 +71,8 @@ async def run(config: Config, is_default: bool = False) -> None:
     log.info("stops")
     await doors.stop()
     sweeper.cancel()
-    await histories.stop()
+    with contextlib.suppress(asyncio.TimeoutError):  # where the store doesn't answer, what it has is given back by its leases
+        await asyncio.wait_for(histories.stop(), STOP_SECONDS)
     await store.stop()
     await doors.stopped()
 

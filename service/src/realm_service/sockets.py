@@ -67,7 +67,7 @@ class Sockets:
         self.open.add(socket)
         try:
             if other is not None:
-                await owners.relay(socket, other, visit.caller)
+                await owners.relay(socket, other, visit.name, visit.caller)
             else:
                 await self._serve(socket, visit)
         except Exception as error:

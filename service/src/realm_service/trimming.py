@@ -7,9 +7,12 @@ import subprocess
 import tempfile
 
 from .library import TOP
-from .refusals import Refused
 
 BUILT = os.path.join(TOP, "crates", "realm_sync", "out", "realm_sync")
+
+
+class CantTrim(Exception):
+    """There is no program to trim with, or it failed: the history is as it was."""
 
 
 class Trimmer:
@@ -22,7 +25,7 @@ class Trimmer:
     async def __call__(self, journal: bytes) -> bytes:
         """The shorter file of a server."""
         if self.program is None:
-            raise Refused(501, "there is no program realm_sync to trim with: [histories] program names it")
+            raise CantTrim("there is no program realm_sync to trim with: [histories] program names it")
         return await asyncio.to_thread(self._trimmed, self.program, journal)
 
     @staticmethod
@@ -30,7 +33,10 @@ class Trimmer:
         with tempfile.NamedTemporaryFile() as file:
             file.write(journal)
             file.flush()
-            done = subprocess.run([program, "trim", file.name], stdout=subprocess.PIPE, stdin=subprocess.DEVNULL, check=False)
+            try:
+                done = subprocess.run([program, "trim", file.name], stdout=subprocess.PIPE, stdin=subprocess.DEVNULL, check=False)
+            except OSError as error:
+                raise CantTrim(str(error)) from error
         if done.returncode:
-            raise Refused(500, f"realm_sync trim ended with status {done.returncode}")
+            raise CantTrim(f"realm_sync trim ended with status {done.returncode}")
         return done.stdout

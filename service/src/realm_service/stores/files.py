@@ -4,14 +4,20 @@
 `generation NUMBER` for each time that the history was restored; it is only ever appended to."""
 
 import asyncio
+import concurrent.futures
 import errno
 import fcntl
 import os
+import typing
+from collections.abc import Callable
 
 from . import Absent, Claims, Device, Elsewhere, Fenced, Lease, OnLapse, Stored, StoreDown
 
 JOURNAL, DEVICES, NEW = ".realm", ".devices", ".new"
 PART = 1 << 26  # bytes of one read
+THREADS = 32  # syncs at once: a file system joins them
+
+Answer = typing.TypeVar("Answer")
 
 
 class Files:
@@ -19,6 +25,7 @@ class Files:
 
     def __init__(self, folder: str):
         self.folder = folder
+        self.pool = concurrent.futures.ThreadPoolExecutor(THREADS, "files")
 
     def on_lapse(self, told: OnLapse) -> None:
         """One process: nothing lapses."""
@@ -28,6 +35,10 @@ class Files:
 
     async def stop(self) -> None:
         """Nothing is held but the files of leases."""
+        self.pool.shutdown(wait=False)
+
+    async def _do(self, job: Callable[..., Answer], *given: object) -> Answer:
+        return await asyncio.get_running_loop().run_in_executor(self.pool, job, *given)
 
     async def ready(self) -> bool:
         return os.access(self.folder, os.W_OK)
@@ -36,22 +47,22 @@ class Files:
         return sorted(it.removesuffix(JOURNAL) for it in os.listdir(self.folder) if it.endswith(JOURNAL))
 
     async def acquire(self, name: str, create: bool, suspect: object = None) -> Lease:
-        return await asyncio.to_thread(self._acquire, name, create)
+        return await self._do(self._acquire, name, create)
 
     async def read(self, lease: Lease) -> Stored:
-        return await asyncio.to_thread(self._read, lease)
+        return await self._do(self._read, lease)
 
     async def append(self, lease: Lease, gate: int, tail: bytes, claims: Claims) -> None:
-        await asyncio.to_thread(self._append, lease, gate, tail, claims)
+        await self._do(self._append, lease, gate, tail, claims)
 
     async def check(self, lease: Lease) -> None:
         """The lease is held as long as the file is open."""
 
     async def replace(self, lease: Lease, journal: bytes) -> None:
-        await asyncio.to_thread(self._replace, lease, journal)
+        await self._do(self._replace, lease, journal)
 
     async def raise_generation(self, lease: Lease) -> None:
-        await asyncio.to_thread(self._note, lease.name, [f"generation {lease.generation + 1}"])
+        await self._do(self._note, lease.name, [f"generation {lease.generation + 1}"])
         lease.generation += 1
 
     async def release(self, lease: Lease) -> None:

@@ -84,11 +84,11 @@ class Writer:
             if self.link is None:
                 self.link = await connected(self.dsn)
             stored = await self._store(self.link, batch)
-        except LOST:
-            self._drop()
-            return False
-        except asyncpg.PostgresError as error:  # such as a full disk: nothing was stored
-            for given in batch:
+        except (asyncpg.PostgresError, *LOST) as error:
+            if isinstance(error, LOST) and not isinstance(error, ValueError):
+                self._drop()
+                return False
+            for given in batch:  # such as a full disk: nothing was stored
                 given.end(StoreDown(str(error)))
             return True
         except Exception:  # whatever the driver raises: a writer that ends would hold up its histories for good
