@@ -9,3 +9,12 @@ need() {
     echo "${0##*/}: $1 isn't here: install Debian's package $2" >&2
     exit 1
 }
+
+# The same of a package that has no command.
+need_package() {
+    if [ "$(id -u)" -eq 0 ] && command -v apt-get >/dev/null; then
+        (apt-get update && DEBIAN_FRONTEND=noninteractive apt-get install -y --no-install-recommends $1) >/dev/null 2>&1 && return
+    fi
+    echo "${0##*/}: install Debian's package $1" >&2
+    exit 1
+}

@@ -21,6 +21,7 @@ need node nodejs
 "$here/build.sh" $trial >/dev/null
 tsc -p "$here/test/types"
 node --test "$here"/test/*.test.mjs
+"$here/test/empty_project.sh"
 [ -z "$quick" ] || exit 0
 need chromium chromium
 node "$here/test/browser/run.mjs"

@@ -4,10 +4,10 @@
 Each client works in rounds: it commits while it is offline, connects, syncs, and goes offline again. The server has a thread for each
 connection, and its node answers one message at a time. Now and then the server drops a connection before it has replied, as networks
 do, and the client begins the sync again. In the end all have the same objects, and a counter shows that each transaction counts once.
-Nobody is authenticated here: over_http.py shows the front that does it.
+Nobody is authenticated here: examples/over_http.py shows the front that does it.
 
-usage: examples/python/serve_sockets.py
-       examples/python/serve_sockets.py client FILE NUMBER PORT ROUNDS
+usage: serve_sockets.py
+       serve_sockets.py client FILE NUMBER PORT ROUNDS
 """
 
 import json
