@@ -106,12 +106,14 @@ class Link:
             yield await self.sync()
 
     async def _exchange(self, places: list[typing.Any]) -> bool:
-        """One message and its reply. True where it was a question that brought nothing: a long history comes in parts."""
+        """One message and its reply. True where it was a question that brought nothing, and the next message would be another: a long
+        history comes in parts, and a client may ask once before it sends anything."""
         message = self.client.next_message()
         before = self.client.standing().cursor
         self.client.take(await self.send(message))
         places += self.client.changed()
-        return message[0] in QUESTIONS and self.client.standing().cursor == before
+        is_end = message[0] in QUESTIONS and self.client.standing().cursor == before
+        return is_end and self.client.next_message()[0] in QUESTIONS
 
     async def send(self, message: bytes) -> bytes:
         """The reply to a message; raises Turned, or one of LOST."""
