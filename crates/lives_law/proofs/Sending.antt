@@ -1,0 +1,266 @@
+-- What nodes send is of their files.
+use Rattle.std.proofs.Common.{◌≡◌, ◌≢◌, ◌⊎◌, inl, inr, ⊎_elim, ℕ, zero, suc, ◌+◌, ◌-◌, ◌<◌, ◌≤◌, Bool, true, false, ◌&&◌, not, List, [], ◌∷◌, ◌++◌, Option, Some, None, Result, Ok, Err, refl, sym, ap, ap₂, ◌∙◌, subst, arith, append_assoc, append-nil, length, map, take, drop, length-append, if◌then◌else◌, ◌==◌, eqb-true, nat_le}
+use Rattle.std.specs.Prelude.{nat_lt}
+use Rattle.sync_theory.specs.Changesets.{Changeset}
+use Rattle.sync_theory.specs.Grid.{Meet, rebase, rebase_put, rebase_one, tail}
+use Rattle.sync_theory.specs.Lists.{kept}
+use Rattle.sync_theory.specs.Logs.{Entry as LogEntry}
+use Rattle.sync_model.specs.Bytes.{Uuid}
+use Rattle.sync_model.specs.Profile.{Profile, Lawful, Stuck, cross_changesets, fitting, needs, restricted}
+use Rattle.sync_model.specs.Messages.{Change, Sent, Message, Upload, Download, Refused, Bind, Ident, Ask, Ask2, AskTables, Stored, Retire, Retired as RetiredMessage}
+use Rattle.sync_model.specs.Clients.{Client, ClientRecord, ClientStep, ClientRefusal, NotBorn, NotNamed, Born, Named, Made, Took, Form, Subset, Part, Floor, Original, Unsent, as_made, carried_to, changeset_of, ok_list, refuse, answers, if_born, if_named, no_client, client_of, after_record, after_records, takes_entry, crossed, change_of, to_upload, upload}
+use Rattle.sync_model.specs.Servers.{Server, ServerRecord, ServerStep, no_server, server_of, is_given, history_of, entries_from, sent_of, download, download_first, download_tables, first_form, serve}
+use Rattle.sync_model.specs.Worlds.{at, is_there}
+use Rattle.sync_model.specs.Files.{is_growing, made_acts, client_admits, client_opens, server_opens}
+use Rattle.sync_model.proofs.Alone.{both_true}
+use Rattle.sync_model.proofs.Lists.{at_of_map, at_there, map_both, map_snoc}
+use Rattle.lives_law.specs.Lives.{Written, Mark, tally}
+use Rattle.lives_law.specs.Instances.{plain, is_entry, is_made}
+use Rattle.lives_law.specs.Uploads.{InOrder, none, one, changes_of}
+use Rattle.lives_law.specs.Passing.{written_from, history_told, AreOf}
+use Rattle.lives_law.specs.Stored.{Passage, HasLives, IsUploadOf, IsDownloadOf}
+use Rattle.lives_law.specs.Sending.{lives_of, passage_of, Asks, UploadsTell, DownloadsTell}
+use Rattle.lives_law.proofs.Lists.{take_nil, drop_nil, at_long}
+use Rattle.lives_law.proofs.Taking.{at_dropped, at_to_drop, at_in_take}
+use Rattle.lives_law.proofs.Passing.{at_take, history_tells, written_both, written_stays}
+use Rattle.lives_law.proofs.Uploads.{long_take, long_drop, changes_tell}
+use Rattle.lives_law.proofs.Histories.{entry_stays}
+
+-- ---- lives of a file
+
+lives_long : {R : Type 0} (counts : R → Bool) (f : List (Written R)) → length (lives_of counts f) ≡ tally counts f
+lives_long counts [] = refl
+lives_long counts (x ∷ f) = on (counts x.what) (lives_long counts f)
+  where
+    on : (b : Bool) → length (lives_of counts f) ≡ tally counts f → length (if b then x.life ∷ lives_of counts f else lives_of counts f) ≡ (if b then suc (tally counts f) else tally counts f)
+    on true e = ap suc e
+    on false e = e
+
+behind : {R : Type 0} {counts : R → Bool} {f : List (Written R)} {n l : ℕ} (x : Written R) (b : Bool) → counts x.what ≡ b → Mark counts f n l → Mark counts (x ∷ f) (if b then suc n else n) l
+behind {counts = counts} x b e m = record {
+  before = x ∷ m.before;
+  last = m.last;
+  more = m.more;
+  is = ap (λ l. x ∷ l) m.is;
+  counted = m.counted;
+  number = ap₂ (λ b n. if b then suc n else n) e m.number;
+  life = m.life;
+}
+
+life_marks : {R : Type 0} (counts : R → Bool) (f : List (Written R)) (n l : ℕ) → at (lives_of counts f) n ≡ Some l → Mark counts f n l
+life_marks counts [] n l e = cc
+life_marks counts (x ∷ f) n l e = on (counts x.what) refl n e (λ k h. life_marks counts f k l h)
+  where
+    on : (b : Bool) → counts x.what ≡ b → (n : ℕ) → at (if b then x.life ∷ lives_of counts f else lives_of counts f) n ≡ Some l → ((k : ℕ) → at (lives_of counts f) k ≡ Some l → Mark counts f k l) → Mark counts (x ∷ f) n l
+    on true is zero e rest = record { before = []; last = x; more = f; is = refl; counted = is; number = refl; life = (let s : Some x.life ≡ Some l = e in cc) }
+    on true is (suc n) e rest = behind x true is (rest n e)
+    on false is n e rest = behind x false is (rest n e)
+
+has_lives : {R X : Type 0} (counts : R → Bool) (first : ℕ) (f : List (Written R)) (from : ℕ) (tells : List X) → from + length tells ≤ tally counts f → HasLives counts f (passage_of counts first f from tells)
+has_lives counts first f from tells le = record {
+  all = λ k below.
+      let long = lives_long counts f in
+      let t = at_there (first ∷ lives_of counts f) (from + k) (omega arith) in
+      (t.0, at_to_drop from (first ∷ lives_of counts f) k t.0 t.1);
+  marks = λ k l n e z.
+      let there : at (first ∷ lives_of counts f) (suc n) ≡ Some l = ap (at (first ∷ lives_of counts f)) (sym z) ∙ at_dropped from (first ∷ lives_of counts f) k l e in
+      life_marks counts f n l there;
+}
+
+-- ---- lists
+
+-- so many of the first
+record First {A : Type 0} (xs ys : List A) : Type 0 where
+  n : ℕ
+  is : xs ≡ take n ys
+
+first_fits : {A : Type 0} (size : A → ℕ) (most room : ℕ) (xs : List A) → First (fitting size most room xs) xs
+first_fits size most room [] = record { n = 0; is = refl }
+first_fits size zero room (x ∷ xs) = record { n = 0; is = refl }
+first_fits size (suc most) room (x ∷ xs) = on (nat_le (size x) room) (first_fits size most (room - size x) xs)
+  where
+    on : (b : Bool) → First (fitting size most (room - size x) xs) xs → First (if b then x ∷ fitting size most (room - size x) xs else []) (x ∷ xs)
+    on true r = record { n = suc r.n; is = ap (λ l. x ∷ l) r.is }
+    on false r = record { n = 0; is = refl }
+
+take_twice : {A : Type 0} (n m : ℕ) (xs : List A) → First (take n (take m xs)) xs
+take_twice zero m xs = record { n = 0; is = refl }
+take_twice (suc n) zero xs = record { n = 0; is = refl }
+take_twice (suc n) (suc m) [] = record { n = 0; is = refl }
+take_twice (suc n) (suc m) (x ∷ xs) = let r = take_twice n m xs in record { n = suc r.n; is = ap (λ l. x ∷ l) r.is }
+
+first_then : {A : Type 0} {xs ys zs : List A} → First xs ys → First ys zs → First xs zs
+first_then {zs = zs} a b = let r = take_twice a.n b.n zs in record { n = r.n; is = a.is ∙ ap (take a.n) b.is ∙ r.is }
+
+map_first : {A B : Type 0} (f : A → B) (n : ℕ) (xs : List A) → map f (take n xs) ≡ take n (map f xs)
+map_first f zero xs = refl
+map_first f (suc n) [] = refl
+map_first f (suc n) (x ∷ xs) = ap (λ l. f x ∷ l) (map_first f n xs)
+
+first_map : {A B : Type 0} (f : A → B) {xs ys : List A} → First xs ys → First (map f xs) (map f ys)
+first_map f {ys = ys} a = record { n = a.n; is = ap (map f) a.is ∙ map_first f a.n ys }
+
+long_map : {A B : Type 0} (f : A → B) (xs : List A) → length (map f xs) ≡ length xs
+long_map f [] = refl
+long_map f (x ∷ xs) = ap suc (long_map f xs)
+
+drop_map : {A B : Type 0} (f : A → B) (n : ℕ) (xs : List A) → map f (drop n xs) ≡ drop n (map f xs)
+drop_map f zero xs = refl
+drop_map f (suc n) [] = refl
+drop_map f (suc n) (x ∷ xs) = drop_map f n xs
+
+drop_front : {A : Type 0} (xs ys : List A) (n : ℕ) → length xs ≡ n → drop n (xs ++ ys) ≡ ys
+drop_front [] ys zero e = refl
+drop_front [] ys (suc n) e = absurd (omega arith)
+drop_front (x ∷ xs) ys zero e = absurd (omega arith)
+drop_front (x ∷ xs) ys (suc n) e = drop_front xs ys n (omega arith)
+
+-- so many of the first is as many as it has
+first_long : {A : Type 0} {xs ys : List A} → First xs ys → (xs ≡ take (length xs) ys) × (length xs ≤ length ys)
+first_long {xs = xs} {ys = ys} a = on a.n ys xs a.is
+  where
+    on : {A : Type 0} (n : ℕ) (ys xs : List A) → xs ≡ take n ys → (xs ≡ take (length xs) ys) × (length xs ≤ length ys)
+    on zero ys xs e = (e ∙ sym (ap (λ l. take (length l) ys) e), (let l = ap length e in omega arith))
+    on (suc n) [] xs e = (e ∙ sym (ap (λ l. take (length l) []) e), (let l = ap length e in omega arith))
+    on (suc n) (y ∷ ys) [] e = (refl, omega arith)
+    on (suc n) (y ∷ ys) (x ∷ xs) e =
+        let same : x ≡ y = cc in
+        let rest : xs ≡ take n ys = cc in
+        let r = on n ys xs rest in
+        let l = r.1 in
+        (ap₂ (λ a b. a ∷ b) same r.0, omega arith)
+
+rebase_keeps : {X E : Type 0} (meet : Meet X E) (ps : List X) (e : X) (q : List X × X) → rebase meet ps e ≡ Ok q → length q.0 ≡ length ps
+rebase_keeps meet [] e q h = let same : [] ≡ q.0 = cc in ap length (sym same)
+rebase_keeps {X} {E} meet (x ∷ ps) e q h = on (meet x e) h (λ f t u. rebase_keeps meet ps f t u)
+  where
+    put : (y : X) (n : ℕ) (r : Result (List X × X) (ℕ × E)) → ((q : List X × X) → r ≡ Ok q → length q.0 ≡ n) → rebase_put y r ≡ Ok q → length q.0 ≡ suc n
+    put y n (Ok t) f s =
+        let same : y ∷ t.0 ≡ q.0 = cc in
+        let l = f t refl in
+        let k : length (y ∷ t.0) ≡ length q.0 = ap length same in
+        omega arith
+    put y n (Err g) f s = cc
+
+    on : (r : Result (X × X) E) → rebase_one r (λ f. rebase meet ps f) ≡ Ok q → ((f : X) (t : List X × X) → rebase meet ps f ≡ Ok t → length t.0 ≡ length ps) → length q.0 ≡ length (x ∷ ps)
+    on (Ok s) k rec = put s.0 (length ps) (rebase meet ps s.1) (rec s.1) k
+    on (Err m) k rec = cc
+
+module _ {I S : Type 0} (p : Profile I S) where
+  -- ---- a client's file
+
+  originals : List (Unsent I) → List (Original I)
+  originals us = map (λ u. u.original) us
+
+  carried_same : (us : List (Unsent I)) (qs : List (Changeset I)) → length qs ≡ length us → map (λ (u : Unsent I). u.original) (carried_to us qs) ≡ map (λ (u : Unsent I). u.original) us
+  carried_same [] qs e = refl
+  carried_same (u ∷ us) [] e = absurd (omega arith)
+  carried_same (u ∷ us) (q ∷ qs) e = ap (λ l. u.original ∷ l) (carried_same us qs (omega arith))
+
+  -- what it made is what it took of its own, and then what is unsent; and numbered from 1 on
+  record Made_ (c : Client I S) : Type 0 where
+    sent : List (Original I)
+    split : c.made ≡ sent ++ map (λ u. u.original) c.unsent
+    numbers : (k : ℕ) (o : Original I) → at c.made k ≡ Some o → o.number ≡ suc k
+
+  at_end : {A : Type 0} (xs : List A) (x : A) (k : ℕ) (y : A) → at (xs ++ x ∷ []) k ≡ Some y → (at xs k ≡ Some y) ⊎ ((k ≡ length xs) × (x ≡ y))
+  at_end [] x zero y e = inr (refl, (let s : Some x ≡ Some y = e in cc))
+  at_end [] x (suc k) y e = cc
+  at_end (z ∷ xs) x zero y e = inl e
+  at_end (z ∷ xs) x (suc k) y e = ⊎_elim (λ h. inl h) (λ h. inr (ap suc h.0, h.1)) (at_end xs x k y e)
+
+  took_made : (c : Client I S) (e : Changeset I) → Made_ c → Made_ (takes_entry p c e)
+  took_made c e m = on (e.origin == c.ident) (rebase (cross_changesets p) (map (changeset_of c.ident) c.unsent) e) refl
+    where
+      less : (us : List (Unsent I)) → c.made ≡ m.sent ++ map (λ u. u.original) us → (sent : List (Original I)) × (c.made ≡ sent ++ map (λ (u : Unsent I). u.original) (tail us))
+      less [] s = (m.sent, s)
+      less (u ∷ us) s = (m.sent ++ u.original ∷ [], s ∙ sym (append_assoc m.sent (u.original ∷ []) (map (λ (u : Unsent I). u.original) us)))
+
+      other : (r : Result (List (Changeset I) × Changeset I) (ℕ × Stuck)) → rebase (cross_changesets p) (map (changeset_of c.ident) c.unsent) e ≡ r → Made_ (crossed p c r)
+      other (Ok q) is = record { sent = m.sent; split = m.split ∙ ap (λ l. m.sent ++ l) (sym (carried_same c.unsent q.0 (rebase_keeps (cross_changesets p) (map (changeset_of c.ident) c.unsent) e q is ∙ long_map (changeset_of c.ident) c.unsent))); numbers = m.numbers }
+      other (Err f) is = record { sent = m.sent; split = m.split; numbers = m.numbers }
+
+      on : (b : Bool) (r : Result (List (Changeset I) × Changeset I) (ℕ × Stuck)) → rebase (cross_changesets p) (map (changeset_of c.ident) c.unsent) e ≡ r → Made_ (if b then record c { cursor = suc c.cursor; unsent = tail c.unsent } else crossed p c r)
+      on true r is = let l = less c.unsent m.split in record { sent = l.0; split = l.1; numbers = m.numbers }
+      on false r is = other r is
+
+  one_made : (c : Client I S) (rs : List ClientRecord) (r : ClientRecord) → client_admits p c (map (λ q. Some q) rs) r ≡ true → Made_ c → Made_ (after_record p c r)
+  one_made c rs (Born id) a m = record { sent = m.sent; split = m.split; numbers = m.numbers }
+  one_made c rs (Named ident) a m = record { sent = m.sent; split = m.split; numbers = m.numbers }
+  one_made c rs (Made number ms body) a m =
+      let b = both_true (is_there c.id) _ a in
+      let d = both_true (not (is_growing c)) _ b.1 in
+      let h = both_true (number == suc (length c.made)) (made_acts p c (p.unspell body)) d.1 in
+      let is = eqb-true number (suc (length c.made)) h.0 in
+      let o : Original I = record { base = c.cursor; number = number; ms = ms; instrs = ok_list (p.unspell body) } in
+      record {
+        sent = m.sent;
+        split = ap (λ l. l ++ o ∷ []) m.split ∙ append_assoc m.sent (map (λ (u : Unsent I). u.original) c.unsent) (o ∷ []) ∙ ap (λ l. m.sent ++ l) (sym (map_snoc (λ (u : Unsent I). u.original) c.unsent (as_made o)));
+        numbers = λ k x e. ⊎_elim (λ old. m.numbers k x old) (λ new. ap (λ (o : Original I). o.number) (sym new.1) ∙ is ∙ ap suc (sym new.0)) (at_end c.made o k x e);
+      }
+  one_made c rs (Took origin number ms body) a m = took_made c (record { origin = origin; number = number; ms = ms; instrs = ok_list (p.unspell body) }) m
+  one_made c rs Form a m = record { sent = m.sent; split = m.split; numbers = m.numbers }
+  one_made c rs (Subset tables) a m = record { sent = m.sent; split = m.split; numbers = m.numbers }
+  one_made c rs (Part body) a m = record { sent = m.sent; split = m.split; numbers = m.numbers }
+  one_made c rs (Floor version) a m = record { sent = m.sent; split = m.split; numbers = m.numbers }
+
+  all_made : (rs : List ClientRecord) (c : Client I S) → client_opens p c rs ≡ true → Made_ c → Made_ (after_records p c rs)
+  all_made [] c e m = m
+  all_made (r ∷ rs) c e m =
+      let b = both_true (client_admits p c (map (λ q. Some q) rs) r) (client_opens p (after_record p c r) rs) e in
+      all_made rs (after_record p c r) b.1 (one_made c rs r b.0 m)
+
+  file_made : (f : List ClientRecord) → client_opens p (no_client p) f ≡ true → Made_ (client_of p f)
+  file_made f e = all_made f (no_client p) e (record { sent = []; split = refl; numbers = λ k o h. cc })
+
+  -- changes of such numbers are in order
+  ordered : (os : List (Original I)) (n : ℕ) → ((k : ℕ) (o : Original I) → at os k ≡ Some o → o.number ≡ suc (n + k)) → (hs : List Change) → First hs (map (change_of p) os) → InOrder (suc n) hs
+  ordered os n numbers hs a = on os n numbers hs a.n a.is
+    where
+      on : (os : List (Original I)) (n : ℕ) → ((k : ℕ) (o : Original I) → at os k ≡ Some o → o.number ≡ suc (n + k)) → (hs : List Change) (m : ℕ) → hs ≡ take m (map (change_of p) os) → InOrder (suc n) hs
+      on os n numbers [] m e = none
+      on os n numbers (h ∷ hs) zero e = cc
+      on [] n numbers (h ∷ hs) (suc m) e = cc
+      on (o ∷ os) n numbers (h ∷ hs) (suc m) e =
+          let same : h ≡ change_of p o = cc in
+          let rest : hs ≡ take m (map (change_of p) os) = cc in
+          let z : suc (n + 0) ≡ suc n = omega arith in
+          one (ap (λ (x : Change). x.number) same ∙ numbers 0 o refl ∙ z) (on os (suc n) (λ k q t. let y : suc (n + suc k) ≡ suc (suc n + k) = omega arith in numbers (suc k) q t ∙ y) hs m rest)
+
+  pub uploads_tell : UploadsTell p
+  uploads_tell f first c hs opens sent =
+      let x = client_of p (plain f) in
+      let m = file_made (plain f) opens in
+      let from = length (client_of p (plain f)).made - length (client_of p (plain f)).unsent in
+      let long : length m.sent ≡ from =
+      (let a = ap length m.split in let b = length-append m.sent (map (λ (u : Unsent I). u.original) (client_of p (plain f)).unsent) in let d = long_map (λ (u : Unsent I). u.original) (client_of p (plain f)).unsent in omega arith) in
+      let rest : drop from (client_of p (plain f)).made ≡ map (λ (u : Unsent I). u.original) (client_of p (plain f)).unsent = ap (drop from) m.split ∙ drop_front m.sent (map (λ (u : Unsent I). u.original) (client_of p (plain f)).unsent) from long in
+      let fits = first_fits (λ (h : Change). length h.body) p.most p.room (map (λ (u : Unsent I). change_of p u.original) (client_of p (plain f)).unsent) in
+      let bears : First hs (map (change_of p) (drop from (client_of p (plain f)).made)) = record { n = fits.n; is = body (client_of p (plain f)) sent ∙ fits.is ∙ ap (take fits.n) (two (client_of p (plain f)).unsent ∙ ap (map (change_of p)) (sym rest)) } in
+      let both : First hs (drop from (map (change_of p) (client_of p (plain f)).made)) = record { n = bears.n; is = bears.is ∙ ap (take bears.n) (drop_map (change_of p) from (client_of p (plain f)).made) } in
+      let told = first_long both in
+      let all = (changes_tell p).long f in
+      let made_long = long_map (change_of p) (client_of p (plain f)).made in
+      let within = told.1 in
+      let le : from ≤ length (map (change_of p) (client_of p (plain f)).made) = (let a = ap length m.split in let b = length-append m.sent (map (λ (u : Unsent I). u.original) (client_of p (plain f)).unsent) in omega arith) in
+      let dropped = long_drop p from (map (change_of p) (client_of p (plain f)).made) le in
+      record {
+        lives = has_lives is_made first f from hs (omega arith);
+        tells = told.0;
+        ordered = ordered (drop from (client_of p (plain f)).made) from (λ k o e. m.numbers (from + k) o (at_dropped from (client_of p (plain f)).made k o e)) hs bears;
+      }
+    where
+      two : (us : List (Unsent I)) → map (λ (u : Unsent I). change_of p u.original) us ≡ map (change_of p) (map (λ (u : Unsent I). u.original) us)
+      two [] = refl
+      two (u ∷ us) = ap (λ l. change_of p u.original ∷ l) (two us)
+
+      body : (x : Client I S) → (upload p x).answer ≡ Ok (Upload c hs) → hs ≡ to_upload p x
+      body x e = at_id x.id e
+        where
+          named : (b : Bool) → (if b then refuse NotNamed else answers (Upload x.ident (to_upload p x))).answer ≡ Ok (Upload c hs) → hs ≡ to_upload p x
+          named true e = cc
+          named false e = cc
+
+          at_id : (o : Option Uuid) → (if_born o (λ id. if x.ident == 0 then refuse NotNamed else answers (Upload x.ident (to_upload p x)))).answer ≡ Ok (Upload c hs) → hs ≡ to_upload p x
+          at_id None e = cc
+          at_id (Some id) e = named (x.ident == 0) e
