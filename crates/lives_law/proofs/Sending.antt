@@ -1,28 +1,29 @@
 -- What nodes send is of their files.
-use Rattle.std.proofs.Common.{◌≡◌, ◌≢◌, ◌⊎◌, inl, inr, ⊎_elim, ℕ, zero, suc, ◌+◌, ◌-◌, ◌<◌, ◌≤◌, Bool, true, false, ◌&&◌, not, List, [], ◌∷◌, ◌++◌, Option, Some, None, Result, Ok, Err, refl, sym, ap, ap₂, ◌∙◌, subst, arith, append_assoc, append-nil, length, map, take, drop, length-append, if◌then◌else◌, ◌==◌, eqb-true, nat_le}
+use Rattle.std.proofs.Common.{◌≡◌, ◌⊎◌, inl, inr, ⊎_elim, ℕ, zero, suc, ◌+◌, ◌-◌, ◌≤◌, Bool, true, false, not, List, [], ◌∷◌, ◌++◌, Option, Some, None, Result, Ok, Err, refl, sym, ap, ap₂, ◌∙◌, subst, arith, append_assoc, append-nil, length, map, take, drop, length-append, if◌then◌else◌, ◌==◌, eqb-true, nat_le}
 use Rattle.std.specs.Prelude.{nat_lt}
 use Rattle.sync_theory.specs.Changesets.{Changeset}
 use Rattle.sync_theory.specs.Grid.{Meet, rebase, rebase_put, rebase_one, tail}
 use Rattle.sync_theory.specs.Lists.{kept}
 use Rattle.sync_theory.specs.Logs.{Entry as LogEntry}
-use Rattle.sync_model.specs.Bytes.{Uuid}
+use Rattle.std.proofs.lemmas.Bool.Decides.{nat_tests}
+use Rattle.sync_model.specs.Bytes.{Uuid, Tables}
 use Rattle.sync_model.specs.Profile.{Profile, Lawful, Stuck, cross_changesets, fitting, needs, restricted}
 use Rattle.sync_model.specs.Messages.{Change, Sent, Message, Upload, Download, Refused, Bind, Ident, Ask, Ask2, AskTables, Stored, Retire, Retired as RetiredMessage}
-use Rattle.sync_model.specs.Clients.{Client, ClientRecord, ClientStep, ClientRefusal, NotBorn, NotNamed, Born, Named, Made, Took, Form, Subset, Part, Floor, Original, Unsent, as_made, carried_to, changeset_of, ok_list, refuse, answers, if_born, if_named, no_client, client_of, after_record, after_records, takes_entry, crossed, change_of, to_upload, upload}
-use Rattle.sync_model.specs.Servers.{Server, ServerRecord, ServerStep, no_server, server_of, is_given, history_of, entries_from, sent_of, download, download_first, download_tables, first_form, serve}
+use Rattle.sync_model.specs.Clients.{Client, ClientRecord, NotNamed, Born, Named, Made, Took, Form, Subset, Part, Floor, Original, Unsent, as_made, carried_to, changeset_of, ok_list, refuse, answers, if_born, no_client, client_of, after_record, after_records, takes_entry, crossed, change_of, to_upload, upload}
+use Rattle.sync_model.specs.Servers.{Server, ServerRecord, ServerStep, AheadOfHistory, NoSuchIdent, NeedsForm2, refuses, marking, if_there, no_server, server_of, is_given, entries_from, sent_of, download, download_first, download_tables, first_form, serve}
 use Rattle.sync_model.specs.Worlds.{at, is_there}
 use Rattle.sync_model.specs.Files.{is_growing, made_acts, client_admits, client_opens, server_opens}
 use Rattle.sync_model.proofs.Alone.{both_true}
-use Rattle.sync_model.proofs.Lists.{at_of_map, at_there, map_both, map_snoc}
+use Rattle.sync_model.proofs.Lists.{at_map, at_of_map, at_there, map_snoc}
 use Rattle.lives_law.specs.Lives.{Written, Mark, tally}
 use Rattle.lives_law.specs.Instances.{plain, is_entry, is_made}
-use Rattle.lives_law.specs.Uploads.{InOrder, none, one, changes_of}
-use Rattle.lives_law.specs.Passing.{written_from, history_told, AreOf}
-use Rattle.lives_law.specs.Stored.{Passage, HasLives, IsUploadOf, IsDownloadOf}
+use Rattle.lives_law.specs.Uploads.{InOrder, none, one}
+use Rattle.lives_law.specs.Passing.{written_from, history_told}
+use Rattle.lives_law.specs.Stored.{HasLives}
 use Rattle.lives_law.specs.Sending.{lives_of, passage_of, Asks, UploadsTell, DownloadsTell}
-use Rattle.lives_law.proofs.Lists.{take_nil, drop_nil, at_long}
+use Rattle.lives_law.proofs.Lists.{at_long}
 use Rattle.lives_law.proofs.Taking.{at_dropped, at_to_drop, at_in_take}
-use Rattle.lives_law.proofs.Passing.{at_take, history_tells, written_both, written_stays}
+use Rattle.lives_law.proofs.Passing.{at_take, history_tells, written_long, written_both, written_stays}
 use Rattle.lives_law.proofs.Uploads.{long_take, long_drop, changes_tell}
 use Rattle.lives_law.proofs.Histories.{entry_stays}
 
@@ -264,3 +265,134 @@ module _ {I S : Type 0} (p : Profile I S) where
           at_id : (o : Option Uuid) → (if_born o (λ id. if x.ident == 0 then refuse NotNamed else answers (Upload x.ident (to_upload p x)))).answer ≡ Ok (Upload c hs) → hs ≡ to_upload p x
           at_id None e = cc
           at_id (Some id) e = named (x.ident == 0) e
+
+  -- ---- a server's file
+
+  record Answered (log : List (LogEntry (Changeset I))) (o : Option Tables) (from : ℕ) (es : List Sent) : Type 0 where
+    reach : from ≤ length log
+    bears : First es (map (λ x. sent_of p (restricted p o x)) (entries_from p log (length log - from) from))
+
+  module _ (s : Server I) (c from : ℕ) (es : List Sent) where
+    -- a question is refused, or answered by what stands there
+    there_is : (d cursor settled : ℕ) (go : List (Changeset I) → ServerStep) → (if_there p s d cursor settled go).answer ≡ Download c from es → (cursor ≤ length s.log) × ((go (entries_from p s.log (length s.log - cursor) cursor)).answer ≡ Download c from es)
+    there_is d cursor settled go e = given (not (is_given s d)) e
+      where
+        ahead : (b : Bool) → nat_lt (length s.log) cursor ≡ b → (if b then refuses d 0 (AheadOfHistory (length s.log)) else marking d (s.marks d) cursor settled (go (entries_from p s.log (length s.log - cursor) cursor)).answer).answer ≡ Download c from es → (cursor ≤ length s.log) × ((go (entries_from p s.log (length s.log - cursor) cursor)).answer ≡ Download c from es)
+        ahead true is e = cc
+        ahead false is e = (grind (arith, nat_tests), e)
+
+        given : (b : Bool) → (if b then refuses d 0 (NoSuchIdent (length s.ids)) else if nat_lt (length s.log) cursor then refuses d 0 (AheadOfHistory (length s.log)) else marking d (s.marks d) cursor settled (go (entries_from p s.log (length s.log - cursor) cursor)).answer).answer ≡ Download c from es → (cursor ≤ length s.log) × ((go (entries_from p s.log (length s.log - cursor) cursor)).answer ≡ Download c from es)
+        given true e = cc
+        given false e = ahead (nat_lt (length s.log) cursor) refl e
+
+    plainly : (d cursor : ℕ) (xs : List (Changeset I)) → (download p d cursor xs).answer ≡ Download c from es → (from ≡ cursor) × First es (map (sent_of p) xs)
+    plainly d cursor xs e =
+        let f = first_fits (λ (x : Sent). length x.body) p.most p.room (map (sent_of p) xs) in
+        let same : fitting (λ (x : Sent). length x.body) p.most p.room (map (sent_of p) xs) ≡ es = cc in
+        let at_cursor : cursor ≡ from = cc in
+        (sym at_cursor, record { n = f.n; is = sym same ∙ f.is })
+
+    form_first : (xs : List (Changeset I)) → First (first_form p xs) xs
+    form_first [] = record { n = 0; is = refl }
+    form_first (x ∷ xs) = on (needs p x.instrs) (form_first xs)
+      where
+        on : (b : Bool) → First (first_form p xs) xs → First (if b then [] else x ∷ first_form p xs) (x ∷ xs)
+        on true r = record { n = 0; is = refl }
+        on false r = record { n = suc r.n; is = ap (λ l. x ∷ l) r.is }
+
+    firstly : (d cursor : ℕ) (xs : List (Changeset I)) → (download_first p d cursor xs).answer ≡ Download c from es → (from ≡ cursor) × First es (map (sent_of p) xs)
+    firstly d cursor [] e = plainly d cursor [] e
+    firstly d cursor (x ∷ xs) e = on (needs p x.instrs) e
+      where
+        on : (b : Bool) → (if b then refuses d 0 (NeedsForm2 cursor) else download p d cursor (first_form p (x ∷ xs))).answer ≡ Download c from es → (from ≡ cursor) × First es (map (sent_of p) (x ∷ xs))
+        on true e = cc
+        on false e = let r = plainly d cursor (first_form p (x ∷ xs)) e in (r.0, first_then r.1 (first_map (sent_of p) (form_first (x ∷ xs))))
+
+    answered_by : (o : Option Tables) (cursor : ℕ) → cursor ≤ length s.log → (from ≡ cursor) × First es (map (sent_of p) (map (restricted p o) (entries_from p s.log (length s.log - cursor) cursor))) → Answered s.log o from es
+    answered_by o cursor le r =
+        let z = r.0 in
+        subst (λ k. Answered s.log o k es) (sym r.0) (record { reach = le; bears = record { n = r.1.n; is = r.1.is ∙ ap (take r.1.n) (two (entries_from p s.log (length s.log - cursor) cursor)) } })
+      where
+        two : (xs : List (Changeset I)) → map (sent_of p) (map (restricted p o) xs) ≡ map (λ x. sent_of p (restricted p o x)) xs
+        two [] = refl
+        two (x ∷ xs) = ap (λ l. sent_of p (restricted p o x) ∷ l) (two xs)
+
+    all_of : (xs : List (Changeset I)) → map (restricted p None) xs ≡ xs
+    all_of [] = refl
+    all_of (x ∷ xs) = ap (λ l. x ∷ l) (all_of xs)
+
+    for_all : (cursor : ℕ) → (from ≡ cursor) × First es (map (sent_of p) (entries_from p s.log (length s.log - cursor) cursor)) → (from ≡ cursor) × First es (map (sent_of p) (map (restricted p None) (entries_from p s.log (length s.log - cursor) cursor)))
+    for_all cursor r = (r.0, record { n = r.1.n; is = r.1.is ∙ ap (λ l. take r.1.n (map (sent_of p) l)) (sym (all_of (entries_from p s.log (length s.log - cursor) cursor))) })
+
+    answered : (m : Message) (o : Option Tables) → Asks o m → (serve p s m).answer ≡ Download c from es → Answered s.log o from es
+    answered (Ask d cursor settled) o a e =
+        let t = there_is d cursor settled (download_first p d cursor) e in
+        subst (λ q. Answered s.log q from es) (sym a) (answered_by None cursor t.0 (for_all cursor (firstly d cursor (entries_from p s.log (length s.log - cursor) cursor) t.1)))
+    answered (Ask2 d cursor settled) o a e =
+        let t = there_is d cursor settled (download p d cursor) e in
+        subst (λ q. Answered s.log q from es) (sym a) (answered_by None cursor t.0 (for_all cursor (plainly d cursor (entries_from p s.log (length s.log - cursor) cursor) t.1)))
+    answered (AskTables d cursor settled second tables) o a e =
+        let t = there_is d cursor settled (download_tables p second tables d cursor) e in
+        subst (λ q. Answered s.log q from es) (sym a) (answered_by (Some tables) cursor t.0 (on second t.1))
+      where
+        on : (b : Bool) → (download_tables p b tables d cursor (entries_from p s.log (length s.log - cursor) cursor)).answer ≡ Download c from es → (from ≡ cursor) × First es (map (sent_of p) (map (restricted p (Some tables)) (entries_from p s.log (length s.log - cursor) cursor)))
+        on true e = plainly d cursor (map (restricted p (Some tables)) (entries_from p s.log (length s.log - cursor) cursor)) e
+        on false e = firstly d cursor (map (restricted p (Some tables)) (entries_from p s.log (length s.log - cursor) cursor)) e
+    answered (Bind u) o a e = absurd a
+    answered (Ident u d) o a e = absurd a
+    answered (Upload d hs) o a e = absurd a
+    answered (Download d k xs) o a e = absurd a
+    answered (Refused d number code place) o a e = absurd a
+    answered (Stored d number) o a e = absurd a
+    answered (Retire d by) o a e = absurd a
+    answered (RetiredMessage d by number) o a e = absurd a
+
+  module _ {Fits : S → Type 0} (law : Lawful p Fits) (f : List (Written ServerRecord)) (opens : server_opens p no_server (plain f) ≡ true) where
+    abbrev log : List (LogEntry (Changeset I))
+    log = (server_of p (plain f)).log
+
+    -- the history as it was written is what a question is answered by
+    written_entries : (n k : ℕ) → k + n ≡ length (server_of p (plain f)).log → written_from p (server_of p (plain f)).log n k ≡ map (λ x. Some x) (entries_from p (server_of p (plain f)).log n k)
+    written_entries zero k e = refl
+    written_entries (suc n) k e =
+        let whole : server_opens p no_server (plain f ++ []) ≡ true = subst (λ l. server_opens p no_server l ≡ true) (sym (append-nil (plain f))) opens in
+        let stays = entry_stays p law (plain f) [] whole k (omega arith) in
+        ap₂ (λ x l. x ∷ l) (written_stays p law (plain f) opens k (omega arith) ∙ stays.before) (written_entries n (suc k) (omega arith))
+        ∙ ap (λ o. map (λ x. Some x) (kept o ++ entries_from p (server_of p (plain f)).log n (suc k))) (sym stays.before)
+
+    dropped : (from : ℕ) → from ≤ length (server_of p (plain f)).log → drop from (history_told p f) ≡ map (λ x. Some x) (entries_from p (server_of p (plain f)).log (length (server_of p (plain f)).log - from) from)
+    dropped from le =
+        let z : length (server_of p (plain f)).log ≡ from + (length (server_of p (plain f)).log - from) = omega arith in
+        let y : 0 + from ≡ from = omega arith in
+        ap (λ n. drop from (written_from p (server_of p (plain f)).log n 0)) z
+        ∙ ap (drop from) (written_both p (server_of p (plain f)).log from (length (server_of p (plain f)).log - from) 0)
+        ∙ drop_front (written_from p (server_of p (plain f)).log from 0) (written_from p (server_of p (plain f)).log (length (server_of p (plain f)).log - from) (0 + from)) from (written_long p (server_of p (plain f)).log from 0)
+        ∙ ap (λ k. written_from p (server_of p (plain f)).log (length (server_of p (plain f)).log - from) k) y
+        ∙ written_entries (length (server_of p (plain f)).log - from) from (sym z)
+
+  pub downloads_tell : {Fits : S → Type 0} → Lawful p Fits → DownloadsTell p
+  downloads_tell law f g m first c from es opens asks sent =
+      let a = answered (server_of p (plain f)) c from es m (client_of p g).subset asks sent in
+      let le = a.reach in
+      let entries = entries_from p (server_of p (plain f)).log (length (server_of p (plain f)).log - from) from in
+      let h : Changeset I → Sent = λ x. sent_of p (restricted p (client_of p g).subset x) in
+      let is = dropped law f opens from a.reach in
+      let told = first_long a.bears in
+      let within = told.1 in
+      let l1 = ap length is in
+      let l2 = long_map (λ (x : Changeset I). Some x) (entries_from p (server_of p (plain f)).log (length (server_of p (plain f)).log - from) from) in
+      let l3 = long_map (λ (x : Changeset I). sent_of p (restricted p (client_of p g).subset x)) (entries_from p (server_of p (plain f)).log (length (server_of p (plain f)).log - from) from) in
+      let all = (history_tells p).long f in
+      let whole = written_long p (server_of p (plain f)).log (length (server_of p (plain f)).log) 0 in
+      let l4 = long_drop p from (history_told p f) (omega arith) in
+      record {
+        lives = has_lives is_entry first f from es (omega arith);
+        tells = (
+          sym (long_take p (length es) (drop from (history_told p f)) (omega arith)),
+          λ k e there.
+              let lt = at_long es k e there in
+              let in_all : at (map (λ x. sent_of p (restricted p (client_of p g).subset x)) (entries_from p (server_of p (plain f)).log (length (server_of p (plain f)).log - from) from)) k ≡ Some e = at_take (length es) (map (λ x. sent_of p (restricted p (client_of p g).subset x)) (entries_from p (server_of p (plain f)).log (length (server_of p (plain f)).log - from) from)) k e (ap (λ l. at l k) (sym told.0) ∙ there) in
+              let x = at_of_map (λ x. sent_of p (restricted p (client_of p g).subset x)) (entries_from p (server_of p (plain f)).log (length (server_of p (plain f)).log - from) from) k e in_all in
+              (x.0, at_in_take (length es) (drop from (history_told p f)) k (Some x.0) lt (ap (λ l. at l k) is ∙ at_map (λ y. Some y) (entries_from p (server_of p (plain f)).log (length (server_of p (plain f)).log - from) from) k x.0 x.1), sym x.2),
+        );
+      }

@@ -1,5 +1,5 @@
 -- What nodes send of their files: today's messages, with the lives of what they bear.
-use Rattle.std.specs.Prelude.{◌≡◌, ℕ, suc, Bool, true, ◌-◌, if◌then◌else◌, List, [], ◌∷◌, Option, Some, None, Ok, length, drop}
+use Rattle.std.specs.Prelude.{◌≡◌, ℕ, Bool, true, ◌-◌, if◌then◌else◌, List, [], ◌∷◌, Option, Some, None, Ok, length, drop}
 use Rattle.sync_model.specs.Bytes.{Tables}
 use Rattle.sync_model.specs.Profile.{Profile}
 use Rattle.sync_model.specs.Messages.{Change, Sent, Message, Upload, Ask, Ask2, AskTables, Download}
