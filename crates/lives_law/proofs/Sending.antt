@@ -159,7 +159,7 @@ module _ {I S : Type 0} (p : Profile I S) where
   carried_same (u ∷ us) (q ∷ qs) e = ap (λ l. u.original ∷ l) (carried_same us qs (omega arith))
 
   -- what it made is what it took of its own, and then what is unsent; and numbered from 1 on
-  record Made_ (c : Client I S) : Type 0 where
+  record InFile (c : Client I S) : Type 0 where
     sent : List (Original I)
     split : c.made ≡ sent ++ map (λ u. u.original) c.unsent
     numbers : (k : ℕ) (o : Original I) → at c.made k ≡ Some o → o.number ≡ suc k
@@ -170,22 +170,22 @@ module _ {I S : Type 0} (p : Profile I S) where
   at_end (z ∷ xs) x zero y e = inl e
   at_end (z ∷ xs) x (suc k) y e = ⊎_elim (λ h. inl h) (λ h. inr (ap suc h.0, h.1)) (at_end xs x k y e)
 
-  took_made : (c : Client I S) (e : Changeset I) → Made_ c → Made_ (takes_entry p c e)
+  took_made : (c : Client I S) (e : Changeset I) → InFile c → InFile (takes_entry p c e)
   took_made c e m = on (e.origin == c.ident) (rebase (cross_changesets p) (map (changeset_of c.ident) c.unsent) e) refl
     where
       less : (us : List (Unsent I)) → c.made ≡ m.sent ++ map (λ u. u.original) us → (sent : List (Original I)) × (c.made ≡ sent ++ map (λ (u : Unsent I). u.original) (tail us))
       less [] s = (m.sent, s)
       less (u ∷ us) s = (m.sent ++ u.original ∷ [], s ∙ sym (append_assoc m.sent (u.original ∷ []) (map (λ (u : Unsent I). u.original) us)))
 
-      other : (r : Result (List (Changeset I) × Changeset I) (ℕ × Stuck)) → rebase (cross_changesets p) (map (changeset_of c.ident) c.unsent) e ≡ r → Made_ (crossed p c r)
+      other : (r : Result (List (Changeset I) × Changeset I) (ℕ × Stuck)) → rebase (cross_changesets p) (map (changeset_of c.ident) c.unsent) e ≡ r → InFile (crossed p c r)
       other (Ok q) is = record { sent = m.sent; split = m.split ∙ ap (λ l. m.sent ++ l) (sym (carried_same c.unsent q.0 (rebase_keeps (cross_changesets p) (map (changeset_of c.ident) c.unsent) e q is ∙ long_map (changeset_of c.ident) c.unsent))); numbers = m.numbers }
       other (Err f) is = record { sent = m.sent; split = m.split; numbers = m.numbers }
 
-      on : (b : Bool) (r : Result (List (Changeset I) × Changeset I) (ℕ × Stuck)) → rebase (cross_changesets p) (map (changeset_of c.ident) c.unsent) e ≡ r → Made_ (if b then record c { cursor = suc c.cursor; unsent = tail c.unsent } else crossed p c r)
+      on : (b : Bool) (r : Result (List (Changeset I) × Changeset I) (ℕ × Stuck)) → rebase (cross_changesets p) (map (changeset_of c.ident) c.unsent) e ≡ r → InFile (if b then record c { cursor = suc c.cursor; unsent = tail c.unsent } else crossed p c r)
       on true r is = let l = less c.unsent m.split in record { sent = l.0; split = l.1; numbers = m.numbers }
       on false r is = other r is
 
-  one_made : (c : Client I S) (rs : List ClientRecord) (r : ClientRecord) → client_admits p c (map (λ q. Some q) rs) r ≡ true → Made_ c → Made_ (after_record p c r)
+  one_made : (c : Client I S) (rs : List ClientRecord) (r : ClientRecord) → client_admits p c (map (λ q. Some q) rs) r ≡ true → InFile c → InFile (after_record p c r)
   one_made c rs (Born id) a m = record { sent = m.sent; split = m.split; numbers = m.numbers }
   one_made c rs (Named ident) a m = record { sent = m.sent; split = m.split; numbers = m.numbers }
   one_made c rs (Made number ms body) a m =
@@ -205,13 +205,13 @@ module _ {I S : Type 0} (p : Profile I S) where
   one_made c rs (Part body) a m = record { sent = m.sent; split = m.split; numbers = m.numbers }
   one_made c rs (Floor version) a m = record { sent = m.sent; split = m.split; numbers = m.numbers }
 
-  all_made : (rs : List ClientRecord) (c : Client I S) → client_opens p c rs ≡ true → Made_ c → Made_ (after_records p c rs)
+  all_made : (rs : List ClientRecord) (c : Client I S) → client_opens p c rs ≡ true → InFile c → InFile (after_records p c rs)
   all_made [] c e m = m
   all_made (r ∷ rs) c e m =
       let b = both_true (client_admits p c (map (λ q. Some q) rs) r) (client_opens p (after_record p c r) rs) e in
       all_made rs (after_record p c r) b.1 (one_made c rs r b.0 m)
 
-  file_made : (f : List ClientRecord) → client_opens p (no_client p) f ≡ true → Made_ (client_of p f)
+  file_made : (f : List ClientRecord) → client_opens p (no_client p) f ≡ true → InFile (client_of p f)
   file_made f e = all_made f (no_client p) e (record { sent = []; split = refl; numbers = λ k o h. cc })
 
   -- changes of such numbers are in order
