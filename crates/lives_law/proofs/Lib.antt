@@ -22,3 +22,4 @@ pub mod Heirs
 pub mod Acting
 pub mod Telling
 pub mod Saving
+pub mod Sending
