@@ -231,6 +231,24 @@ REALM_SYNC_API bool realm_file_lock(int file) {
 #endif
 }
 
+/* Brings a new file's name to the device, by a sync of its folder. One that may not be read, or can't be synced, is left. */
+REALM_SYNC_API int realm_folder_sync(const char *path) {
+    const char *slash = strrchr(path, '/');
+    size_t len = slash && slash > path ? (size_t)(slash - path) : 1;
+    char *folder = (char *)malloc(len + 1);
+    if (!folder) return REALM_OUT_OF_MEMORY;
+    memcpy(folder, slash ? path : ".", len);
+    folder[len] = 0;
+    int opened = open(folder, O_RDONLY);
+    free(folder);
+    if (opened < 0) return REALM_NO_REASON;
+    bool failed = fsync(opened) != 0 && errno != EINVAL && errno != ENOTSUP;
+    int error = errno;
+    close(opened);
+    errno = error;
+    return failed ? REALM_SYNC_FAILED : REALM_NO_REASON;
+}
+
 /* Opens a file, or makes it, and locks it. `*moved` says that the path is another file's by now, since somebody renamed one meanwhile. */
 REALM_SYNC_API int realm_file_try(const char *path, realm_file *file, bool *moved) {
     struct stat opened, named;
@@ -248,7 +266,7 @@ REALM_SYNC_API int realm_file_try(const char *path, realm_file *file, bool *move
     }
     if (!realm_file_lock(made)) return errno == EWOULDBLOCK || errno == EAGAIN || errno == EACCES ? REALM_HELD : REALM_NO_LOCKS;
     *moved = stat(path, &named) != 0 || opened.st_dev != named.st_dev || opened.st_ino != named.st_ino;
-    return REALM_NO_REASON;
+    return opened.st_size == 0 && !*moved ? realm_folder_sync(path) : (int)REALM_NO_REASON;
 }
 
 REALM_SYNC_API void realm_file_close(realm_file file) { close((int)file); }

@@ -14,6 +14,7 @@
 
 /* The calls of the system, of which one fails when it is told to. */
 static int write_error, sync_error, lock_error;
+static const char *rename_from, *rename_to; /* done once, between an open and its lock */
 static ssize_t failing_write(int file, const void *bytes, size_t count);
 static int failing_fsync(int file);
 static int failing_flock(int file, int how);
@@ -36,6 +37,7 @@ static int failing_fsync(int file) {
 }
 
 static int failing_flock(int file, int how) {
+    if (rename_from && rename(rename_from, rename_to) == 0) rename_from = NULL;
     errno = lock_error;
     return lock_error ? -1 : flock(file, how);
 }
@@ -468,6 +470,17 @@ static void renamed(void) {
     must(realm_open_client(&first, elsewhere), &first);
     expect(standing(&first).last == 1 && standing(&second).last == 0, "each has its own file");
     printf("a file renamed while it is open: each open has the file that it locked\n");
+    realm_close(&first);
+    realm_close(&second);
+
+    /* Between an open and its lock. */
+    rename_from = elsewhere;
+    rename_to = path;
+    must(realm_open_client(&first, elsewhere), &first);
+    expect(!rename_from && standing(&first).last == 0, "it began again, with a new file");
+    must(realm_open_client(&second, path), &second);
+    expect(standing(&second).last == 1, "the renamed one is free");
+    printf("a file renamed while it is opened: the path is opened anew\n");
     realm_close(&first);
     realm_close(&second);
 }

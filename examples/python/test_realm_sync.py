@@ -7,7 +7,6 @@ usage: examples/python/test_realm_sync.py        (REALM_SYNC_LIBRARY names the s
 import errno
 import os
 import resource
-import signal
 import tempfile
 import threading
 import unittest
@@ -145,7 +144,6 @@ class Files(unittest.TestCase):
         self.assertEqual(caught.exception.place, 0)
 
     def test_a_limit(self):
-        signal.signal(signal.SIGXFSZ, signal.SIG_IGN)
         usual = resource.getrlimit(resource.RLIMIT_FSIZE)
         with new_client(1, self.path) as client:
             resource.setrlimit(resource.RLIMIT_FSIZE, (400, usual[1]))
