@@ -481,9 +481,8 @@ REALM_SYNC_API int realm_told(realm_node *node, int status, const char *expected
 
 /* A request to a client alone. */
 REALM_SYNC_API int realm_ask_client(realm_node *node, char verb, const void *body, size_t len, const char *expected) {
-    int status = realm_askable(node);
-    if (status == REALM_DONE && !node->is_client) return realm_expect(node, "node: expected a client, and this is a server");
-    return realm_told(node, realm_ask_of(node, verb, body, len), expected);
+    int status = realm_ask_of(node, verb, body, len);
+    return realm_told(node, status, node->is_client ? expected : "node: expected a client, and this is a server");
 }
 
 /* Does what a node line says: docs/FORMATS.md, "Lines". */
@@ -595,9 +594,9 @@ REALM_SYNC_API bool realm_is_question(const realm_node *node) {
     return tag == REALM_TAG_ASK || tag == REALM_TAG_ASK_2 || tag == REALM_TAG_ASK_TABLES;
 }
 
-/* The question for the history behind the client's cursor. */
-REALM_SYNC_API int realm_ask(realm_node *node) {
-    int status = realm_ask_client(node, 'A', NULL, 0, NULL);
+/* A message that the client makes; of a question its form is noted. */
+REALM_SYNC_API int realm_ask_message(realm_node *node, char verb) {
+    int status = realm_ask_client(node, verb, NULL, 0, NULL);
     node->question = 0;
     if (status == REALM_DONE && realm_is_question(node)) {
         realm_head head = realm_head_of(node->reply + 1, node->reply_len - 1);
@@ -605,6 +604,9 @@ REALM_SYNC_API int realm_ask(realm_node *node) {
     }
     return status;
 }
+
+/* The question for the history behind the client's cursor. */
+REALM_SYNC_API int realm_ask(realm_node *node) { return realm_ask_message(node, 'A'); }
 
 REALM_SYNC_API realm_place realm_place_at(const uint8_t *bytes) {
     realm_place place;
@@ -628,6 +630,8 @@ REALM_SYNC_API bool realm_peek(const realm_node *node, realm_place *out) {
 REALM_SYNC_API int realm_probe(realm_node *node) {
     realm_place place;
     size_t at = 0;
+    int status = realm_askable(node);
+    if (status != REALM_DONE) return status;
     if (!realm_peek(node, &place)) return realm_fail(node, REALM_NOT_OPEN);
     node->reply[at++] = REALM_DONE;
     node->reply[at++] = REALM_TAG_UPLOAD;
@@ -641,14 +645,12 @@ REALM_SYNC_API int realm_probe(realm_node *node) {
 /* The message to send next: Bind while the client has no ident, then questions until it has all of the history, then Upload while the
  * server may lack changes, else a question. REALM_STALE where nothing more is to be sent. */
 REALM_SYNC_API int realm_next(realm_node *node) {
-    int status = realm_askable(node);
-    if (status == REALM_DONE && node->stale) return REALM_STALE;
-    if (status == REALM_DONE && node->is_client && !node->verified) {
-        status = node->held_up ? realm_probe(node) : realm_ask(node);
+    if (node->stale && realm_askable(node) == REALM_DONE) return REALM_STALE;
+    if (node->is_client && !node->verified) {
+        int status = node->held_up ? realm_probe(node) : realm_ask(node);
         if (status != REALM_REFUSED || realm_refusal(node).number != REALM_NOT_NAMED) return status;
     }
-    status = realm_ask_client(node, 'N', NULL, 0, NULL);
-    return status == REALM_DONE && realm_is_question(node) ? realm_ask(node) : status;
+    return realm_ask_message(node, 'N');
 }
 
 /* Why nothing more is to be sent, by what a client refused, or what the server did. */
