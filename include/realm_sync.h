@@ -337,18 +337,21 @@ REALM_SYNC_API const char *realm_text_of_reason(int reason) {
         "the user may not use this file, or make one in its folder: allow it, and open the file again",
         "the file may be read, and not written: allow writing to it, and open it again",
         "the file system may only be read: use one that may be written",
-        "the path is too long, or its links go round: give another path",
+        "the path, or a name in it, is too long: give another path",
         "too many files are open: close some, and open the file again",
         "the file system has no locks: put the file on one that has",
         "another open holds the file: try again later",
         "the system doesn't open the file",
-        "the disk is full, or the user's share of it: make room, close the node, and open its file again",
+        "the disk is full: make room, close the node, and open its file again",
         "the file has the greatest size that it may have: raise the limit, close the node, and open its file again",
         "a write failed: close the node, look after the disk, and open the file again",
         "a sync failed, so that what wasn't answered may be lost: close the node, look after the disk, and open the file again",
         "the file can't be read: close the node, and look after the disk",
         "memory ran out: close the node, and open its file again",
         "the file is another one's, or damaged: close the node, and give another path; the file is as it was",
+        "the links in the path lead back to it: give another path",
+        "the system has no such names: give another path",
+        "the user's share of the disk is full: make room in it, close the node, and open its file again",
     };
     return reason >= 0 && (size_t)reason < sizeof texts / sizeof texts[0] ? texts[reason] : "unknown";
 }

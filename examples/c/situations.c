@@ -388,7 +388,9 @@ static void paths(void) {
     unopened("a file for a folder", path_of("file/file"), REALM_NOT_A_FOLDER, ENOTDIR);
     memset(name, 'x', sizeof name);
     name[sizeof name - 1] = 0;
-    unopened("a name too long", path_of(name), REALM_BAD_PATH, ENAMETOOLONG);
+    unopened("a name too long", path_of(name), REALM_LONG_PATH, ENAMETOOLONG);
+    if (symlink(fresh("round"), path_of("round")) != 0) expect(false, "a link to itself");
+    unopened("a link to itself", path_of("round"), REALM_LINKS_GO_ROUND, ELOOP);
     lock_error = ENOLCK;
     unopened("no locks", path_of("file"), REALM_NO_LOCKS, ENOLCK);
     lock_error = 0;
@@ -436,7 +438,7 @@ static void failing(const char *situation, int *error, int number, int reason) {
 
 static void disks(void) {
     failing("a full disk", &write_error, ENOSPC, REALM_DISK_FULL);
-    failing("a user's share that is full", &write_error, EDQUOT, REALM_DISK_FULL);
+    failing("a user's share that is full", &write_error, EDQUOT, REALM_SHARE_FULL);
     failing("a file's limit", &write_error, EFBIG, REALM_FILE_LIMIT);
     failing("a write that fails", &write_error, EIO, REALM_WRITE_FAILED);
     failing("a sync that fails", &sync_error, EIO, REALM_SYNC_FAILED);

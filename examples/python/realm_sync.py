@@ -65,7 +65,7 @@ class FileReason(enum.IntEnum):
     NO_PERMISSION = 6
     READ_ONLY_FILE = 7
     READ_ONLY_DISK = 8
-    BAD_PATH = 9
+    LONG_PATH = 9
     MANY_FILES = 10
     NO_LOCKS = 11
     HELD = 12
@@ -77,6 +77,9 @@ class FileReason(enum.IntEnum):
     READ_FAILED = 18
     OUT_OF_MEMORY = 19
     WRONG_FILE = 20
+    LINKS_GO_ROUND = 21
+    BAD_NAME = 22
+    SHARE_FULL = 23
 
 
 class Error(Exception):

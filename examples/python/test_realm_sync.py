@@ -134,7 +134,7 @@ class Files(unittest.TestCase):
         self.assertIn("device", self.told("/dev/null", FileReason.NO_PLAIN_FILE, 0))
         Client(self.path).close()
         self.assertIn("is a file", self.told(os.path.join(self.path, "file"), FileReason.NOT_A_FOLDER, errno.ENOTDIR))
-        self.assertIn("too long", self.told(os.path.join(self.folder, "x" * 300), FileReason.BAD_PATH, errno.ENAMETOOLONG))
+        self.assertIn("too long", self.told(os.path.join(self.folder, "x" * 300), FileReason.LONG_PATH, errno.ENAMETOOLONG))
 
     def test_a_file_that_is_another_ones(self):
         with open(self.path, "wb") as file:
