@@ -337,18 +337,21 @@ REALM_SYNC_API const char *realm_text_of_reason(int reason) {
         "the user may not use this file, or make one in its folder: allow it, and open the file again",
         "the file may be read, and not written: allow writing to it, and open it again",
         "the file system may only be read: use one that may be written",
-        "the path is too long, or its links go round: give another path",
+        "the path, or a name in it, is too long: give another path",
         "too many files are open: close some, and open the file again",
         "the file system has no locks: put the file on one that has",
         "another open holds the file: try again later",
         "the system doesn't open the file",
-        "the disk is full, or the user's share of it: make room, close the node, and open its file again",
+        "the disk is full: make room, close the node, and open its file again",
         "the file has the greatest size that it may have: raise the limit, close the node, and open its file again",
         "a write failed: close the node, look after the disk, and open the file again",
         "a sync failed, so that what wasn't answered may be lost: close the node, look after the disk, and open the file again",
         "the file can't be read: close the node, and look after the disk",
         "memory ran out: close the node, and open its file again",
         "the file is another one's, or damaged: close the node, and give another path; the file is as it was",
+        "the links in the path lead back to it: give another path",
+        "the system has no such names: give another path",
+        "the user's share of the disk is full: make room in it, close the node, and open its file again",
     };
     return reason >= 0 && (size_t)reason < sizeof texts / sizeof texts[0] ? texts[reason] : "unknown";
 }
@@ -481,9 +484,8 @@ REALM_SYNC_API int realm_told(realm_node *node, int status, const char *expected
 
 /* A request to a client alone. */
 REALM_SYNC_API int realm_ask_client(realm_node *node, char verb, const void *body, size_t len, const char *expected) {
-    int status = realm_askable(node);
-    if (status == REALM_DONE && !node->is_client) return realm_expect(node, "node: expected a client, and this is a server");
-    return realm_told(node, realm_ask_of(node, verb, body, len), expected);
+    int status = realm_ask_of(node, verb, body, len);
+    return realm_told(node, status, node->is_client ? expected : "node: expected a client, and this is a server");
 }
 
 /* Does what a node line says: docs/FORMATS.md, "Lines". */
@@ -595,9 +597,9 @@ REALM_SYNC_API bool realm_is_question(const realm_node *node) {
     return tag == REALM_TAG_ASK || tag == REALM_TAG_ASK_2 || tag == REALM_TAG_ASK_TABLES;
 }
 
-/* The question for the history behind the client's cursor. */
-REALM_SYNC_API int realm_ask(realm_node *node) {
-    int status = realm_ask_client(node, 'A', NULL, 0, NULL);
+/* A message that the client makes; of a question its form is noted. */
+REALM_SYNC_API int realm_ask_message(realm_node *node, char verb) {
+    int status = realm_ask_client(node, verb, NULL, 0, NULL);
     node->question = 0;
     if (status == REALM_DONE && realm_is_question(node)) {
         realm_head head = realm_head_of(node->reply + 1, node->reply_len - 1);
@@ -605,6 +607,9 @@ REALM_SYNC_API int realm_ask(realm_node *node) {
     }
     return status;
 }
+
+/* The question for the history behind the client's cursor. */
+REALM_SYNC_API int realm_ask(realm_node *node) { return realm_ask_message(node, 'A'); }
 
 REALM_SYNC_API realm_place realm_place_at(const uint8_t *bytes) {
     realm_place place;
@@ -628,6 +633,8 @@ REALM_SYNC_API bool realm_peek(const realm_node *node, realm_place *out) {
 REALM_SYNC_API int realm_probe(realm_node *node) {
     realm_place place;
     size_t at = 0;
+    int status = realm_askable(node);
+    if (status != REALM_DONE) return status;
     if (!realm_peek(node, &place)) return realm_fail(node, REALM_NOT_OPEN);
     node->reply[at++] = REALM_DONE;
     node->reply[at++] = REALM_TAG_UPLOAD;
@@ -641,14 +648,12 @@ REALM_SYNC_API int realm_probe(realm_node *node) {
 /* The message to send next: Bind while the client has no ident, then questions until it has all of the history, then Upload while the
  * server may lack changes, else a question. REALM_STALE where nothing more is to be sent. */
 REALM_SYNC_API int realm_next(realm_node *node) {
-    int status = realm_askable(node);
-    if (status == REALM_DONE && node->stale) return REALM_STALE;
-    if (status == REALM_DONE && node->is_client && !node->verified) {
-        status = node->held_up ? realm_probe(node) : realm_ask(node);
+    if (node->stale && realm_askable(node) == REALM_DONE) return REALM_STALE;
+    if (node->is_client && !node->verified) {
+        int status = node->held_up ? realm_probe(node) : realm_ask(node);
         if (status != REALM_REFUSED || realm_refusal(node).number != REALM_NOT_NAMED) return status;
     }
-    status = realm_ask_client(node, 'N', NULL, 0, NULL);
-    return status == REALM_DONE && realm_is_question(node) ? realm_ask(node) : status;
+    return realm_ask_message(node, 'N');
 }
 
 /* Why nothing more is to be sent, by what a client refused, or what the server did. */

@@ -81,9 +81,7 @@ if [ -n "$target" ]; then
     if [ ! -f "$out/sync_host_c.o" ] || [ "$module" -nt "$out/sync_host_c.o" ]; then
         "$top/examples/c/other_machine.py" "$module" "$target-linux-gnu" "$out/sync_host_c.o"
     fi
-    # shellcheck disable=SC2086
-    $compiler -std=c11 $warnings -O2 -c "$top/examples/c/heap.c" -o "$out/heap.o"
-    library="$out/sync_host_c.o $out/heap.o"
+    library="$out/sync_host_c.o $out/sync_host_c.o.heap.o"
     for name in two_phones refusals full_disk situations crashes threads; do built $name $name -O2 -pthread; done
     rm -f "$out/full"
     ran c/two_phones "two_phones on $target, over memory" $on "$out/two_phones"
