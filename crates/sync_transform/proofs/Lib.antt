@@ -7,3 +7,4 @@ pub mod Agreed
 pub mod Rows
 pub mod Stands
 pub mod Anywhere
+pub mod InPlace
