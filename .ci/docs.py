@@ -54,9 +54,9 @@ def read(path):
 def documents():
     """README.md, docs/*.md, and the READMEs of other folders and of crates."""
     found = [os.path.join(TOP, "README.md")]
-    for folder in ("docs", "bench", "examples", "web", "service"):
+    for folder in ("docs", "bench", "examples", "js", "python", "service", "wasm", "web"):
         at = os.path.join(TOP, folder)
-        found += sorted(os.path.join(at, it) for it in os.listdir(at) if it.endswith(".md"))
+        found += sorted(os.path.join(at, it) for it in os.listdir(at) if it.endswith(".md")) if os.path.isdir(at) else []
     for name in sorted(os.listdir(os.path.join(TOP, "crates"))):
         path = os.path.join(TOP, "crates", name, "README.md")
         found += [path] if os.path.isfile(path) else []
@@ -66,9 +66,9 @@ def documents():
 def sources():
     """All texts that may speak of a document."""
     for at, folders, files in os.walk(TOP):
-        folders[:] = sorted(it for it in folders if it not in (".git", "out", "__pycache__"))
+        folders[:] = sorted(it for it in folders if it not in (".git", "out", "dist", "node_modules", "__pycache__"))
         for name in sorted(files):
-            if name.endswith((".rt", ".antt", ".py", ".sh", ".edit", ".txt")) or name in ("realm_sync", "run"):
+            if name.endswith((".rt", ".antt", ".py", ".sh", ".ts", ".mjs", ".edit", ".txt")) or name in ("realm_sync", "run"):
                 path = os.path.join(at, name)
                 if path != os.path.abspath(__file__):
                     yield path

@@ -17,7 +17,7 @@ import urllib.request
 import uuid
 
 TOP = os.path.dirname(os.path.dirname(os.path.dirname(os.path.abspath(__file__))))
-sys.path[:0] = [os.path.join(TOP, "service", "src"), os.path.join(TOP, "examples", "python")]
+sys.path[:0] = [os.path.join(TOP, "service", "src"), os.path.join(TOP, "python", "src")]
 
 from realm_service.tokens import Tokens  # noqa: E402
 

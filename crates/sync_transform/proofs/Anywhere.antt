@@ -10,17 +10,16 @@ use Rattle.sync_data.specs.declared.instr.SetErase.{SetErase}
 use Rattle.sync_data.specs.declared.instr.CreateObject.{CreateObject}
 use Rattle.sync_base.specs.Effects.{CellPath, effect_of}
 use Rattle.sync_base.specs.Merged.{path_cmp}
-use Rattle.sync_base.specs.Objects.{object_of, are_apart}
+use Rattle.sync_base.specs.Objects.{cell_in, object_of, are_apart}
 use Rattle.sync_base.specs.Rules.{meeting}
 use Rattle.sync_base.specs.Lemmas.Objects.{apart_stay}
 use Rattle.sync_theory.specs.Lists.{kept, met, row, rowed, cross}
 use Rattle.sync_law.specs.Instrs.{as_pair, meet}
-use Rattle.sync_index.specs.Cells.{cell_in}
-use Rattle.sync_transform.specs.Moves.{inserted_at, erased_at, updated_at, moved, moved_first, kind_in, kind_of, shown, IsShown}
-use Rattle.sync_transform.specs.declared.moves.ListAction.{ListAction}
-use Rattle.sync_transform.specs.declared.moves.ListAction.TheVariants.{Insert, Erase, Update}
+use Rattle.list_places.specs.Moves.{inserted_at, erased_at, updated_at, moved, moved_first, kind_in, kind_of, shown, IsShown}
+use Rattle.list_places.specs.declared.moves.ListAction.{ListAction}
+use Rattle.list_places.specs.declared.moves.ListAction.TheVariants.{Insert, Erase, Update}
 use Rattle.sync_transform.proofs.Cells.{two_cells}
-use Rattle.sync_transform.proofs.Stands.{same_elsewhere, told_written}
+use Rattle.list_places.proofs.Stands.{same_elsewhere, told_written}
 use Rattle.sync_transform.specs.Staying.{StayAnywhere}
 
 -- ---- lists of one

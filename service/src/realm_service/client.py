@@ -5,7 +5,7 @@
         async for places in link.live():  # and again whenever there is news, or `link.changed()` was called
             redraw(places)
 
-The client is one of examples/python/realm_sync.py, or whatever has its `next_message`, `take`, `changed` and `standing`. A lost connection
+The client is one of the package `realm_sync`, or whatever has its `next_message`, `take`, `changed` and `standing`. A lost connection
 is made again, with growing pauses; a message that is repeated does no harm. An application keeps `link.generation` beside the client's file
 and hands it to the next Link."""
 
