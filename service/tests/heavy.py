@@ -45,10 +45,14 @@ class Heavy:
         limits = {"requests_per_second": 1e9, "message_seconds": 300.0}
         self.service = Service(stores(given.store), limits=limits, histories={"merge_pairs": pairs}).start().ready()
         self.headers = authorized("ann", {"*": "write"})
+        self.longest = 0.0  # seconds of one message
 
     async def post(self, history, message):
+        began = time.monotonic()
         async with self.session.post(f"{self.service.base}/v1/histories/{history}", data=message, headers=self.headers) as answer:
-            return answer.status, await answer.read()
+            reply = await answer.read()
+            self.longest = max(self.longest, time.monotonic() - began)
+            return answer.status, reply
 
     async def sync(self, client, history):
         is_question = False
@@ -58,7 +62,7 @@ class Heavy:
             status, reply = await self.post(history, message)
             if status != 200:
                 return status, reply
-            client.take(reply)
+            await asyncio.to_thread(client.take, reply)  # (which merges too, and would hold up the questions below)
         return 200, b""
 
     async def questions(self, history, client, ended):
@@ -86,7 +90,9 @@ class Heavy:
                 took.sort()
                 shown = [f"{1e3 * took[int(part * (len(took) - 1))]:.1f}" for part in (0.5, 0.99, 1)]
                 print(f"{what}, {seconds:.1f} s: {len(took)} questions to another history, p50 {shown[0]} p99 {shown[1]} max {shown[2]} ms")
-            print(f"the Upload of {self.given.changes} insertions that meet {self.given.changes}: {ended or 'taken'}")
+            each = 1e6 * self.longest / self.given.changes**2
+            taken = f"taken in {self.longest:.1f} s, {each:.1f} us for each change and entry that it meets"
+            print(f"the Upload of {self.given.changes} insertions that meet {self.given.changes}: {ended or taken}")
         self.service.stop()
 
     async def beside(self, other, action):

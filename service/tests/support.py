@@ -57,6 +57,13 @@ def get(url, headers=None, seconds=30):
         return error.code, error.read().decode()
 
 
+def processor(pid):
+    """The processor time that a process took, in seconds."""
+    with open(f"/proc/{pid}/stat", encoding="ascii") as file:
+        fields = file.read().rpartition(")")[2].split()
+    return (int(fields[11]) + int(fields[12])) / os.sysconf("SC_CLK_TCK")
+
+
 class Service:
     """One worker, with its configuration as sections of keys."""
 
@@ -129,12 +136,6 @@ class Service:
         """Its resident memory in megabytes."""
         with open(f"/proc/{self.process.pid}/statm", encoding="ascii") as file:
             return int(file.read().split()[1]) * os.sysconf("SC_PAGE_SIZE") / 1e6
-
-    def processor(self):
-        """The processor time that it took, in seconds."""
-        with open(f"/proc/{self.process.pid}/stat", encoding="ascii") as file:
-            fields = file.read().rpartition(")")[2].split()
-        return (int(fields[11]) + int(fields[12])) / os.sysconf("SC_CLK_TCK")
 
 
 class Cluster:

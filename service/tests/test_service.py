@@ -288,6 +288,18 @@ class OfFiles(Suite, unittest.IsolatedAsyncioTestCase):
         shutil.copytree(kept, self.store["folder"])
 
 
+    async def test_a_long_history_comes_in_parts(self):
+        async with Device(self.service.base, HISTORY) as phone, Device(self.service.base, HISTORY) as tablet:
+            for _ in range(5000):
+                with phone.client.transaction() as edits:
+                    edits.add("notes", "all", "count", 1)
+            await phone.sync()
+            await tablet.sync()
+            self.assertEqual((tablet.client.standing().cursor, tablet.count()), (5002, 5000))
+            told = lines((await self.get("/entries"))[1])
+            self.assertEqual([it["version"] for it in told], list(range(5002)))
+
+
 class OfSqlite(Suite, unittest.IsolatedAsyncioTestCase):
     kind = "sqlite"
 

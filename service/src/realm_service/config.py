@@ -45,7 +45,7 @@ class HistoriesConfig:
     threads: int = 32  # in which nodes work
     waiting: int = 1024  # messages of one history
     user_devices: int = 50  # of one user in one history
-    merge_pairs: int = 100_000_000  # changes of one Upload, times the entries that they haven't seen
+    merge_pairs: int = 20_000_000  # changes of one Upload, times the entries that they haven't seen
     program: str = ""  # realm_sync, which trims
 
 

@@ -178,14 +178,13 @@ class Doors:
         if key is not None and table is not None and seen is not None and table not in seen:
             raise Forbidden("the token isn't for this table")
         asked = DUMP if key is None else OBJECT + _named(table, key)
-        async with asyncio.timeout(self.config.limits.message_seconds):
-            status, told = await visit.history.read(asked)
+        status, told = await visit.history.read(asked)
         if status == ABSENT:
             raise Refused(404, "there is no such object")
         if status != DONE:
             raise BadMessage("table is a name, and key a key in JSON")
         if key is None and (table is not None or seen is not None):
-            told = await self.histories.work(_lines_of, told, table, seen)
+            told = await self.histories.work_aside(_lines_of, told, table, seen)
         return web.Response(body=told, content_type="application/x-ndjson")
 
     @_answered

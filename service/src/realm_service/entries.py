@@ -104,11 +104,9 @@ class Entries:
                 page = await self._page(history, version, visit)
 
     async def _page(self, history: History, version: int, visit: Visit) -> _Page:
-        seconds = self.visits.limits.config.message_seconds
         await self.visits.limits.admit(visit.caller.user, 0)
         try:
-            async with asyncio.timeout(seconds):
-                return _Page(await history.entries(version, visit.caller.tables), history)
+            return _Page(await history.entries(version, visit.caller.tables), history)
         except NoEntries as refusal:
             raise _refused(refusal) from refusal
 

@@ -17,6 +17,7 @@ from .stores import Absent, Fenced, Store
 log = logging.getLogger("realm_service")
 # What a node takes by its journal, as docs/SERVICE.md measures it: some for itself, and so many bytes for each byte.
 NODE_BYTES, NODE_FACTOR = 40 << 10, 20
+OPENERS = 4  # threads
 
 Answer = typing.TypeVar("Answer")
 Trimmer = Callable[[bytes], Awaitable[bytes]]
@@ -27,8 +28,8 @@ def weight(journal_bytes: int) -> int:
 
 
 class Histories:
-    def __init__(self, store: Store, config: HistoriesConfig, trimmer: Trimmer):
-        self.store, self.trimmer = store, trimmer
+    def __init__(self, store: Store, config: HistoriesConfig, message_seconds: float, trimmer: Trimmer):
+        self.store, self.message_seconds, self.trimmer = store, message_seconds, trimmer
         self.idle_seconds, self.most_bytes = config.idle_seconds, config.open_bytes
         self.most_waiting, self.most_devices, self.most_pairs = config.waiting, config.user_devices, config.merge_pairs
         self.owned: dict[str, History] = {}
@@ -37,14 +38,19 @@ class Histories:
         self.held = 0
         self.let_go = 0  # nodes since memory was last given back
         self.pool = concurrent.futures.ThreadPoolExecutor(config.threads, "node")
+        self.openers = concurrent.futures.ThreadPoolExecutor(OPENERS, "open")  # so that long messages hold up no opening
         store.on_lapse(self.lapsed)
         metrics.OWNED.set_function(lambda: len(self.owned))
         metrics.OPEN.set_function(lambda: len(self.nodes))
         metrics.HELD.set_function(lambda: self.held)
 
     async def work(self, function: Callable[..., Answer], *given: typing.Any) -> Answer:
-        """Does it in a thread."""
+        """Does it in one of the threads for messages."""
         return await asyncio.get_running_loop().run_in_executor(self.pool, function, *given)
+
+    async def work_aside(self, function: Callable[..., Answer], *given: typing.Any) -> Answer:
+        """Does it in one of the threads for all else."""
+        return await asyncio.get_running_loop().run_in_executor(self.openers, function, *given)
 
     # ---- memory
 
@@ -131,7 +137,8 @@ class Histories:
     # ---- idle ones
 
     async def sweep(self) -> None:
-        """Lets idle nodes go, gives idle histories back to whoever wants them, and memory to the system."""
+        """Gives up messages that take too long, lets idle nodes go, gives idle histories back to whoever wants them, and memory to the
+        system."""
         while True:
             await asyncio.sleep(min(1.0, self.idle_seconds / 4))
             try:
@@ -140,6 +147,8 @@ class Histories:
                 log.exception("a sweep failed")
 
     async def _sweep_once(self, since: float) -> None:
+        for history in [it for it in self.owned.values() if not it.is_idle()]:
+            history.give_up(time.monotonic() - self.message_seconds)
         for history in [it for it in self.nodes if it.used < since and it.is_idle()]:
             self._close_node(history)
         for history in [it for it in self.owned.values() if it.used < since and it.is_idle() and not it.listeners]:
@@ -148,8 +157,9 @@ class Histories:
                 del self.owned[history.name]
         if self.let_go:
             self.let_go = 0
-            await self.work(give_back)
+            await self.work_aside(give_back)
 
     async def stop(self) -> None:
         await asyncio.gather(*(it.close() for it in list(self.owned.values())), return_exceptions=True)
         self.pool.shutdown()
+        self.openers.shutdown()

@@ -41,6 +41,7 @@ class _Work:
     caller: Caller | None = None
     listener: Listener | None = None
     head: Head | None = None
+    began: float = dataclasses.field(default_factory=time.monotonic)
 
     def fail(self, error: BaseException) -> None:
         if not self.future.done():
@@ -58,17 +59,20 @@ class History:
         self.length: int | None = None  # entries; None until the node was open once
         self.sizes = Sizes(0, 0)
         self.waiting: collections.deque[_Work] = collections.deque()
+        self.batch: list[_Work] = []  # what is at work
         self.listeners: set[Listener] = set()
         self.used = time.monotonic()
         self.gone = False
 
     async def ask(self, caller: Caller, message: bytes, listener: Listener | None = None) -> bytes:
         """The reply to a caller's message."""
-        return typing.cast(bytes, await self._put(_Work(message, self._future(), caller, listener, head(message))))
+        reply: bytes = await self._put(_Work(message, self._future(), caller, listener, head(message)))
+        return reply
 
     async def read(self, request: bytes) -> Reply:
         """What the node answers to a request that changes nothing."""
-        return typing.cast(Reply, await self._put(_Work(request, self._future())))
+        reply: Reply = await self._put(_Work(request, self._future()))
+        return reply
 
     async def entries(self, version: int, tables: frozenset[str] | None) -> bytes | None:
         """A Download of the entries from a version on, or None where the history has no device and so no entries. It is asked under the
@@ -90,7 +94,8 @@ class History:
 
     async def trim(self) -> tuple[int, int]:
         """Gives up the history that all devices have settled: the bytes of the journal before and after."""
-        return typing.cast(tuple[int, int], await self._put(_Work(None, self._future())))
+        sizes: tuple[int, int] = await self._put(_Work(None, self._future()))
+        return sizes
 
     @staticmethod
     def _future() -> asyncio.Future[typing.Any]:
@@ -111,15 +116,15 @@ class History:
     async def _run(self) -> None:
         try:
             while self.waiting:
-                batch = self._next_batch()
+                self.batch = self._next_batch()
                 try:
-                    await self._answer(batch)
+                    await self._answer(self.batch)
                 except BaseException as error:  # whatever it is, the node may be ahead of what is stored
-                    self._fail(batch, error)
+                    self._fail(self.batch, error)
                     if not isinstance(error, Exception):
                         raise
         finally:
-            self.runner = None
+            self.runner, self.batch = None, []
             self.used = time.monotonic()
             if self.gone:
                 self.let_go()
@@ -133,7 +138,7 @@ class History:
                 break
             batch.append(self.waiting.popleft())
             size += len(batch[-1].request or b"")
-        return [it for it in batch if not it.future.cancelled()]
+        return [it for it in batch if not it.future.done()]
 
     def _fail(self, batch: list[_Work], error: BaseException) -> None:
         self.let_go()
@@ -255,9 +260,9 @@ class History:
             self.histories.opened(self)
             try:
                 self.devices = Devices(devices, self.lease.generation, self.histories.most_devices)
-                await self.histories.work(self.node.open, journal)
+                await self.histories.work_aside(self.node.open, journal)
                 await self._store(self.node.written(), [], 0)
-                await self.histories.work(self._learn, list(devices))
+                await self.histories.work_aside(self._learn, list(devices))
                 await self._store(self.node.written(), [], self.sizes.length)
             except BaseException:
                 self.let_go()
@@ -288,6 +293,12 @@ class History:
         if node is not None:
             self.histories.closed(self)
             node.close()
+
+    def give_up(self, before: float) -> None:
+        """Tells those that it took too long whose work began before that. What is at work goes on all the same."""
+        for work in (*self.batch, *self.waiting):
+            if work.began < before:
+                work.fail(TimeoutError())
 
     def is_idle(self) -> bool:
         return self.runner is None and not self.waiting

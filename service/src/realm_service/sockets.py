@@ -18,6 +18,7 @@ from .tokens import BadToken
 from .visits import Visit, Visits
 
 HEARTBEAT = 20.0  # seconds
+LONGEST_TIMER = 86400.0  # seconds
 
 
 class News:
@@ -43,6 +44,30 @@ class News:
                 await self.socket.send_str(f'{{"news":{length}}}')
         except (ConnectionError, RuntimeError):
             pass  # it is gone, and whoever reads from it hears so
+
+
+class _End:
+    """Closes a socket when its token ends."""
+
+    def __init__(self, socket: web.WebSocketResponse, visit: Visit):
+        self.socket, self.visit = socket, visit
+        self.closing: asyncio.Future[bool] | None = None
+        self.timer = self._timer()
+
+    def renew(self) -> None:
+        """A newer token came."""
+        self.timer.cancel()
+        self.timer = self._timer()
+
+    def _timer(self) -> asyncio.TimerHandle:
+        left = min(self.visit.until - time.time(), LONGEST_TIMER)
+        return asyncio.get_running_loop().call_later(max(0.0, left), self._ended)
+
+    def _ended(self) -> None:
+        if self.visit.until > time.time():
+            self.timer = self._timer()
+        else:
+            self.closing = asyncio.ensure_future(self.socket.close(code=4401, message=b"the token has expired"))
 
 
 class Sockets:
@@ -80,11 +105,13 @@ class Sockets:
 
     async def _serve(self, socket: web.WebSocketResponse, visit: Visit) -> None:
         history = typing.cast(History, visit.history)
-        news = News(socket)
+        news, end = News(socket), _End(socket, visit)
         history.listeners.add(news)
         try:
             while True:
-                message = await self._next(socket, visit.until)
+                message = await socket.receive()
+                if visit.until <= time.time():
+                    raise BadToken("the token has expired")
                 if message.type == WSMsgType.BINARY:
                     news.is_told = False
                     if history.gone:
@@ -92,6 +119,7 @@ class Sockets:
                     await socket.send_bytes(await self.visits.answer(history, visit.caller, message.data, news))
                 elif message.type == WSMsgType.TEXT:
                     visit.caller, visit.until = self._renewed(message.data, visit)
+                    end.renew()
                 elif history.gone or not self.visits.is_open:
                     raise Refused(503, "the worker stops, or has the history no more", RESTART)
                 else:
@@ -100,14 +128,7 @@ class Sockets:
             return
         finally:
             history.listeners.discard(news)
-
-    @staticmethod
-    async def _next(socket: web.WebSocketResponse, until: float) -> typing.Any:
-        left = until - time.time()
-        try:
-            return await socket.receive(timeout=max(left, 0.001))
-        except asyncio.TimeoutError:
-            raise BadToken("the token has expired") from None
+            end.timer.cancel()
 
     def _renewed(self, text: str, visit: Visit) -> tuple[Caller, float]:
         try:

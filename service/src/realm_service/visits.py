@@ -1,8 +1,8 @@
 """A request to a history: whose it is, what it may do there, and where the history is."""
 
-import asyncio
 import dataclasses
 import re
+import time
 
 from aiohttp import web
 
@@ -88,6 +88,8 @@ class Visits:
     async def answer(self, history: History, caller: Caller, message: bytes, listener: Listener | None = None) -> bytes:
         """The reply to a message, within the caller's limits."""
         await self.limits.admit(caller.user, len(message))
-        with self.limits.flight(len(message)), metrics.REPLYING.time():
-            async with asyncio.timeout(self.limits.config.message_seconds):
-                return await history.ask(caller, message, listener)
+        began = time.perf_counter()
+        with self.limits.flight(len(message)):
+            reply = await history.ask(caller, message, listener)
+        metrics.REPLYING.observe(time.perf_counter() - began)
+        return reply
