@@ -1,5 +1,6 @@
 // A database as an application has it in one tab: its objects to read at once, transactions, and the state of sync.
 
+import { call } from './call.js';
 import { Closed, SchemaConflict, errorOfForm } from './errors.js';
 import type { Answers, Committed, HostEvent, Snapshot } from './host.js';
 import { HostGone, type Link } from './link.js';
@@ -126,10 +127,10 @@ export class Database<T extends Tables> {
     switch (event.event) {
       case 'sync':
         this.syncState = event.state;
-        for (const listener of this.syncListeners) listener(event.state);
+        for (const listener of this.syncListeners) call(listener, event.state);
         return;
       case 'recovered':
-        for (const listener of this.recoveryListeners) listener(event.recovery);
+        for (const listener of this.recoveryListeners) call(listener, event.recovery);
         return;
       case 'lost': return this.tellLost(event.lost);
       case 'token':
@@ -149,7 +150,7 @@ export class Database<T extends Tables> {
 
   private tellLost(forms: readonly LostForm[]): void {
     const lost = forms.flatMap((it) => this.lostEdit(it));
-    if (lost.length > 0) for (const listener of this.lossListeners) listener(lost);
+    if (lost.length > 0) for (const listener of this.lossListeners) call(listener, lost);
   }
 
   /** None where the table or the column isn't one of the declared schema. */
@@ -186,12 +187,12 @@ export class Database<T extends Tables> {
       this.conflict = error;
     }
     this.changed(changes);
-    for (const listener of this.syncListeners) listener(this.syncState);
+    for (const listener of this.syncListeners) call(listener, this.syncState);
   }
 
   private changed(changes: RowChange[]): void {
     this.feed.tell(changes);
-    if (changes.length > 0) for (const listener of this.changeListeners) listener(changes);
+    if (changes.length > 0) for (const listener of this.changeListeners) call(listener, changes);
     const arrivals = this.arrivals;
     this.arrivals = [];
     for (const arrive of arrivals) arrive();

@@ -1,5 +1,6 @@
 // Queries over a tab's objects, and live ones: what changed is put into the result at its place, and the rest stays as it is.
 
+import { call } from './call.js';
 import type { Row, RowChange, TableRows } from './mirror.js';
 import type { Key, KeyOf, ObjectOf } from './schema.js';
 
@@ -55,7 +56,7 @@ export class Feed {
         if (tell) telling.push(tell);
       }
     }
-    for (const tell of telling) tell();
+    for (const tell of telling) call(tell);
   }
 }
 
@@ -223,7 +224,7 @@ class Live<R extends Row> {
     else this.edit([...removed, ...updated.map((it) => it.before)], [...inserted, ...updated.map((it) => it.after)]);
     this.rows = cut(this.all.slice(), this.plan.most);
     return () => {
-      for (const listener of [...this.listeners]) listener(this.rows, { inserted, updated, removed });
+      for (const listener of [...this.listeners]) call(listener, this.rows, { inserted, updated, removed });
     };
   }
 
