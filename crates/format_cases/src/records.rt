@@ -72,20 +72,6 @@ fn client_fields(alloc: Global, record: &ClientRecord) -> Result<String, Failure
             hex::encode(alloc, body.bytes())?
         ),
         ClientRecord::Floor { version } => format!(in alloc; "Floor {version}"),
-        ClientRecord::Resumed { number, waiting } => {
-            format!(in alloc; "Resumed {number} {waiting}")
-        }
-        ClientRecord::Waits {
-            number,
-            base,
-            ms,
-            made,
-            carried,
-        } => {
-            let made = hex::encode(alloc, made.bytes())?;
-            let carried = hex::encode(alloc, carried.bytes())?;
-            format!(in alloc; "Waits {number} {base} {ms} {made} {carried}")
-        }
     };
     Ok(text?)
 }

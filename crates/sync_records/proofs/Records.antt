@@ -1,13 +1,11 @@
 -- The two laws of records: what is read is spelled so, and what is spelled so is read.
-use Rattle.std.proofs.Common.{◌≡◌, ℕ, ◌<◌, ◌^◌, leb, eqb, Bool, true, false, List, [], ◌∷◌, ◌++◌, drop, length, Option, Some, None, Result, Ok, Err, refl, sym, ap, subst, ◌∙◌, lit<, if◌then◌else◌}
-use Rattle.std.specs.Prelude.{IfOk, IfSome, bytes_eq}
+use Rattle.std.proofs.Common.{◌≡◌, ℕ, ◌<◌, ◌^◌, leb, eqb, true, List, ◌∷◌, ◌++◌, drop, length, Option, Some, None, Result, Ok, Err, refl, sym, ap, ◌∙◌, lit<}
+use Rattle.std.specs.Prelude.{IfOk, IfSome}
 use Rattle.std.specs.List.{AllByRecursion}
 use Rattle.std.proofs.lemmas.Bool.{eqb-true, le-leb}
-use Rattle.std.proofs.lemmas.Slice.Eq.{bytes_eq-Decides}
 use Rattle.sync_io.specs.VarintLaws.{IsBytes}
 use Rattle.sync_io.specs.Varints.{varint}
-use Rattle.sync_io.specs.Formats.{◌>>=◌, body as sized}
-use Rattle.sync_io.specs.FormatLaws.{bind_some, bound, some_is, number_is, wide_is, bytes_is, body_is as sized_is, both_is, only_is}
+use Rattle.sync_io.specs.FormatLaws.{some_is, number_is, wide_is, bytes_is, both_is, only_is}
 use Rattle.subset_bytes.specs.Laws.{FitsTables, tables_are, tables_fit}
 use Rattle.subset_bytes.specs.Spelling.{tables_spelling}
 use Rattle.sync_records.specs.declared.client.ClientRecord.{ClientRecord}
@@ -17,8 +15,8 @@ use Rattle.sync_records.specs.declared.server.ServerRecord.{ServerRecord}
 use Rattle.sync_records.specs.declared.server.ServerRecord.TheVariants as server
 use Rattle.sync_records.specs.declared.refusal.RecordRefusal.{RecordRefusal}
 use Rattle.sync_records.specs.Limits.{IsClientRecord, IsServerRecord}
-use Rattle.sync_records.specs.Spelling.{carried_spelling, client_spelling, server_spelling}
-use Rattle.sync_records.specs.Reading.{Gives, id_in, ident_in, form_in, made_in, took_in, entry_in, past_in, version_in, pair_in, count_in, names_in, rest_in, waits_in, carried_in, waiting_in, made_of, resumed_of, waits_of, took_of, took_seen, entry_of, pair_as, count_of, carried_of, past_of, client_forms, server_forms, record_in}
+use Rattle.sync_records.specs.Spelling.{client_spelling, server_spelling}
+use Rattle.sync_records.specs.Reading.{Gives, id_in, ident_in, form_in, made_in, took_in, entry_in, past_in, version_in, pair_in, count_in, names_in, rest_in, made_of, took_of, took_seen, entry_of, pair_as, count_of, carried_of, past_of, client_forms, server_forms, record_in}
 use Rattle.sync_records.proofs.Whole.{IsWhole, all_is, rest_is, IsForm, form_is, form_again, record_takes}
 
 id_is : IsWhole (λ text. text) id_in (λ text. length text ≡ 16)
@@ -60,57 +58,6 @@ body_is = record { takes = λ bytes x fits e. (some_is bytes x e, tt); again = �
 past_is : IsWhole (λ (x : ((ℕ × ℕ) × ℕ) × List ℕ). varint x.0.0.0 ++ varint x.0.0.1 ++ varint x.0.1 ++ x.1) past_in (λ x. ((x.0.0.0 < 2 ^ 32) × (x.0.0.1 < 2 ^ 32)) × (x.0.1 < 2 ^ 64))
 past_is = took_is
 
--- bytes as they were carried, behind those as they were made
-carried_take : (made bytes carried : List ℕ) → carried_in made bytes ≡ Some carried → (bytes ≡ carried_spelling made carried) × (carried ≡ [] → made ≡ [])
-carried_take made [] carried e =
-    let same = some_is made carried e in
-    (sym (ap (λ t. if t then [] else carried) ((bytes_eq-Decides made carried).1 same)), λ none. same ∙ none)
-carried_take made (b ∷ bytes) carried e = on (bytes_eq made (b ∷ bytes)) refl e
-  where
-    on : (t : Bool) → bytes_eq made (b ∷ bytes) ≡ t → (if t then None else Some (b ∷ bytes)) ≡ Some carried → (b ∷ bytes ≡ carried_spelling made carried) × (carried ≡ [] → made ≡ [])
-    on true is h = absurd cc
-    on false is h =
-        let same : b ∷ bytes ≡ carried = some_is (b ∷ bytes) carried h in
-        (same ∙ sym (ap (λ t. if t then [] else carried) (ap (bytes_eq made) (sym same) ∙ is)), λ none. let bad : b ∷ bytes ≡ [] = same ∙ none in absurd cc)
-
-carried_again : (made carried : List ℕ) → (carried ≡ [] → made ≡ []) → carried_in made (carried_spelling made carried) ≡ Some carried
-carried_again made carried h = on (bytes_eq made carried) refl
-  where
-    other : (cs : List ℕ) → bytes_eq made cs ≡ false → (cs ≡ [] → made ≡ []) → carried_in made cs ≡ Some cs
-    other [] is g = ap (λ l. Some l) (g refl)
-    other (b ∷ bytes) is g = ap (λ t. if t then None else Some (b ∷ bytes)) is
-
-    on : (t : Bool) → bytes_eq made carried ≡ t → carried_in made (if t then [] else carried) ≡ Some carried
-    on true is = ap (λ l. Some l) ((bytes_eq-Decides made carried).0 is)
-    on false is = other carried is h
-
-waits_is : IsWhole (λ (x : (((ℕ × ℕ) × ℕ) × List ℕ) × List ℕ). varint x.0.0.0.0 ++ varint x.0.0.0.1 ++ varint x.0.0.1 ++ sized x.0.1 ++ x.1) waits_in (λ x. (((x.0.0.0.0 < 2 ^ 32) × (x.0.0.0.1 < 2 ^ 32)) × (x.0.0.1 < 2 ^ 64)) × (length x.0.1 < 2 ^ 32))
-waits_is = rest_is (both_is (both_is (both_is number_is number_is) wide_is) sized_is)
-
--- a number, a base, a time, and both lists of bytes
-abbrev Waiting : Type 0
-Waiting = (((ℕ × ℕ) × ℕ) × List ℕ) × List ℕ
-
-abbrev waiting_text : Waiting → List ℕ
-waiting_text x = varint x.0.0.0.0 ++ varint x.0.0.0.1 ++ varint x.0.0.1 ++ sized x.0.1 ++ carried_spelling x.0.1 x.1
-
-abbrev FitsWaiting : Waiting → Type 0
-FitsWaiting x = ((((x.0.0.0.0 < 2 ^ 32) × (x.0.0.0.1 < 2 ^ 32)) × (x.0.0.1 < 2 ^ 64)) × (length x.0.1 < 2 ^ 32)) × (x.1 ≡ [] → x.0.1 ≡ [])
-
-waiting_is : IsWhole waiting_text waiting_in FitsWaiting
-waiting_is = record {
-  takes = λ bytes x fits e.
-      let p = bind_some (waits_in bytes) (λ y. carried_in y.0.1 y.1 >>= λ carried. Some (y.0, carried)) x e in
-      let q = bind_some (carried_in p.0.0.1 p.0.1) (λ carried. Some (p.0.0, carried)) x p.2 in
-      let first = waits_is.takes bytes p.0 fits p.1 in
-      let second = carried_take p.0.0.1 p.0.1 q.0 q.1 in
-      subst (λ (y : Waiting). (bytes ≡ waiting_text y) × FitsWaiting y) (some_is (p.0.0, q.0) x q.2)
-      (first.0 ∙ ap (λ (t : List ℕ). varint p.0.0.0.0.0 ++ varint p.0.0.0.0.1 ++ varint p.0.0.0.1 ++ sized p.0.0.1 ++ t) second.0, (first.1, second.1));
-  again = λ x fits.
-      bound (waits_in (waiting_text x)) (λ y. carried_in y.0.1 y.1 >>= λ carried. Some (y.0, carried)) (x.0, carried_spelling x.0.1 x.1) (waits_is.again (x.0, carried_spelling x.0.1 x.1) fits.0)
-      ∙ bound (carried_in x.0.1 (carried_spelling x.0.1 x.1)) (λ carried. Some (x.0, carried)) x.1 (carried_again x.0.1 x.1 fits.1);
-}
-
 -- ---- a client's
 
 abbrev FitsClient : ClientRecord → Type 0
@@ -122,8 +69,6 @@ FitsClient client.Form = Unit {0}
 FitsClient (client.Subset tables) = FitsTables tables
 FitsClient (client.Part body) = Unit {0}
 FitsClient (client.Floor version) = version < 2 ^ 32
-FitsClient (client.Resumed number waiting) = (number < 2 ^ 32) × (waiting < 2 ^ 32)
-FitsClient (client.Waits number base ms made carried) = FitsWaiting ((((number, base), ms), made), carried)
 
 client_forms_are : AllByRecursion (IsForm client_spelling FitsClient) client_forms
 client_forms_are = (
@@ -140,13 +85,7 @@ client_forms_are = (
             form_is names_is client.Subset client_spelling FitsClient 9 (λ x f. refl) (λ x f. f),
             (
               form_is body_is client.Part client_spelling FitsClient 11 (λ x f. refl) (λ x f. tt),
-              (
-                form_is version_is client.Floor client_spelling FitsClient 12 (λ x f. refl) (λ x f. f),
-                (
-                  form_is pair_is resumed_of client_spelling FitsClient 16 (λ x f. refl) (λ x f. f),
-                  (form_is waiting_is waits_of client_spelling FitsClient 17 (λ x f. refl) (λ x f. f), tt),
-                ),
-              ),
+              (form_is version_is client.Floor client_spelling FitsClient 12 (λ x f. refl) (λ x f. f), tt),
             ),
           ),
         ),
@@ -164,8 +103,6 @@ client_again client.Form fits = form_again form_number_is (λ _. client.Form) 2 
 client_again (client.Subset tables) fits = form_again names_is client.Subset tables fits
 client_again (client.Part body) fits = form_again body_is client.Part body tt
 client_again (client.Floor version) fits = form_again version_is client.Floor version fits
-client_again (client.Resumed number waiting) fits = form_again pair_is resumed_of (number, waiting) fits
-client_again (client.Waits number base ms made carried) fits = form_again waiting_is waits_of ((((number, base), ms), made), carried) fits
 
 client_fits : (record_ : ClientRecord) → IsClientRecord record_ → FitsClient record_
 client_fits (client.Born id) is = is
@@ -176,8 +113,6 @@ client_fits client.Form is = tt
 client_fits (client.Subset tables) is = tables_fit tables is
 client_fits (client.Part body) is = tt
 client_fits (client.Floor version) is = is
-client_fits (client.Resumed number waiting) is = (is.0, is.1)
-client_fits (client.Waits number base ms made carried) is = ((((is.0, is.1), is.2), is.3.0), is.3.1)
 
 pub client_found : (bytes : List ℕ) (r : Result ClientRecord RecordRefusal) → IsBytes bytes → Gives (λ x. x) r (record_in client_forms bytes) → IfOk r (λ x. bytes ≡ client_spelling x)
 client_found bytes (Ok x) fits given = (record_takes client_spelling FitsClient client_forms client_forms_are bytes x fits given).0

@@ -1,14 +1,10 @@
 -- Which values are records: each number fits its type, a client that is named has an ident, and tables are as they are spelled.
-use Rattle.std.specs.Prelude.{◌≡◌, ◌<◌, ◌≤◌, ◌^◌, ℕ, List, [], length}
+use Rattle.std.specs.Prelude.{◌≡◌, ◌<◌, ◌≤◌, ◌^◌, length}
 use Rattle.subset_bytes.specs.Spelling.{AreTables}
 use Rattle.sync_records.specs.declared.client.ClientRecord.{ClientRecord}
 use Rattle.sync_records.specs.declared.client.ClientRecord.TheVariants as client
 use Rattle.sync_records.specs.declared.server.ServerRecord.{ServerRecord}
 use Rattle.sync_records.specs.declared.server.ServerRecord.TheVariants as server
-
--- bytes as they were made, and as they were carried, which are empty only where both are
-abbrev pub AreBoth : List ℕ → List ℕ → Type 0
-AreBoth made carried = (length made < 2 ^ 32) × (carried ≡ [] → made ≡ [])
 
 abbrev pub IsClientRecord : ClientRecord → Type 0
 IsClientRecord (client.Born id) = length id ≡ 16
@@ -19,8 +15,6 @@ IsClientRecord client.Form = Unit {0}
 IsClientRecord (client.Subset tables) = AreTables tables
 IsClientRecord (client.Part body) = Unit {0}
 IsClientRecord (client.Floor version) = version < 2 ^ 32
-IsClientRecord (client.Resumed number waiting) = (number < 2 ^ 32) × (waiting < 2 ^ 32)
-IsClientRecord (client.Waits number base ms made carried) = (number < 2 ^ 32) × (base < 2 ^ 32) × (ms < 2 ^ 64) × AreBoth made carried
 
 abbrev pub IsServerRecord : ServerRecord → Type 0
 IsServerRecord (server.Client id) = length id ≡ 16

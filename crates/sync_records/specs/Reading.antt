@@ -1,6 +1,6 @@
 -- How records are read.
-use Rattle.std.specs.Prelude.{◌≡◌, ℕ, ◌==◌, if◌then◌else◌, List, [], ◌∷◌, nat_le, bytes_eq, Option, None, Some, Result, Ok, Err}
-use Rattle.sync_io.specs.Formats.{◌>>=◌, number_in, wide_in, bytes_in, body_in, both_in, only_in, all_in}
+use Rattle.std.specs.Prelude.{◌≡◌, ℕ, ◌==◌, if◌then◌else◌, List, [], ◌∷◌, nat_le, Option, None, Some, Result, Ok, Err}
+use Rattle.sync_io.specs.Formats.{◌>>=◌, number_in, wide_in, bytes_in, both_in, only_in, all_in}
 use Rattle.subset_bytes.specs.Reading.{tables_in}
 use Rattle.sync_subset.specs.Tables.{Tables}
 use Rattle.sync_records.specs.declared.refusal.RecordRefusal.{RecordRefusal}
@@ -74,29 +74,11 @@ past_in bytes = both_in (both_in number_in number_in) wide_in bytes
 abbrev pub entry_in : List ℕ → Option ((((ℕ × ℕ) × ℕ) × ℕ) × List ℕ)
 entry_in bytes = both_in (both_in (both_in number_in number_in) number_in) wide_in bytes
 
--- numbers, the bytes of a changeset as it was made, behind their length, and what is left: as it was carried, or nothing, where that
--- is the same
-abbrev pub waits_in : List ℕ → Option ((((ℕ × ℕ) × ℕ) × List ℕ) × List ℕ)
-waits_in bytes = both_in (both_in (both_in number_in number_in) wide_in) body_in bytes
-
-abbrev pub carried_in : List ℕ → List ℕ → Option (List ℕ)
-carried_in made [] = Some made
-carried_in made (b ∷ bytes) = if bytes_eq made (b ∷ bytes) then None else Some (b ∷ bytes)
-
-abbrev pub waiting_in : List ℕ → Option ((((ℕ × ℕ) × ℕ) × List ℕ) × List ℕ)
-waiting_in bytes = waits_in bytes >>= λ x. carried_in x.0.1 x.1 >>= λ carried. Some (x.0, carried)
-
 abbrev pub made_of : (ℕ × ℕ) × List ℕ → ClientRecord
 made_of p = client.Made p.0.0 p.0.1 p.1
 
 abbrev pub took_of : ((ℕ × ℕ) × ℕ) × List ℕ → ClientRecord
 took_of p = client.Took p.0.0.0 p.0.0.1 p.0.1 p.1
-
-abbrev pub resumed_of : ℕ × ℕ → ClientRecord
-resumed_of p = client.Resumed p.0 p.1
-
-abbrev pub waits_of : (((ℕ × ℕ) × ℕ) × List ℕ) × List ℕ → ClientRecord
-waits_of p = client.Waits p.0.0.0.0 p.0.0.0.1 p.0.0.1 p.0.1 p.1
 
 -- the record of these fields
 abbrev pub took_seen : Took → ClientRecord
@@ -128,8 +110,6 @@ client_forms =
     ∷ (9, seen client.Subset names_in)
     ∷ (11, seen client.Part rest_in)
     ∷ (12, seen client.Floor version_in)
-    ∷ (16, seen resumed_of pair_in)
-    ∷ (17, seen waits_of waiting_in)
     ∷ []
 
 abbrev pub server_forms : List (ℕ × (List ℕ → Option ServerRecord))

@@ -1,16 +1,11 @@
 -- The one spelling of each record of a journal.
-use Rattle.std.specs.Prelude.{ℕ, List, [], ◌∷◌, ◌++◌, bytes_eq, if◌then◌else◌}
-use Rattle.sync_io.specs.Formats.{body as sized}
+use Rattle.std.specs.Prelude.{ℕ, List, ◌∷◌, ◌++◌}
 use Rattle.sync_io.specs.Varints.{varint}
 use Rattle.subset_bytes.specs.Spelling.{tables_spelling}
 use Rattle.sync_records.specs.declared.client.ClientRecord.{ClientRecord}
 use Rattle.sync_records.specs.declared.client.ClientRecord.TheVariants as client
 use Rattle.sync_records.specs.declared.server.ServerRecord.{ServerRecord}
 use Rattle.sync_records.specs.declared.server.ServerRecord.TheVariants as server
-
--- the bytes of a changeset as it was carried, behind those as it was made: none where they are the same
-abbrev pub carried_spelling : List ℕ → List ℕ → List ℕ
-carried_spelling made carried = if bytes_eq made carried then [] else carried
 
 -- a tag, and the fields; a body is what is left of the record
 abbrev pub client_spelling : ClientRecord → List ℕ
@@ -22,8 +17,6 @@ client_spelling client.Form = 7 ∷ varint 2
 client_spelling (client.Subset tables) = 9 ∷ tables_spelling tables
 client_spelling (client.Part body) = 11 ∷ body
 client_spelling (client.Floor version) = 12 ∷ varint version
-client_spelling (client.Resumed number waiting) = 16 ∷ (varint number ++ varint waiting)
-client_spelling (client.Waits number base ms made carried) = 17 ∷ (varint number ++ varint base ++ varint ms ++ sized made ++ carried_spelling made carried)
 
 abbrev pub server_spelling : ServerRecord → List ℕ
 server_spelling (server.Client id) = 5 ∷ id

@@ -1,16 +1,15 @@
 ghost use Rattle.std.specs.Prelude.{◌≡◌, ◌++◌, List, length, IfOk, IfSome, OnOk, Some};
 ghost use Rattle.sync_records.specs.Limits.{IsClientRecord};
-ghost use Rattle.sync_records.specs.Reading.{Gives, seen, made_of as read_made, made_in, waits_of as read_waits, waiting_in, took_of as read_took, took_in, took_seen, client_forms, fields_in, record_in};
+ghost use Rattle.sync_records.specs.Reading.{Gives, seen, made_of as read_made, made_in, took_of as read_took, took_in, took_seen, client_forms, fields_in, record_in};
 ghost use Rattle.sync_records.specs.Spelling.{client_spelling};
 ghost use Rattle.sync_records.specs.declared.client.ClientRecord.{ClientRecord};
 
 use crate::fields::{
-    FORM, body_of, carried_of, form_of, id_of, named_of, names_of, number_of, pair_of, sized_of,
-    version_of, wide_of,
+    FORM, body_of, form_of, id_of, named_of, names_of, number_of, version_of, wide_of,
 };
 use crate::named::Named;
 use crate::refusal::RecordRefusal;
-use crate::writing::{ROOM, put_both, put_bytes, put_number, put_pair};
+use crate::writing::{ROOM, put_bytes, put_number, put_pair};
 use std::alloc::Global;
 use subset_bytes::put_tables;
 use sync_data::{Blob, Id, Ident, NoMemory};
@@ -55,20 +54,6 @@ pub enum ClientRecord {
     Floor {
         version: u32,
     },
-    /// So many of the client's changesets were taken from the history and aren't in the file, and so many are unsent.
-    Resumed {
-        number: u32,
-        waiting: u32,
-    },
-    /// One of the unsent ones: its number, the cursor at which it was made, its time in milliseconds since the epoch, its bytes
-    /// as it was made, and as it was carried since.
-    Waits {
-        number: u32,
-        base: u32,
-        ms: u64,
-        made: Blob,
-        carried: Blob,
-    },
 }
 
 fn made_of(alloc: Global, bytes: &[u8]) -> Result<ClientRecord, RecordRefusal>
@@ -78,25 +63,6 @@ fn made_of(alloc: Global, bytes: &[u8]) -> Result<ClientRecord, RecordRefusal>
     let (ms, rest) = wide_of(rest)?;
     let body = body_of(alloc, rest)?;
     Ok(ClientRecord::Made { number, ms, body })
-}
-
-fn waits_of(alloc: Global, bytes: &[u8]) -> Result<ClientRecord, RecordRefusal>
-    ensures { Gives (λ x. x) result (seen read_waits waiting_in bytes.now) }
-{
-    let (number, rest) = number_of(bytes)?;
-    let (base, rest) = number_of(rest)?;
-    let (ms, rest) = wide_of(rest)?;
-    let (made, rest) = sized_of(rest)?;
-    let carried = carried_of(made, rest)?;
-    let made = body_of(alloc, made)?;
-    let carried = body_of(alloc, carried)?;
-    Ok(ClientRecord::Waits {
-        number,
-        base,
-        ms,
-        made,
-        carried,
-    })
 }
 
 /// The fields of a record Took, with its bytes borrowed.
@@ -171,11 +137,6 @@ fn fields_of(alloc: Global, tag: u8, bytes: &[u8]) -> Result<ClientRecord, Recor
         12 => Ok(ClientRecord::Floor {
             version: version_of(bytes)?,
         }),
-        16 => {
-            let (number, waiting) = pair_of(bytes)?;
-            Ok(ClientRecord::Resumed { number, waiting })
-        }
-        17 => waits_of(alloc, bytes),
         _ => Err(RecordRefusal::BadRecord),
     }
 }
@@ -220,18 +181,6 @@ fn put_record(out: &mut Vec<u8>, given: &ClientRecord) -> Result<(), sync_io::No
         }
         ClientRecord::Part { body } => put_bytes(out, 11, body.bytes()),
         ClientRecord::Floor { version } => put_number(out, 12, *version),
-        ClientRecord::Resumed { number, waiting } => put_pair(out, 16, *number, *waiting),
-        ClientRecord::Waits {
-            number,
-            base,
-            ms,
-            made,
-            carried,
-        } => {
-            put_pair(out, 17, *number, *base)?;
-            put_varint64(out, *ms)?;
-            put_both(out, made.bytes(), carried.bytes())
-        }
     }
 }
 

@@ -1,6 +1,6 @@
 ghost use Rattle.std.specs.Prelude.{◌≡◌, List, length, IfOk};
-ghost use Rattle.sync_io.specs.Formats.{number_in, wide_in, bytes_in, body_in};
-ghost use Rattle.sync_records.specs.Reading.{Gives, id_in, ident_in, form_in, names_in, rest_in, pair_in, version_in, carried_in};
+ghost use Rattle.sync_io.specs.Formats.{number_in, wide_in, bytes_in};
+ghost use Rattle.sync_records.specs.Reading.{Gives, id_in, ident_in, form_in, names_in, rest_in, pair_in, version_in};
 
 use crate::named::Named;
 use crate::refusal::RecordRefusal;
@@ -105,29 +105,4 @@ pub(crate) fn body_of(alloc: Global, bytes: &[u8]) -> Result<Blob, RecordRefusal
         Ok(body) => Ok(body),
         Err(_) => Err(RecordRefusal::NoMemory),
     }
-}
-
-/// Bytes behind their length, and what is left.
-pub(crate) fn sized_of(bytes: &[u8]) -> Result<(&[u8], &[u8]), RecordRefusal>
-    ensures { Gives (λ x. (x.0.now, x.1.now)) result (body_in bytes.now) }
-{
-    let (count, rest) = number_of(bytes)?;
-    let count = count as usize;
-    if rest.len() < count {
-        return Err(RecordRefusal::BadRecord);
-    }
-    Ok(rest.split_at(count))
-}
-
-/// What is left behind the bytes of a changeset as it was made: as it was carried, or nothing, where that is the same.
-pub(crate) fn carried_of<'a>(made: &'a [u8], bytes: &'a [u8]) -> Result<&'a [u8], RecordRefusal>
-    ensures { Gives (λ x. x.now) result (carried_in made.now bytes.now) }
-{
-    if bytes.is_empty() {
-        return Ok(made);
-    }
-    if made == bytes {
-        return Err(RecordRefusal::BadRecord);
-    }
-    Ok(bytes)
 }

@@ -1,8 +1,5 @@
 ghost use Rattle.std.specs.Prelude.{◌≡◌, ◌++◌, ◌∷◌, OnOk};
-ghost use Rattle.sync_io.specs.Formats.{body as sized};
 ghost use Rattle.sync_io.specs.Varints.{varint};
-ghost use Rattle.sync_records.specs.Limits.{AreBoth};
-ghost use Rattle.sync_records.specs.Spelling.{carried_spelling};
 
 use sync_data::{Blob, Ident};
 use sync_io::{NoMemory, put_varint32, put_varint64};
@@ -53,26 +50,5 @@ pub(crate) fn put_bytes(out: &mut Vec<u8>, tag: u8, bytes: &[u8]) -> Result<(), 
 {
     out.push(tag)?;
     out.extend_from_slice(bytes)?;
-    Ok(())
-}
-
-/// The bytes of a changeset as it was made, behind their length, and then as it was carried, where these are others. Bytes that no
-/// changeset has are out of memory: none as it was carried alone, or 2^32 and more.
-pub(crate) fn put_both(out: &mut Vec<u8>, made: &[u8], carried: &[u8]) -> Result<(), NoMemory>
-    ensures spelled { OnOk result (out.new.items ≡ out.old.items ++ sized made.now ++ carried_spelling made.now carried.now) }
-    ensures are { OnOk result (AreBoth made.now carried.now) }
-{
-    let Ok(size) = u32::try_from(made.len()) else {
-        return Err(NoMemory);
-    };
-    put_varint32(out, size)?;
-    out.extend_from_slice(made)?;
-    if made == carried {
-        return Ok(());
-    }
-    if carried.is_empty() {
-        return Err(NoMemory);
-    }
-    out.extend_from_slice(carried)?;
     Ok(())
 }
