@@ -54,9 +54,9 @@ def read(path):
 def documents():
     """README.md, docs/*.md, and the READMEs of other folders and of crates."""
     found = [os.path.join(TOP, "README.md")]
-    for folder in ("docs", "bench", "examples", "js", "python", "wasm", "web"):
+    for folder in ("docs", "bench", "examples", "js", "python", "service", "wasm", "web"):
         at = os.path.join(TOP, folder)
-        found += sorted(os.path.join(at, it) for it in os.listdir(at) if it.endswith(".md"))
+        found += sorted(os.path.join(at, it) for it in os.listdir(at) if it.endswith(".md")) if os.path.isdir(at) else []
     for name in sorted(os.listdir(os.path.join(TOP, "crates"))):
         path = os.path.join(TOP, "crates", name, "README.md")
         found += [path] if os.path.isfile(path) else []

@@ -26,6 +26,14 @@ def toolkit():
     return os.path.dirname(page.strip())
 
 
+def put(made, out):
+    """Puts a file in its place at once, so that nobody ever reads a part of it."""
+    os.makedirs(os.path.dirname(out), exist_ok=True)
+    shutil.copyfile(made, f"{out}.new")
+    shutil.copymode(made, f"{out}.new")
+    os.replace(f"{out}.new", out)
+
+
 def keeping(room, kit, tool, script, saved):
     """A toolchain's folder in which one tool is this script."""
     real = f"{kit}/toolchain/bin"

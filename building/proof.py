@@ -11,7 +11,7 @@ import subprocess
 import tempfile
 import time
 
-from .crates import LIBRARY, PROGRAM, TOP, Crates, keeping, say, stop, toolkit
+from .crates import LIBRARY, PROGRAM, TOP, Crates, keeping, put, say, stop, toolkit
 
 TOLD = re.compile(r"^rt: (\w+) (?:proved$|is kept)")
 TIMES = re.compile(r"^\| `(\w+)` \| (\d+) ")
@@ -98,14 +98,6 @@ def build_program(out):
     """The program, proved."""
     with proved([PROGRAM], f"{TOP}/out/proof.log") as room:
         put(f"{room}/crates/{PROGRAM}/out/{PROGRAM}", out)
-
-
-def put(made, out):
-    """Puts a file in its place at once, so that nobody ever runs a part of it."""
-    os.makedirs(os.path.dirname(out), exist_ok=True)
-    shutil.copy2(made, f"{out}.new")
-    os.utime(f"{out}.new")
-    os.replace(f"{out}.new", out)
 
 
 def build_words(kit, crates, room, name, main, to):

@@ -17,7 +17,7 @@ trap 'rm -rf "$room"' EXIT
 
 python3 "$here/../wasm/test_retarget.py"
 
-verdict=$(python3 "$here/build/module.py" "$@" "$room/module.bc")
-python3 "$here/../wasm/retarget.py" "$room/module.bc" "$room/realm_sync.wasm"
+module=$("$here/../build" "$@" program.bc)
+python3 "$here/../wasm/retarget.py" "$module" "$room/realm_sync.wasm"
 mv "$room/realm_sync.wasm" "$here/realm_sync.wasm"
-VERDICT=$verdict python3 "$here/build/about.py" "$@"
+VERDICT=$(cat "$module.verdict") python3 "$here/tools/about.py" "$@"

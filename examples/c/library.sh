@@ -3,24 +3,16 @@
 #
 #     cc -Iinclude app.c $(examples/c/library.sh) -o app
 #
-# The static archive stands in crates/sync_host_c/out/. The shared library, which examples/python/realm_sync.py loads, is put into
-# build/ at the top, or into the folder of the first argument. It takes `rt`, the command of the Rattle toolchain, and a C compiler.
-# The first run proves the library, crate after crate; a later one does so where a source is newer than the archive.
+# The shared library, which the Python package loads, is put into out/ at the top, or into the folder of the first argument. It
+# takes `rt`, the command of the Rattle toolchain, and a C compiler. What isn't built yet is proved and built first (./build library);
+# with REALM_SYNC_TRIAL=1 it is a trial build, without any proof. REALM_SYNC_ARCHIVE=FILE takes that archive, and builds nothing.
 set -eu
 top=$(cd "$(dirname "$(readlink -f "$0")")/../.." && pwd)
-out=${1:-$top/build}
+out=${1:-$top/out}
 mkdir -p "$out"
-archive=$top/crates/sync_host_c/out/libsync_host_c.a
+archive=${REALM_SYNC_ARCHIVE:-$("$top/build" ${REALM_SYNC_TRIAL:+--trial} library)}
 heap=$(dirname "$(rt doc)")/c/liblibc_c.a
 
-is_current() {
-    [ -f "$archive" ] && [ -z "$(find "$top/crates.txt" "$top/crates" -name out -prune -o \( -name '*.rt' -o -name '*.antt' \) \
-        -newer "$archive" -print | head -n 1)" ]
-}
-
-if ! is_current; then
-    (cd "$top/crates/sync_host_c" && rt lib) >"$out/rt.log" 2>&1 || { tail -n 20 "$out/rt.log" >&2; exit 1; }
-fi
 # Nodes may be used by several threads at once since the archive has no data that can be written: no section of some size with a W among
 # its flags, but for constants that the linker fills in.
 if readelf -SW "$archive" | sed 's/^ *\[ *[0-9]*\] *//' |

@@ -1,0 +1,12 @@
+pub mod Lives
+pub mod Readers
+pub mod Instances
+pub mod Uploads
+pub mod Pair
+pub mod Passing
+pub mod Arriving
+pub mod Roaming
+pub mod Stored
+pub mod Sending
+pub mod Heirs
+pub mod Saving
