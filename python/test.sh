@@ -40,3 +40,4 @@ PYTHONPATH=src "$python" -m unittest discover -t . -s tests
 for name in two_phones serve_sockets; do
     PYTHONPATH=src "$python" "examples/$name.py" | diff - "examples/$name.out"
 done
+"$here/tests/together/test.sh"
