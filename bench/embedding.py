@@ -1,6 +1,6 @@
 #!/usr/bin/env python3
 """Times what an application calls: commits, reads and rounds of the sync, from C (bench/embedding.c) and from Python
-(examples/python/realm_sync.py).
+(python/src/realm_sync).
 
 Prints microseconds a call: the median of 20,000 calls that are timed one by one, and the ninth decile. The clock's own time, some 0.02
 microseconds, is in it. The edits and the object's name are made anew for each call, and that is timed too.
@@ -56,7 +56,7 @@ def timed(call, runs):
 
 def from_python(file):
     """The same calls by the module."""
-    sys.path.insert(0, os.path.join(TOP, "examples", "python"))
+    sys.path.insert(0, os.path.join(TOP, "python", "src"))
     from realm_sync import Client, Server
 
     with Client(*file) as client, Server() as server:

@@ -7,11 +7,12 @@ Linking, and the runs of tests and programs, are counted as runs. The whole is w
 script didn't see of it (the last moment of each process) is told. So are the longest chain of proofs, of which each waits for the one
 before it, and that of the program: they bound the time on the clock.
 
-usage: bench/gate.py [--save FILE] [--log FILE] [--into DOCUMENT] -- COMMAND WORD ..
-       bench/gate.py --read FILE [--into DOCUMENT]
+usage: bench/gate.py [--save FILE] [--log FILE] [--into DOCUMENT [--marks NAME]] -- COMMAND WORD ..
+       bench/gate.py --read FILE [--into DOCUMENT [--marks NAME]]
 
     bench/gate.py --save gate.json --log gate.log -- rt ci --anew
     bench/gate.py --read gate.json --into docs/ARCHITECTURE.md  # between the lines <!-- gate --> and <!-- end of gate -->
+    bench/gate.py -- ./realm_sync gen 1 0                       # what a first run takes, where nothing is built
 """
 import argparse
 import collections
@@ -29,7 +30,6 @@ PAGE = os.sysconf("SC_PAGE_SIZE")
 EACH = 0.25
 KINDS = {"proof": "Proof", "tests": "Tests", "edits": "Wrong bodies", "runs": "Runs"}
 PROGRAM = "realm_sync"
-BEGIN, END = "<!-- gate -->", "<!-- end of gate -->"
 
 
 def read(path):
@@ -83,7 +83,7 @@ class Watch:
     """What was seen of all processes below one, until it ends."""
 
     def __init__(self, root):
-        self.root, self.seen = root, {}
+        self.root, self.seen, self.most = root, {}, 0
 
     def look(self):
         parents, now = {}, {}
@@ -94,9 +94,10 @@ class Watch:
             if len(fields) > 21:
                 parents[int(name)] = int(fields[1])
                 now[int(name)] = fields
-        for number, fields in now.items():
-            if self.is_below(number, parents):
-                self.take(number, fields)
+        below = [it for it in now.items() if self.is_below(it[0], parents)]
+        self.most = max(self.most, sum(int(fields[21]) for _, fields in below) * PAGE)
+        for number, fields in below:
+            self.take(number, fields)
 
     def is_below(self, number, parents):
         while number in parents:
@@ -165,6 +166,7 @@ def measure(words, log):
         "whole": usage.ru_utime + usage.ru_stime,
         "seen": seen,
         "others": others,
+        "most": watch.most,
         "crates": crates,
     }
 
@@ -226,7 +228,7 @@ def table(measured):
         "",
         f"Processor seconds of `{measured['command']}`, {measured['date']}, on {measured['processors']} processors"
         f" ({measured['machine']}): {minutes(measured['whole'])} minutes of processor time in {minutes(measured['clock'])}"
-        f" minutes on the clock. Beside the rows, `rt` itself took {measured['others']:.0f} seconds, and {unseen:.0f} weren't seen.",
+        f" minutes on the clock, and at most {measured.get('most', 0) / 1e9:.1f} GB of memory at once. Beside the rows, `rt` itself took {measured['others']:.0f} seconds, and {unseen:.0f} weren't seen.",
     ]
     for text in told(measured):
         lines += ["", text]
@@ -244,16 +246,17 @@ def minutes(seconds):
     return f"{seconds / 60:.0f}" if seconds >= 600 else f"{seconds / 60:.1f}"
 
 
-def put(text, path):
-    """Puts the table between the two marks of a document."""
+def put(text, path, name):
+    """Puts the table between the two marks of that name in a document."""
+    marks = f"<!-- {name} -->\n", f"<!-- end of {name} -->"
     with open(path, encoding="utf-8") as it:
         whole = it.read()
-    before, begin, rest = whole.partition(BEGIN)
-    _, end, after = rest.partition(END)
+    before, begin, rest = whole.partition(marks[0])
+    _, end, after = rest.partition(marks[1])
     if not (begin and end):
-        sys.exit(f"{path} has no lines {BEGIN} and {END}")
+        sys.exit(f"{path} has no lines {marks[0].strip()} and {marks[1]}")
     with open(path, "w", encoding="utf-8") as it:
-        it.write(f"{before}{begin}\n{text}\n{end}{after}")
+        it.write(f"{before}{begin}{text}\n{end}{after}")
 
 
 def main():
@@ -262,6 +265,7 @@ def main():
     words.add_argument("--log", metavar="FILE", help="takes what the command prints")
     words.add_argument("--read", metavar="FILE", help="prints the table of what was kept, and runs nothing")
     words.add_argument("--into", metavar="DOCUMENT", help="puts the table between the marks of a document")
+    words.add_argument("--marks", metavar="NAME", default="gate", help="the name in these marks, gate where it is left out")
     words.add_argument("command", nargs="*", metavar="COMMAND", help="for example rt ci --anew")
     given = words.parse_args()
     if bool(given.read) == bool(given.command):
@@ -276,7 +280,7 @@ def main():
             json.dump(measured, it, indent=1)
     print(table(measured))
     if given.into:
-        put(table(measured), given.into)
+        put(table(measured), given.into, given.marks)
     sys.exit(measured["status"])
 
 

@@ -3,7 +3,7 @@
 #
 #     cc -Iinclude app.c $(examples/c/library.sh) -o app
 #
-# The shared library, which examples/python/realm_sync.py loads, is put into out/ at the top, or into the folder of the first argument. It
+# The shared library, which the Python package loads, is put into out/ at the top, or into the folder of the first argument. It
 # takes `rt`, the command of the Rattle toolchain, and a C compiler. What isn't built yet is proved and built first (./build library);
 # with REALM_SYNC_TRIAL=1 it is a trial build, without any proof. REALM_SYNC_ARCHIVE=FILE takes that archive, and builds nothing.
 set -eu

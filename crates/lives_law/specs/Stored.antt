@@ -1,7 +1,6 @@
 -- Files that keep the lives of what they took: a server of each ident's numbers, a client of the history's. The same worlds as
 -- `Roaming`, where each node tests by what stands in its own file and in the message alone.
 use Rattle.std.specs.Prelude.{◌≡◌, ◌⊎◌, ◌≤◌, ◌+◌, ◌-◌, ℕ, suc, Bool, true, false, ◌&&◌, ◌||◌, nat_le, ◌==◌, if◌then◌else◌, List, [], ◌∷◌, ◌++◌, Option, Some, None, length, take, drop}
-use Rattle.sync_theory.specs.Changesets.{Changeset}
 use Rattle.sync_model.specs.Bytes.{Uuid}
 use Rattle.sync_model.specs.Profile.{Profile}
 use Rattle.sync_model.specs.Messages.{Change, Sent, Download}
@@ -103,6 +102,11 @@ pub record HasLives {R X : Type 0} (counts : R → Bool) (f : List (Written R)) 
 abbrev pub passes : {X : Type 0} → Option ℕ → ℕ → Passage X → Bool
 passes last n m = nat_le m.from n && (nat_le n (m.from + length m.tells) && ((n == 0) || is_life last (at m.lives (n - m.from))))
 
+-- what it lets through: who has nothing, from the start; and who has so many of the file, where the last in it has the life that is kept
+pub record LetsThrough {R X : Type 0} (counts : R → Bool) (f : List (Written R)) (m : Passage X) : Type 0 where
+  pub none : (last : Option ℕ) → m.from ≡ 0 → passes last 0 m ≡ true
+  pub some : (n life : ℕ) → m.from ≤ suc n → suc n ≤ m.from + length m.tells → Mark counts f n life → passes (Some life) (suc n) m ≡ true
+
 -- ---- the two steps, and worlds of such files
 
 -- the files of all servers, and those of all clients
@@ -168,17 +172,18 @@ module _ {I S : Type 0} (p : Profile I S) where
     pub reads : (tooks_of (bare (plain g)) ≡ []) ⊎ ((number life : ℕ) × (length (tooks_of (bare (plain g))) ≡ suc number) × ((kept_of took_by 0 (plain g)).last ≡ Some life) × Mark is_entry (bare_file f) number life)
     pub is_read : (count (server_of p (bare (plain f))) (ident_at p (bare (plain f)) id) ≡ 0) ⊎ ((number life : ℕ) × (count (server_of p (bare (plain f))) (ident_at p (bare (plain f)) id) ≡ suc number) × ((kept_of entry_by (ident_at p (bare (plain f)) id) (plain f)).last ≡ Some life) × Mark is_made (bare_file g) number life)
 
--- a node has the same open, but for the notes
-abbrev pub bare_node : {R : Type 0} → Option (Open (Noted R)) → Option (Open R)
-bare_node None = None
-bare_node (Some o) = Some (record { file = bare_file o.file; life = o.life })
+-- what a node has open, read so
+abbrev pub open_by : {R Q : Type 0} → (List (Written R) → List (Written Q)) → Option (Open R) → Option (Open Q)
+open_by read None = None
+open_by read (Some o) = Some (record { file = read o.file; life = o.life })
 
--- the same files, but for the notes
-pub record SameFiles {R : Type 0} (w : Files (Noted R)) (v : Files R) : Type 0 where
-  pub kept : (f : List (Written (Noted R))) → Among f w.kept → Among (bare_file f) v.kept
-  pub nodes : (n : ℕ) → v.nodes n ≡ bare_node (w.nodes n)
+-- the same files, read so
+pub record SameBy {R Q : Type 0} (read : List (Written R) → List (Written Q)) (w : Files R) (v : Files Q) : Type 0 where
+  pub kept : (f : List (Written R)) → Among f w.kept → Among (read f) v.kept
+  pub nodes : (n : ℕ) → v.nodes n ≡ open_by read (w.nodes n)
   pub used : v.used ≡ w.used
 
+-- the same, but for the notes
 pub record SameStores (b : Stores) (a : Both) : Type 0 where
-  pub servers : SameFiles b.servers a.servers
-  pub clients : SameFiles b.clients a.clients
+  pub servers : SameBy bare_file b.servers a.servers
+  pub clients : SameBy bare_file b.clients a.clients

@@ -1,7 +1,7 @@
 //! Tries all cases of the crates of cases and of tests, those of its folder `data/` among them. It prints how many there are of each
 //! kind, each that comes out otherwise, and at the end the words that it knows.
 //!
-//! With the word `growth` it runs one case alone, of `merge_tests`, and with `notes` the application `notes_example`.
+//! With the word `growth` it runs one case alone, of `merge_cases`, and with `notes` the application `notes_example`.
 #![tactic(auto)]
 
 use std::process::ExitCode;
@@ -19,7 +19,7 @@ fn tries(rt: &HostRuntime, words: &[String]) -> bool {
     match words {
         [] => try_cases(rt),
         [word] if word.as_str() == "growth" => {
-            merge_tests::each_item_lives_while_its_list_has_it(rt.alloc())
+            merge_cases::each_item_lives_while_its_list_has_it(rt.alloc())
         }
         [word] if word.as_str() == "notes" => notes_example::run(rt),
         _ => false,
@@ -38,7 +38,7 @@ fn try_cases(rt: &HostRuntime) -> bool {
         &node_tests::cases_of_applications(rt.alloc()),
     );
     all &= tell(rt, "devices", &device_tests::cases(rt));
-    all &= tell(rt, "parts", &merge_tests::cases(rt.alloc()));
+    all &= tell(rt, "parts", &merge_cases::cases(rt.alloc()));
     all & println!(rt; "words: growth, notes").is_ok()
 }
 

@@ -1,0 +1,358 @@
+// A database as an application has it in one tab: its objects to read at once, transactions, and the state of sync.
+import { call } from './call.js';
+import { Closed, SchemaConflict, errorOfForm } from './errors.js';
+import { HostGone } from './link.js';
+import { Mirror } from './mirror.js';
+import { problem as problemFor } from './problems.js';
+import { Feed, Table } from './query.js';
+import { formOf } from './sync_options.js';
+import { Transaction } from './transaction.js';
+import { readElement } from './values.js';
+export class Database {
+    schema;
+    link;
+    token;
+    mirror;
+    feed = new Feed();
+    tables = new Map();
+    epoch = '';
+    version = 0;
+    last = 0;
+    greatest = 0;
+    id = crypto.randomUUID();
+    /** Whose the last transactions of the client are, by their numbers, as far as the host told. */
+    owners = new Map();
+    jobs = [];
+    isDraining = false;
+    isClosed = false;
+    arrivals = [];
+    syncListeners = new Set();
+    recoveryListeners = new Set();
+    lossListeners = new Set();
+    changeListeners = new Set();
+    stopListening;
+    /** What the last snapshot said against the declared schema. */
+    conflict = null;
+    syncState = { status: 'off' };
+    storage = '';
+    constructor(schema, link, token) {
+        this.schema = schema;
+        this.link = link;
+        this.token = token;
+        this.mirror = new Mirror(schema);
+        for (const [name, rows] of this.mirror.tables) {
+            if (name in this)
+                throw new TypeError(`a table can't be named ${name}: the database has a member of that name`);
+            const table = new Table(rows, this.feed);
+            this.tables.set(name, table);
+            Object.defineProperty(this, name, { value: table, enumerable: true });
+        }
+        this.stopListening = link.listen((event) => this.take(event));
+    }
+    static async open(schema, link, token) {
+        const database = new Database(schema, link, token);
+        try {
+            await database.refresh();
+            if (database.conflict)
+                throw database.conflict;
+            await database.applySchema();
+        }
+        catch (error) {
+            database.stopListening();
+            await link.close();
+            throw error;
+        }
+        return database;
+    }
+    async refresh() {
+        for (;;) {
+            try {
+                return this.load(await this.link.call('snapshot'));
+            }
+            catch (error) {
+                if (!(error instanceof HostGone))
+                    throw error;
+            }
+        }
+    }
+    /** Adds what the schema declares and the data lack. Other devices that add the same agree with it. */
+    async applySchema() {
+        while (this.mirror.lacking.length > 0) {
+            const edits = this.mirror.lackingEdits();
+            const { answers, epoch, version } = (await this.link.call('commit', this.epoch, this.version, [{ ms: Date.now(), edits, isBlind: false }]));
+            const [answer] = answers;
+            if (answer && answer !== 'stale' && 'error' in answer)
+                throw errorOfForm(answer.error);
+            await this.reach(epoch, version);
+            if (this.conflict)
+                throw this.conflict;
+        }
+    }
+    // ---- what the host tells
+    take(event) {
+        switch (event.event) {
+            case 'sync':
+                this.syncState = event.state;
+                for (const listener of this.syncListeners)
+                    call(listener, event.state);
+                return;
+            case 'recovered':
+                for (const listener of this.recoveryListeners)
+                    call(listener, event.recovery);
+                return;
+            case 'lost': return this.tellLost(event.lost);
+            case 'token':
+                if (typeof this.token === 'function')
+                    void this.handToken(this.token, event.wasRefused);
+                return;
+            case 'snapshot': return this.load(event);
+            case 'delta':
+                if (event.epoch !== this.epoch || event.version <= this.version)
+                    return;
+                if (event.version !== this.version + 1)
+                    return void this.refresh();
+                this.version = event.version;
+                this.last = event.last;
+                for (let number = event.last - event.count + 1; number <= event.last; number++)
+                    this.owners.set(number, event.by);
+                for (const number of this.owners.keys())
+                    if (number < event.last - 1000)
+                        this.owners.delete(number);
+                this.changed(this.mirror.put(event.puts));
+        }
+    }
+    tellLost(forms) {
+        const lost = forms.flatMap((it) => this.lostEdit(it));
+        if (lost.length > 0)
+            for (const listener of this.lossListeners)
+                call(listener, lost);
+    }
+    /** None where the table or the column isn't one of the declared schema. */
+    lostEdit({ table, key, column, why, ms, mine }) {
+        const rows = this.mirror.tables.get(table);
+        const form = column === null ? null : rows?.form.column.get(column);
+        if (!rows || form === undefined)
+            return [];
+        const name = rows.keyOf(key);
+        return [{ table, key: name, column, why, at: new Date(ms), mine: form && readElement(form, mine), object: rows.rows.get(name) }];
+    }
+    async handToken(source, wasRefused) {
+        try {
+            await this.link.call('giveToken', await source(wasRefused));
+        }
+        catch {
+            // A source that fails is asked again when sync is tried again.
+            await this.link.call('giveToken', '').catch(() => { });
+        }
+    }
+    load(snapshot) {
+        this.epoch = snapshot.epoch;
+        this.version = snapshot.version;
+        if (snapshot.last < this.last)
+            this.owners.clear(); // a new client took over
+        this.last = snapshot.last;
+        this.storage = snapshot.storage;
+        this.syncState = snapshot.sync;
+        this.conflict = null;
+        let changes = [];
+        try {
+            changes = this.mirror.load(snapshot.dump);
+        }
+        catch (error) {
+            if (!(error instanceof SchemaConflict))
+                throw error;
+            this.conflict = error;
+        }
+        this.changed(changes);
+        for (const listener of this.syncListeners)
+            call(listener, this.syncState);
+    }
+    changed(changes) {
+        this.feed.tell(changes);
+        if (changes.length > 0)
+            for (const listener of this.changeListeners)
+                call(listener, changes);
+        const arrivals = this.arrivals;
+        this.arrivals = [];
+        for (const arrive of arrivals)
+            arrive();
+    }
+    /** Waits until this tab has that version of the objects. */
+    async reach(epoch, version) {
+        while (!this.isClosed && !(this.epoch === epoch && this.version >= version)) {
+            const arrived = new Promise((done) => this.arrivals.push(() => done(true)));
+            const isLate = new Promise((done) => setTimeout(() => done(false), 1000));
+            if (!(await Promise.race([arrived, isLate])))
+                await this.refresh();
+        }
+    }
+    // ---- transactions
+    /**
+     * Does the function's edits as one transaction: all of them stand, or none. It resolves with what the function returns, once the
+     * transaction is on the disk. The function is run again where another tab or a message came between, so it only reads and edits.
+     */
+    write(run) {
+        if (this.isClosed)
+            return Promise.reject(new Closed('the database was closed'));
+        if (this.conflict)
+            return Promise.reject(this.conflict);
+        return new Promise((done, fail) => {
+            this.jobs.push({ run, done, fail });
+            if (!this.isDraining)
+                void this.drain();
+        });
+    }
+    async drain() {
+        this.isDraining = true;
+        await Promise.resolve(); // all writes of one turn of the event loop go together
+        while (this.jobs.length > 0) {
+            const batch = this.jobs.splice(0, 256);
+            try {
+                await this.commit(batch);
+            }
+            catch (error) {
+                for (const job of batch)
+                    job.fail(error);
+            }
+        }
+        this.isDraining = false;
+    }
+    plan(batch) {
+        const planned = [];
+        let before = null;
+        for (const job of batch) {
+            const transaction = new Transaction(this.mirror, before);
+            try {
+                const value = job.run(transaction.writer);
+                transaction.close();
+                if (value instanceof Promise)
+                    throw new TypeError('the function of write() is synchronous: await before it, and not in it');
+                this.greatest = Math.max(this.greatest, Date.now()); // a clock that is set back loses no own conflict
+                planned.push({ job, transaction, value, ms: this.greatest });
+                if (transaction.edits.length > 0)
+                    before = transaction;
+            }
+            catch (error) {
+                transaction.close();
+                job.fail(error);
+            }
+        }
+        return planned;
+    }
+    async commit(batch) {
+        let jobs = batch;
+        while (jobs.length > 0) {
+            const planned = this.plan(jobs);
+            const some = planned.filter((it) => it.transaction.edits.length > 0);
+            if (some.length === 0) {
+                for (const { job, value } of planned)
+                    job.done(value);
+                return;
+            }
+            const answers = await this.hand(some);
+            jobs = [];
+            const byPlan = new Map(some.map((it, place) => [it, answers[place]]));
+            for (const it of planned) {
+                const answer = byPlan.get(it);
+                if (answer === undefined || (answer !== 'stale' && 'number' in answer))
+                    it.job.done(it.value);
+                else if (answer === 'stale')
+                    jobs.push(it.job);
+                else
+                    it.job.fail(errorOfForm(answer.error));
+            }
+        }
+    }
+    /** Hands transactions to the host. Where it ended, the next one says whether they stand. */
+    async hand(planned) {
+        const last = this.last;
+        const list = planned.map(({ transaction, ms }) => ({ ms, edits: transaction.edits, isBlind: !transaction.hasRead }));
+        try {
+            const { answers, epoch, version } = (await this.link.call('commit', this.epoch, this.version, list, this.id));
+            await this.reach(epoch, version);
+            return answers;
+        }
+        catch (error) {
+            if (!(error instanceof HostGone))
+                throw error;
+        }
+        let stands = 0;
+        while (stands < planned.length && this.owners.get(last + stands + 1) === this.id)
+            stands += 1;
+        // The last transactions may stand without having been told: the next host has it noted whose they are.
+        if (stands === 0)
+            stands = (await this.link.call('outcome', last, planned.length, this.id));
+        await this.refresh();
+        return planned.map((_, place) => (place < stands ? { number: last + place + 1 } : 'stale'));
+    }
+    /** A table by its name, for code that has it as a text. */
+    table(name) {
+        return this.tables.get(name);
+    }
+    /** Calls back with the objects that each transaction or message changed. */
+    onChange(callback) {
+        this.changeListeners.add(callback);
+        return () => void this.changeListeners.delete(callback);
+    }
+    // ---- sync
+    /** Calls back now and with each later state. */
+    observeSync(callback) {
+        callback(this.syncState);
+        this.syncListeners.add(callback);
+        return () => void this.syncListeners.delete(callback);
+    }
+    /** Resolves once all that was committed before is in the history, and all that the history had is here; waits while offline. */
+    synced() {
+        return this.link.call('synced');
+    }
+    /** Syncs with this server from now on. A transport of one's own is for databases in this very thread: in Node, and in memory. */
+    startSync(options) {
+        if ('transport' in options)
+            return this.link.call('startSync', options);
+        this.token = options.token;
+        return this.link.call('startSync', formOf(options));
+    }
+    /** A token in place of one that ends soon, or that the server refused. */
+    renewToken(token) {
+        return this.link.call('renewToken', token);
+    }
+    stopSync() {
+        return this.link.call('stopSync');
+    }
+    /** Lets a new client take this one's place, with what is unsent: where sync needs attention, and the problem is recoverable. */
+    recover() {
+        const state = this.syncState;
+        return this.link.call('recover', state.status === 'attention' ? state.problem : problemFor('damaged', 'asked for', true));
+    }
+    /** Calls back with what a new client saved of what the old one had unsent, and what was lost. */
+    onRecovered(callback) {
+        this.recoveryListeners.add(callback);
+        return () => void this.recoveryListeners.delete(callback);
+    }
+    /** Calls back with edits of this device that aren't seen any more after changes of other devices came. */
+    onLost(callback) {
+        this.lossListeners.add(callback);
+        return () => void this.lossListeners.delete(callback);
+    }
+    /** Where the client stands, and the memory of the merge core in bytes. */
+    stats() {
+        return this.link.call('stats');
+    }
+    /** The client's file as bytes. */
+    exportFile() {
+        return this.link.call('file');
+    }
+    /** Whether this tab is the one that has the files. */
+    get isHost() {
+        return this.link.isHost;
+    }
+    async close() {
+        if (this.isClosed)
+            return;
+        while (this.isDraining)
+            await new Promise((done) => setTimeout(done, 1));
+        this.isClosed = true;
+        this.stopListening();
+        await this.link.close();
+    }
+}

@@ -1,0 +1,33 @@
+#!/bin/sh
+# Tests the Python package: its types by mypy, its tests, the wheel in an empty environment, and without --quick its examples.
+#
+#     python/test.sh [--quick] [--trial]
+#
+# It takes Python 3.10 or later, and Debian's python3-mypy, python3-cryptography, python3-websocket and python3-aiohttp. What is missing is
+# installed by root, and named else.
+set -eu
+here=$(cd "$(dirname "$(readlink -f "$0")")" && pwd)
+top=$(dirname "$here")
+. "$top/building/need.sh"
+quick='' trial=''
+for word in "$@"; do
+    case $word in
+        --quick) quick=yes ;;
+        --trial) trial=--trial ;;
+        *) echo "usage: python/test.sh [--quick] [--trial]" >&2; exit 2 ;;
+    esac
+done
+python=${PYTHON:-/usr/bin/python3}
+need mypy python3-mypy
+for module in cryptography websocket aiohttp wheel; do
+    "$python" -c "import $module" 2>/dev/null || need_package "python3-$module"
+done
+"$here/build.sh" $trial >/dev/null
+cd "$here"
+MYPYPATH=src mypy src tests "$top/examples/shopping"
+PYTHONPATH=src "$python" -W error::ResourceWarning -m unittest discover -t . -s tests
+"$here/tests/empty_project.sh"
+[ -z "$quick" ] || exit 0
+for name in two_phones serve_sockets; do
+    PYTHONPATH=src "$python" "examples/$name.py" | diff - "examples/$name.out"
+done
