@@ -18,13 +18,13 @@ if [ -z "$python" ]; then
 fi
 
 if [ -z "$REALM_SYNC_LIBRARY" ]; then
-    REALM_SYNC_LIBRARY="$top/build/librealm_sync.so"
+    REALM_SYNC_LIBRARY="$top/out/librealm_sync.so"
     "$top/examples/c/library.sh" >/dev/null || exit
 fi
-REALM_SERVICE_TURNS="$top/build/librealm_turns.so"
+REALM_SERVICE_TURNS="$top/out/librealm_turns.so"
 turns=$top/service/src/realm_service/turns.c
 if [ ! -e "$REALM_SERVICE_TURNS" ] || [ "$turns" -nt "$REALM_SERVICE_TURNS" ]; then
-    mkdir -p "$top/build"
+    mkdir -p "$top/out"
     cc -O2 -std=c11 -fPIC -shared -Wall -Wextra -Wpedantic -Werror "$turns" -o "$REALM_SERVICE_TURNS" || exit
 fi
 PYTHONPATH="$top/service/src${PYTHONPATH:+:$PYTHONPATH}"

@@ -24,7 +24,7 @@ class Buffer(ctypes.Structure):
 
 def _library_path() -> str:
     given = os.environ.get("REALM_SYNC_LIBRARY")
-    built = os.path.join(TOP, "build", "librealm_sync.so")
+    built = os.path.join(TOP, "out", "librealm_sync.so")
     path = given or (built if os.path.exists(built) else ctypes.util.find_library("realm_sync"))
     if not path:
         raise NoLibrary("no librealm_sync.so: examples/c/library.sh builds it, and REALM_SYNC_LIBRARY may name it")
