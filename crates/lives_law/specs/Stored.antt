@@ -170,8 +170,9 @@ module _ {I S : Type 0} (p : Profile I S) (is_old : Uuid → Bool) where
   -- ---- the laws
 
   -- two files of those that ever were, by what stands in them: the client isn't an old one, and the server doesn't know it by
-  -- another ident; the client took nothing, or the life that it keeps of its last entry is that of the server's entry of this number; and the server has
-  -- nothing of its ident, or the life that it keeps of its last number is that of the client's transaction of this number
+  -- another ident; the client took nothing, or the life that it keeps of its last entry is that of the server's entry of this
+  -- number; and the server has nothing of its ident, or the life that it keeps of its last number is that of the client's
+  -- transaction of this number
   pub record Agree (b : Stores) (f : List (Written (Noted ServerRecord))) (g : List (Written (Noted ClientRecord))) : Type 0 where
     pub server_kept : Among f b.servers.kept
     pub client_kept : Among g b.clients.kept
