@@ -30,6 +30,7 @@ class TestServer {
   loseEach = 0;
   replies = 0;
   refused = new Set(['refused']);
+  generation = 1;
   renewed = [];
   sockets = new Set();
   watchers = new Set();
@@ -57,6 +58,7 @@ class TestServer {
     if (this.isDown) return request.socket.destroy();
     if (!url.pathname.startsWith(HISTORY)) return this.file(url, response);
     if (this.refused.has((request.headers.authorization ?? '').replace('Bearer ', ''))) return response.writeHead(401).end();
+    if (this.isOutdated(url)) return response.writeHead(410, { 'realm-generation': this.generation }).end();
     if (request.method === 'POST') {
       const reply = await this.take(await bodyOf(request)).catch(() => null);
       return response.writeHead(reply ? 200 : 400, { 'content-type': 'application/octet-stream' }).end(reply ?? '');
@@ -90,6 +92,7 @@ class TestServer {
     const offered = (request.headers['sec-websocket-protocol'] ?? '').split(',').map((it) => it.trim());
     const token = offered.find((it) => it.startsWith('bearer.'))?.slice(7) ?? '';
     if (this.refused.has(token)) return socket.end('HTTP/1.1 401 Unauthorized\r\n\r\n');
+    if (this.isOutdated(new URL(request.url, 'http://x'))) return socket.end('HTTP/1.1 410 Gone\r\n\r\n');
     return this.web.handleUpgrade(request, socket, head, (it) => this.serve(it));
   }
 
@@ -109,6 +112,7 @@ class TestServer {
     });
   }
 
+  isOutdated(url) { return Number(url.searchParams.get('generation') ?? 1) !== this.generation; }
   get port() { return this.http.address().port; }
   get origin() { return `http://127.0.0.1:${this.port}`; }
   get url() { return `${this.origin}${HISTORY}test`; }

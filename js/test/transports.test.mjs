@@ -1,7 +1,7 @@
 import assert from 'node:assert/strict';
 import { createRequire } from 'node:module';
 import test from 'node:test';
-import { HttpTransport, NeedsAttention, WebSocketTransport, openDatabase } from '../dist/node.js';
+import { HttpTransport, MemoryFiles, NeedsAttention, WebSocketTransport, openDatabase } from '../dist/node.js';
 import { fast, schema } from './common.mjs';
 import { startServer } from './server.mjs';
 
@@ -75,4 +75,31 @@ test('a connection that is lost is made again, and replies that are lost are ask
   server.down(false);
   await db.synced();
   await db.close(); await server.close();
+});
+
+test('a history that was restored on the server: a new device begins in its generation, and another one asks, and keeps what is unsent', async () => {
+  for (const way of [0, 1]) {
+    const server = await startServer();
+    const files = new MemoryFiles();
+    let db = await openDatabase({ schema, files, sync: { transport: both(server, 'good')[way], ...fast } });
+    await db.write((tx) => tx.days.create({ day: 1 }));
+    await db.synced();
+    await db.stopSync();
+    await db.write((tx) => tx.days.create({ day: 2 }));
+    server.generation = 3;
+    for (const it of server.sockets) it.terminate();
+    const fresh = await openDatabase({ schema, sync: { transport: both(server, 'good')[way], ...fast } });
+    await fresh.synced();
+    await db.startSync({ transport: both(server, 'good')[way], ...fast });
+    await assert.rejects(db.synced(), /the history was restored on the server and is of generation 3/);
+    assert.equal(db.syncState.problem.kind, 'otherServer');
+    await db.recover();
+    await db.synced();
+    await db.close();
+    db = await openDatabase({ schema, files, sync: { transport: both(server, 'good')[way], ...fast } });
+    await db.synced();
+    assert.deepEqual(db.days.toArray().map((it) => it.day), [1, 2]);
+    assert.deepEqual((await files.names()).sort(), ['client-2', 'generation', 'kept-1']);
+    await db.close(); await fresh.close(); await server.close();
+  }
 });

@@ -71,10 +71,13 @@ test('two devices go offline, edit, and agree, and who lost is told', async (ben
   await click(laptop, 'Olive oil', '.drop');
   await wait(1500);
   if (pictures) for (const [name, tab] of [['phone', phone], ['laptop', laptop]]) await tab.picture(`${pictures}/shopping_offline_${name}.png`);
+  await phone.evaluate('db.stopSync()'); // the laptop's changes come first in the history
   bench.server.down(false);
-  await agree(laptop, phone);
+  await agree(laptop);
+  await phone.evaluate(`db.startSync({ url: ${JSON.stringify(bench.server.socketUrl)}, token: 'phone' })`);
+  await agree(phone, laptop);
   const toast = await phone.evaluate(`document.getElementById('toast').textContent`);
-  assert.match(toast, /removed on another device/);
+  assert.match(toast, /“Olive oil”, which you changed, was removed on another device/);
   if (pictures) for (const [name, tab] of [['phone', phone], ['laptop', laptop]]) await tab.picture(`${pictures}/shopping_agreed_${name}.png`);
   const [one, other] = [await shown(phone), await shown(laptop)];
   assert.equal(one, other);

@@ -152,6 +152,14 @@ class Unauthorized(Error):
     """The server refuses this device or its token."""
 
 
+class Outdated(Error):
+    """The server's history was restored, and is of another generation than this client says; which one, where the server told it."""
+
+    def __init__(self, generation: int | None) -> None:
+        super().__init__(f"the history was restored on the server{f' and is of generation {generation}' if generation else ''}")
+        self.generation = generation
+
+
 class NeedsAttention(Error):
     """Sync stopped for this, and goes on once it is settled: `problem` says why."""
 

@@ -31,9 +31,10 @@ function drawProblem(state: SyncState): void {
 }
 
 /** What is told of an edit of this device that another one overruled. */
-function words({ column, why, mine, object }: LostEdit): string {
-  const title = (object?.['title'] ?? object?.['name'] ?? 'An item') as string;
-  if (why === 'erased') return 'Something that you changed was removed on another device.';
+function words({ column, why, mine, before, object }: LostEdit): string {
+  const named = object ?? before;
+  const title = String(named['title'] ?? named['name']);
+  if (why === 'erased') return `“${title}”, which you changed, was removed on another device.`;
   return column === 'title' || column === 'name' ? `“${String(mine)}” was renamed “${title}” on another device.` : `“${title}” was changed on another device.`;
 }
 
