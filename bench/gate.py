@@ -7,8 +7,8 @@ Linking, and the runs of tests and programs, are counted as runs. The whole is w
 script didn't see of it (the last moment of each process) is told. So are the longest chain of proofs, of which each waits for the one
 before it, and that of the program: they bound the time on the clock.
 
-usage: bench/gate.py [--save FILE] [--log FILE] [--into DOCUMENT] -- COMMAND WORD ..
-       bench/gate.py --read FILE [--into DOCUMENT]
+usage: bench/gate.py [--save FILE] [--log FILE] [--into DOCUMENT [--marks NAME]] -- COMMAND WORD ..
+       bench/gate.py --read FILE [--into DOCUMENT [--marks NAME]]
 
     bench/gate.py --save gate.json --log gate.log -- rt ci --anew
     bench/gate.py --read gate.json --into docs/ARCHITECTURE.md  # between the lines <!-- gate --> and <!-- end of gate -->
@@ -30,7 +30,6 @@ PAGE = os.sysconf("SC_PAGE_SIZE")
 EACH = 0.25
 KINDS = {"proof": "Proof", "tests": "Tests", "edits": "Wrong bodies", "runs": "Runs"}
 PROGRAM = "realm_sync"
-BEGIN, END = "<!-- gate -->", "<!-- end of gate -->"
 
 
 def read(path):
@@ -247,16 +246,17 @@ def minutes(seconds):
     return f"{seconds / 60:.0f}" if seconds >= 600 else f"{seconds / 60:.1f}"
 
 
-def put(text, path):
-    """Puts the table between the two marks of a document."""
+def put(text, path, name):
+    """Puts the table between the two marks of that name in a document."""
+    marks = f"<!-- {name} -->\n", f"<!-- end of {name} -->"
     with open(path, encoding="utf-8") as it:
         whole = it.read()
-    before, begin, rest = whole.partition(BEGIN)
-    _, end, after = rest.partition(END)
+    before, begin, rest = whole.partition(marks[0])
+    _, end, after = rest.partition(marks[1])
     if not (begin and end):
-        sys.exit(f"{path} has no lines {BEGIN} and {END}")
+        sys.exit(f"{path} has no lines {marks[0].strip()} and {marks[1]}")
     with open(path, "w", encoding="utf-8") as it:
-        it.write(f"{before}{begin}\n{text}\n{end}{after}")
+        it.write(f"{before}{begin}{text}\n{end}{after}")
 
 
 def main():
@@ -265,6 +265,7 @@ def main():
     words.add_argument("--log", metavar="FILE", help="takes what the command prints")
     words.add_argument("--read", metavar="FILE", help="prints the table of what was kept, and runs nothing")
     words.add_argument("--into", metavar="DOCUMENT", help="puts the table between the marks of a document")
+    words.add_argument("--marks", metavar="NAME", default="gate", help="the name in these marks, gate where it is left out")
     words.add_argument("command", nargs="*", metavar="COMMAND", help="for example rt ci --anew")
     given = words.parse_args()
     if bool(given.read) == bool(given.command):
@@ -279,7 +280,7 @@ def main():
             json.dump(measured, it, indent=1)
     print(table(measured))
     if given.into:
-        put(table(measured), given.into)
+        put(table(measured), given.into, given.marks)
     sys.exit(measured["status"])
 
 

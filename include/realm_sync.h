@@ -2,7 +2,7 @@
  * "Requests of a host", what passes between this header and the archive. Link libsync_host_c.a and the allocator.
  *
  *     realm_node phone;
- *     char text[256];
+ *     char text[512];
  *     int status = realm_open_client(&phone, "phone");
  *     if (status == REALM_DONE) status = realm_commit(&phone, ms, "[{\"op\":\"CreateObject\",\"table\":\"notes\",\"key\":1}]");
  *     if (status != REALM_DONE) puts(realm_words(&phone, status, text, sizeof text));
@@ -60,7 +60,7 @@ typedef struct realm_node {
     uint8_t reason;     /* a realm_reason */
     bool failed;        /* no request reaches the archive any more */
     bool is_client;
-    uint8_t question;   /* the form of the question that the last message asked, or 0 */
+    uint8_t question;   /* what the last message asked: the form of a question for the history, REALM_PROBE, or 0 */
     bool verified;      /* since the opening it took all that the server had */
     bool current;       /* the last message said so, and nothing was unsent */
     bool held_up;       /* the last message was refused by a mismatch */
@@ -337,18 +337,21 @@ REALM_SYNC_API const char *realm_text_of_reason(int reason) {
         "the user may not use this file, or make one in its folder: allow it, and open the file again",
         "the file may be read, and not written: allow writing to it, and open it again",
         "the file system may only be read: use one that may be written",
-        "the path is too long, or its links go round: give another path",
+        "the path, or a name in it, is too long: give another path",
         "too many files are open: close some, and open the file again",
         "the file system has no locks: put the file on one that has",
         "another open holds the file: try again later",
         "the system doesn't open the file",
-        "the disk is full, or the user's share of it: make room, close the node, and open its file again",
+        "the disk is full: make room, close the node, and open its file again",
         "the file has the greatest size that it may have: raise the limit, close the node, and open its file again",
         "a write failed: close the node, look after the disk, and open the file again",
         "a sync failed, so that what wasn't answered may be lost: close the node, look after the disk, and open the file again",
         "the file can't be read: close the node, and look after the disk",
         "memory ran out: close the node, and open its file again",
         "the file is another one's, or damaged: close the node, and give another path; the file is as it was",
+        "the links in the path lead back to it: give another path",
+        "the system has no such names: give another path",
+        "the user's share of the disk is full: make room in it, close the node, and open its file again",
     };
     return reason >= 0 && (size_t)reason < sizeof texts / sizeof texts[0] ? texts[reason] : "unknown";
 }
@@ -481,9 +484,8 @@ REALM_SYNC_API int realm_told(realm_node *node, int status, const char *expected
 
 /* A request to a client alone. */
 REALM_SYNC_API int realm_ask_client(realm_node *node, char verb, const void *body, size_t len, const char *expected) {
-    int status = realm_askable(node);
-    if (status == REALM_DONE && !node->is_client) return realm_expect(node, "node: expected a client, and this is a server");
-    return realm_told(node, realm_ask_of(node, verb, body, len), expected);
+    int status = realm_ask_of(node, verb, body, len);
+    return realm_told(node, status, node->is_client ? expected : "node: expected a client, and this is a server");
 }
 
 /* Does what a node line says: docs/FORMATS.md, "Lines". */
@@ -535,7 +537,8 @@ REALM_SYNC_API int realm_commit(realm_node *node, uint64_t ms, const char *edits
     if (!edits || edits[strspn(edits, " \t\r\n")] != '[') return realm_expect(node, expected);
     size_t room = strlen(edits) + 64;
     char *request = room <= sizeof small ? small : (char *)malloc(room);
-    if (!request) return realm_fail(node, REALM_OUT_OF_MEMORY);
+    node->reply_len = 0;
+    if (!request) return REALM_NO_MEMORY;
     int len = snprintf(request, room, "{\"ms\":%" PRIu64 ",\"edits\":%s}", ms, edits);
     int status = realm_ask_client(node, 'L', request, (size_t)len, expected);
     if (request != small) free(request);
@@ -570,6 +573,7 @@ typedef struct realm_head {
     uint32_t numbers[4];
 } realm_head;
 
+enum { REALM_PROBE = 255 };
 enum { REALM_TAG_UPLOAD = 3, REALM_TAG_ASK = 4, REALM_TAG_DOWNLOAD = 5, REALM_TAG_STORED = 7, REALM_TAG_ASK_2 = 8, REALM_TAG_ASK_TABLES = 11 };
 
 REALM_SYNC_API realm_head realm_head_of(const uint8_t *message, size_t len) {
@@ -595,9 +599,9 @@ REALM_SYNC_API bool realm_is_question(const realm_node *node) {
     return tag == REALM_TAG_ASK || tag == REALM_TAG_ASK_2 || tag == REALM_TAG_ASK_TABLES;
 }
 
-/* The question for the history behind the client's cursor. */
-REALM_SYNC_API int realm_ask(realm_node *node) {
-    int status = realm_ask_client(node, 'A', NULL, 0, NULL);
+/* A message that the client makes; of a question its form is noted. */
+REALM_SYNC_API int realm_ask_message(realm_node *node, char verb) {
+    int status = realm_ask_client(node, verb, NULL, 0, NULL);
     node->question = 0;
     if (status == REALM_DONE && realm_is_question(node)) {
         realm_head head = realm_head_of(node->reply + 1, node->reply_len - 1);
@@ -605,6 +609,9 @@ REALM_SYNC_API int realm_ask(realm_node *node) {
     }
     return status;
 }
+
+/* The question for the history behind the client's cursor. */
+REALM_SYNC_API int realm_ask(realm_node *node) { return realm_ask_message(node, 'A'); }
 
 REALM_SYNC_API realm_place realm_place_at(const uint8_t *bytes) {
     realm_place place;
@@ -628,6 +635,8 @@ REALM_SYNC_API bool realm_peek(const realm_node *node, realm_place *out) {
 REALM_SYNC_API int realm_probe(realm_node *node) {
     realm_place place;
     size_t at = 0;
+    int status = realm_askable(node);
+    if (status != REALM_DONE) return status;
     if (!realm_peek(node, &place)) return realm_fail(node, REALM_NOT_OPEN);
     node->reply[at++] = REALM_DONE;
     node->reply[at++] = REALM_TAG_UPLOAD;
@@ -635,20 +644,19 @@ REALM_SYNC_API int realm_probe(realm_node *node) {
     node->reply[at++] = (uint8_t)place.ident;
     node->reply[at++] = 0;
     node->reply_len = at;
+    node->question = REALM_PROBE;
     return REALM_DONE;
 }
 
 /* The message to send next: Bind while the client has no ident, then questions until it has all of the history, then Upload while the
  * server may lack changes, else a question. REALM_STALE where nothing more is to be sent. */
 REALM_SYNC_API int realm_next(realm_node *node) {
-    int status = realm_askable(node);
-    if (status == REALM_DONE && node->stale) return REALM_STALE;
-    if (status == REALM_DONE && node->is_client && !node->verified) {
-        status = node->held_up ? realm_probe(node) : realm_ask(node);
+    if (node->stale && realm_askable(node) == REALM_DONE) return REALM_STALE;
+    if (node->is_client && !node->verified) {
+        int status = node->held_up ? realm_probe(node) : realm_ask(node);
         if (status != REALM_REFUSED || realm_refusal(node).number != REALM_NOT_NAMED) return status;
     }
-    status = realm_ask_client(node, 'N', NULL, 0, NULL);
-    return status == REALM_DONE && realm_is_question(node) ? realm_ask(node) : status;
+    return realm_ask_message(node, 'N');
 }
 
 /* Why nothing more is to be sent, by what a client refused, or what the server did. */
@@ -670,7 +678,7 @@ REALM_SYNC_API uint8_t realm_stale_by(realm_refused why) {
  * form 2 follows. */
 REALM_SYNC_API bool realm_is_end(uint8_t question, realm_head head, size_t len, uint32_t cursor) {
     uint32_t from = head.numbers[1], count = head.numbers[2];
-    if (question == 0 || head.tag != REALM_TAG_DOWNLOAD || (uint64_t)from + count != cursor) return false;
+    if (question == 0 || question == REALM_PROBE || head.tag != REALM_TAG_DOWNLOAD || (uint64_t)from + count != cursor) return false;
     return count == 0 || (question == 2 && count < 4096 && len <= 4194304);
 }
 
@@ -690,7 +698,8 @@ REALM_SYNC_API void realm_note_taken(realm_node *node, int status, realm_head he
         bool is_end = realm_is_end(question, head, len, place.cursor);
         bool is_stored = head.tag == REALM_TAG_STORED;
         if (is_stored && head.numbers[1] > place.last) node->stale = REALM_STALE_FILE;
-        if (is_end || (is_stored && head.numbers[1] == place.last - place.unsent)) node->verified = true;
+        /* The answer to an Upload of nothing: the history has no change of the client but those that it took. */
+        if (is_end || (question == REALM_PROBE && is_stored && head.numbers[1] == place.last - place.unsent)) node->verified = true;
         node->current = is_end && place.unsent == 0;
     }
 }

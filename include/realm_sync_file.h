@@ -48,26 +48,29 @@ typedef intptr_t realm_file;
 /* Why a file can't be used, or a node answers no more: realm_text_of_reason says what to do. */
 enum realm_reason {
     REALM_NO_REASON = 0,
-    REALM_NOT_OPEN = 1,       /* no node is open here */
-    REALM_NO_FOLDER = 2,      /* a folder of the path isn't there */
-    REALM_NOT_A_FOLDER = 3,   /* what stands in the path for a folder is none */
-    REALM_IS_A_FOLDER = 4,    /* the path is a folder's */
-    REALM_NO_PLAIN_FILE = 5,  /* the path is a device's, a pipe's or a socket's */
-    REALM_NO_PERMISSION = 6,  /* the user may not use the file, or make it */
-    REALM_READ_ONLY_FILE = 7, /* the file may be read, and not written */
-    REALM_READ_ONLY_DISK = 8, /* the file system may be read, and not written */
-    REALM_BAD_PATH = 9,       /* the path is too long, or goes round */
-    REALM_MANY_FILES = 10,    /* the process or the system has too many files open */
-    REALM_NO_LOCKS = 11,      /* the file system has no locks */
-    REALM_HELD = 12,          /* another open holds the file */
-    REALM_NOT_OPENED = 13,    /* the system doesn't open the file, for a reason that isn't above */
-    REALM_DISK_FULL = 14,     /* the disk, or the user's share of it, is full */
-    REALM_FILE_LIMIT = 15,    /* the file has the greatest size that it may have */
-    REALM_WRITE_FAILED = 16,  /* a write failed otherwise */
-    REALM_SYNC_FAILED = 17,   /* a sync failed */
-    REALM_READ_FAILED = 18,   /* the file can't be read whole */
-    REALM_OUT_OF_MEMORY = 19, /* memory ran out */
-    REALM_WRONG_FILE = 20     /* the file is another one's, or damaged */
+    REALM_NOT_OPEN = 1,        /* no node is open here */
+    REALM_NO_FOLDER = 2,       /* a folder of the path isn't there */
+    REALM_NOT_A_FOLDER = 3,    /* what stands in the path for a folder is none */
+    REALM_IS_A_FOLDER = 4,     /* the path is a folder's */
+    REALM_NO_PLAIN_FILE = 5,   /* the path is a device's, a pipe's or a socket's */
+    REALM_NO_PERMISSION = 6,   /* the user may not use the file, or make it */
+    REALM_READ_ONLY_FILE = 7,  /* the file may be read, and not written */
+    REALM_READ_ONLY_DISK = 8,  /* the file system may be read, and not written */
+    REALM_LONG_PATH = 9,       /* the path, or a name in it, is too long */
+    REALM_MANY_FILES = 10,     /* the process or the system has too many files open */
+    REALM_NO_LOCKS = 11,       /* the file system has no locks */
+    REALM_HELD = 12,           /* another open holds the file */
+    REALM_NOT_OPENED = 13,     /* the system doesn't open the file, for a reason that isn't above */
+    REALM_DISK_FULL = 14,      /* the disk is full */
+    REALM_FILE_LIMIT = 15,     /* the file has the greatest size that it may have */
+    REALM_WRITE_FAILED = 16,   /* a write failed otherwise */
+    REALM_SYNC_FAILED = 17,    /* a sync failed */
+    REALM_READ_FAILED = 18,    /* the file can't be read whole */
+    REALM_OUT_OF_MEMORY = 19,  /* memory ran out */
+    REALM_WRONG_FILE = 20,     /* the file is another one's, or damaged */
+    REALM_LINKS_GO_ROUND = 21, /* the links in the path lead back to it */
+    REALM_BAD_NAME = 22,       /* the system has no such names */
+    REALM_SHARE_FULL = 23      /* the user's share of the disk is full */
 };
 
 /* ---- the system's calls */
@@ -89,8 +92,8 @@ REALM_SYNC_API int realm_open_reason(DWORD error, const wchar_t *path) {
     case ERROR_WRITE_PROTECT: return REALM_READ_ONLY_DISK;
     case ERROR_TOO_MANY_OPEN_FILES: return REALM_MANY_FILES;
     case ERROR_INVALID_NAME:
-    case ERROR_BAD_PATHNAME:
-    case ERROR_FILENAME_EXCED_RANGE: return REALM_BAD_PATH;
+    case ERROR_BAD_PATHNAME: return REALM_BAD_NAME;
+    case ERROR_FILENAME_EXCED_RANGE: return REALM_LONG_PATH;
     case ERROR_ACCESS_DENIED:
         is = GetFileAttributesW(path);
         SetLastError(error);
@@ -104,7 +107,7 @@ REALM_SYNC_API int realm_open_reason(DWORD error, const wchar_t *path) {
 /* Opens a file, or makes it, and locks it: nobody else may write it, rename it or take it away while it is open. The path is UTF-8. */
 REALM_SYNC_API int realm_file_open(const char *path, realm_file *file) {
     int count = MultiByteToWideChar(CP_UTF8, MB_ERR_INVALID_CHARS, path, -1, NULL, 0);
-    if (count <= 0) return REALM_BAD_PATH;
+    if (count <= 0) return REALM_BAD_NAME;
     wchar_t *wide = (wchar_t *)malloc((size_t)count * sizeof *wide);
     if (!wide) return REALM_OUT_OF_MEMORY;
     MultiByteToWideChar(CP_UTF8, MB_ERR_INVALID_CHARS, path, -1, wide, count);
@@ -149,9 +152,9 @@ REALM_SYNC_API int realm_file_read(realm_file file, uint8_t *bytes, size_t count
 REALM_SYNC_API int realm_write_reason(DWORD error) {
     switch (error) {
     case ERROR_DISK_FULL:
-    case ERROR_HANDLE_DISK_FULL:
-    case 1295: return REALM_DISK_FULL; /* ERROR_DISK_QUOTA_EXCEEDED */
-    case 223: return REALM_FILE_LIMIT; /* ERROR_FILE_TOO_LARGE */
+    case ERROR_HANDLE_DISK_FULL: return REALM_DISK_FULL;
+    case 1295: return REALM_SHARE_FULL; /* ERROR_DISK_QUOTA_EXCEEDED */
+    case 223: return REALM_FILE_LIMIT;  /* ERROR_FILE_TOO_LARGE */
     default: return REALM_WRITE_FAILED;
     }
 }
@@ -187,16 +190,17 @@ REALM_SYNC_API int realm_open_reason(int error, const char *path) {
     case ENOTDIR: return REALM_NOT_A_FOLDER;
     case EISDIR: return REALM_IS_A_FOLDER;
     case EROFS: return REALM_READ_ONLY_DISK;
-    case ENAMETOOLONG:
-    case ELOOP: return REALM_BAD_PATH;
+    case ENAMETOOLONG: return REALM_LONG_PATH;
+    case ELOOP: return REALM_LINKS_GO_ROUND;
+    case EINVAL:
+    case EILSEQ: return REALM_BAD_NAME;
     case EMFILE:
     case ENFILE: return REALM_MANY_FILES;
     case ENXIO: return REALM_NO_PLAIN_FILE;
-    case ENOSPC:
+    case ENOSPC: return REALM_DISK_FULL;
 #ifdef EDQUOT
-    case EDQUOT:
+    case EDQUOT: return REALM_SHARE_FULL;
 #endif
-        return REALM_DISK_FULL;
     case ENOMEM: return REALM_OUT_OF_MEMORY;
     case EACCES:
     case EPERM:
@@ -211,7 +215,11 @@ REALM_SYNC_API int realm_open_reason(int error, const char *path) {
 /* A descriptor above those of standard input, output and error, so that nothing that is printed gets into the file, and 0 is none. */
 REALM_SYNC_API int realm_above_standard(int file) {
     if (file < 0 || file > 2) return file;
+#ifdef F_DUPFD_CLOEXEC
+    int above = fcntl(file, F_DUPFD_CLOEXEC, 3), error = errno;
+#else
     int above = fcntl(file, F_DUPFD, 3), error = errno;
+#endif
     close(file);
     errno = error;
     return above;
@@ -231,6 +239,24 @@ REALM_SYNC_API bool realm_file_lock(int file) {
 #endif
 }
 
+/* Brings a new file's name to the device, by a sync of its folder. One that may not be read, or can't be synced, is left. */
+REALM_SYNC_API int realm_folder_sync(const char *path) {
+    const char *slash = strrchr(path, '/');
+    size_t len = slash && slash > path ? (size_t)(slash - path) : 1;
+    char *folder = (char *)malloc(len + 1);
+    if (!folder) return REALM_OUT_OF_MEMORY;
+    memcpy(folder, slash ? path : ".", len);
+    folder[len] = 0;
+    int opened = open(folder, O_RDONLY);
+    free(folder);
+    if (opened < 0) return REALM_NO_REASON;
+    bool failed = fsync(opened) != 0 && errno != EINVAL && errno != ENOTSUP;
+    int error = errno;
+    close(opened);
+    errno = error;
+    return failed ? REALM_SYNC_FAILED : REALM_NO_REASON;
+}
+
 /* Opens a file, or makes it, and locks it. `*moved` says that the path is another file's by now, since somebody renamed one meanwhile. */
 REALM_SYNC_API int realm_file_try(const char *path, realm_file *file, bool *moved) {
     struct stat opened, named;
@@ -248,7 +274,7 @@ REALM_SYNC_API int realm_file_try(const char *path, realm_file *file, bool *move
     }
     if (!realm_file_lock(made)) return errno == EWOULDBLOCK || errno == EAGAIN || errno == EACCES ? REALM_HELD : REALM_NO_LOCKS;
     *moved = stat(path, &named) != 0 || opened.st_dev != named.st_dev || opened.st_ino != named.st_ino;
-    return REALM_NO_REASON;
+    return opened.st_size == 0 && !*moved ? realm_folder_sync(path) : (int)REALM_NO_REASON;
 }
 
 REALM_SYNC_API void realm_file_close(realm_file file) { close((int)file); }
@@ -291,7 +317,7 @@ REALM_SYNC_API int realm_file_read(realm_file file, uint8_t *bytes, size_t count
 REALM_SYNC_API int realm_write_reason(int error) {
     switch (error) {
 #ifdef EDQUOT
-    case EDQUOT:
+    case EDQUOT: return REALM_SHARE_FULL;
 #endif
     case ENOSPC: return REALM_DISK_FULL;
     case EFBIG: return REALM_FILE_LIMIT;

@@ -25,7 +25,7 @@ done
 "$here/build.sh" $trial >/dev/null
 cd "$here"
 MYPYPATH=src mypy src tests "$top/examples/shopping"
-PYTHONPATH=src "$python" -W error::ResourceWarning -m unittest discover -t . -s tests
+PYTHONPATH=src "$python" -m unittest discover -t . -s tests
 "$here/tests/empty_project.sh"
 [ -z "$quick" ] || exit 0
 for name in two_phones serve_sockets; do

@@ -1,5 +1,9 @@
 /* A shopping list on two phones, and what can happen to it: each line tells a situation and what the library answers. What must be answered
- * is checked here, and the words are those of situations.out. The files go to a folder that is given. */
+ * is checked here, and the words are those of situations.out. The files go to a folder that is given.
+ *
+ * What the library can't tell yet isn't here (docs/LIMITS.md): another server's history, and one that was restored and has grown since; an
+ * element that two move, which stands twice; which table and column a refusal is about, and which edit and field a request. What more there
+ * is: threads.c, crashes.c, refusals.c. */
 #define _DEFAULT_SOURCE
 #include <errno.h>
 #include <fcntl.h>
@@ -14,6 +18,7 @@
 
 /* The calls of the system, of which one fails when it is told to. */
 static int write_error, sync_error, lock_error;
+static const char *rename_from, *rename_to; /* done once, between an open and its lock */
 static ssize_t failing_write(int file, const void *bytes, size_t count);
 static int failing_fsync(int file);
 static int failing_flock(int file, int how);
@@ -36,6 +41,7 @@ static int failing_fsync(int file) {
 }
 
 static int failing_flock(int file, int how) {
+    if (rename_from && rename(rename_from, rename_to) == 0) rename_from = NULL;
     errno = lock_error;
     return lock_error ? -1 : flock(file, how);
 }
@@ -386,7 +392,9 @@ static void paths(void) {
     unopened("a file for a folder", path_of("file/file"), REALM_NOT_A_FOLDER, ENOTDIR);
     memset(name, 'x', sizeof name);
     name[sizeof name - 1] = 0;
-    unopened("a name too long", path_of(name), REALM_BAD_PATH, ENAMETOOLONG);
+    unopened("a name too long", path_of(name), REALM_LONG_PATH, ENAMETOOLONG);
+    if (symlink(fresh("round"), path_of("round")) != 0) expect(false, "a link to itself");
+    unopened("a link to itself", path_of("round"), REALM_LINKS_GO_ROUND, ELOOP);
     lock_error = ENOLCK;
     unopened("no locks", path_of("file"), REALM_NO_LOCKS, ENOLCK);
     lock_error = 0;
@@ -434,7 +442,7 @@ static void failing(const char *situation, int *error, int number, int reason) {
 
 static void disks(void) {
     failing("a full disk", &write_error, ENOSPC, REALM_DISK_FULL);
-    failing("a user's share that is full", &write_error, EDQUOT, REALM_DISK_FULL);
+    failing("a user's share that is full", &write_error, EDQUOT, REALM_SHARE_FULL);
     failing("a file's limit", &write_error, EFBIG, REALM_FILE_LIMIT);
     failing("a write that fails", &write_error, EIO, REALM_WRITE_FAILED);
     failing("a sync that fails", &sync_error, EIO, REALM_SYNC_FAILED);
@@ -468,6 +476,17 @@ static void renamed(void) {
     must(realm_open_client(&first, elsewhere), &first);
     expect(standing(&first).last == 1 && standing(&second).last == 0, "each has its own file");
     printf("a file renamed while it is open: each open has the file that it locked\n");
+    realm_close(&first);
+    realm_close(&second);
+
+    /* Between an open and its lock. */
+    rename_from = elsewhere;
+    rename_to = path;
+    must(realm_open_client(&first, elsewhere), &first);
+    expect(!rename_from && standing(&first).last == 0, "it began again, with a new file");
+    must(realm_open_client(&second, path), &second);
+    expect(standing(&second).last == 1, "the renamed one is free");
+    printf("a file renamed while it is opened: the path is opened anew\n");
     realm_close(&first);
     realm_close(&second);
 }

@@ -21,8 +21,8 @@ export const wordsOfColumn = ({ kind, nullable, shape, target }: Pick<Definition
   `${kind}${nullable ? ' nullable' : ''} ${shape}${target ? ` of ${target}` : ''}`;
 
 const wordsOf = (it: Definition): string => (it.op === 'AddTable' ? `keys of ${it.key}` : wordsOfColumn(it));
-const definitionsIn = (body: Uint8Array): Definition[] =>
-  editsOf(body).filter((it) => it.startsWith('{"op":"AddTable"') || it.startsWith('{"op":"AddColumn"')).map((it) => JSON.parse(it) as Definition);
+const isDefinition = (edit: string): boolean => edit.startsWith('{"op":"AddTable"') || edit.startsWith('{"op":"AddColumn"');
+const definitionsIn = (body: Uint8Array): Definition[] => editsOf(body).filter(isDefinition).map((it) => JSON.parse(it) as Definition);
 
 /** The first definition that the unsent change `number` and the entry at `version` of this Download give in two ways. */
 export function conflictIn(engine: Engine, message: Uint8Array, version: number, number: number): Conflict | null {

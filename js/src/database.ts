@@ -1,5 +1,6 @@
 // A database as an application has it in one tab: its objects to read at once, transactions, and the state of sync.
 
+import { call } from './call.js';
 import { Closed, SchemaConflict, errorOfForm } from './errors.js';
 import type { Answers, Committed, HostEvent, Snapshot } from './host.js';
 import { HostGone, type Link } from './link.js';
@@ -19,8 +20,10 @@ import { readElement } from './values.js';
 export type Realm<T extends Tables> = Database<T> & { readonly [N in keyof T]: Table<T[N]> };
 
 /**
- * An edit of this device that isn't seen any more, since a change of another device that it hadn't seen came: told as far as it can be seen from
- * outside. It may also be that somebody who had seen this edit wrote over it later, before this device knew that it was in the history.
+ * An edit of this device that isn't seen any more, since a change of another device that it hadn't seen came. It is told of edits that
+ * this device hadn't got back from the history: where its own change came into the history first, and the other one's then won, the device
+ * that lost isn't told. It may also be that somebody who had seen this edit wrote over it later, before this device knew that it was in the
+ * history.
  */
 export interface LostEdit {
   readonly table: string;
@@ -32,7 +35,8 @@ export interface LostEdit {
   readonly at: Date;
   /** What it had written: a value, or an element of a collection. */
   readonly mine: unknown;
-  /** The object as it is now. */
+  /** The object as this device had it before, and as it is now. */
+  readonly before: Row;
   readonly object: Row | undefined;
 }
 
@@ -112,7 +116,8 @@ export class Database<T extends Tables> {
   private async applySchema(): Promise<void> {
     while (this.mirror.lacking.length > 0) {
       const edits = this.mirror.lackingEdits();
-      const { answers, epoch, version } = (await this.link.call('commit', this.epoch, this.version, [{ ms: Date.now(), edits, isBlind: false }])) as Answers;
+      const list = [{ ms: Date.now(), edits, isBlind: false }];
+      const { answers, epoch, version } = (await this.link.call('commit', this.epoch, this.version, list)) as Answers;
       const [answer] = answers;
       if (answer && answer !== 'stale' && 'error' in answer) throw errorOfForm(answer.error);
       await this.reach(epoch, version);
@@ -126,10 +131,10 @@ export class Database<T extends Tables> {
     switch (event.event) {
       case 'sync':
         this.syncState = event.state;
-        for (const listener of this.syncListeners) listener(event.state);
+        for (const listener of this.syncListeners) call(listener, event.state);
         return;
       case 'recovered':
-        for (const listener of this.recoveryListeners) listener(event.recovery);
+        for (const listener of this.recoveryListeners) call(listener, event.recovery);
         return;
       case 'lost': return this.tellLost(event.lost);
       case 'token':
@@ -149,16 +154,17 @@ export class Database<T extends Tables> {
 
   private tellLost(forms: readonly LostForm[]): void {
     const lost = forms.flatMap((it) => this.lostEdit(it));
-    if (lost.length > 0) for (const listener of this.lossListeners) listener(lost);
+    if (lost.length > 0) for (const listener of this.lossListeners) call(listener, lost);
   }
 
   /** None where the table or the column isn't one of the declared schema. */
-  private lostEdit({ table, key, column, why, ms, mine }: LostForm): LostEdit[] {
+  private lostEdit({ table, key, column, why, ms, mine, before }: LostForm): LostEdit[] {
     const rows = this.mirror.tables.get(table);
     const form = column === null ? null : rows?.form.column.get(column);
     if (!rows || form === undefined) return [];
     const name = rows.keyOf(key);
-    return [{ table, key: name, column, why, at: new Date(ms), mine: form && readElement(form, mine), object: rows.rows.get(name) }];
+    const value = form && readElement(form, mine);
+    return [{ table, key: name, column, why, at: new Date(ms), mine: value, before: rows.row(name, before), object: rows.rows.get(name) }];
   }
 
   private async handToken(source: (wasRefused: boolean) => string | Promise<string>, wasRefused: boolean): Promise<void> {
@@ -186,12 +192,12 @@ export class Database<T extends Tables> {
       this.conflict = error;
     }
     this.changed(changes);
-    for (const listener of this.syncListeners) listener(this.syncState);
+    for (const listener of this.syncListeners) call(listener, this.syncState);
   }
 
   private changed(changes: RowChange[]): void {
     this.feed.tell(changes);
-    if (changes.length > 0) for (const listener of this.changeListeners) listener(changes);
+    if (changes.length > 0) for (const listener of this.changeListeners) call(listener, changes);
     const arrivals = this.arrivals;
     this.arrivals = [];
     for (const arrive of arrivals) arrive();

@@ -10,13 +10,30 @@ export const REASONS = [
 export type Reason = (typeof REASONS)[number];
 
 const CODES: Record<number, string> = {
-  1: 'the tables differ', 2: 'the columns differ', 3: 'the sizes differ', 4: 'a size is out of range', 10: 'the table exists',
-  11: 'no such table', 12: 'the column exists', 13: 'a link column must be nullable if and only if it is single', 14: 'no such column',
-  20: 'the column has another shape', 21: "the value doesn't fit the column", 23: 'the list has another length', 30: 'no such object',
-  31: "the key is of another kind than the table's", 60: "the ident wasn't given by this server",
-  61: "not the client's next number: the file was copied or restored", 62: 'a base before the last one: the file was copied or restored',
-  63: "ahead of the server's history: its file was restored, or it is another server", 64: 'the history is full', 65: 'all idents are given',
-  67: 'the history needs form 2', 68: 'the ident is retired', 69: "an ident can't retire itself", 70: 'the ident was retired for another one',
+  1: 'the tables differ',
+  2: 'the columns differ',
+  3: 'the sizes differ',
+  4: 'a size is out of range',
+  10: 'the table exists',
+  11: 'no such table',
+  12: 'the column exists',
+  13: 'a link column must be nullable if and only if it is single',
+  14: 'no such column',
+  20: 'the column has another shape',
+  21: "the value doesn't fit the column",
+  23: 'the list has another length',
+  30: 'no such object',
+  31: "the key is of another kind than the table's",
+  60: "the ident wasn't given by this server",
+  61: "not the client's next number: the file was copied or restored",
+  62: 'a base before the last one: the file was copied or restored',
+  63: "ahead of the server's history: its file was restored, or it is another server",
+  64: 'the history is full',
+  65: 'all idents are given',
+  67: 'the history needs form 2',
+  68: 'the ident is retired',
+  69: "an ident can't retire itself",
+  70: 'the ident was retired for another one',
   71: 'the server gave up the history that the client needs',
 };
 export const wordsOfCode = (code: number): string => CODES[code] ?? (code >= 40 && code <= 53 ? 'no changeset' : `code ${code}`);
@@ -83,6 +100,12 @@ export class BadFile extends RealmError {
 export class WrongKey extends RealmError {}
 /** The server refuses this device or its token. */
 export class Unauthorized extends RealmError {}
+/** The server's history was restored, and is of another generation than this client says; which one, where the server told it. */
+export class Outdated extends RealmError {
+  constructor(readonly generation: number | null) {
+    super(`the history was restored on the server${generation === null ? '' : ` and is of generation ${generation}`}`);
+  }
+}
 /** Sync stopped for this, and goes on once it is settled: `problem` says why. */
 export class NeedsAttention extends RealmError {
   constructor(readonly problem: Problem) {
@@ -108,7 +131,7 @@ export function storageError(error: unknown): RealmError {
 export interface ErrorForm { name: string; message: string; fields: Record<string, unknown> }
 const CLASSES: Record<string, new (...words: never[]) => RealmError> = {
   RealmError, Refused, BrokenEdit, InvalidValue, SchemaConflict, StorageFailed, StorageFull, Busy, BadFile, WrongKey, Unauthorized,
-  NeedsAttention, Endless, OutOfMemory, Closed, BadRequest,
+  Outdated, NeedsAttention, Endless, OutOfMemory, Closed, BadRequest,
 };
 export function formOfError(error: unknown): ErrorForm {
   const isError = error instanceof Error;

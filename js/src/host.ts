@@ -4,7 +4,9 @@
 import { conflictIn } from './conflict.js';
 import { Status, expectDone, textOf, utf8, type Reply, type Standing } from './door.js';
 import { Engine } from './engine.js';
-import { BadRequest, BrokenEdit, NeedsAttention, RealmError, Refused, StorageFailed, Unauthorized, formOfError, storageError, type ErrorForm } from './errors.js';
+import {
+  BadRequest, BrokenEdit, NeedsAttention, Outdated, RealmError, Refused, StorageFailed, Unauthorized, formOfError, storageError, type ErrorForm,
+} from './errors.js';
 import { LostEdits, type LostForm } from './lost.js';
 import type { Put } from './mirror.js';
 import { isTakenOverByItself, type Problem } from './problems.js';
@@ -58,8 +60,8 @@ export interface SyncOptions extends Partial<Omit<LoopOptions, 'transport'>> {
   transport: Transport;
   /**
    * What is done where a new client can take over: `recover` (it does, and saves what is unsent) or `ask` (sync needs attention, until
-   * `db.recover()`). By default it recovers where this device's client is retired, restored or damaged, and asks where the schemas differ or the
-   * server is another one.
+   * `db.recover()`). By default it recovers where this device's client is retired, restored or damaged, and asks where the schemas differ
+   * or the server is another one.
    */
   onProblem?: 'recover' | 'ask';
 }
@@ -67,21 +69,26 @@ export interface SyncOptions extends Partial<Omit<LoopOptions, 'transport'>> {
 const nameOf = (generation: number): string => `client-${generation}`;
 // Why a new client takes over is written down before it has a file: where it was cut off, it goes on for the same reason.
 const reasonName = (generation: number): string => `reason-${generation}`;
+/** Of the server's history, where that isn't 1. */
+const SERVER_GENERATION = 'generation';
+const NOTE = 4096;
 
-async function keepReason(files: Files, generation: number, problem: Problem): Promise<void> {
-  const file = await files.open(reasonName(generation));
-  const text = JSON.stringify({ kind: problem.kind, text: problem.text, isRecoverable: true });
-  await file.apply([{ place: 0, bytes: utf8(text.padEnd(4096)) }, 'sync']);
+/** Keeps something small beside the client's file. */
+async function keepNote(files: Files, name: string, note: unknown): Promise<void> {
+  const file = await files.open(name);
+  await file.apply([{ place: 0, bytes: utf8(JSON.stringify(note).padEnd(NOTE)) }, 'sync']);
   await file.close();
 }
 
-async function reasonOf(files: Files, generation: number): Promise<Problem> {
-  const file = await files.open(reasonName(generation));
+async function noteOf<T>(files: Files, name: string): Promise<T> {
+  const file = await files.open(name);
   const text = textOf(await file.read());
   await file.close();
-  return JSON.parse(text) as Problem;
+  return JSON.parse(text) as T;
 }
 
+/** What ends a recovery: any other error, as of the network, is tried again. */
+const FINAL = [Refused, StorageFailed, NeedsAttention, Unauthorized, Outdated];
 const DEFAULTS = { retryFrom: 500, retryMost: 60_000, timeout: 60_000, mostMessages: 100_000 };
 const wait = (ms: number): Promise<void> => new Promise((done) => setTimeout(done, ms));
 
@@ -99,6 +106,7 @@ export class Host {
   /** Whether a new client took over since the last time that all was up to date. */
   private hasRecovered = false;
   private waitingForToken: ((token: string) => void)[] = [];
+  private serverGeneration = 1;
 
   private constructor(
     private readonly module: WebAssembly.Module,
@@ -127,7 +135,10 @@ export class Host {
     const engine = await Engine.open(module, await files.open(nameOf(generation)));
     await born(engine);
     const heir = found[1] ?? null;
-    return new Host(module, files, engine, generation, heir, heir === null ? null : await reasonOf(files, heir));
+    const reason = heir === null ? null : await noteOf<Problem>(files, reasonName(heir));
+    const host = new Host(module, files, engine, generation, heir, reason);
+    if ((await files.names()).includes(SERVER_GENERATION)) host.serverGeneration = await noteOf<number>(files, SERVER_GENERATION);
+    return host;
   }
 
   listen(listener: (event: HostEvent) => void): () => void {
@@ -305,6 +316,7 @@ export class Host {
   startSync(options: SyncOptions): void {
     this.loop?.stop();
     const transport = inTurn(options.transport);
+    transport.generation = this.serverGeneration;
     this.syncOptions = { ...options, transport };
     const whole: LoopOptions = { pollEvery: transport.watch ? 300_000 : 10_000, ...DEFAULTS, ...options, transport };
     const node = {
@@ -361,17 +373,27 @@ export class Host {
   // ---- recovery
 
   private async onProblem(problem: Problem): Promise<boolean> {
+    if (problem.generation && this.engine.standing().ident === 0) {
+      await this.agreeOn(problem.generation); // a new client begins in the generation that the history has
+      return true;
+    }
     const isAsked = this.syncOptions?.onProblem === 'recover' ? problem.isRecoverable : isTakenOverByItself(problem);
     if (!isAsked || this.syncOptions?.onProblem === 'ask' || this.hasRecovered) return false;
     for (let pause = 500; !this.isClosed && this.loop; pause = Math.min(60_000, pause * 2)) {
       try {
         return await this.recover(problem);
       } catch (error) {
-        if (error instanceof Refused || error instanceof StorageFailed || error instanceof NeedsAttention || error instanceof Unauthorized) return false;
+        if (FINAL.some((it) => error instanceof it)) return false;
         await wait(pause);
       }
     }
     return false;
+  }
+
+  private async agreeOn(generation: number): Promise<void> {
+    await keepNote(this.files, SERVER_GENERATION, generation);
+    this.serverGeneration = generation;
+    if (this.syncOptions) this.syncOptions.transport.generation = generation;
   }
 
   private exchange(message: Uint8Array): Promise<Uint8Array> {
@@ -390,14 +412,20 @@ export class Host {
 
   private async takeOver(problem: Problem): Promise<boolean> {
     this.setState({ status: 'recovering', problem });
-    if (this.heir === null) await keepReason(this.files, this.generation + 1, problem);
+    if (this.heir === null) {
+      const { kind, text, generation } = problem;
+      await keepNote(this.files, reasonName(this.generation + 1), { kind, text, isRecoverable: true, generation });
+    }
     this.heir ??= this.generation + 1;
     const heir = await Engine.open(this.module, await this.files.open(nameOf(this.heir)));
     const takeover = new Takeover(heir, (message) => this.exchange(message), problem);
+    const { transport } = this.syncOptions ?? {};
     try {
+      if (transport && problem.generation) transport.generation = problem.generation;
       await takeover.join(this.engine.standing());
       const recovery = await this.alone(async () => {
         const done = await takeover.inherit(this.engine);
+        if (problem.generation) await this.agreeOn(problem.generation);
         await this.replaced(heir, problem);
         return done;
       });
@@ -407,6 +435,7 @@ export class Host {
       return true;
     } catch (error) {
       if (this.engine !== heir) await heir.close();
+      if (transport) transport.generation = this.serverGeneration;
       throw error;
     }
   }

@@ -71,7 +71,9 @@ export async function openDatabase<T extends Tables>(options: OpenOptions<T>): P
 }
 
 /** A database over files of one's own: for tests, and for storages that this package doesn't have. */
-export async function openOver<T extends Tables>(schema: Schema<T>, module: WebAssembly.Module, files: Files, sync?: SyncWith): Promise<Realm<T>> {
+export async function openOver<T extends Tables>(
+  schema: Schema<T>, module: WebAssembly.Module, files: Files, sync?: SyncWith,
+): Promise<Realm<T>> {
   const db = await Database.open(schema, new LocalLink(await Host.start(module, files), optionsOf));
   if (sync) await db.startSync(sync);
   return db;

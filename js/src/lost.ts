@@ -7,6 +7,9 @@ import { unsentOf } from './recovery.js';
 import { Status, textOf } from './door.js';
 import { parseLine, textOfKey } from './values.js';
 
+/** An object's cells by their columns, in the core's JSON. */
+export type Cells = Readonly<Record<string, any>>;
+
 /** An edit of this device that isn't seen any more, in the core's JSON. */
 export interface LostForm {
   readonly table: string;
@@ -17,6 +20,8 @@ export interface LostForm {
   readonly why: 'overwritten' | 'erased';
   /** What this device had written: a value, an element, or the value at a key of a dictionary. */
   readonly mine: unknown;
+  /** The object's cells as this device had them before. */
+  readonly before: Cells;
 }
 
 interface Edit {
@@ -28,8 +33,6 @@ interface Edit {
   readonly at?: string;
   readonly ms: number;
 }
-type Cells = Readonly<Record<string, any>>;
-
 /** Whether two values of the core are one. A link's `resolved` isn't of the value. */
 export function isSameValue(one: any, other: any): boolean {
   if (one === other) return true;
@@ -47,7 +50,7 @@ function isLost(edit: Edit, before: any, after: any, others: readonly Edit[]): b
   switch (edit.op) {
     // A number to which others added has changed too, and nothing is lost.
     case 'Update':
-      return isSameValue(before, edit.value) && !isSameValue(after, edit.value) && others.some((it) => it.op === 'Update' || it.op === 'CreateObject');
+      return isSameValue(before, edit.value) && !isSameValue(after, edit.value) && others.some(({ op }) => op === 'Update' || op === 'CreateObject');
     case 'ListInsert':
     case 'ListUpdate': return countOf(after, edit.value) < countOf(before, edit.value);
     case 'SetInsert': return has(before, edit.value) && !has(after, edit.value);
@@ -64,14 +67,21 @@ const spotOf = ({ op, column, value, at }: Edit): string => {
   return `${column}@${at ?? ''}`;
 };
 
-function lostOf(edits: readonly Edit[], others: readonly Edit[], before: Cells, after: Cells | null): { edit: Edit; why: LostForm['why'] }[] {
+interface Lost {
+  readonly edit: Edit;
+  readonly why: LostForm['why'];
+}
+
+function lostOf(edits: readonly Edit[], others: readonly Edit[], before: Cells, after: Cells | null): Lost[] {
   const last = edits[edits.length - 1]!;
   if (!after) return edits.some((it) => it.op === 'EraseObject') ? [] : [{ edit: { ...last, column: undefined }, why: 'erased' }];
   const bySpot = new Map(edits.filter((it) => it.column !== undefined).map((it) => [spotOf(it), it]));
-  return [...bySpot.values()]
-    .filter(({ column }) => column! in before && column! in after)
-    .filter((edit) => isLost(edit, before[edit.column!], after[edit.column!], others.filter((it) => it.column === undefined || it.column === edit.column)))
-    .map((edit) => ({ edit, why: 'overwritten' as const }));
+  const lost = [...bySpot.values()].filter((edit) => {
+    const column = edit.column!;
+    const touched = others.filter((it) => it.column === undefined || it.column === column);
+    return column in before && column in after && isLost(edit, before[column], after[column], touched);
+  });
+  return lost.map((edit) => ({ edit, why: 'overwritten' }));
 }
 
 const nameOf = ({ table, key }: Edit): string => JSON.stringify([table, key]);
@@ -113,7 +123,9 @@ export class LostEdits {
   /** What is lost now that the message was taken. */
   found(): LostForm[] {
     return this.seen.flatMap(({ mine, others, before }) =>
-      lostOf(mine, others, before, this.cells(mine[0]!)).map(({ edit, why }) => (
-        { table: edit.table, key: textOfKey(edit.key), column: edit.column ?? null, ms: edit.ms, why, mine: edit.value ?? null })));
+      lostOf(mine, others, before, this.cells(mine[0]!)).map(({ edit, why }) => {
+        const { table, column = null, ms, value = null } = edit;
+        return { table, key: textOfKey(edit.key), column, ms, why, mine: value, before };
+      }));
   }
 }

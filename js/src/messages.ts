@@ -2,14 +2,16 @@
 
 import { textOf } from './door.js';
 
-export const Tag = { Bind: 1, Ident: 2, Upload: 3, Ask: 4, Download: 5, Refused: 6, Stored: 7, Ask2: 8, Retire: 9, Retired: 10, AskTables: 11 } as const;
+export const Tag = {
+  Bind: 1, Ident: 2, Upload: 3, Ask: 4, Download: 5, Refused: 6, Stored: 7, Ask2: 8, Retire: 9, Retired: 10, AskTables: 11,
+} as const;
 
 const KEYS = ['Int', 'Text', 'Uuid'];
 const KINDS = ['', 'Int', 'Bool', 'Text', 'Bytes', 'Time', 'Uuid', 'Link'];
 const SHAPES = ['One', 'List', 'Set', 'Dict'];
 const OPS = [
-  '', 'AddTable', 'AddColumn', 'CreateObject', 'EraseObject', 'Update', 'AddInteger', 'ListUpdate', 'ListInsert', 'ListErase', 'SetInsert', 'SetErase',
-  'DictUpdate', 'Clear',
+  '', 'AddTable', 'AddColumn', 'CreateObject', 'EraseObject', 'Update', 'AddInteger', 'ListUpdate', 'ListInsert', 'ListErase', 'SetInsert',
+  'SetErase', 'DictUpdate', 'Clear',
 ];
 
 class Bytes {
@@ -136,43 +138,65 @@ export function editsOf(body: Uint8Array): string[] {
   const from = new Bytes(body);
   from.byte();
   const strings = Array.from({ length: from.number() }, () => JSON.stringify(textOf(from.run(from.number()))));
-  const name = () => strings[from.number()]!;
-  const key = (): string => {
-    const tag = from.byte();
-    return tag === 0 ? from.signed().toString() : tag === 1 ? name() : `{"uuid":"${from.uuid()}"}`;
-  };
-  const forms = [
-    () => 'null', () => from.signed().toString(), () => (from.byte() === 1 ? 'true' : 'false'), () => JSON.stringify(textOf(from.run(from.number()))),
-    () => `{"bytes":"${from.hex(from.number())}"}`, () => `{"secs":${from.signed()},"nanos":${from.signed()}}`, () => `{"uuid":"${from.uuid()}"}`,
-    () => { const table = name(); return `{"link":${table},"key":${key()}}`; },
-  ];
-  const value = () => forms[from.byte()]!();
-  const object = () => { const table = name(); return `"table":${table},"key":${key()}`; };
-  const cell = () => { const at = object(); return `${at},"column":${name()}`; };
-  const spot = () => { const place = from.number(); return `,"place":${place},"prior":${from.number()}`; };
-  const fields: (() => string)[] = [
-    () => '', () => { const table = name(); return `"table":${table},"key":"${KEYS[from.byte()]}"`; },
-    () => {
-      const table = name(), column = name(), kind = KINDS[from.byte()]!;
-      const may = from.byte() === 1, shape = SHAPES[from.byte()];
-      return `"table":${table},"column":${column},"kind":"${kind}","nullable":${may},"shape":"${shape}"${kind === 'Link' ? `,"target":${name()}` : ''}`;
-    },
-    object, object,
-    () => { const at = cell(); return `${at},"value":${value()}`; },
-    () => { const at = cell(); return `${at},"amount":${from.signed()}`; },
-    () => { const at = cell(), where = spot(); return `${at}${where},"value":${value()}`; },
-    () => { const at = cell(), where = spot(); return `${at}${where},"value":${value()}`; },
-    () => { const at = cell(); return `${at}${spot()}`; },
-    () => { const at = cell(); return `${at},"value":${value()}`; },
-    () => { const at = cell(); return `${at},"value":${value()}`; },
-    cell, cell,
-  ];
-  return Array.from({ length: from.number() }, () => {
-    const op = from.byte();
-    if (op === 12) {
-      const at = cell(), dictKey = name();
-      return from.byte() === 1 ? `{"op":"DictUpdate",${at},"at":${dictKey},"value":${value()}}` : `{"op":"DictErase",${at},"at":${dictKey}}`;
+  const reader = new Edits(from, strings);
+  return Array.from({ length: from.number() }, () => reader.edit());
+}
+
+/** Reads the instructions of a changeset, whose strings are known. */
+class Edits {
+  constructor(private readonly from: Bytes, private readonly strings: readonly string[]) {}
+
+  private name(): string {
+    return this.strings[this.from.number()]!;
+  }
+
+  private key(): string {
+    const tag = this.from.byte();
+    if (tag === 0) return this.from.signed().toString();
+    return tag === 1 ? this.name() : `{"uuid":"${this.from.uuid()}"}`;
+  }
+
+  private value(): string {
+    const { from } = this;
+    switch (from.byte()) {
+      case 0: return 'null';
+      case 1: return from.signed().toString();
+      case 2: return from.byte() === 1 ? 'true' : 'false';
+      case 3: return JSON.stringify(textOf(from.run(from.number())));
+      case 4: return `{"bytes":"${from.hex(from.number())}"}`;
+      case 5: return `{"secs":${from.signed()},"nanos":${from.signed()}}`;
+      case 6: return `{"uuid":"${from.uuid()}"}`;
+      default: return `{"link":${this.name()},"key":${this.key()}}`;
     }
-    return `{"op":"${OPS[op]}",${fields[op]!()}}`;
-  });
+  }
+
+  private column(): string {
+    const kind = KINDS[this.from.byte()]!;
+    const may = this.from.byte() === 1, shape = SHAPES[this.from.byte()];
+    const target = kind === 'Link' ? `,"target":${this.name()}` : '';
+    return `"kind":"${kind}","nullable":${may},"shape":"${shape}"${target}`;
+  }
+
+  edit(): string {
+    const op = this.from.byte();
+    const table = `"table":${this.name()}`;
+    if (op === 1) return `{"op":"AddTable",${table},"key":"${KEYS[this.from.byte()]}"}`;
+    if (op === 2) return `{"op":"AddColumn",${table},"column":${this.name()},${this.column()}}`;
+    const object = `${table},"key":${this.key()}`;
+    if (op <= 4) return `{"op":"${OPS[op]}",${object}}`;
+    return this.cellEdit(op, `${object},"column":${this.name()}`);
+  }
+
+  private cellEdit(op: number, cell: string): string {
+    const { from } = this;
+    if (op === 12) {
+      const at = this.name();
+      return from.byte() === 1 ? `{"op":"DictUpdate",${cell},"at":${at},"value":${this.value()}}` : `{"op":"DictErase",${cell},"at":${at}}`;
+    }
+    const head = `{"op":"${OPS[op]}",${cell}`;
+    if (op === 13) return `${head}}`;
+    if (op === 6) return `${head},"amount":${from.signed()}}`;
+    const spot = op >= 7 && op <= 9 ? `,"place":${from.number()},"prior":${from.number()}` : '';
+    return op === 9 ? `${head}${spot}}` : `${head}${spot},"value":${this.value()}}`;
+  }
 }

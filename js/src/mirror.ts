@@ -1,4 +1,5 @@
-// The objects as one tab has them: what the core says, as values of code. Nothing is merged here; an object that may have changed is read anew.
+// The objects as one tab has them: what the core says, as values of code. Nothing is merged here; an object that may have changed is read
+// anew.
 
 import { SchemaConflict } from './errors.js';
 import { wordsOfColumn } from './conflict.js';
@@ -96,7 +97,8 @@ interface ColumnLine {
   readonly table: string;
   readonly target?: string;
 }
-const declaredWords = ({ field: { kind, nullable, target }, shape }: ColumnForm): string => wordsOfColumn({ kind, nullable, shape, target: target ?? '' });
+const declaredWords = ({ field: { kind, nullable, target }, shape }: ColumnForm): string =>
+  wordsOfColumn({ kind, nullable, shape, target: target ?? '' });
 
 export class Mirror {
   readonly tables = new Map<string, TableRows>();
@@ -170,14 +172,16 @@ export class Mirror {
     // A link's target has to be there first, so links come behind all tables (`lackingEdits`).
     const columns = form.columns.filter((it) => !have?.has(it.name)).map(({ name, field: { kind, nullable, target }, shape }) => {
       const more = target ? `,"target":${JSON.stringify(target)}` : '';
-      return `{"op":"AddColumn","table":${table},"column":${JSON.stringify(name)},"kind":"${kind}","nullable":${nullable},"shape":"${shape}"${more}}`;
+      const head = `{"op":"AddColumn","table":${table},"column":${JSON.stringify(name)}`;
+      return `${head},"kind":"${kind}","nullable":${nullable},"shape":"${shape}"${more}}`;
     });
     return edits.concat(columns);
   }
 
   /** What the schema lacks, tables first. */
   lackingEdits(): string[] {
-    return [...this.lacking.filter((it) => it.startsWith('{"op":"AddTable"')), ...this.lacking.filter((it) => !it.startsWith('{"op":"AddTable"'))];
+    const isTable = (edit: string): boolean => edit.startsWith('{"op":"AddTable"');
+    return [...this.lacking.filter(isTable), ...this.lacking.filter((it) => !isTable(it))];
   }
 
   /** Objects anew. */
@@ -187,7 +191,8 @@ export class Mirror {
       const rows = this.tables.get(table);
       if (!rows) continue;
       const key = rows.keyOf(keyText);
-      const change = replace(rows, key, line === null ? undefined : rows.row(key, (parseLine(line) as { cells: Record<string, unknown> }).cells));
+      const found = line === null ? null : (parseLine(line) as { cells: Record<string, unknown> });
+      const change = replace(rows, key, found ? rows.row(key, found.cells) : undefined);
       if (change) changes.push(change);
     }
     return changes;

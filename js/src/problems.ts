@@ -1,6 +1,6 @@
 // Why sync stops, and what the application or its user can do.
 
-import { Refused, wordsOfCode } from './errors.js';
+import { Refused, wordsOfCode, type Outdated } from './errors.js';
 
 /**
  * - `schema`: the application's tables or columns differ from those of the history.
@@ -29,6 +29,8 @@ export interface Problem {
   readonly isRecoverable: boolean;
   /** Of a `schema`: which definition differs, where it is known. */
   readonly conflict?: Conflict | null;
+  /** Of an `otherServer`: the generation of its history, where it told one. */
+  readonly generation?: number | null;
 }
 
 export const problem = (kind: ProblemKind, text: string, isRecoverable: boolean): Problem => ({ kind, text, isRecoverable });
@@ -70,6 +72,10 @@ export function problemOf(error: Refused, isRepeated: boolean): Problem | 'again
     default: return isRepeated ? problem('damaged', error.message, true) : 'again';
   }
 }
+
+/** The problem of a server that says that its history was restored. */
+export const outdated = ({ message, generation }: Outdated): Problem =>
+  ({ kind: 'otherServer', text: message, isRecoverable: generation !== null, generation });
 
 /** The problems in which a new client takes over by itself. The others are left to a person: what is to be done with another server's
  * history, or with an application that declares another schema, nobody can know here. */

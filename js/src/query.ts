@@ -1,5 +1,6 @@
 // Queries over a tab's objects, and live ones: what changed is put into the result at its place, and the rest stays as it is.
 
+import { call } from './call.js';
 import type { Row, RowChange, TableRows } from './mirror.js';
 import type { Key, KeyOf, ObjectOf } from './schema.js';
 
@@ -55,7 +56,7 @@ export class Feed {
         if (tell) telling.push(tell);
       }
     }
-    for (const tell of telling) tell();
+    for (const tell of telling) call(tell);
   }
 }
 
@@ -66,11 +67,13 @@ interface Plan<R> {
   readonly most: number;
 }
 
+const EVERYTHING: Plan<any> = { equal: [], tests: [], orders: [], most: Infinity };
+
 export class Query<T> implements AsyncIterable<readonly ObjectOf<T>[]> {
   private live: Live<any> | null = null;
   private cached: { version: number; rows: readonly any[] } | null = null;
 
-  constructor(protected readonly rows: TableRows, protected readonly feed: Feed, private readonly plan: Plan<any> = { equal: [], tests: [], orders: [], most: Infinity }) {}
+  constructor(protected readonly rows: TableRows, protected readonly feed: Feed, private readonly plan: Plan<any> = EVERYTHING) {}
 
   private with(more: Partial<Plan<any>>): Query<T> {
     return new Query<T>(this.rows, this.feed, { ...this.plan, ...more });
@@ -101,7 +104,10 @@ export class Query<T> implements AsyncIterable<readonly ObjectOf<T>[]> {
   toArray(): readonly ObjectOf<T>[] {
     if (this.live) return this.live.rows;
     const version = this.feed.versions.get(this.rows.form.name) ?? 0;
-    if (this.cached?.version !== version) this.cached = { version, rows: cut(find(this.rows, this.plan, comparing(this.rows, this.plan)), this.plan.most) };
+    if (this.cached?.version !== version) {
+      const found = find(this.rows, this.plan, comparing(this.rows, this.plan));
+      this.cached = { version, rows: cut(found, this.plan.most) };
+    }
     return this.cached.rows;
   }
 
@@ -223,7 +229,7 @@ class Live<R extends Row> {
     else this.edit([...removed, ...updated.map((it) => it.before)], [...inserted, ...updated.map((it) => it.after)]);
     this.rows = cut(this.all.slice(), this.plan.most);
     return () => {
-      for (const listener of [...this.listeners]) listener(this.rows, { inserted, updated, removed });
+      for (const listener of [...this.listeners]) call(listener, this.rows, { inserted, updated, removed });
     };
   }
 

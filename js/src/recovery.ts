@@ -87,9 +87,9 @@ export class Takeover {
   }
 
   /**
-   * Commits in the new client what the old one has unsent, in order. A change is in the history where it belongs to the longest beginning of
-   * the unsent ones whose numbers and times stand there under the old ident. The number alone doesn't say it: a file that was restored from a
-   * backup gives numbers anew.
+   * Commits in the new client what the old one has unsent, in order. A change is in the history where it belongs to the longest beginning
+   * of the unsent ones whose numbers and times stand there under the old ident. The number alone doesn't say it: a file that was restored
+   * from a backup gives numbers anew.
    */
   async inherit(old: Engine): Promise<Recovery> {
     const dropped: Dropped[] = [];

@@ -21,8 +21,13 @@ export interface Field<Read, Role extends Roles, Element = Read> {
 type Fields = { readonly [name: string]: Field<any, any, any> };
 export type Tables = { readonly [table: string]: Fields };
 
-const field = <R, Role extends Roles, E = R>(role: Role, kind: Kind, more: { nullable?: boolean; big?: boolean; target?: string } = {}): Field<R, Role, E> =>
-  ({ role, kind, nullable: more.nullable ?? false, big: more.big ?? false, target: more.target ?? null });
+interface More {
+  readonly nullable?: boolean;
+  readonly big?: boolean;
+  readonly target?: string;
+}
+const field = <R, Role extends Roles, E = R>(role: Role, kind: Kind, { nullable: may = false, big = false, target }: More = {}): Field<R, Role, E> =>
+  ({ role, kind, nullable: may, big, target: target ?? null });
 
 /** The key of a table. */
 export const key = {
@@ -48,10 +53,12 @@ export const counter = () => field<number, 'counter'>('counter', 'Int');
 export const link = <K extends Key = string>(table: string) => field<K | null, 'one'>('one', 'Link', { nullable: true, target: table });
 /** A column of one value that may be null. */
 export const nullable = <R>(of: Field<R, 'one'>) => ({ ...of, nullable: true } as unknown as Field<R | null, 'one'>);
-export const list = <R>(of: Field<R, 'one'>) => ({ ...of, role: 'list', nullable: of.kind !== 'Link' && of.nullable } as unknown as Field<readonly R[], 'list', R>);
+/** A column of many values, each as this one. Links in it are never null. */
+const many = (of: Field<any, 'one'>, role: Roles): unknown => ({ ...of, role, nullable: of.kind !== 'Link' && of.nullable });
+export const list = <R>(of: Field<R, 'one'>) => many(of, 'list') as Field<readonly R[], 'list', R>;
 /** Of numbers, texts, flags, uuids and links. */
-export const set = <R extends Key | boolean | null>(of: Field<R, 'one'>) => ({ ...of, role: 'set', nullable: of.kind !== 'Link' && of.nullable } as unknown as Field<ReadonlySet<R>, 'set', R>);
-export const dict = <R>(of: Field<R, 'one'>) => ({ ...of, role: 'dict', nullable: of.kind !== 'Link' && of.nullable } as unknown as Field<{ readonly [at: string]: R }, 'dict', R>);
+export const set = <R extends Key | boolean | null>(of: Field<R, 'one'>) => many(of, 'set') as Field<ReadonlySet<R>, 'set', R>;
+export const dict = <R>(of: Field<R, 'one'>) => many(of, 'dict') as Field<{ readonly [at: string]: R }, 'dict', R>;
 
 // ---- the types that follow
 
@@ -64,7 +71,8 @@ export type ObjectOf<T> = { readonly [C in keyof T]: ReadOf<T[C]> };
 export type KeyOf<T> = ReadOf<T[Named<T, 'key' | 'autoKey'>]>;
 /** What `update` sets: columns of one value. What is undefined stays. */
 export type Patch<T> = { [C in Named<T, 'one' | 'counter'>]?: ReadOf<T[C]> | undefined };
-type Collections<T> = { [C in Named<T, 'list' | 'set' | 'dict'>]?: (RoleOf<T[C]> extends 'dict' ? { readonly [at: string]: ElementOf<T[C]> } : Iterable<ElementOf<T[C]>>) | undefined };
+type Given<F> = RoleOf<F> extends 'dict' ? { readonly [at: string]: ElementOf<F> } : Iterable<ElementOf<F>>;
+type Collections<T> = { [C in Named<T, 'list' | 'set' | 'dict'>]?: Given<T[C]> | undefined };
 /** What `create` takes: a key that it can't draw, and any columns. */
 export type New<T> = Patch<T> & Collections<T> & { [C in Named<T, 'autoKey'>]?: ReadOf<T[C]> } & { [C in Named<T, 'key'>]: ReadOf<T[C]> };
 export type Handles<T> = {
@@ -92,7 +100,13 @@ export interface DictHandle<E> { set(at: string, value: E): void; delete(at: str
 // ---- the schema at work
 
 export interface ColumnForm { readonly name: string; readonly field: Field<unknown, any>; readonly shape: Shape }
-export interface TableForm { readonly name: string; readonly keyName: string; readonly keyKind: KeyKind; readonly columns: readonly ColumnForm[]; readonly column: ReadonlyMap<string, ColumnForm> }
+export interface TableForm {
+  readonly name: string;
+  readonly keyName: string;
+  readonly keyKind: KeyKind;
+  readonly columns: readonly ColumnForm[];
+  readonly column: ReadonlyMap<string, ColumnForm>;
+}
 
 const isKey = ({ role }: Field<any, any, any>): boolean => role === 'key' || role === 'autoKey';
 const SHAPES: Record<string, Shape> = { one: 'One', counter: 'One', list: 'List', set: 'Set', dict: 'Dict' };
@@ -107,22 +121,25 @@ export class Schema<T extends Tables = Tables> {
   readonly tables: ReadonlyMap<string, TableForm>;
 
   constructor(readonly declared: T) {
-    const forms = new Map<string, TableForm>();
-    for (const [name, fields] of Object.entries(declared)) {
-      const entries = Object.entries(fields);
-      const keys = entries.filter(([, it]) => isKey(it));
-      if (keys.length !== 1) throw new TypeError(`table ${name} needs one key`);
-      const [keyName, keyField] = keys[0]!;
-      const columns = entries.filter(([, it]) => !isKey(it)).map(([column, it]): ColumnForm => ({ name: column, field: it, shape: SHAPES[it.role]! }));
-      for (const it of [name, ...columns.map((column) => column.name)]) {
-        if (it === '__proto__') throw new TypeError('a name cannot be __proto__');
-        if (bytesIn(it) < 1 || bytesIn(it) > 63) throw new TypeError(`the name ${JSON.stringify(it)} has not 1 to 63 bytes`);
-      }
+    this.tables = new Map(Object.entries(declared).map(([name, fields]) => [name, formOf(name, fields)]));
+    for (const { name, columns } of this.tables.values()) {
       for (const { name: column, field: { target } } of columns) {
-        if (target !== null && !(target in declared)) throw new TypeError(`${name}.${column} links to ${target}, which is no table here`);
+        if (target !== null && !this.tables.has(target)) throw new TypeError(`${name}.${column} links to ${target}, which is no table here`);
       }
-      forms.set(name, { name, keyName, keyKind: keyField.kind as KeyKind, columns, column: new Map(columns.map((it) => [it.name, it])) });
     }
-    this.tables = forms;
   }
+}
+
+function formOf(name: string, fields: Fields): TableForm {
+  const entries = Object.entries(fields);
+  const keys = entries.filter(([, it]) => isKey(it));
+  if (keys.length !== 1) throw new TypeError(`table ${name} needs one key`);
+  const [keyName, keyField] = keys[0]!;
+  const plain = entries.filter(([, it]) => !isKey(it));
+  const columns = plain.map(([column, it]): ColumnForm => ({ name: column, field: it, shape: SHAPES[it.role]! }));
+  for (const it of [name, ...columns.map((column) => column.name)]) {
+    if (it === '__proto__') throw new TypeError('a name cannot be __proto__');
+    if (bytesIn(it) < 1 || bytesIn(it) > 63) throw new TypeError(`the name ${JSON.stringify(it)} has not 1 to 63 bytes`);
+  }
+  return { name, keyName, keyKind: keyField.kind as KeyKind, columns, column: new Map(columns.map((it) => [it.name, it])) };
 }

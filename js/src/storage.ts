@@ -6,7 +6,8 @@ export interface OpenFile {
   read(): Uint8Array | Promise<Uint8Array>;
   /** Does the strokes in order. When it returns, they are on the disk. */
   apply(strokes: readonly Stroke[], note?: string): void | Promise<void>;
-  /** The note of the last strokes that came with one: for whoever opens the file after a tab was killed. Only storages that tabs share have it. */
+  /** The note of the last strokes that came with one: for whoever opens the file after a tab was killed. Only storages that tabs share have
+   * it. */
   noted?(): string;
   close(): void | Promise<void>;
 }

@@ -1,7 +1,7 @@
 // The background loop of sync: what there is to say is said, what came is taken, and the state is told.
 
-import { Endless, Refused, Unauthorized, errorOfProblem } from './errors.js';
-import { problem, problemOf, type Problem } from './problems.js';
+import { Endless, Outdated, Refused, Unauthorized, errorOfProblem } from './errors.js';
+import { outdated, problem, problemOf, type Problem } from './problems.js';
 import type { Stop } from './query.js';
 
 /** Brings one message to the server and its reply back. */
@@ -12,6 +12,8 @@ export interface Transport {
   watch?(callback: () => void): Stop;
   /** A token in place of the one before. */
   renew?(token: string): void;
+  /** In which generation of the server's history this client's file began: 1, unless the server said another one (`Outdated`). */
+  generation?: number;
   close?(): void;
 }
 
@@ -72,6 +74,8 @@ export function inTurn(transport: Transport): Transport {
     ...(transport.watch && { watch: (callback: () => void) => transport.watch!(callback) }),
     ...(transport.renew && { renew: (token: string) => transport.renew!(token) }),
     ...(transport.close && { close: () => transport.close!() }),
+    get generation(): number { return transport.generation ?? 1; },
+    set generation(generation: number) { transport.generation = generation; },
   };
 }
 
@@ -173,6 +177,7 @@ export class SyncLoop {
 
   private async failed(error: Error): Promise<void> {
     if (error instanceof Unauthorized) return this.stopFor(problem('unauthorized', error.message, false));
+    if (error instanceof Outdated) return this.stopFor(outdated(error));
     if (error instanceof Refused) {
       const what = problemOf(error, this.isRepeated);
       const wasRepeated = this.isRepeated;

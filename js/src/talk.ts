@@ -8,8 +8,8 @@ import { endOf, storedOf } from './messages.js';
 
 export class Talk {
   /**
-   * Whether the client had all of the history since its file was opened and since the last refusal. Until then it only asks: a file that was
-   * copied, or restored from a backup, learns of it before a change of it is sent under a number that the history has already.
+   * Whether the client had all of the history since its file was opened and since the last refusal. Until then it only asks: a file that
+   * was copied, or restored from a backup, learns of it before a change of it is sent under a number that the history has already.
    */
   private isCurrent = false;
   /** The number of the last Stored. */

@@ -1,6 +1,6 @@
 // Transports: one message there, one reply back.
 
-import { RealmError, Unauthorized } from './errors.js';
+import { Outdated, RealmError, Unauthorized } from './errors.js';
 import type { Stop } from './query.js';
 import type { Transport } from './sync.js';
 
@@ -38,14 +38,33 @@ class Token {
 const headersOf = (token: string): Record<string, string> => (token ? { authorization: `Bearer ${token}` } : {});
 /** What a server says by these it says for good. */
 const isForGood = (status: number): boolean => status === 401 || status === 403 || status === 404;
-const refusal = (status: number): string =>
-  status === 401 ? 'the server refuses the token' : status === 404 ? 'the server has no such history' : `the server refuses this device (${status})`;
+function refusal(status: number): string {
+  if (status === 401) return 'the server refuses the token';
+  return status === 404 ? 'the server has no such history' : `the server refuses this device (${status})`;
+}
+
+const OUTDATED = 410;
+/** An address, with the generation in which the client's file began. */
+function addressOf(url: string, generation: number): string {
+  return generation === 1 ? url : `${url}${url.includes('?') ? '&' : '?'}generation=${generation}`;
+}
+const newsAt = (url: string, generation: number, after: number, wait: number): string => {
+  const at = new URL(addressOf(url, generation));
+  at.pathname += '/news';
+  at.searchParams.set('after', String(after));
+  at.searchParams.set('wait', String(wait));
+  return String(at);
+};
+function generationIn(headers: Headers): number | null {
+  const told = Number(headers.get('realm-generation') ?? 0);
+  return told > 0 ? told : null;
+}
 
 /** Waits for a history to grow: `GET URL/news?after=N&wait=S` is answered by `{"news":LENGTH}`, or by 204 after S seconds. */
-async function* newsOf(url: string, token: Token, signal: AbortSignal): AsyncIterableIterator<number> {
+async function* newsOf(at: (after: number, wait: number) => string, token: Token, signal: AbortSignal): AsyncIterableIterator<number> {
   for (let length = -1, seconds = 0; !signal.aborted; seconds = 25) {
     try {
-      const response = await fetch(`${url}/news?after=${Math.max(0, length)}&wait=${seconds}`, { headers: headersOf(await token.get()), signal });
+      const response = await fetch(at(Math.max(0, length), seconds), { headers: headersOf(await token.get()), signal });
       if (response.status === 200) {
         const { news } = (await response.json()) as { news: number };
         if (length >= 0) yield news;
@@ -70,6 +89,7 @@ const later = (ms: number, signal: AbortSignal): Promise<void> =>
 
 /** A server over HTTP: a POST of the message, its reply in the body. `url` is the history's own address. */
 export class HttpTransport implements Transport {
+  generation = 1;
   private readonly token: Token;
   private readonly isWatching: boolean;
 
@@ -82,7 +102,8 @@ export class HttpTransport implements Transport {
   async exchange(message: Uint8Array, signal: AbortSignal): Promise<Uint8Array> {
     for (;;) {
       const headers = { 'content-type': 'application/octet-stream', ...headersOf(await this.token.get()) };
-      const response = await fetch(this.url, { method: 'POST', body: message, signal, headers });
+      const response = await fetch(addressOf(this.url, this.generation), { method: 'POST', body: message, signal, headers });
+      if (response.status === OUTDATED) throw new Outdated(generationIn(response.headers));
       if (response.status === 401) {
         this.token.refused(refusal(401));
         continue;
@@ -96,7 +117,8 @@ export class HttpTransport implements Transport {
 
   watch(callback: () => void): Stop {
     const stopped = new AbortController();
-    if (this.isWatching) void (async () => { for await (const _ of newsOf(this.url, this.token, stopped.signal)) callback(); })();
+    const at = (after: number, seconds: number): string => newsAt(this.url, this.generation, after, seconds);
+    if (this.isWatching) void (async () => { for await (const _ of newsOf(at, this.token, stopped.signal)) callback(); })();
     return () => stopped.abort();
   }
 
@@ -112,6 +134,7 @@ interface Waiting { done: (reply: Uint8Array) => void; fail: (error: Error) => v
  * token is the subprotocol `bearer.TOKEN` beside `realm`, since a page can set no header.
  */
 export class WebSocketTransport implements Transport {
+  generation = 1;
   private readonly token: Token;
   private socket: WebSocket | null = null;
   private waiting: Waiting | null = null;
@@ -127,7 +150,7 @@ export class WebSocketTransport implements Transport {
     if (this.socket?.readyState === 1) return this.socket;
     if (!this.Socket) throw new Unauthorized('this platform has no WebSocket: hand a class of them over, or use HTTP');
     const token = await this.token.get();
-    const socket = new this.Socket(this.url, token ? ['realm', `bearer.${token}`] : ['realm']);
+    const socket = new this.Socket(addressOf(this.url, this.generation), token ? ['realm', `bearer.${token}`] : ['realm']);
     socket.binaryType = 'arraybuffer';
     const code = await new Promise<number>((done) => {
       socket.onopen = () => done(0);
@@ -145,12 +168,11 @@ export class WebSocketTransport implements Transport {
 
   /** Why there is no connection. A page isn't told the status with which one was refused, so it is asked for by HTTP. */
   private async unconnected(code: number, token: string): Promise<Error> {
-    let status = code >= 4000 ? code - 4000 : 0;
-    if (status === 0) {
-      const asked = `${this.url.replace(/^ws/, 'http')}/news?after=4294967295&wait=0`;
-      status = await fetch(asked, { headers: headersOf(token) }).then((it) => it.status, () => 0);
-    }
-    return this.refused(status) ?? new RealmError('the server cannot be reached');
+    if (code >= 4000 && code !== 4000 + OUTDATED) return this.refused(code - 4000) ?? new RealmError(`the server ended the connection (${code})`);
+    const asked = newsAt(this.url.replace(/^ws/, 'http'), this.generation, 0xffffffff, 0);
+    const response = await fetch(asked, { headers: headersOf(token) }).catch(() => null);
+    if (response?.status === OUTDATED) return new Outdated(generationIn(response.headers));
+    return this.refused(response?.status ?? 0) ?? new RealmError('the server cannot be reached');
   }
 
   private refused(status: number): Error | null {

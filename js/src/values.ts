@@ -19,7 +19,9 @@ function int(value: unknown, where: string): string {
     if (value < INT_MIN || value > INT_MAX) throw new InvalidValue(`${where}: ${value} has more than 64 bits`);
     return value.toString();
   }
-  if (typeof value !== 'number' || !Number.isSafeInteger(value)) throw new InvalidValue(`${where}: ${String(value)} is no integer that a number has exactly`);
+  if (typeof value !== 'number' || !Number.isSafeInteger(value)) {
+    throw new InvalidValue(`${where}: ${String(value)} is no integer that a number has exactly`);
+  }
   return (value + 0).toString() === '-0' ? '0' : value.toString();
 }
 
@@ -51,7 +53,10 @@ export function plainKey(kind: KeyKind, value: unknown, where: string): Key {
   return value;
 }
 
-export const keyJson = (kind: KeyKind, value: Key): string => (kind === 'Uuid' ? `{"uuid":"${value as string}"}` : kind === 'Int' ? value.toString() : quote(value as string));
+export function keyJson(kind: KeyKind, value: Key): string {
+  if (kind === 'Uuid') return `{"uuid":"${value as string}"}`;
+  return kind === 'Int' ? value.toString() : quote(value as string);
+}
 
 /** A value of a column as JSON. */
 export function valueJson(field: Field<unknown, any>, tables: ReadonlyMap<string, TableForm>, value: unknown, where: string): string {
@@ -140,8 +145,11 @@ export function readCell(form: ColumnForm, it: any): unknown {
   const { field } = form;
   switch (form.shape) {
     case 'One': return readValue(field, it);
-    case 'List': return Object.freeze(field.kind === 'Text' || (field.kind === 'Bool') ? it : it.map((element: unknown) => readValue(field, element)));
+    case 'List': return Object.freeze(field.kind === 'Text' || field.kind === 'Bool' ? it : it.map((element: unknown) => readValue(field, element)));
     case 'Set': return new Set(it.map((element: unknown) => readValue(field, element)));
-    case 'Dict': return Object.freeze(Object.assign(Object.create(null), Object.fromEntries(Object.entries(it).map(([at, element]) => [at, readValue(field, element)]))));
+    case 'Dict': {
+      const entries = Object.entries(it).map(([at, element]) => [at, readValue(field, element)]);
+      return Object.freeze(Object.assign(Object.create(null), Object.fromEntries(entries)));
+    }
   }
 }

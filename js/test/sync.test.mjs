@@ -144,7 +144,7 @@ test('what this device wrote and another one overruled is told, once, with what 
   const id = await one.write((tx) => tx.items.create({ title: 'bread', tags: ['a'], steps: ['x'], prices: { k: 1 }, quantity: 1 }));
   const [gone, mine] = await one.write((tx) => [tx.items.create({ title: 'gone' }), tx.items.create({ title: 'mine' })]);
   await one.synced(); await other.synced();
-  net.isDown = true;
+  await one.stopSync();
   const told = [];
   one.onLost((lost) => told.push(...lost));
   await one.write((tx) => { tx.items.update(id, { title: 'white bread', done: true }); tx.items.at(id).prices.set('k', 2); tx.items.at(id).quantity.add(1); });
@@ -156,13 +156,15 @@ test('what this device wrote and another one overruled is told, once, with what 
     tx.items.at(id).quantity.add(5);
     tx.items.erase(gone);
   });
-  net.isDown = false;
-  await other.synced(); await one.synced(); await one.synced();
+  await other.synced(); // the other device's changes come first in the history
+  await one.startSync({ transport: net.transport(), ...fast });
+  await one.synced(); await one.synced();
   const said = told.map(({ key, column, why, mine: value }) => [key === id ? 'bread' : key === gone ? 'gone' : 'other', column, why, value]);
   assert.deepEqual(said, [['bread', 'title', 'overwritten', 'white bread'], ['bread', 'prices', 'overwritten', 2], ['gone', null, 'erased', null]]);
   assert.equal(told[0].object.title, 'rye bread');
   assert.equal(told[0].object.quantity, 7);
   assert.ok(told[0].at instanceof Date);
   assert.equal(told[2].object, undefined);
+  assert.equal(told[2].before.title, 'still here?');
   await one.close(); await other.close();
 });

@@ -17,6 +17,7 @@ class Service:
     def __init__(self) -> None:
         self.server, self.tokens, self.is_silent, self.posts = Server(), {"good"}, False, 0
         self.renewed: list[str] = []
+        self.generation = 1
         self._sockets: set[web.WebSocketResponse] = set()
         self._grown = asyncio.Event()
         self._loop = asyncio.new_event_loop()
@@ -63,6 +64,8 @@ class Service:
     def _check(self, request: web.Request) -> None:
         if request.headers.get("Authorization", "").removeprefix("Bearer ") not in self.tokens:
             raise web.HTTPUnauthorized
+        if int(request.query.get("generation", 1)) != self.generation:
+            raise web.HTTPGone(headers={"Realm-Generation": str(self.generation)})
 
     async def _take(self, message: bytes) -> bytes:
         before = self.server.standing().cursor

@@ -108,7 +108,7 @@ class Agreement(unittest.TestCase):
                 gone, mine = tx.create(Item, title="gone"), tx.create(Item, title="mine")
             self.assertTrue(one.synced(5) and other.synced(5))
             one.on_lost(told.extend)
-            net.is_down = True
+            one.stop_sync()
             with one.write() as tx:
                 tx.update(Item, bread, title="white bread", done=True)
                 tx.at(Item, bread, "prices")["k"] = 2
@@ -121,13 +121,15 @@ class Agreement(unittest.TestCase):
                 tx.at(Item, bread, "prices")["k"] = 3
                 tx.add(Item, bread, "quantity", 5)
                 tx.erase(Item, gone)
-            net.is_down = False
-            self.assertTrue(other.synced(5) and one.synced(5) and one.synced(5))
+            self.assertTrue(other.synced(5))  # the other device's changes come first in the history
+            one.start_sync(net.transport(), options=FAST)
+            self.assertTrue(one.synced(5) and one.synced(5))
         said = sorted(("bread" if it.key == bread else "gone", str(it.column), it.why, it.mine) for it in told)
         self.assertEqual(said, [("bread", "prices", "overwritten", 2), ("bread", "title", "overwritten", "white bread"), ("gone", "None", "erased", None)])
         title = next(it for it in told if it.column == "title")
         assert isinstance(title.object, Item)
         self.assertEqual((title.object.title, title.object.quantity), ("rye bread", 7))
+        self.assertEqual([it.before.title for it in told if it.why == "erased"], ["still here?"])
 
 
 class Recovering(unittest.TestCase):

@@ -3,6 +3,8 @@
 from __future__ import annotations
 
 import asyncio
+import os
+import tempfile
 import threading
 import unittest
 from collections.abc import Callable
@@ -78,6 +80,31 @@ class Tests(unittest.TestCase):
             until(lambda: "no reply came in time" in db.sync_state.text)
             self.service.is_silent = False
             self.assertTrue(db.synced(10))
+
+    def test_a_history_that_was_restored_on_the_server(self) -> None:
+        with tempfile.TemporaryDirectory() as folder:
+            for way, name in enumerate(("http", "socket")):
+                path, self.service.generation = os.path.join(folder, name), 1
+                with Database(path, TYPES, self.transports()[way], options=FAST) as db:
+                    with db.write() as tx:
+                        tx.create(Day, day=1)
+                    self.assertTrue(db.synced(10))
+                    db.stop_sync()
+                    with db.write() as tx:
+                        tx.create(Day, day=2)
+                self.service.generation = 3
+                with Database(None, TYPES, self.transports()[way], options=FAST) as fresh:
+                    self.assertTrue(fresh.synced(10))
+                with Database(path, TYPES, self.transports()[way], options=FAST) as db:
+                    with self.assertRaisesRegex(NeedsAttention, "restored on the server and is of generation 3") as told:
+                        db.synced(10)
+                    self.assertEqual(told.exception.problem.cause, "other server")
+                    db.recover()
+                    self.assertTrue(db.synced(10))
+                with Database(path, TYPES, self.transports()[way], options=FAST) as db:
+                    self.assertTrue(db.synced(10))
+                    self.assertEqual([it.day for it in db[Day]], [1, 2])
+                self.assertEqual(sorted(it for it in os.listdir(folder) if it.startswith(name)), [name, f"{name}.generation", f"{name}.kept-1"])
 
     def test_asyncio(self) -> None:
         def create(tx: Transaction) -> None:

@@ -71,7 +71,8 @@ pub fn both_move(left: ListAction, right: ListAction, left_later: bool) -> Optio
     })
 }
 
-fn action_at(instr: &Instr) -> Option<ListAction>
+/// What an instruction does in its list, where it is one of a list.
+pub fn action_at(instr: &Instr) -> Option<ListAction>
     ensures { result ≡ action_at instr.now }
 {
     match instr {

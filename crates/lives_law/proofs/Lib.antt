@@ -22,3 +22,5 @@ pub mod Heirs
 pub mod Acting
 pub mod Telling
 pub mod Saving
+pub mod Sending
+mod Examples

@@ -103,7 +103,7 @@ module _ {I S : Type 0} (p : Profile I S) (label : ℕ → ℕ → Act) (is : Is
 
   -- ---- an Upload
 
-  module _ (v : Files ClientRecord) (reached : Rattle.lives_law.specs.Lives.Reached v) (xs : List (Noted ServerRecord)) (lines : (d : ℕ) → LineKept p v xs d) (opens : server_opens_by p no_server (bare xs) ≡ true) (c : ℕ) (given : is_given (server_of p (bare xs)) c ≡ true) (m : Passage Change) (f : List (Written ClientRecord)) (kept : Among f v.kept) (u : IsUploadOf p f m) (w : World) (comes : Comes w) (known : Among (history label xs) w.hists) (there_ : Among (acts_from label 0 f) w.files.kept) where
+  module _ (v : Files ClientRecord) (reached : Rattle.lives_law.specs.Lives.Reached v) (xs : List (Noted ServerRecord)) (lines : (d : ℕ) → LineKept p v xs d) (opens : server_opens_by p no_server (bare xs) ≡ true) (c : ℕ) (given : is_given (server_of p (bare xs)) c ≡ true) (m : Passage Change) (f : List (Written ClientRecord)) (kept : Among f v.kept) (u : IsUploadOf p f m) (w : World) (comes : Comes w) (known : Among (history label xs) w.hists) (begun : Among (acts_from label 0 f) w.files.kept) where
     abbrev s : Server I
     s = server_of p (bare xs)
 
@@ -171,7 +171,7 @@ module _ {I S : Type 0} (p : Profile I S) (label : ℕ → ℕ → Act) (is : Is
           (record {
             comes = comes;
             known = known;
-            kept = there_;
+            kept = begun;
             marks = λ i l e.
                 let le = t.behind in
                 u.lives.marks (suc (count (server_of p (bare xs)) c - m.from) + i) l (count (server_of p (bare xs)) c + i) (at_dropped (suc (count (server_of p (bare xs)) c - m.from)) m.lives i l e) (omega arith);

@@ -109,7 +109,7 @@ abbrev rights : {L R M : Type 0} → Result (List L × List R) M → List R
 rights (Ok p) = p.1
 rights (Err e) = []
 
-one_left : {L R M : Type 0} (m : L → R → Result (Option L × Option R) M) (r : Result (Option L × Option R) M) (a : L) (b : R)
+pub one_left : {L R M : Type 0} (m : L → R → Result (Option L × Option R) M) (r : Result (Option L × Option R) M) (a : L) (b : R)
     → rowed (met r (λ x. row m x [])) (λ cs. cross m [] cs) ≡ Ok (a ∷ [], b ∷ []) → r ≡ Ok (Some a, Some b)
 one_left m (Err e) a b h = cc
 one_left m (Ok (None, y)) a b h = λ i. Ok (one_kept None a (ap lefts h) i, one_kept y b (ap rights h) i)

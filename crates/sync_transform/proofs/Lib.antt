@@ -6,3 +6,4 @@ pub mod Sizes
 pub mod Agreed
 pub mod Shown
 pub mod Anywhere
+pub mod InPlace

@@ -15,10 +15,11 @@
         db.synced(timeout=10)
 """
 
+from .checks import BadEdit
 from .database import Database, LostEdit
 from .door import Standing
 from .errors import (
-    BadFile, BadRequest, BrokenEdit, Busy, Closed, Endless, Error, InvalidValue, NeedsAttention, OtherProcess, OutOfMemory, Reason, Refused,
+    BadFile, BadRequest, BrokenEdit, Busy, Closed, Endless, Error, InvalidValue, NeedsAttention, OtherProcess, OutOfMemory, Outdated, Reason, Refused,
     SchemaConflict, StorageFailed, StorageFull, Unauthorized, WrongKey,
 )  # fmt: skip
 from .node import Client, Edits, Server, kept_ends
@@ -31,8 +32,8 @@ from .transaction import Transaction
 from .transports import CallTransport, HttpTransport, TokenSource, Transport, WebSocketTransport
 
 __all__ = [
-    "BadFile", "BadRequest", "BrokenEdit", "Busy", "CallTransport", "Client", "Closed", "Conflict", "Counter", "Database", "Dropped", "Edits", "Endless",
-    "Error", "HttpTransport", "InvalidValue", "LostEdit", "NeedsAttention", "OtherProcess", "OutOfMemory", "Problem", "Query", "Reason", "Recovery", "Refused",
+    "BadEdit", "BadFile", "BadRequest", "BrokenEdit", "Busy", "CallTransport", "Client", "Closed", "Conflict", "Counter", "Database", "Dropped", "Edits", "Endless",
+    "Error", "HttpTransport", "InvalidValue", "LostEdit", "NeedsAttention", "OtherProcess", "OutOfMemory", "Outdated", "Problem", "Query", "Reason", "Recovery", "Refused",
     "RowChange", "SchemaConflict", "SchemaError", "Server", "Standing", "StorageFailed", "StorageFull", "SyncOptions", "SyncState", "Table", "TokenSource",
     "Transaction", "Transport", "Unauthorized", "WebSocketTransport", "WrongKey", "kept_ends", "link", "table",
 ]  # fmt: skip

@@ -16,7 +16,7 @@ from .recovery import Recovery, Takeover, born
 from .storage import Files, Write
 from .talk import Talk
 
-CLIENT, HEIR, REASON = "client", "heir", "reason"
+CLIENT, HEIR, REASON, GENERATION = "client", "heir", "reason", "generation"
 
 
 @dataclasses.dataclass(frozen=True)
@@ -107,24 +107,36 @@ class DatabaseClient:
         """Why a new client had begun to take over, where it was cut off."""
         if not self._files.has(HEIR):
             return None
-        storage = self._files.open(REASON)
+        return Problem(**self._note(REASON))
+
+    def _keep(self, name: str, note: Any) -> None:
+        """Keeps something small beside the client's file."""
+        self._files.remove(name)
+        storage = self._files.open(name)
+        storage.apply([Write(0, to_json(note).encode()), None])
+        storage.close()
+
+    def _note(self, name: str) -> Any:
+        storage = self._files.open(name)
         try:
-            return Problem(**json.loads(storage.read()))
+            return json.loads(storage.read())
         finally:
             storage.close()
 
-    def _keep_reason(self, problem: Problem) -> None:
-        """Written down before the new client has a file: where it is cut off, it goes on for the same reason."""
-        self._files.remove(REASON)
-        storage = self._files.open(REASON)
-        text = to_json({"cause": problem.cause, "text": problem.text, "is_recoverable": True})
-        storage.apply([Write(0, text.encode()), None])
-        storage.close()
+    @property
+    def generation(self) -> int:
+        """In which generation of the server's history this client's file began."""
+        return int(self._note(GENERATION)) if self._files.has(GENERATION) else 1
+
+    def agree_on(self, generation: int) -> None:
+        self._keep(GENERATION, generation)
 
     def takeover(self, exchange: Callable[[bytes], bytes], problem: Problem) -> Replacement:
         """A new client that takes this one's place."""
+        # Written down before the new client has a file: where it is cut off, it goes on for the same reason.
         if not self._files.has(HEIR):
-            self._keep_reason(problem)
+            reason = {"cause": problem.cause, "text": problem.text, "is_recoverable": True, "generation": problem.generation}
+            self._keep(REASON, reason)
         return Replacement(self, Engine(self._files.open(HEIR)), exchange, problem)
 
     def _kept_name(self) -> str:
@@ -132,6 +144,8 @@ class DatabaseClient:
 
     def replaced(self, heir: Engine, problem: Problem) -> None:
         """The new client is the database's from now on. Where the old one may have what no history has, its file is kept beside."""
+        if problem.generation:
+            self.agree_on(problem.generation)
         if problem.cause in ("other server", "damaged"):
             self._files.replace(self._kept_name(), CLIENT)
         self._files.replace(CLIENT, HEIR)

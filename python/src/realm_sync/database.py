@@ -17,7 +17,7 @@ from typing import Any, Literal, TypeVar
 
 from .client import DatabaseClient
 from .door import to_json
-from .errors import BrokenEdit, Closed, Endless, Error, NeedsAttention, Reason, Refused, SchemaConflict, StorageFailed, Unauthorized
+from .errors import BrokenEdit, Closed, Endless, Error, NeedsAttention, Outdated, Reason, Refused, SchemaConflict, StorageFailed, Unauthorized
 from .lost import LostForm
 from .problems import Problem
 from .query import Callback, Live, Query, RowChange, Rows, Stop, Table
@@ -36,9 +36,10 @@ _log = logging.getLogger("realm_sync")
 
 @dataclasses.dataclass(frozen=True)
 class LostEdit:
-    """An edit of this device that isn't seen any more, since a change of another device that it hadn't seen came: told as far as it can be seen from
-    outside. It may also be that somebody who had seen this edit wrote over it later, before this device knew that it was in the history. `column` is
-    None where the whole object is gone; `mine` is what this device had written, a value or an element; `object` is what is there now."""
+    """An edit of this device that isn't seen any more, since a change of another device that it hadn't seen came. It is told of edits that this device
+    hadn't got back from the history: where its own change came into the history first, and the other one's then won, the device that lost isn't told. It
+    may also be that somebody who had seen this edit wrote over it later, before this device knew that it was in the history. `column` is
+    None where the whole object is gone; `mine` is what this device had written, a value or an element; `before` is the object as this device had it, `object` what is there now."""
 
     table: str
     key: Any
@@ -46,6 +47,7 @@ class LostEdit:
     why: Literal["overwritten", "erased"]
     at: datetime.datetime
     mine: Any
+    before: Any
     object: Any | None
 
 
@@ -241,6 +243,7 @@ class Database:
         """Syncs with this server from now on: the address of a history (`wss://host/v1/histories/NAME`, or `https:`), or a transport."""
         self.stop_sync()
         self._transport = transport_of(sync, token) if isinstance(sync, str) else sync
+        self._transport.generation = self._client.generation
         self._loop = SyncLoop(_Syncing(self), self._transport, options, self._tell_sync, self._recovered)
         self._loop.start()
         reason = self._client.pending_reason()
@@ -319,7 +322,8 @@ class Database:
         key = read_key(form.key)
         at = datetime.datetime.fromtimestamp(form.ms / 1000, datetime.timezone.utc)
         mine = read_element(column, form.mine) if column else None
-        return [LostEdit(form.table, key, form.column, form.why, at, mine, rows.by_key.get(key))]
+        before = rows.read({"key": form.key, "cells": form.before})
+        return [LostEdit(form.table, key, form.column, form.why, at, mine, before, rows.by_key.get(key))]
 
     def on_lost(self, callback: Callable[[Sequence[LostEdit]], None]) -> Stop:
         """Calls back with edits of this device that aren't seen any more after changes of other devices came."""
@@ -329,6 +333,10 @@ class Database:
 
     def _recovered(self, problem: Problem) -> bool:
         """Whether a new client took over for this problem: by itself, with pauses where the network fails."""
+        if problem.generation and self._transport and self._client.standing().ident == 0:
+            self._client.agree_on(problem.generation)  # a new client begins in the generation that the history has
+            self._transport.generation = problem.generation
+            return True
         is_asked = problem.is_recoverable if self._on_problem == "recover" else problem.recovers_by_itself
         if not is_asked or self._on_problem == "ask" or self._has_recovered:
             return False
@@ -339,7 +347,7 @@ class Database:
                     if self._recoveries == before:
                         self.recover(problem)
                 return True
-            except (Refused, StorageFailed, NeedsAttention, Unauthorized, Closed, Endless):
+            except (Refused, StorageFailed, NeedsAttention, Outdated, Unauthorized, Closed, Endless):
                 return False
             except Exception:  # the network: tried again
                 time.sleep(pause)
@@ -364,6 +372,7 @@ class Database:
     def _take_over(self, transport: Transport, problem: Problem) -> Recovery:
         takeover = self._client.takeover(transport.exchange, problem)
         try:
+            transport.generation = problem.generation or transport.generation
             takeover.join()
             with self._lock:
                 recovery = takeover.replace()
@@ -373,6 +382,7 @@ class Database:
                 return recovery
         except BaseException:
             takeover.close()
+            transport.generation = self._client.generation
             raise
 
     def on_recovered(self, callback: Callable[[Recovery], None]) -> Stop:

@@ -48,7 +48,7 @@ CODES: Mapping[int, str] = {
     30: "no such object",
     31: "the key is of another kind than the table's",
     60: "the ident wasn't given by this server",
-    61: "not the client's next number: the file was copied or restored",
+    61: "not the client's next number: the server's file was restored, or it is another server",
     62: "a base before the last one: the file was copied or restored",
     63: "ahead of the server's history: its file was restored, or it is another server",
     64: "the history is full",
@@ -150,6 +150,14 @@ class WrongKey(Error):
 
 class Unauthorized(Error):
     """The server refuses this device or its token."""
+
+
+class Outdated(Error):
+    """The server's history was restored, and is of another generation than this client says; which one, where the server told it."""
+
+    def __init__(self, generation: int | None) -> None:
+        super().__init__(f"the history was restored on the server{f' and is of generation {generation}' if generation else ''}")
+        self.generation = generation
 
 
 class NeedsAttention(Error):

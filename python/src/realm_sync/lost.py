@@ -13,9 +13,12 @@ from .messages import Edit, edits_of, entries_of
 from .talk import unsent_of
 
 
+Cells = dict[str, Any]
+
+
 class LostForm(NamedTuple):
     """An edit of this device that isn't seen any more, in the core's JSON. `column` is None where the whole object is gone; `mine` is what this
-    device had written: a value, an element, or the value at a key of a dictionary."""
+    device had written: a value, an element, or the value at a key of a dictionary; `before` are the object's cells as this device had them."""
 
     table: str
     key: Any
@@ -23,9 +26,7 @@ class LostForm(NamedTuple):
     ms: int
     why: Literal["overwritten", "erased"]
     mine: Any
-
-
-Cells = dict[str, Any]
+    before: Cells
 
 
 def is_same(one: Any, other: Any) -> bool:
@@ -107,11 +108,11 @@ class LostEdits:
         after = self._cells(last)
         if after is None:
             is_own = any(edit["op"] == "EraseObject" for edit, _ in mine)
-            return [] if is_own else [LostForm(last["table"], last["key"], None, ms, "erased", None)]
+            return [] if is_own else [LostForm(last["table"], last["key"], None, ms, "erased", None, before)]
         spots = {_spot(edit): (edit, ms) for edit, ms in mine if "column" in edit}
         lost = []
         for (column, _), (edit, ms) in spots.items():
             touched = [it for it in others if it.get("column", column) == column]
             if column in before and column in after and _is_lost(edit, before[column], after[column], touched):
-                lost.append(LostForm(edit["table"], edit["key"], column, ms, "overwritten", edit.get("value")))
+                lost.append(LostForm(edit["table"], edit["key"], column, ms, "overwritten", edit.get("value"), before))
         return lost

@@ -36,6 +36,8 @@ class Problem:
     is_recoverable: bool
     # Of a "schema": which definition differs, where it is known.
     conflict: Conflict | None = None
+    # Of an "other server": the generation of its history, where it told one.
+    generation: int | None = None
 
     @property
     def recovers_by_itself(self) -> bool:

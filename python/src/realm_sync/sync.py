@@ -9,7 +9,7 @@ import time
 from collections.abc import Callable
 from typing import Literal, Protocol
 
-from .errors import Endless, Reason, Refused, Unauthorized, error_of, words_of_code
+from .errors import Endless, Outdated, Reason, Refused, Unauthorized, error_of, words_of_code
 from .problems import BY_CODE, Problem
 from .transports import Transport
 
@@ -172,6 +172,8 @@ class SyncLoop:
     def _failed(self, why: Exception, want: int) -> None:
         if isinstance(why, Unauthorized):
             return self._stop_for(Problem("unauthorized", str(why), False))
+        if isinstance(why, Outdated):
+            return self._stop_for(Problem("other server", str(why), why.generation is not None, generation=why.generation))
         if isinstance(why, Refused):
             what, was_repeated = problem_of(why, self._is_repeated), self._is_repeated
             self._is_repeated = True

@@ -10,14 +10,17 @@ import urllib.request
 from collections.abc import Callable
 from typing import Any, Protocol
 
-from .errors import Error, Unauthorized
+from .errors import Error, Outdated, Unauthorized
 
 # A token, or what hands one over: it is asked for another one than before where that was refused.
 TokenSource = str | Callable[[bool], str]
 
 
 class Transport(Protocol):
-    """The way to a server. `watch`, `renew` and `close` may do nothing."""
+    """The way to a server. `watch`, `renew` and `close` may do nothing. `generation` is that of the server's history in which this client's file
+    began: 1, unless the server said another one (`Outdated`)."""
+
+    generation: int
 
     def exchange(self, message: bytes) -> bytes:
         """Brings a message to the server, and its reply back. Where none came it raises, and is tried again; after an Unauthorized it isn't."""
@@ -34,6 +37,8 @@ class Transport(Protocol):
 
 class CallTransport:
     """A server in this process, by a function that takes a message and answers the reply: `Server.take`, for example."""
+
+    generation = 1
 
     def __init__(self, exchange: Callable[[bytes], bytes]) -> None:
         self._exchange = exchange
@@ -85,24 +90,43 @@ def _refusal(status: int) -> str:
     return words.get(status, "")
 
 
+OUTDATED = 410
+_GENERATION = "Realm-Generation"
+
+
+def _address(url: str, generation: int, **words: int) -> str:
+    """An address, with the generation in which the client's file began, and other words."""
+    words = {**({"generation": generation} if generation != 1 else {}), **words}
+    return f"{url}{'&' if '?' in url else '?'}{urllib.parse.urlencode(words)}" if words else url
+
+
+def _generation_in(headers: Any) -> int | None:
+    """Of an answer's headers, whose names may be in lower case."""
+    found = {str(name).lower(): value for name, value in dict(headers or {}).items()}.get(_GENERATION.lower())
+    return int(found) if found else None
+
+
 class HttpTransport:
     """A server over HTTP: a POST of the message, its reply in the body. `url` is the history's own address. Unless `news` is false, the server is
     asked to answer `GET URL/news?after=N&wait=S` once the history has grown."""
 
     def __init__(self, url: str, token: TokenSource = "", timeout: float = 60, news: bool = True) -> None:
-        self._url, self._token, self._timeout, self._news = url, _Token(token), timeout, news
+        self._url, self._token, self._timeout, self._news, self.generation = url, _Token(token), timeout, news, 1
         self._stopped = threading.Event()
 
     def exchange(self, message: bytes) -> bytes:
         while True:
             headers = {"Content-Type": "application/octet-stream", **self._token.headers()}
             try:
-                with urllib.request.urlopen(urllib.request.Request(self._url, message, headers), timeout=self._timeout) as reply:
+                request = urllib.request.Request(_address(self._url, self.generation), message, headers)
+                with urllib.request.urlopen(request, timeout=self._timeout) as reply:
                     data: bytes = reply.read()
                 self._token.accepted()
                 return data
             except urllib.error.HTTPError as why:
                 why.close()
+                if why.code == OUTDATED:
+                    raise Outdated(_generation_in(why.headers)) from why
                 if why.code == 401:
                     self._token.refused(_refusal(401))
                 elif _refusal(why.code):
@@ -128,7 +152,9 @@ class HttpTransport:
 
     def _news_after(self, length: int, seconds: int) -> int:
         """The length of the history once it is above that, or after so many seconds that length."""
-        request = urllib.request.Request(f"{self._url}/news?after={length}&wait={seconds}", headers=self._token.headers())
+        base, _, query = self._url.partition("?")
+        url = f"{base}/news{'?' if query else ''}{query}"
+        request = urllib.request.Request(_address(url, self.generation, after=length, wait=seconds), headers=self._token.headers())
         with urllib.request.urlopen(request, timeout=seconds + 10) as reply:
             return int(json.load(reply)["news"]) if reply.status == 200 else length
 
@@ -144,7 +170,7 @@ class WebSocketTransport:
     the package websocket-client: `pip install 'realm-sync[websocket]'`."""
 
     def __init__(self, url: str, token: TokenSource = "", timeout: float = 60) -> None:
-        self._url, self._token, self._timeout = url, _Token(token), timeout
+        self._url, self._token, self._timeout, self.generation = url, _Token(token), timeout, 1
         self._socket: Any = None
         self._watcher: Callable[[], None] = lambda: None
         self._replies = threading.Condition()
@@ -157,8 +183,11 @@ class WebSocketTransport:
         websocket = _websocket_client()
         headers = [f"{name}: {value}" for name, value in self._token.headers().items()]
         try:
-            socket = websocket.create_connection(self._url, timeout=self._timeout, header=headers, subprotocols=["realm"], enable_multithread=True)
+            url = _address(self._url, self.generation)
+            socket = websocket.create_connection(url, timeout=self._timeout, header=headers, subprotocols=["realm"], enable_multithread=True)
         except websocket.WebSocketBadStatusException as why:
+            if why.status_code == OUTDATED:
+                raise Outdated(_generation_in(why.resp_headers)) from why
             raise self._refused(int(why.status_code)) from why
         self._token.accepted()
         socket.settimeout(None)
