@@ -123,7 +123,7 @@ class Link:
     async def _connected(self) -> aiohttp.ClientWebSocketResponse:
         assert self.session is not None
         while self.socket is None or self.socket.closed:
-            url = f"{self.base}/v1/histories/{self.history}?generation={self.generation}"
+            url = f"{self.base}/v1/histories/{self.history}@{self.generation}"
             try:
                 headers = {"Authorization": "Bearer " + self.token}
                 self.socket = await self.session.ws_connect(url, headers=headers, max_msg_size=LARGEST, heartbeat=HEARTBEAT)
