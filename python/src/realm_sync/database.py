@@ -362,7 +362,11 @@ class Database:
         problem = problem or self.sync_state.problem or Problem("damaged", "asked for", True)
         with self._recovering:
             self._tell_sync(SyncState("recovering", problem.text, problem=problem))
-            recovery = self._take_over(self._transport, problem)
+            try:
+                recovery = self._take_over(self._transport, problem)
+            except BaseException:
+                self._tell_sync(self.sync_state)
+                raise
         self._events.append(lambda: _tell_each(self._recovery_listeners, recovery))
         self._tell()
         if self._loop:
