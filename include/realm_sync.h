@@ -2,7 +2,7 @@
  * "Requests of a host", what passes between this header and the archive. Link libsync_host_c.a and the allocator.
  *
  *     realm_node phone;
- *     char text[256];
+ *     char text[512];
  *     int status = realm_open_client(&phone, "phone");
  *     if (status == REALM_DONE) status = realm_commit(&phone, ms, "[{\"op\":\"CreateObject\",\"table\":\"notes\",\"key\":1}]");
  *     if (status != REALM_DONE) puts(realm_words(&phone, status, text, sizeof text));
@@ -60,7 +60,7 @@ typedef struct realm_node {
     uint8_t reason;     /* a realm_reason */
     bool failed;        /* no request reaches the archive any more */
     bool is_client;
-    uint8_t question;   /* the form of the question that the last message asked, or 0 */
+    uint8_t question;   /* what the last message asked: the form of a question for the history, REALM_PROBE, or 0 */
     bool verified;      /* since the opening it took all that the server had */
     bool current;       /* the last message said so, and nothing was unsent */
     bool held_up;       /* the last message was refused by a mismatch */
@@ -537,7 +537,8 @@ REALM_SYNC_API int realm_commit(realm_node *node, uint64_t ms, const char *edits
     if (!edits || edits[strspn(edits, " \t\r\n")] != '[') return realm_expect(node, expected);
     size_t room = strlen(edits) + 64;
     char *request = room <= sizeof small ? small : (char *)malloc(room);
-    if (!request) return realm_fail(node, REALM_OUT_OF_MEMORY);
+    node->reply_len = 0;
+    if (!request) return REALM_NO_MEMORY;
     int len = snprintf(request, room, "{\"ms\":%" PRIu64 ",\"edits\":%s}", ms, edits);
     int status = realm_ask_client(node, 'L', request, (size_t)len, expected);
     if (request != small) free(request);
@@ -572,6 +573,7 @@ typedef struct realm_head {
     uint32_t numbers[4];
 } realm_head;
 
+enum { REALM_PROBE = 255 };
 enum { REALM_TAG_UPLOAD = 3, REALM_TAG_ASK = 4, REALM_TAG_DOWNLOAD = 5, REALM_TAG_STORED = 7, REALM_TAG_ASK_2 = 8, REALM_TAG_ASK_TABLES = 11 };
 
 REALM_SYNC_API realm_head realm_head_of(const uint8_t *message, size_t len) {
@@ -642,6 +644,7 @@ REALM_SYNC_API int realm_probe(realm_node *node) {
     node->reply[at++] = (uint8_t)place.ident;
     node->reply[at++] = 0;
     node->reply_len = at;
+    node->question = REALM_PROBE;
     return REALM_DONE;
 }
 
@@ -675,7 +678,7 @@ REALM_SYNC_API uint8_t realm_stale_by(realm_refused why) {
  * form 2 follows. */
 REALM_SYNC_API bool realm_is_end(uint8_t question, realm_head head, size_t len, uint32_t cursor) {
     uint32_t from = head.numbers[1], count = head.numbers[2];
-    if (question == 0 || head.tag != REALM_TAG_DOWNLOAD || (uint64_t)from + count != cursor) return false;
+    if (question == 0 || question == REALM_PROBE || head.tag != REALM_TAG_DOWNLOAD || (uint64_t)from + count != cursor) return false;
     return count == 0 || (question == 2 && count < 4096 && len <= 4194304);
 }
 
@@ -695,7 +698,8 @@ REALM_SYNC_API void realm_note_taken(realm_node *node, int status, realm_head he
         bool is_end = realm_is_end(question, head, len, place.cursor);
         bool is_stored = head.tag == REALM_TAG_STORED;
         if (is_stored && head.numbers[1] > place.last) node->stale = REALM_STALE_FILE;
-        if (is_end || (is_stored && head.numbers[1] == place.last - place.unsent)) node->verified = true;
+        /* The answer to an Upload of nothing: the history has no change of the client but those that it took. */
+        if (is_end || (question == REALM_PROBE && is_stored && head.numbers[1] == place.last - place.unsent)) node->verified = true;
         node->current = is_end && place.unsent == 0;
     }
 }

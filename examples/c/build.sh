@@ -7,8 +7,9 @@
 # built first (with REALM_SYNC_TRIAL=1 without any proof; REALM_SYNC_ARCHIVE=FILE takes that archive). Valgrind, clang and the compilers for
 # Windows and aarch64 are used where they are installed.
 #
-# With --target the C examples are built for another machine, aarch64 or riscv64, from the library's LLVM module, and run by qemu-user
-# (Debian: qemu-user, gcc-aarch64-linux-gnu). REALM_SYNC_MODULE=FILE takes that module.
+# With --target the C examples are built for another machine from the library's LLVM module: aarch64 or riscv64, and run by qemu-user
+# (Debian: qemu-user, gcc-aarch64-linux-gnu); or windows, and run by Wine (wine64, gcc-mingw-w64-x86-64). REALM_SYNC_MODULE=FILE takes that
+# module.
 set -eu
 top=$(cd "$(dirname "$(readlink -f "$0")")/../.." && pwd)
 target=
@@ -44,7 +45,8 @@ built() {
 ran() {
     name=$1 what=$2
     shift 2
-    "$@" >"$out/printed"
+    "$@" >"$out/answered"
+    tr -d '\r' <"$out/answered" >"$out/printed"
     same "$top/examples/$name.out" "$out/printed" "$what"
 }
 
@@ -74,19 +76,29 @@ files() {
 
 # The C examples on another machine.
 if [ -n "$target" ]; then
-    compiler=$target-linux-gnu-gcc on="qemu-$target -L /usr/$target-linux-gnu"
+    compiler=$target-linux-gnu-gcc on="qemu-$target -L /usr/$target-linux-gnu" triple=$target-linux-gnu
     out=$out/$target
     mkdir -p "$out"
+    if [ "$target" = windows ]; then
+        compiler=x86_64-w64-mingw32-gcc on=$(command -v wine64 || command -v wine || echo /usr/lib/wine/wine64) triple=x86_64-w64-windows-gnu
+        export WINEPREFIX="$out/wine" WINEDEBUG=-all
+    fi
     module=${REALM_SYNC_MODULE:-$("$top/build" ${REALM_SYNC_TRIAL:+--trial} library.bc | tail -n 1)}
     if [ ! -f "$out/sync_host_c.o" ] || [ "$module" -nt "$out/sync_host_c.o" ]; then
-        "$top/examples/c/other_machine.py" "$module" "$target-linux-gnu" "$out/sync_host_c.o"
+        "$top/examples/c/other_machine.py" "$module" "$triple" "$out/sync_host_c.o"
     fi
     library="$out/sync_host_c.o $out/sync_host_c.o.heap.o"
-    for name in two_phones refusals full_disk situations crashes threads; do built $name $name -O2 -pthread; done
+    for name in two_phones refusals; do built $name $name.exe -O2; done
+    ran c/two_phones "two_phones on $target, over memory" $on "$out/two_phones.exe"
+    ran c/two_phones "two_phones on $target, over files" $on "$out/two_phones.exe" $(files)
+    ran c/refusals "each refusal on $target" $on "$out/refusals.exe"
+    if [ "$target" = windows ]; then
+        built windows windows.exe -O2
+        ran c/windows "files on $target" $on "$out/windows.exe" "$(folder)"
+        exit
+    fi
+    for name in full_disk situations crashes threads; do built $name $name -O2 -pthread; done
     rm -f "$out/full"
-    ran c/two_phones "two_phones on $target, over memory" $on "$out/two_phones"
-    ran c/two_phones "two_phones on $target, over files" $on "$out/two_phones" $(files)
-    ran c/refusals "each refusal on $target" $on "$out/refusals"
     ran c/full_disk "full_disk on $target" $on "$out/full_disk" "$out/full"
     ran c/situations "what can happen to an application on $target" $on "$out/situations" "$(folder)"
     ran c/crashes "what a crash leaves on $target" $on "$out/crashes" "$out/crashed"

@@ -1,5 +1,9 @@
 /* A shopping list on two phones, and what can happen to it: each line tells a situation and what the library answers. What must be answered
- * is checked here, and the words are those of situations.out. The files go to a folder that is given. */
+ * is checked here, and the words are those of situations.out. The files go to a folder that is given.
+ *
+ * What the library can't tell yet isn't here (docs/LIMITS.md): another server's history, and one that was restored and has grown since; an
+ * element that two move, which stands twice; which table and column a refusal is about, and which edit and field a request. What more there
+ * is: threads.c, crashes.c, refusals.c. */
 #define _DEFAULT_SOURCE
 #include <errno.h>
 #include <fcntl.h>

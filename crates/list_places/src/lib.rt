@@ -6,7 +6,8 @@ mod places;
 mod stamps;
 
 pub use moves::{
-    ListAction, Moves, action_in, both_move, moved_to, put_action, same_first_cell, shown, write,
+    ListAction, Moves, action_at, action_in, both_move, moved_to, put_action, same_first_cell,
+    shown, write,
 };
 pub use places::{Does, length_after, place_after};
 pub use stamps::is_later;

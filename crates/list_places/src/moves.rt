@@ -72,7 +72,7 @@ pub fn both_move(left: ListAction, right: ListAction, left_later: bool) -> Optio
 }
 
 /// What an instruction does in its list, where it is one of a list.
-pub(crate) fn action_at(instr: &Instr) -> Option<ListAction>
+pub fn action_at(instr: &Instr) -> Option<ListAction>
     ensures { result ≡ action_at instr.now }
 {
     match instr {

@@ -23,3 +23,4 @@ pub mod Acting
 pub mod Telling
 pub mod Saving
 pub mod Sending
+mod Examples

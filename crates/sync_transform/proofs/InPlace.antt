@@ -14,12 +14,12 @@ use Rattle.sync_base.specs.Lemmas.Apart.{changes_there}
 use Rattle.sync_base.specs.Lemmas.Looks.{path_total}
 use Rattle.sync_base.specs.Rules.{lifted, outcome_of, rule_of_edits, kept}
 use Rattle.sync_law.specs.Instrs.{as_pair, meet}
-use Rattle.sync_index.specs.Cells.{cell_in}
-use Rattle.sync_transform.specs.Moves.{action_at, moved, Move}
-use Rattle.sync_transform.specs.declared.moves.ListAction.{ListAction}
-use Rattle.sync_transform.specs.declared.moves.Moves.{Moves}
+use Rattle.sync_base.specs.Objects.{cell_in}
+use Rattle.list_places.specs.Moves.{action_at, moved, Move}
+use Rattle.list_places.specs.declared.moves.ListAction.{ListAction}
+use Rattle.list_places.specs.declared.moves.Moves.{Moves}
 use Rattle.sync_transform.proofs.Anywhere.{one_left}
-use Rattle.sync_transform.proofs.Stands.{lists_cross}
+use Rattle.sync_transform.proofs.Shown.{lists_cross}
 
 -- of one list
 pub lists_meet : (l : Bool) (x y : ListAction) (m : Moves) (a b : Instr) → Move x y l m → action_at a ≡ Some x → action_at b ≡ Some y → cell_in (effect_of a) ≡ cell_in (effect_of b)

@@ -1,13 +1,12 @@
 ghost use Rattle.std.specs.Prelude.{◌≡◌, false, true, Some, Ok, IsFalse, IsTrue};
 ghost use Rattle.sync_base.specs.After.{added};
 ghost use Rattle.sync_base.specs.Effects.{effect_of, path_of};
-ghost use Rattle.sync_index.specs.Cells.{cell_in};
+ghost use Rattle.sync_base.specs.Objects.{cell_in};
 ghost use Rattle.sync_law.specs.Instrs.{meet};
 
-use super::moves::{action_at, both_move, put_action};
 use super::staying::both_stay;
-use sync_base::{AddInteger, Instr, Update, Value, same_cell};
-use sync_index::cell_of;
+use list_places::{action_at, both_move, put_action};
+use sync_base::{AddInteger, Instr, Update, Value, cell_of, same_cell};
 
 /// Two instructions meet where they lie, so that none is moved, where both stay. Whether they do: both are then as they are after
 /// the meeting. Else both are as they were, and `meet` has to tell. It may say no where both stay.

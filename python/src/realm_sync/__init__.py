@@ -15,6 +15,7 @@
         db.synced(timeout=10)
 """
 
+from .checks import BadEdit
 from .database import Database, LostEdit
 from .door import Standing
 from .errors import (
@@ -31,7 +32,7 @@ from .transaction import Transaction
 from .transports import CallTransport, HttpTransport, TokenSource, Transport, WebSocketTransport
 
 __all__ = [
-    "BadFile", "BadRequest", "BrokenEdit", "Busy", "CallTransport", "Client", "Closed", "Conflict", "Counter", "Database", "Dropped",
+    "BadEdit", "BadFile", "BadRequest", "BrokenEdit", "Busy", "CallTransport", "Client", "Closed", "Conflict", "Counter", "Database", "Dropped",
     "Edits", "Endless", "Error", "HttpTransport", "InvalidValue", "LostEdit", "NeedsAttention", "OtherProcess", "OutOfMemory", "Outdated",
     "Problem", "Query", "Reason", "Recovery", "Refused", "RowChange", "SchemaConflict", "SchemaError", "Server", "Standing",
     "StorageFailed", "StorageFull", "SyncOptions", "SyncState", "Table", "TokenSource", "Transaction", "Transport", "Unauthorized",

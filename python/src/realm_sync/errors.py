@@ -48,7 +48,7 @@ CODES: Mapping[int, str] = {
     30: "no such object",
     31: "the key is of another kind than the table's",
     60: "the ident wasn't given by this server",
-    61: "not the client's next number: the file was copied or restored",
+    61: "not the client's next number: the server's file was restored, or it is another server",
     62: "a base before the last one: the file was copied or restored",
     63: "ahead of the server's history: its file was restored, or it is another server",
     64: "the history is full",

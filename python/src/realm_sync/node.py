@@ -27,6 +27,7 @@ from collections.abc import Callable, Iterable, Iterator
 from types import TracebackType
 from typing import Any, TypeVar
 
+from .checks import as_written, checked, is_key, is_name
 from .door import Standing, number_of, to_json
 from .engine import CLIENT, SERVER, Engine
 from .errors import BadRequest, BrokenEdit, Closed, Endless, Reason, Refused
@@ -40,15 +41,17 @@ _MOST_MESSAGES = 100_000
 
 
 def _from_front(place: int, length: int) -> int:
-    return place + length if place < 0 else place
+    return place + length if isinstance(place, int) and place < 0 else place
 
 
 class Edits:
     """The edits of one transaction, one call each: docs/FORMATS.md, "Edits". A list's place may count from its end, as in Python, and its length is
-    filled in. Made by `Client.transaction`, or by itself for edits that are committed later."""
+    filled in. Made by `Client.transaction`, or by itself for edits that are committed later. What is no edit is told at once (`BadEdit`).
+    Committed, it has its number, and `places`, what it may have changed, as `Client.changed` tells it."""
 
     def __init__(self, client: Client | None = None, ms: int | None = None) -> None:
         self.edits: list[Line] = []
+        self.places: list[Line] = []
         self.ms, self.number = ms, 0
         self._client = client
         self._lengths: dict[tuple[str, str, str], int] = {}
@@ -65,9 +68,9 @@ class Edits:
         self._edit("CreateObject", table=table, key=key)
 
     def erase(self, table: str, key: Json) -> None:
+        self._edit("EraseObject", table=table, key=key)
         self._erased.add((table, to_json(key)))
         self._lengths = {cell: length for cell, length in self._lengths.items() if cell[:2] not in self._erased}
-        self._edit("EraseObject", table=table, key=key)
 
     def update(self, table: str, key: Json, column: str, value: Json) -> None:
         self._edit("Update", table=table, key=key, column=column, value=value)
@@ -77,23 +80,26 @@ class Edits:
 
     def insert(self, table: str, key: Json, column: str, place: int, value: Json) -> None:
         """Into a list, before the element at that place."""
-        prior = self._length(table, key, column, 1)
+        prior = self._length(table, key, column)
         self._edit("ListInsert", table=table, key=key, column=column, place=_from_front(place, prior), prior=prior, value=value)
+        self._lengths[table, to_json(key), column] = prior + 1
 
     def append(self, table: str, key: Json, column: str, value: Json) -> None:
         """To a list, behind its last element."""
-        prior = self._length(table, key, column, 1)
+        prior = self._length(table, key, column)
         self._edit("ListInsert", table=table, key=key, column=column, place=prior, prior=prior, value=value)
+        self._lengths[table, to_json(key), column] = prior + 1
 
     def replace(self, table: str, key: Json, column: str, place: int, value: Json) -> None:
         """The element of a list at that place."""
-        prior = self._length(table, key, column, 0)
+        prior = self._length(table, key, column)
         self._edit("ListUpdate", table=table, key=key, column=column, place=_from_front(place, prior), prior=prior, value=value)
 
     def remove(self, table: str, key: Json, column: str, place: int) -> None:
         """The element of a list at that place."""
-        prior = self._length(table, key, column, -1)
+        prior = self._length(table, key, column)
         self._edit("ListErase", table=table, key=key, column=column, place=_from_front(place, prior), prior=prior)
+        self._lengths[table, to_json(key), column] = prior - 1
 
     def include(self, table: str, key: Json, column: str, value: Json) -> None:
         """Into a set."""
@@ -113,28 +119,30 @@ class Edits:
 
     def clear(self, table: str, key: Json, column: str) -> None:
         """A list, a set or a dictionary."""
-        self._lengths[table, to_json(key), column] = 0
         self._edit("Clear", table=table, key=key, column=column)
+        self._lengths[table, to_json(key), column] = 0
 
     def _edit(self, op: str, **fields: Json) -> None:
-        self.edits.append({"op": op, **fields})
+        if "value" in fields:
+            fields["value"] = as_written(fields["value"])
+        self.edits.append(checked({"op": op, **fields}, len(self.edits)))
 
-    def _length(self, table: str, key: Json, column: str, more: int) -> int:
-        """How long that list is by now; the next edit changes that by so much."""
+    def _length(self, table: str, key: Json, column: str) -> int:
+        """How long that list is by now."""
+        if not (is_name(table) and is_key(key) and is_name(column)):
+            return 0  # the edit is refused for it
         cell = (table, to_json(key), column)
         if cell not in self._lengths:
             found = self._client.object(table, key) if self._client and cell[:2] not in self._erased else None
             self._lengths[cell] = len(found["cells"].get(column) or ()) if found else 0
-        length = self._lengths[cell]
-        self._lengths[cell] = max(0, length + more)
-        return length
+        return self._lengths[cell]
 
     def __enter__(self) -> Edits:
         return self
 
     def __exit__(self, kind: type[BaseException] | None, why: BaseException | None, trace: TracebackType | None) -> None:
         if kind is None and self._client:
-            self.number = self._client.commit(self.edits, self.ms)
+            self.number, self.places = self._client.commit_changed(self.edits, self.ms)
 
 
 def _storage_at(path: str | os.PathLike[str] | None) -> Storage:
@@ -214,8 +222,14 @@ class Client(_Node):
 
     def commit(self, edits: list[Line], ms: int | None = None) -> int:
         """Commits a transaction, a list of edits, and answers its number. `ms` is its time since the epoch, else the clock's."""
+        return self.commit_changed([checked(edit, number) for number, edit in enumerate(edits)], ms)[0]
+
+    def commit_changed(self, edits: list[Line], ms: int | None = None) -> tuple[int, list[Line]]:
+        """The same of edits that were checked, and what they may have changed: at one go, so that no other thread's call comes between."""
         try:
-            return self._line({"ms": time.time_ns() // 1_000_000 if ms is None else ms, "edits": edits})
+            with self._lock:
+                number = self._line({"ms": time.time_ns() // 1_000_000 if ms is None else ms, "edits": edits})
+                return number, self.changed()
         except Refused as why:
             if why.reason != Reason.BREAK:
                 raise
@@ -225,7 +239,8 @@ class Client(_Node):
     def changed(self) -> list[Line]:
         """What the last commit or take may have changed, for a screen to draw anew: a dict for each place, with its "table" and, as the place has
         them, its "key" and its "column"; of a list "front" and "back", how many first and last elements are as they were (docs/FORMATS.md,
-        "Places", and `kept_ends`)."""
+        "Places", and `kept_ends`). Where several threads use the client, another's call may come between: `take_changed`, `sync` and a
+        transaction's `places` tell those of their own."""
         with self._lock:
             text = self._engine.ask(b"C").decode()
         return [json.loads(line) for line in text.split("\n")[:-1]]
@@ -242,6 +257,11 @@ class Client(_Node):
     def take(self, message: bytes) -> int:
         """Takes a message, and answers the cursor."""
         return self._take(message)[0]
+
+    def take_changed(self, message: bytes) -> tuple[int, list[Line]]:
+        """Takes a message, and answers the cursor and what may have changed."""
+        cursor, _, places = self._take(message)
+        return cursor, places
 
     def _take(self, message: bytes) -> tuple[int, bool, list[Line]]:
         """The cursor, whether nothing is behind it, and what may have changed: at one go, so that no other thread's call comes between."""
