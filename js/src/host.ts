@@ -411,6 +411,9 @@ export class Host {
   }
 
   private async takeOver(problem: Problem): Promise<boolean> {
+    const { ident, unsent } = this.engine.standing();
+    // The core hands over the unsent changes of a client with an ident alone: a new one would begin without them.
+    if (ident === 0 && unsent > 0) throw new NeedsAttention({ ...problem, text: `${problem.text}; this client has no ident yet`, isRecoverable: false });
     const before = this.state;
     this.setState({ status: 'recovering', problem });
     if (this.heir === null) {

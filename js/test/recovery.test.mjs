@@ -187,6 +187,20 @@ test('a takeover that was cut off goes on for the same reason after the next ope
   await db.close();
 });
 
+test('a client that never got an ident is not given up, since its changes could not be handed over', async () => {
+  const net = await server();
+  net.isDown = true;
+  const files = new MemoryFiles();
+  const db = await online(net, files);
+  await db.write((tx) => tx.days.create({ day: 1 }));
+  await assert.rejects(db.recover(), /has no ident yet/);
+  assert.deepEqual(await files.names(), ['client-1']);
+  net.isDown = false;
+  await db.synced();
+  assert.equal(db.days.count(), 1);
+  await db.close();
+});
+
 test('a takeover that settles nothing is not tried again and again', async () => {
   const net = await server();
   const db = await online(net);

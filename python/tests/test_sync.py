@@ -226,6 +226,17 @@ class Recovering(unittest.TestCase):
                 db.synced(5)
             self.assertEqual(told.exception.problem.cause, "restored")
 
+    def test_a_client_that_never_got_an_ident_is_not_given_up(self) -> None:
+        self.net.is_down = True
+        with self.net.database(self.path) as db:
+            with db.write() as tx:
+                tx.create(Day, day=1)
+            self.assertRaisesRegex(NeedsAttention, "has no ident yet", db.recover)
+            self.assertEqual(os.listdir(os.path.dirname(self.path)), ["db"])
+            self.net.is_down = False
+            self.assertTrue(db.synced(5))
+            self.assertEqual(len(db[Day]), 1)
+
     def test_another_server_is_never_taken_for_this_one(self) -> None:
         work = Net()
         with self.net.database(self.path) as db:

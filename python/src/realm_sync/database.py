@@ -364,6 +364,11 @@ class Database:
         if not self._transport or not self._loop:
             raise Error("this database has no sync")
         problem = problem or self.sync_state.problem or Problem("damaged", "asked for", True)
+        with self._lock:
+            standing = self._client.standing()
+        # The core hands over the unsent changes of a client with an ident alone: a new one would begin without them.
+        if standing.ident == 0 and standing.unsent:
+            raise NeedsAttention(Problem(problem.cause, f"{problem.text}; this client has no ident yet", False))
         with self._recovering:
             self._tell_sync(SyncState("recovering", problem.text, problem=problem))
             try:
