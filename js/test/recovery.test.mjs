@@ -201,6 +201,41 @@ test('a client that never got an ident is not given up, since its changes could 
   await db.close();
 });
 
+test('two copies of a restored file: each keeps its own work, and what both have is saved once', async () => {
+  const net = await server();
+  const files = new MemoryFiles();
+  let db = await online(net, files);
+  await db.write((tx) => { tx.items.create({ id: '00000000-0000-4000-8000-000000000001', quantity: 1 }); tx.days.create({ day: 1 }); });
+  await db.synced();
+  const backup = files.files.get('client-1').bytes();
+  await db.write((tx) => tx.days.create({ day: 2, note: 'lost file' }));
+  await db.synced();
+  await db.close();
+  // Restored: one change is made, and then the file is copied.
+  files.files.set('client-1', new FileImage(backup));
+  db = await memory(files);
+  await db.write((tx) => tx.items.at('00000000-0000-4000-8000-000000000001').quantity.add(10));
+  await db.close();
+  const copies = [0, 1].map(() => { const it = new MemoryFiles(); it.files.set('client-1', new FileImage(files.files.get('client-1').bytes())); return it; });
+  const dbs = [];
+  for (const [place, copy] of copies.entries()) {
+    const it = await memory(copy);
+    await it.write((tx) => tx.days.create({ day: 10 + place, note: `copy ${place}` }));
+    const told = new Promise((done) => it.onRecovered(done));
+    await it.startSync({ transport: net.transport(), ...fast });
+    const { saved, integrated } = await told;
+    assert.deepEqual([saved, integrated], place === 0 ? [2, 0] : [1, 1]);
+    await it.synced();
+    dbs.push(it);
+  }
+  for (const it of [...dbs, ...dbs]) await it.synced();
+  for (const it of dbs) {
+    assert.deepEqual(it.days.toArray().map(({ day }) => day), [1, 2, 10, 11]);
+    assert.equal(it.items.get('00000000-0000-4000-8000-000000000001').quantity, 11);
+    await it.close();
+  }
+});
+
 test('a takeover that settles nothing is not tried again and again', async () => {
   const net = await server();
   const db = await online(net);

@@ -4,6 +4,7 @@ from __future__ import annotations
 
 import os
 import random
+import shutil
 import tempfile
 import threading
 import time
@@ -236,6 +237,28 @@ class Recovering(unittest.TestCase):
             self.net.is_down = False
             self.assertTrue(db.synced(5))
             self.assertEqual(len(db[Day]), 1)
+
+    def test_two_copies_of_a_restored_file_keep_their_own_work_and_save_once_what_both_have(self) -> None:
+        self.restored()
+        shutil.copy(self.path, f"{self.path}.copy")
+        dbs = []
+        for place, path in enumerate((self.path, f"{self.path}.copy")):
+            told: list[Recovery] = []
+            db = Database(path, TYPES)
+            self.addCleanup(db.close)
+            with db.write() as tx:
+                tx.create(Day, day=10 + place)
+            db.on_recovered(told.append)
+            db.start_sync(self.net.transport(), options=FAST)
+            until(lambda told=told: bool(told))  # type: ignore[misc]
+            self.assertEqual((told[0].saved, told[0].integrated), ((4, 0), (1, 3))[place])
+            self.assertTrue(db.synced(5))
+            dbs.append(db)
+        for db in dbs + dbs:
+            self.assertTrue(db.synced(5))
+        for db in dbs:
+            self.assertEqual([it.day for it in db[Day]], [1, 2, 3, 4, 5, 6, 10, 11])
+        self.assertEqual(self.net.server.standing().cursor, 4 + 3 + 1 + 1)
 
     def test_another_server_is_never_taken_for_this_one(self) -> None:
         work = Net()
