@@ -70,9 +70,10 @@ export class Takeover {
     if (other !== null) this.savedByOther = changesOf(other, journal);
   }
 
+  /** It sends no change: one that it saved in a try that was cut off is in no history before it has taken the old client's place. */
   private async takeAll(): Promise<void> {
     for (let isEnd = false; !isEnd;) {
-      const reply = await this.exchange(this.talk.next());
+      const reply = await this.exchange(this.talk.question());
       const taken = this.talk.take(reply);
       await this.heir.settled(null);
       if (taken.refused) throw taken.refused;

@@ -10,7 +10,7 @@ import threading
 import time
 import unittest
 
-from realm_sync import CallTransport, Client, Database, LostEdit, NeedsAttention, Recovery, SchemaConflict, Server, SyncState, table
+from realm_sync import CallTransport, Client, Database, LostEdit, NeedsAttention, Recovery, Refused, SchemaConflict, Server, SyncState, table
 from realm_sync.messages import ASK2, BIND, DOWNLOAD, REFUSED, STORED, UPLOAD
 
 from .common import FAST, TYPES, Day, Item, Net, edit, keys, until
@@ -311,37 +311,42 @@ class Recovering(unittest.TestCase):
                 self.assertTrue(db.synced(30))
                 self.assertEqual([it.note for it in db[Day]], ["", "unsent"])
 
-    def test_a_takeover_that_was_cut_off_goes_on_for_the_same_reason(self) -> None:
-        other = Net()
+    def test_a_takeover_that_was_cut_off_at_another_server_is_begun_anew(self) -> None:
+        other, allowed = Net(), 0
         with self.net.database(self.path) as db:
             self.assertTrue(db.synced(30))
             db.stop_sync()
             with db.write() as tx:
                 tx.create(Day, day=2)
-            replies = iter(range(3))
 
-            def cutting(message: bytes) -> bytes | None:
-                if next(replies, None) is None:
+            def cutting(message: bytes) -> bytes:
+                nonlocal allowed
+                allowed -= 1
+                if allowed < 0:
                     raise OSError("cut")
-                return None
+                return other.exchange(message)
 
-            other.answer = cutting
-            db.start_sync(other.transport(), options=FAST)
-            with self.assertRaises(NeedsAttention):
-                db.synced(30)
-            replies = iter(range(1))
-            with self.assertRaises(OSError):
-                db.recover()
+            allowed = 3
+            db.start_sync(CallTransport(cutting), options=FAST)
+            self.assertRaises(NeedsAttention, db.synced, 30)
+            allowed = 1
+            self.assertRaises(OSError, db.recover)
         self.assertEqual(sorted(os.listdir(os.path.dirname(self.path))), ["db", "db.heir", "db.reason"])
-        other.answer = lambda message: None
-        told: list[Recovery] = []
-        with Database(self.path, TYPES) as db:
-            db.on_recovered(told.append)
-            db.start_sync(other.transport(), options=FAST)
-            until(lambda: bool(told))
-            self.assertEqual(told[0].problem.cause, "other server")
+        # At home again all is well, and nothing takes over.
+        with self.net.database(self.path) as db:
             self.assertTrue(db.synced(30))
-            self.assertEqual([it.day for it in db[Day]], [2])
+            db.start_sync(other.transport(), options=FAST)
+            self.assertRaises(NeedsAttention, db.synced, 30)
+            db.recover()
+            self.assertTrue(db.synced(30))
+        self.assertEqual(sorted(os.listdir(os.path.dirname(self.path))), ["db", "db.kept-1"])
+
+    def test_a_new_client_that_is_refused_is_given_up(self) -> None:
+        with self.net.database(self.path) as db:
+            self.assertTrue(db.synced(30))
+            self.net.answer = lambda message: bytes([REFUSED, message[1], 0, 71, 9]) if message[0] == ASK2 and message[1] != 1 else None
+            self.assertRaisesRegex(Refused, "gave up the history", db.recover)
+        self.assertEqual(os.listdir(os.path.dirname(self.path)), ["db"])
 
     def test_schemas_that_differ_are_told_before_anything_is_sent(self) -> None:
         @table("days")

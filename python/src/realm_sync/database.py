@@ -251,7 +251,8 @@ class Database:
         self._loop = SyncLoop(_Syncing(self), self._transport, options, self._tell_sync, self._recovered)
         self._loop.start()
         reason = self._client.pending_reason()
-        if reason:
+        # A takeover that was cut off goes on, but at another server, which this one may not be any more.
+        if reason and reason.cause != "other server":
             threading.Thread(target=self._go_on, args=(reason,), name="realm_sync recovery", daemon=True).start()
 
     def _go_on(self, reason: Problem) -> None:
@@ -393,8 +394,10 @@ class Database:
                 self._recoveries += 1
                 self._refresh()
                 return recovery
-        except BaseException:
+        except BaseException as why:
             takeover.close()
+            if isinstance(why, Refused):
+                self._client.discard_heir()
             transport.generation = self._client.generation
             raise
 

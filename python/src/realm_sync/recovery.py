@@ -82,9 +82,10 @@ class Takeover:
         self._saved_by_other = history_of(other, journal) if other else []
 
     def _take_all(self) -> None:
+        """It sends no change: one that it saved in a try that was cut off is in no history before it has taken the old client's place."""
         is_end = False
         while not is_end:
-            refused, _, is_end = self._talk.take(self._exchange(self._talk.next()))
+            refused, _, is_end = self._talk.take(self._exchange(self._talk.question()))
             self._heir.settle()
             if refused:
                 raise refused
