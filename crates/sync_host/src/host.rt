@@ -1,6 +1,7 @@
 ghost use Rattle.std.specs.Prelude.{◌≡◌, ℕ, List, IfSome, IfNone};
-ghost use Rattle.sync_host.specs.Verbs.{Asks};
+ghost use Rattle.sync_host.specs.Verbs.{Asks, AsksNothingNew};
 ghost use Rattle.sync_host.specs.declared.node.Node.TheVariants as nodes;
+ghost use Rattle.sync_host.specs.declared.reply.Reply.TheVariants as replies;
 
 use crate::node::Node;
 use crate::reply::Reply;
@@ -24,6 +25,7 @@ pub struct Host {
 
 /// What the first byte of a request is, and what follows.
 fn asked(request: &[u8]) -> Option<(Verb, &[u8])>
+    ensures asks { IfSome result (λ asked. Asks asked.0 asked.1.now request.now) }
     ensures found { IfSome result (λ asked. (verb : Verb) (body : List ℕ) → Asks verb body request.now → (asked.0 ≡ verb) × (asked.1.now ≡ body)) }
     ensures none { IfNone result ((verb : Verb) (body : List ℕ) → Asks verb body request.now → ⊥) }
 {
@@ -53,7 +55,8 @@ impl Host {
 
     /// The reply to a request.
     fn reply_to(&mut self, request: &[u8]) -> Reply
-        ensures { (verb : Verb) (body : List ℕ) → Asks verb body request.now → Answered verb body (node_of self.old) result (node_of self.new) }
+        ensures answered { (verb : Verb) (body : List ℕ) → Asks verb body request.now → Answered verb body (node_of self.old) result (node_of self.new) }
+        ensures no_request { AsksNothingNew request.now → (result ≡ replies.BadRequest) × (node_of self.new ≡ node_of self.old) }
     {
         match asked(request) {
             Some((verb, body)) => self.node.answer(self.alloc, verb, body),
