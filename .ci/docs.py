@@ -66,9 +66,9 @@ def documents():
 def sources():
     """All texts that may speak of a document."""
     for at, folders, files in os.walk(TOP):
-        folders[:] = sorted(it for it in folders if it not in (".git", "out", "__pycache__"))
+        folders[:] = sorted(it for it in folders if it not in (".git", "out", "dist", "node_modules", "__pycache__"))
         for name in sorted(files):
-            if name.endswith((".rt", ".antt", ".py", ".sh", ".edit", ".txt")) or name in ("realm_sync", "run"):
+            if name.endswith((".rt", ".antt", ".py", ".sh", ".ts", ".mjs", ".edit", ".txt")) or name in ("realm_sync", "run"):
                 path = os.path.join(at, name)
                 if path != os.path.abspath(__file__):
                     yield path

@@ -1,10 +1,22 @@
 /* Times the calls of the C library one by one: bench/embedding.py builds and runs it. A line for each call: its name, and the median, the
- * ninth decile and the least of so many runs in nanoseconds. */
-#define _GNU_SOURCE
-#include "realm_sync.h"
+ * ninth decile and the least of so many runs in nanoseconds. Over a file also one message of 4,001 changes to a server, and the same entries to
+ * a client: nanoseconds, and syncs. */
+#define _DEFAULT_SOURCE
 #include <time.h>
+#include <unistd.h>
 
-enum { RUNS = 20000, OBJECTS = 1000 };
+static unsigned syncs;
+static int counted_fsync(int file);
+#define fsync(file) counted_fsync(file)
+#include "realm_sync.h"
+#undef fsync
+
+static int counted_fsync(int file) {
+    syncs++;
+    return fsync(file);
+}
+
+enum { RUNS = 20000, OBJECTS = 1000, MANY = 4000 };
 
 static realm_node client, server;
 static uint64_t times[RUNS];
@@ -86,6 +98,50 @@ static void sync_all(void) {
     } while (place.ident == 0 || place.unsent > 0);
 }
 
+/* The client's next message to the server, and the reply; how long each took, where it has a name. */
+static void pass_timed(realm_node *from, realm_node *to, const char *there, const char *back) {
+    size_t len;
+    expect(realm_next(from), from);
+    const uint8_t *message = realm_bytes(from, &len);
+    unsigned before = syncs;
+    uint64_t start = now();
+    expect(realm_take(to, message, len), to);
+    if (there) printf("%s %" PRIu64 " %u\n", there, now() - start, syncs - before);
+    message = realm_bytes(to, &len);
+    before = syncs;
+    start = now();
+    expect(realm_take(from, message, len), from);
+    if (back) printf("%s %" PRIu64 " %u\n", back, now() - start, syncs - before);
+}
+
+/* One Upload of many changes to a server over a file, and one Download of them to a client over another one. */
+static void measure_messages(const char *file) {
+    static const char table[] =
+        "[{\"op\":\"AddTable\",\"table\":\"t\",\"key\":\"Int\"},"
+        "{\"op\":\"AddColumn\",\"table\":\"t\",\"column\":\"n\",\"kind\":\"Int\",\"nullable\":false,\"shape\":\"One\"},"
+        "{\"op\":\"CreateObject\",\"table\":\"t\",\"key\":1}]";
+    realm_node first, second, to;
+    char name[512];
+    snprintf(name, sizeof name, "%s.server", file);
+    expect(realm_open_server(&to, name), &to);
+    snprintf(name, sizeof name, "%s.second", file);
+    expect(realm_open_client(&second, name), &second);
+    expect(realm_open_client(&first, NULL), &first);
+    expect(realm_born(&first, "00000000-0000-4000-8000-000000000002"), &first);
+    expect(realm_born(&second, "00000000-0000-4000-8000-000000000003"), &second);
+    expect(realm_commit(&first, 1, table), &first);
+    for (int i = 0; i < MANY; i++)
+        expect(realm_commit(&first, 2, "[{\"op\":\"AddInteger\",\"table\":\"t\",\"key\":1,\"column\":\"n\",\"amount\":1}]"), &first);
+    pass_timed(&first, &to, NULL, NULL); /* its ident */
+    pass_timed(&first, &to, NULL, NULL); /* a question */
+    pass_timed(&first, &to, "upload", NULL);
+    pass_timed(&second, &to, NULL, NULL);
+    pass_timed(&second, &to, NULL, "download");
+    realm_close(&first);
+    realm_close(&second);
+    realm_close(&to);
+}
+
 int main(int count, char **words) {
     const char *file = count > 1 ? words[1] : NULL;
     int runs = file ? 500 : RUNS;
@@ -105,6 +161,7 @@ int main(int count, char **words) {
     measure("standing", RUNS, stand);
     sync_all();
     measure("sync", RUNS, sync_nothing);
+    if (file) measure_messages(file);
     realm_close(&client);
     realm_close(&server);
     return 0;

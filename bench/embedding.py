@@ -1,11 +1,13 @@
 #!/usr/bin/env python3
 """Times what an application calls: commits, reads and rounds of the sync, from C (bench/embedding.c) and from Python
-(examples/python/realm_sync.py).
+(python/src/realm_sync).
 
 Prints microseconds a call: the median of 20,000 calls that are timed one by one, and the ninth decile. The clock's own time, some 0.02
 microseconds, is in it. The edits and the object's name are made anew for each call, and that is timed too.
 
-usage: bench/embedding.py [FILE]        (with a FILE, over that file and 500 commits in place of memory)
+Over a file also one Upload of 4,001 changes to a server, and the Download of them to a client, both over files of their own.
+
+usage: bench/embedding.py [FILE]        (with a FILE, over new files of that name and 500 commits in place of memory)
 """
 import os
 import statistics
@@ -38,8 +40,8 @@ def build(folder):
 
 def from_c(program, file):
     """Microseconds of each call: the median and the ninth decile."""
-    lines = subprocess.run([program, *file], stdout=subprocess.PIPE, text=True, check=True).stdout.splitlines()
-    return {name: (int(median) / 1e3, int(decile) / 1e3) for name, median, decile, _ in map(str.split, lines)}
+    rows = [line.split() for line in subprocess.run([program, *file], stdout=subprocess.PIPE, text=True, check=True).stdout.splitlines()]
+    return {row[0]: (int(row[1]) / 1e3, int(row[2]) / (1e3 if len(row) == 4 else 1)) for row in rows}
 
 
 def timed(call, runs):
@@ -54,7 +56,7 @@ def timed(call, runs):
 
 def from_python(file):
     """The same calls by the module."""
-    sys.path.insert(0, os.path.join(TOP, "examples", "python"))
+    sys.path.insert(0, os.path.join(TOP, "python", "src"))
     from realm_sync import Client, Server
 
     with Client(*file) as client, Server() as server:
@@ -97,6 +99,9 @@ def main():
     for name, title in TITLES.items():
         aims = " ".join(map(str, AIMS.get(name, ())))
         print(f"{title:>40}  {c[name][0]:7.2f} {c[name][1]:7.2f}  {python[name][0]:7.2f} {python[name][1]:7.2f}  {aims if not file else '':>6}")
+    for name, title in (("upload", "an Upload of 4,001 changes"), ("download", "a Download of 4,001 entries")):
+        if name in c:
+            print(f"{title:>40}  {c[name][0] / 1e3:.1f} milliseconds, {c[name][1]:.0f} syncs")
     print(f"load at the start: {load:.1f} on {os.cpu_count()} processors")
 
 

@@ -15,10 +15,24 @@ usage: bench/exchanges.py [--only NAME,..] [--sizes N,..] [--turns N,..] [--time
   one_place    two clients type N letters each into one list, both from its start on
   members      two clients insert N drawn members into one set each, or, one time in four, erase them
   eight        as `words`, but eight clients type the N letters together
+  twin_first   two clients type N letters as in `words` and erase one and the same element: one first of all, the other half way
+  over_updates two clients update elements of one list of N, each others than the other, in one transaction, of which another
+               instruction is first
+  times        as `members`, but the members are times within one second
+  stamped      as `words`, but each letter is in one transaction with an update of one cell that all share
+  counted      as `ends`, but each insertion is in one transaction with an addition to one cell that all share
+  linked       two clients create N objects, each in one transaction with an update of it and its link at the end of one list
+  added_later  one client updates a cell N times, the other adds to it N times, and all of the other's stamps are later
+  two_lists    as `words`, but in two lists in turn
+  bulk         two clients update N objects in one transaction each, each another cell
+  bulk_added   two clients add to one cell N times in one transaction each
+  bulk_mixed   as `words`, but all letters of a client are in one transaction, in turn with updates of objects
+  hundreds     as `words`, but a transaction has a hundred letters
   gen          `gen 1 N`, for the turns N
 
-In all from `apart` to `eight` the clients write while they are apart, with stamps that take turns. Then the last one
-uploads, each before it takes that and uploads, and all take what is there. Places and priors are those of the client's own list.
+In all from `apart` to `hundreds` the clients write while they are apart, with stamps that take turns where nothing else is said.
+Then the last one uploads, each before it takes that and uploads, and all take what is there. Places and priors are those of the
+client's own list.
 Sizes are numbers, or FIRST..LAST, doubled from one to the other. Each size is run T times (2 where it is left out), and
 the shortest time counts. The exponent is that of the growth since the size before: 1 where the time grows with the size, 2
 with its square. `--perf` shows, for the last size of each, in which functions the time goes.
@@ -40,6 +54,8 @@ MOST_CHANGES = 4096  # of one upload, and entries of one download
 NAMES = "ABCDEFGH"
 LETTERS = "abcdefghijklmnopqrstuvwxyz"
 WORD = 6  # letters that are typed one behind the other
+LONG_AFTER = 10_000_000  # milliseconds
+PASTE = 100  # letters of one transaction
 
 
 def instruction(op, **fields):
@@ -58,7 +74,11 @@ def schema():
         ("l", "Text", False, "List"),
         ("u", "Int", False, "Set"),
     ):
-        yield instruction("AddColumn", column=name, kind=kind, nullable=nullable, shape=shape)
+        yield column(name, kind, nullable, shape)
+
+
+def column(name, kind, nullable, shape, **fields):
+    return instruction("AddColumn", column=name, kind=kind, nullable=nullable, shape=shape, **fields)
 
 
 class Device:
@@ -119,8 +139,9 @@ def objects(size):
     return script
 
 
-def meeting(keys, *written):
-    """Clients with these objects make these transactions while they are apart, a list for each of them, and then meet."""
+def meeting(keys, *written, before=(), in_turn=True):
+    """Clients with these objects make these transactions while they are apart, a list for each of them, and then meet. The first
+    one made those before. The stamps take turns, or each client's are later than all of the one before."""
     script, devices = Script(), [Device(NAMES[number], number + 1) for number in range(len(written))]
     for device in devices:
         script.comes_in(device)
@@ -129,12 +150,15 @@ def meeting(keys, *written):
     for start in range(1, keys + 1, 250):
         some = range(start, min(start + 250, keys + 1))
         script.commits(devices[0], 2, (instruction("CreateObject", key=key) for key in some))
+    for instructions in before:
+        script.commits(devices[0], 3, instructions)
     script.uploads_all(devices[0])
     for device in devices:
         script.takes_all(device)
     for number, transactions in enumerate(written):
         for place, instructions in enumerate(transactions):
-            script.commits(devices[number], 10 + number + len(devices) * place, instructions)
+            turn = number + len(devices) * place if in_turn else number * LONG_AFTER + place
+            script.commits(devices[number], 10 + turn, instructions)
     for device in reversed(devices):
         script.takes_all(device)
         script.uploads_all(device)
@@ -182,13 +206,13 @@ def one_cell(size):
 class Typist:
     """What one client types into its list, a transaction for each step, and how long the list is at that client."""
 
-    def __init__(self, seed):
-        self.draw, self.length, self.place = random.Random(seed), 0, 0
+    def __init__(self, seed, column="l", length=0):
+        self.draw, self.column, self.length, self.place = random.Random(seed), column, length, 0
 
     def step(self, op, place, **fields):
         prior = self.length
         self.length += {"ListInsert": 1, "ListErase": -1, "ListUpdate": 0}[op]
-        return [on_cell(op, "l", place=place, prior=prior, **fields)]
+        return [on_cell(op, self.column, place=place, prior=prior, **fields)]
 
     def letter(self, place):
         """A letter at that place, and the next one may stand behind it."""
@@ -202,6 +226,10 @@ class Typist:
     def words(self, count):
         for number in range(count):
             yield self.letter(self.anywhere() if number % WORD == 0 else self.place)
+
+    def behind(self, count):
+        for _ in range(count):
+            yield self.letter(self.length)
 
     def places(self, count):
         for _ in range(count):
@@ -258,10 +286,118 @@ def eight(size):
     return meeting(1, *(Typist(number).words(size // len(NAMES)) for number in range(len(NAMES))))
 
 
-EXCHANGES = {
-    each.__name__: each
-    for each in (objects, apart, counter, ends, one_cell, two_blocks, words, places, revised, one_place, members, eight)
-}
+def twin_first(size):
+    def of_one(seed, letters):
+        typist = Typist(seed, length=1)
+        yield from typist.behind(letters)
+        yield typist.step("ListErase", 0)
+        yield from typist.words(size - letters)
+
+    return meeting(1, of_one(1, 0), of_one(2, size // 2), before=[list(insertions(1, True))])
+
+
+def over_updates(size):
+    def of_one(number):
+        yield [on_cell("Update", "n", value=number)] + [
+            on_cell("ListUpdate", "l", place=place, prior=2 * size, value=str(number)) for place in range(number, 2 * size, 2)
+        ]
+
+    filled = list(insertions(2 * size, True))
+    return meeting(1, of_one(0), of_one(1), before=[filled[at : at + 1000] for at in range(0, len(filled), 1000)])
+
+
+def times(size):
+    def drawn(seed):
+        draw = random.Random(seed)
+        for _ in range(size):
+            op = "SetErase" if draw.random() < 0.25 else "SetInsert"
+            yield [on_cell(op, "w", value={"secs": 1_700_000_000, "nanos": draw.randrange(1_000_000_000)})]
+
+    return meeting(1, drawn(1), drawn(2), before=[[column("w", "Time", False, "Set")]])
+
+
+def stamped(size):
+    def of_one(seed):
+        for place, letter in enumerate(Typist(seed).words(size)):
+            yield letter + [on_cell("Update", "n", value=2 * place + seed)]
+
+    return meeting(1, of_one(1), of_one(2))
+
+
+def counted(size):
+    def of_one(at_the_end):
+        for message in insertions(size, at_the_end):
+            yield [message, on_cell("AddInteger", "n", amount=1)]
+
+    return meeting(1, of_one(True), of_one(False))
+
+
+def linked(size):
+    def of_one(number):
+        for prior in range(size):
+            key = 2 + number + 2 * prior
+            yield [
+                instruction("CreateObject", key=key),
+                on_cell("Update", "s", key, value=f"task {key}"),
+                on_cell("ListInsert", "k", place=prior, prior=prior, value={"link": "t", "key": key}),
+            ]
+
+    return meeting(1, of_one(0), of_one(1), before=[[column("k", "Link", False, "List", target="t")]])
+
+
+def added_later(size):
+    return meeting(
+        1,
+        [[on_cell("Update", "n", value=place)] for place in range(size)],
+        [[on_cell("AddInteger", "n", amount=1)] for _ in range(size)],
+        in_turn=False,
+    )
+
+
+def two_lists(size):
+    def of_one(seed):
+        title, body = Typist(seed), Typist(seed + 10, column="m")
+        for pair in zip(title.words((size + 1) // 2), body.words((size + 1) // 2)):
+            yield from pair
+
+    return meeting(1, of_one(1), of_one(2), before=[[column("m", "Text", False, "List")]])
+
+
+def bulk(size):
+    keys = range(1, size + 1)
+    return meeting(
+        size,
+        [[on_cell("Update", "n", key, value=key) for key in keys]],
+        [[on_cell("Update", "s", key, value=f"text {key}") for key in keys]],
+    )
+
+
+def bulk_added(size):
+    additions = [on_cell("AddInteger", "n", amount=1) for _ in range(size)]
+    return meeting(1, [additions], [additions])
+
+
+def bulk_mixed(size):
+    def of_one(seed):
+        letters = Typist(seed).words(size // 2)
+        pairs = ([letter, on_cell("Update", "n", key, value=seed)] for key, (letter,) in enumerate(letters, 1))
+        yield [each for pair in pairs for each in pair]
+
+    return meeting(size // 2, of_one(1), of_one(2))
+
+
+def hundreds(size):
+    def of_one(seed):
+        letters = [letter for (letter,) in Typist(seed).words(size)]
+        for at in range(0, size, PASTE):
+            yield letters[at : at + PASTE]
+
+    return meeting(1, of_one(1), of_one(2))
+
+
+ONE_INSTRUCTION = (objects, apart, counter, ends, one_cell, two_blocks, words, places, revised, one_place, members, eight)
+OF_APPLICATIONS = (stamped, counted, linked, added_later, two_lists, bulk, bulk_added, bulk_mixed, hundreds)
+EXCHANGES = {each.__name__: each for each in (*ONE_INSTRUCTION, twin_first, over_updates, times, *OF_APPLICATIONS)}
 
 
 class Run:

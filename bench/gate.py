@@ -4,13 +4,15 @@
 `rt ci` prints no times, so this script starts a command and looks, four times a second, at the processes below it. Each
 `rattle` process names its crate. It proves the crate; or, with --test, its tests; or, in a folder of its own, a wrong body.
 Linking, and the runs of tests and programs, are counted as runs. The whole is what the system counted, exactly; what the
-script didn't see of it (the last moment of each process) is told.
+script didn't see of it (the last moment of each process) is told. So are the longest chain of proofs, of which each waits for the one
+before it, and that of the program: they bound the time on the clock.
 
-usage: bench/gate.py [--save FILE] [--log FILE] [--into DOCUMENT] -- COMMAND WORD ..
-       bench/gate.py --read FILE [--into DOCUMENT]
+usage: bench/gate.py [--save FILE] [--log FILE] [--into DOCUMENT [--marks NAME]] -- COMMAND WORD ..
+       bench/gate.py --read FILE [--into DOCUMENT [--marks NAME]]
 
     bench/gate.py --save gate.json --log gate.log -- rt ci --anew
     bench/gate.py --read gate.json --into docs/ARCHITECTURE.md  # between the lines <!-- gate --> and <!-- end of gate -->
+    bench/gate.py -- ./realm_sync gen 1 0                       # what a first run takes, where nothing is built
 """
 import argparse
 import collections
@@ -27,7 +29,7 @@ TICKS = os.sysconf("SC_CLK_TCK")
 PAGE = os.sysconf("SC_PAGE_SIZE")
 EACH = 0.25
 KINDS = {"proof": "Proof", "tests": "Tests", "edits": "Wrong bodies", "runs": "Runs"}
-BEGIN, END = "<!-- gate -->", "<!-- end of gate -->"
+PROGRAM = "realm_sync"
 
 
 def read(path):
@@ -81,7 +83,7 @@ class Watch:
     """What was seen of all processes below one, until it ends."""
 
     def __init__(self, root):
-        self.root, self.seen = root, {}
+        self.root, self.seen, self.most = root, {}, 0
 
     def look(self):
         parents, now = {}, {}
@@ -92,9 +94,10 @@ class Watch:
             if len(fields) > 21:
                 parents[int(name)] = int(fields[1])
                 now[int(name)] = fields
-        for number, fields in now.items():
-            if self.is_below(number, parents):
-                self.take(number, fields)
+        below = [it for it in now.items() if self.is_below(it[0], parents)]
+        self.most = max(self.most, sum(int(fields[21]) for _, fields in below) * PAGE)
+        for number, fields in below:
+            self.take(number, fields)
 
     def is_below(self, number, parents):
         while number in parents:
@@ -163,6 +166,7 @@ def measure(words, log):
         "whole": usage.ru_utime + usage.ru_stime,
         "seen": seen,
         "others": others,
+        "most": watch.most,
         "crates": crates,
     }
 
@@ -172,16 +176,44 @@ def model():
     return found[1] if found else "unknown"
 
 
-def order():
-    """The names of the crates, as crates.txt has them."""
+def listed():
+    """What each crate of crates.txt stands on, as the file has it, in its order."""
     lines = read(os.path.join(TOP, "crates.txt")).decode().splitlines()
-    return [it.split(":")[0].split()[0] for it in lines if ":" in it and not it.startswith("#")]
+    parts = [it.partition(":") for it in lines if ":" in it and not it.startswith("#")]
+    return {head.split()[0]: names.split() for head, _, names in parts}
+
+
+def chains(below, seconds):
+    """For each crate the chain of crates below it, with itself at the end, whose proofs take longest one after the other."""
+    found = {}
+
+    def chain(name):
+        if name not in found:
+            ways = [chain(it) for it in below[name] if it in below]
+            found[name] = [*max(ways, key=lambda way: sum(map(seconds, way)), default=[]), name]
+        return found[name]
+
+    for name in below:
+        chain(name)
+    return found
+
+
+def told(measured):
+    """Lines that tell the longest chain of all, and that of the program: no number of processors makes these proofs shorter."""
+    below = listed()
+    seconds = lambda name: measured["crates"].get(name, {}).get("proof", 0)
+    found = chains(below, seconds)
+    length = lambda way: sum(map(seconds, way))
+    ways = {"of all": max(found.values(), key=length, default=[]), "of the program": found.get(PROGRAM, [])}
+    for what, way in ways.items():
+        steps = ", ".join(f"`{name}` {seconds(name):.0f}" for name in way)
+        yield f"The longest chain {what}: {minutes(length(way))} minutes of proofs, one after the other: {steps}."
 
 
 def table(measured):
-    """The table in Markdown, with the sums in its last row, and a line that says what was measured."""
+    """The table in Markdown, with the sums in its last row, a line that says what was measured, and the chains."""
     crates = measured["crates"]
-    places = {name: place for place, name in enumerate(order())}
+    places = {name: place for place, name in enumerate(listed())}
     names = sorted(crates, key=lambda it: (places.get(it, len(places)), it))
     lines = [f"| Crate | {' | '.join(KINDS.values())} | Together | Most memory, GB |", f"|{'---|' * (len(KINDS) + 3)}"]
     sums = collections.Counter()
@@ -196,8 +228,10 @@ def table(measured):
         "",
         f"Processor seconds of `{measured['command']}`, {measured['date']}, on {measured['processors']} processors"
         f" ({measured['machine']}): {minutes(measured['whole'])} minutes of processor time in {minutes(measured['clock'])}"
-        f" minutes on the clock. Beside the rows, `rt` itself took {measured['others']:.0f} seconds, and {unseen:.0f} weren't seen.",
+        f" minutes on the clock, and at most {measured.get('most', 0) / 1e9:.1f} GB of memory at once. Beside the rows, `rt` itself took {measured['others']:.0f} seconds, and {unseen:.0f} weren't seen.",
     ]
+    for text in told(measured):
+        lines += ["", text]
     if measured["status"]:
         lines.append(f"The command ended with status {measured['status']}.")
     return "\n".join(lines)
@@ -212,16 +246,17 @@ def minutes(seconds):
     return f"{seconds / 60:.0f}" if seconds >= 600 else f"{seconds / 60:.1f}"
 
 
-def put(text, path):
-    """Puts the table between the two marks of a document."""
+def put(text, path, name):
+    """Puts the table between the two marks of that name in a document."""
+    marks = f"<!-- {name} -->\n", f"<!-- end of {name} -->"
     with open(path, encoding="utf-8") as it:
         whole = it.read()
-    before, begin, rest = whole.partition(BEGIN)
-    _, end, after = rest.partition(END)
+    before, begin, rest = whole.partition(marks[0])
+    _, end, after = rest.partition(marks[1])
     if not (begin and end):
-        sys.exit(f"{path} has no lines {BEGIN} and {END}")
+        sys.exit(f"{path} has no lines {marks[0].strip()} and {marks[1]}")
     with open(path, "w", encoding="utf-8") as it:
-        it.write(f"{before}{begin}\n{text}\n{end}{after}")
+        it.write(f"{before}{begin}{text}\n{end}{after}")
 
 
 def main():
@@ -230,6 +265,7 @@ def main():
     words.add_argument("--log", metavar="FILE", help="takes what the command prints")
     words.add_argument("--read", metavar="FILE", help="prints the table of what was kept, and runs nothing")
     words.add_argument("--into", metavar="DOCUMENT", help="puts the table between the marks of a document")
+    words.add_argument("--marks", metavar="NAME", default="gate", help="the name in these marks, gate where it is left out")
     words.add_argument("command", nargs="*", metavar="COMMAND", help="for example rt ci --anew")
     given = words.parse_args()
     if bool(given.read) == bool(given.command):
@@ -244,7 +280,7 @@ def main():
             json.dump(measured, it, indent=1)
     print(table(measured))
     if given.into:
-        put(table(measured), given.into)
+        put(table(measured), given.into, given.marks)
     sys.exit(measured["status"])
 
 

@@ -24,6 +24,8 @@ import time
 
 TOP = os.path.dirname(os.path.dirname(os.path.abspath(__file__)))
 PROGRAM = os.environ.get("REALM_SYNC", os.path.join(TOP, "crates", "realm_sync", "out", "realm_sync"))
+# builds the program before the first measurement, where it isn't another one
+BUILD = ["true"] if "REALM_SYNC" in os.environ else [os.path.join(TOP, "realm_sync"), "replay"]
 SIZES = [10_000, 20_000, 40_000]
 COLUMNS = [("n", "Int", False, "One"), ("s", "Text", True, "One"), ("l", "Text", False, "List"), ("u", "Int", False, "Set")]
 
@@ -52,7 +54,7 @@ def text(events):
 
 
 class Run:
-    """One run: its seconds, its peak of memory in bytes, its exit number and the lines that it wrote."""
+    """One run: its seconds, its peak of memory in bytes, its exit number, the lines that it wrote, and whether one tells a refusal."""
 
     def __init__(self, words):
         # `time` tells the peak: a child of Python would begin with Python's own
@@ -64,6 +66,7 @@ class Run:
             self.peak = int(told.read()) * 1024
         self.status = done.returncode
         self.lines = done.stdout.count(b"\n")
+        self.refused = b" refused " in done.stdout
 
 
 def best(words, status, count):
@@ -112,9 +115,7 @@ def main():
     words = sys.argv[1:]
     with_perf = "--perf" in words
     sizes = [int(word) for word in words if word != "--perf"] or SIZES
-    if "REALM_SYNC" not in os.environ:
-        # the program is built before the first measurement
-        subprocess.run([os.path.join(TOP, "realm_sync"), "replay"], stdin=subprocess.DEVNULL, stdout=subprocess.DEVNULL, check=True)
+    subprocess.run(BUILD, stdin=subprocess.DEVNULL, stdout=subprocess.DEVNULL, check=True)
     print("transactions  seconds  transactions/second  exponent  peak MB  bytes/transaction")
     before = None
     for count in sizes:

@@ -2,7 +2,7 @@
  * "Requests of a host", what passes between this header and the archive. Link libsync_host_c.a and the allocator.
  *
  *     realm_node phone;
- *     char text[256];
+ *     char text[512];
  *     int status = realm_open_client(&phone, "phone");
  *     if (status == REALM_DONE) status = realm_commit(&phone, ms, "[{\"op\":\"CreateObject\",\"table\":\"notes\",\"key\":1}]");
  *     if (status != REALM_DONE) puts(realm_words(&phone, status, text, sizeof text));
@@ -14,25 +14,13 @@
 #ifndef REALM_SYNC_H
 #define REALM_SYNC_H
 
-#include <errno.h>
-#include <fcntl.h>
+#include "realm_sync_file.h"
+
 #include <inttypes.h>
-#include <stdbool.h>
-#include <stddef.h>
-#include <stdint.h>
 #include <stdio.h>
-#include <stdlib.h>
-#include <string.h>
-#include <sys/file.h>
-#include <sys/types.h>
-#include <unistd.h>
 
 #ifdef __cplusplus
 extern "C" {
-#endif
-
-#ifndef REALM_SYNC_API
-#define REALM_SYNC_API static inline
 #endif
 
 /* ---- the archive: proved code */
@@ -46,16 +34,19 @@ size_t realm_node_turn(void *at, const uint8_t *request, size_t request_len, uin
 /* What a call answers. */
 enum realm_status {
     REALM_DONE = 0,
-    REALM_REFUSED = 1,     /* the client refuses: realm_refusal says why, and the client is as before */
-    REALM_BAD_REQUEST = 2, /* no node line, no message, or a request that this node doesn't answer; nothing changed */
-    REALM_ABSENT = 3,      /* there is no such object */
-    REALM_CLOSED = 5,      /* the disk failed: close the node, and open its file again */
-    REALM_BAD_FILE = 6,    /* the file is another one's, or damaged; it is as it was */
-    REALM_NO_MEMORY = 7,   /* close the node, and open its file again */
-    REALM_BUSY = 9         /* another open holds the file */
+    REALM_REFUSED = 1,         /* the client refuses: realm_refusal says why, and the client is as before */
+    REALM_BAD_REQUEST = 2,     /* no node line, no message, or a request that this node doesn't answer; nothing changed */
+    REALM_ABSENT = 3,          /* there is no such object */
+    REALM_CLOSED = 5,          /* the file can't be used, or the node is closed: realm_reason_of says why; close the node */
+    REALM_BAD_FILE = 6,        /* the file is another one's, or damaged; it is as it was */
+    REALM_NO_MEMORY = 7,       /* close the node, and open its file again */
+    REALM_BUSY = 9,            /* another open holds the file */
+    REALM_FORKED_PROCESS = 10, /* another process opened the node, and fork left it here: close it; nothing was done */
+    REALM_STALE = 11           /* nothing more is to be sent: realm_text_of_stale says why; nothing was done */
 };
 
-/* A client or a server. reply[0] is the last answer's status, and what follows is the answer, valid until the next call. */
+/* A client or a server. reply[0] is the last answer's status, and what follows is the answer, valid until the next call. All bytes 0 are a
+ * node that isn't open. The fields are the library's own: what one may ask for has a call. */
 typedef struct realm_node {
     void *host;
     uint8_t *reply;
@@ -63,8 +54,18 @@ typedef struct realm_node {
     size_t reply_len;
     uint8_t *strokes;
     size_t strokes_room;
-    int file;
-    bool failed;
+    realm_file file;
+    uint32_t process;   /* the number of the one that opened it */
+    int32_t error;      /* what the system said when a file's call failed: errno, or GetLastError's */
+    uint8_t reason;     /* a realm_reason */
+    bool failed;        /* no request reaches the archive any more */
+    bool is_client;
+    uint8_t question;   /* what the last message asked: the form of a question for the history, REALM_PROBE, or 0 */
+    bool verified;      /* since the opening it took all that the server had */
+    bool current;       /* the last message said so, and nothing was unsent */
+    bool held_up;       /* the last message was refused by a mismatch */
+    uint8_t stale;      /* why nothing more is to be sent: a realm_stale */
+    const char *wrong;  /* what was expected of a request that this header refused */
 } realm_node;
 
 /* Why a client refuses, and what the numbers beside it say: docs/FORMATS.md, "Refusals by number". */
@@ -106,61 +107,22 @@ typedef struct realm_place {
     uint32_t unsent; /* how many of them the history has not given back */
 } realm_place;
 
-/* ---- numbers as bytes, the lowest first */
+/* Why a client is to send nothing more. */
+enum realm_stale {
+    REALM_NOT_STALE = 0,
+    REALM_STALE_FILE = 1,    /* the file was copied, or restored from a backup: Forked, code 62, or a Stored above its last number */
+    REALM_STALE_SERVER = 2,  /* the server has less than the client took: codes 61 and 63 */
+    REALM_STALE_IDENT = 3,   /* the ident was given up: code 68 */
+    REALM_STALE_HISTORY = 4  /* the server gave up the history that the client needs: code 71 */
+};
 
-REALM_SYNC_API uint64_t realm_number_at(const uint8_t *bytes, size_t count) {
-    uint64_t number = 0;
-    while (count > 0) {
-        count--;
-        number = number << 8 | bytes[count];
-    }
-    return number;
-}
-
-REALM_SYNC_API void realm_put_number(uint8_t *bytes, uint32_t number) {
-    for (int i = 0; i < 4; i++) bytes[i] = (uint8_t)(number >> (8 * i));
-}
-
-/* ---- the outbox */
-
-/* Writes all of these bytes at a place. */
-REALM_SYNC_API bool realm_write_all(int file, const uint8_t *bytes, size_t count, uint64_t place) {
-    while (count > 0) {
-        ssize_t done = pwrite(file, bytes, count, (off_t)place);
-        if (done < 0 && errno == EINTR) continue;
-        if (done <= 0) return false;
-        bytes += done;
-        place += (uint64_t)done;
-        count -= (size_t)done;
-    }
-    return true;
-}
-
-/* Does what stands in an outbox, in order, and syncs. */
-REALM_SYNC_API bool realm_do_strokes(int file, const uint8_t *outbox, size_t len) {
-    bool synced = true;
-    for (size_t at = 0; at < len;) {
-        if (outbox[at] == 'S') {
-            if (fsync(file) != 0) return false;
-            synced = true;
-            at += 1;
-            continue;
-        }
-        if (outbox[at] != 'W' || len - at < 17) return false;
-        uint64_t place = realm_number_at(outbox + at + 1, 8);
-        uint64_t count = realm_number_at(outbox + at + 9, 8);
-        at += 17;
-        if (count > len - at || !realm_write_all(file, outbox + at, (size_t)count, place)) return false;
-        synced = count == 0 && synced;
-        at += (size_t)count;
-    }
-    return synced || fsync(file) == 0;
-}
+/* ---- requests */
 
 /* Makes room for that many bytes. */
 REALM_SYNC_API bool realm_room(uint8_t **bytes, size_t *room, size_t want) {
     if (want <= *room) return true;
-    size_t more = want < 4096 ? 4096 : want;
+    size_t more = *room < 2048 ? 4096 : *room * 2;
+    if (more < want) more = want;
     uint8_t *made = (uint8_t *)realloc(*bytes, more);
     if (!made) return false;
     *bytes = made;
@@ -168,32 +130,52 @@ REALM_SYNC_API bool realm_room(uint8_t **bytes, size_t *room, size_t want) {
     return true;
 }
 
-/* Does on the file what the node asked of its disk. Over memory there is nothing to do. */
-REALM_SYNC_API bool realm_settle(realm_node *node) {
+/* Nothing is asked of the node any more, for that reason. */
+REALM_SYNC_API int realm_fail(realm_node *node, int reason) {
+    node->error = reason == REALM_NOT_OPEN || reason == REALM_OUT_OF_MEMORY ? 0 : realm_file_error();
+    node->reason = (uint8_t)reason;
+    node->failed = true;
+    node->reply_len = 0;
+    return reason == REALM_HELD ? REALM_BUSY : reason == REALM_OUT_OF_MEMORY ? REALM_NO_MEMORY : REALM_CLOSED;
+}
+
+/* Does on the file what the node asked of its disk; a realm_reason where that fails. Over memory there is nothing to do. */
+REALM_SYNC_API int realm_settle(realm_node *node) {
     static const uint8_t outbox = 'W', done = 'V';
     uint8_t status = 0;
     /* the archive takes no null pointer, also where there is no room behind it */
     uint8_t *strokes = node->strokes ? node->strokes : &status;
     size_t len = realm_node_turn(node->host, &outbox, 1, strokes, node->strokes_room);
-    if (len == 0) return true;
-    if (node->file >= 0) {
+    if (len == 0) return REALM_NO_REASON;
+    if (node->file) {
         if (len > node->strokes_room) {
-            if (!realm_room(&node->strokes, &node->strokes_room, len)) return false;
+            if (!realm_room(&node->strokes, &node->strokes_room, len)) return REALM_OUT_OF_MEMORY;
             len = realm_node_turn(node->host, &outbox, 1, node->strokes, node->strokes_room);
         }
-        if (!realm_do_strokes(node->file, node->strokes, len)) return false;
+        int why = realm_do_strokes(node->file, node->strokes, len);
+        if (why) return why;
     }
     realm_node_turn(node->host, &done, 1, &status, 1);
-    return status == REALM_DONE;
+    return status == REALM_DONE ? REALM_NO_REASON : REALM_OUT_OF_MEMORY;
 }
 
-/* ---- requests */
+/* Whether the node may be asked: REALM_DONE, or why it may not. */
+REALM_SYNC_API int realm_askable(realm_node *node) {
+    node->reply_len = 0;
+    node->wrong = NULL;
+    if (!node->host) {
+        if (!node->reason) node->reason = REALM_NOT_OPEN;
+        return REALM_CLOSED;
+    }
+    if (node->process != realm_process()) return REALM_FORKED_PROCESS;
+    return node->failed ? REALM_CLOSED : REALM_DONE;
+}
 
 /* Hands a request to the node. Its answer is told once all that it rests on is on the disk. */
 REALM_SYNC_API int realm_turn(realm_node *node, const uint8_t *request, size_t len) {
     static const uint8_t again = 'R';
-    node->reply_len = 0;
-    if (node->failed || !node->host) return REALM_CLOSED;
+    int status = realm_askable(node);
+    if (status != REALM_DONE) return status;
     if (!realm_room(&node->reply, &node->reply_room, 64)) return REALM_NO_MEMORY;
     size_t told = realm_node_turn(node->host, request, len, node->reply, node->reply_room);
     if (told > node->reply_room) {
@@ -202,12 +184,16 @@ REALM_SYNC_API int realm_turn(realm_node *node, const uint8_t *request, size_t l
         else
             node->reply[0] = REALM_NO_MEMORY, told = 1;
     }
-    if (!realm_settle(node)) {
-        node->failed = true;
-        return REALM_CLOSED;
-    }
+    int why = realm_settle(node);
+    if (why) return realm_fail(node, why);
     node->reply_len = told;
-    return node->reply[0];
+    status = node->reply[0];
+    if (len > 0 && request[0] == 'L') node->current = false;
+    /* what a later REALM_CLOSED of the archive is for */
+    if (status == REALM_NO_MEMORY) node->reason = REALM_OUT_OF_MEMORY;
+    if (status == REALM_BAD_FILE) node->reason = REALM_WRONG_FILE;
+    if (status == REALM_CLOSED && !node->reason) node->reason = REALM_NOT_OPEN;
+    return status;
 }
 
 /* A request: its first byte, and what follows. */
@@ -215,6 +201,7 @@ REALM_SYNC_API int realm_ask_of(realm_node *node, char verb, const void *body, s
     uint8_t small[512];
     uint8_t *request = small;
     if (len >= sizeof small) {
+        node->reply_len = 0;
         request = (uint8_t *)malloc(len + 1);
         if (!request) return REALM_NO_MEMORY;
     }
@@ -231,55 +218,51 @@ REALM_SYNC_API int realm_ask_by_number(realm_node *node, char verb, uint32_t num
     return realm_ask_of(node, verb, body, sizeof body);
 }
 
-/* ---- opening and closing */
-
-/* Reads the whole file behind a first byte. */
-REALM_SYNC_API uint8_t *realm_file_request(int file, char verb, size_t *len) {
-    off_t size = lseek(file, 0, SEEK_END);
-    if (size < 0) return NULL;
-    uint8_t *request = (uint8_t *)malloc((size_t)size + 1);
-    if (!request) return NULL;
-    request[0] = (uint8_t)verb;
-    size_t have = 0;
-    while (have < (size_t)size) {
-        ssize_t done = pread(file, request + 1 + have, (size_t)size - have, (off_t)have);
-        if (done < 0 && errno == EINTR) continue;
-        if (done <= 0) break;
-        have += (size_t)done;
-    }
-    if (have < (size_t)size) {
-        free(request);
-        return NULL;
-    }
-    *len = have + 1;
-    return request;
+/* A request that this header refuses, since it can't be what was meant: realm_words says what was expected. */
+REALM_SYNC_API int realm_expect(realm_node *node, const char *expected) {
+    node->reply_len = 0;
+    node->wrong = expected;
+    return REALM_BAD_REQUEST;
 }
 
-/* Lets the node go, and closes its file. What was answered is on the disk. */
+/* ---- opening and closing */
+
+/* Lets the node go, and closes its file. What was answered is on the disk. A node that isn't open, or is closed already, stays so. In a
+ * process to which fork copied the node its copy of the file is closed alone, which leaves the lock with the one that opened it: the memory
+ * may be that of a call which another thread was making. */
 REALM_SYNC_API void realm_close(realm_node *node) {
-    if (node->host) realm_node_free(node->host);
-    if (node->file >= 0) close(node->file);
-    free(node->reply);
-    free(node->strokes);
+    if (node->file) realm_file_close(node->file);
+    if (node->host && node->process == realm_process()) {
+        realm_node_free(node->host);
+        free(node->reply);
+        free(node->strokes);
+    }
     memset(node, 0, sizeof *node);
-    node->file = -1;
+}
+
+/* A place for a node, for a host that brings its own storage: nothing is open in it yet. */
+REALM_SYNC_API int realm_make(realm_node *node, char verb) {
+    memset(node, 0, sizeof *node);
+    node->process = realm_process();
+    node->is_client = verb == 'c';
+    return realm_node_new(&node->host) ? (int)REALM_DONE : realm_fail(node, REALM_OUT_OF_MEMORY);
 }
 
 REALM_SYNC_API int realm_open(realm_node *node, char verb, const char *path) {
-    memset(node, 0, sizeof *node);
-    node->file = -1;
-    if (!realm_node_new(&node->host)) return REALM_NO_MEMORY;
-    if (!path || !*path) return realm_ask_of(node, verb, NULL, 0);
-    node->file = open(path, O_RDWR | O_CREAT | O_CLOEXEC, 0666);
-    if (node->file < 0) return REALM_CLOSED;
-    if (flock(node->file, LOCK_EX | LOCK_NB) != 0) return errno == EWOULDBLOCK ? REALM_BUSY : REALM_CLOSED;
+    uint8_t *request = NULL;
     size_t len = 0;
-    uint8_t *request = realm_file_request(node->file, verb, &len);
-    if (!request) return REALM_CLOSED;
-    int status = realm_turn(node, request, len);
+    int status = realm_make(node, verb);
+    if (status != REALM_DONE) return status;
+    if (!path || !*path) return realm_ask_of(node, verb, NULL, 0);
+    int why = realm_file_open(path, &node->file);
+    if (!why) why = realm_file_request(node->file, verb, &request, &len);
+    status = why ? realm_fail(node, why) : realm_turn(node, request, len);
     free(request);
     return status;
 }
+
+/* How many bytes a realm_node has: for a language that mirrors it. */
+REALM_SYNC_API size_t realm_node_size(void) { return sizeof(realm_node); }
 
 /* Opens the client of a file, or a new one where there is no such file; with no path one in memory. The file stays locked until
  * realm_close, which every node needs, also one that wasn't opened. */
@@ -318,6 +301,13 @@ REALM_SYNC_API uint64_t realm_bad_place(const realm_node *node) {
     return node->reply_len == 9 ? realm_number_at(node->reply + 1, 8) : 0;
 }
 
+/* Why the file can't be used, or the node is closed, and what the system said: errno, or GetLastError's number, or 0. */
+REALM_SYNC_API enum realm_reason realm_reason_of(const realm_node *node) { return (enum realm_reason)node->reason; }
+
+REALM_SYNC_API int realm_error_of(const realm_node *node) { return node->error; }
+
+/* ---- in words */
+
 /* What a status means, and what to do. */
 REALM_SYNC_API const char *realm_text_of_status(int status) {
     switch (status) {
@@ -325,10 +315,62 @@ REALM_SYNC_API const char *realm_text_of_status(int status) {
     case REALM_REFUSED: return "the client refuses, and is as before";
     case REALM_BAD_REQUEST: return "no such line, message or request: nothing changed";
     case REALM_ABSENT: return "there is no such object";
-    case REALM_CLOSED: return "the disk failed, or the node is closed: close it, and open its file again";
-    case REALM_BAD_FILE: return "the file is another one's, or damaged: it is as it was";
+    case REALM_CLOSED: return "the node is closed: close it, and open its file again";
+    case REALM_BAD_FILE: return "the file is another one's, or damaged: it is as it was; give another path";
     case REALM_NO_MEMORY: return "out of memory: close the node, and open its file again";
     case REALM_BUSY: return "another open holds the file: try again later";
+    case REALM_FORKED_PROCESS: return "another process opened this node, and fork copied it: close it here, and open a file in this process";
+    case REALM_STALE: return "nothing more is sent from this file";
+    default: return "unknown";
+    }
+}
+
+/* Why a file can't be used, or a node is closed, and what to do. */
+REALM_SYNC_API const char *realm_text_of_reason(int reason) {
+    static const char *const texts[] = {
+        "nothing is known to have failed",
+        "no node is open here: open one",
+        "a folder of the path isn't there: make it, and open the file again",
+        "a part of the path that should be a folder is a file: give another path",
+        "the path is a folder's: give the path of a file in it",
+        "the path is a device's, a pipe's or a socket's: give that of a file",
+        "the user may not use this file, or make one in its folder: allow it, and open the file again",
+        "the file may be read, and not written: allow writing to it, and open it again",
+        "the file system may only be read: use one that may be written",
+        "the path, or a name in it, is too long: give another path",
+        "too many files are open: close some, and open the file again",
+        "the file system has no locks: put the file on one that has",
+        "another open holds the file: try again later",
+        "the system doesn't open the file",
+        "the disk is full: make room, close the node, and open its file again",
+        "the file has the greatest size that it may have: raise the limit, close the node, and open its file again",
+        "a write failed: close the node, look after the disk, and open the file again",
+        "a sync failed, so that what wasn't answered may be lost: close the node, look after the disk, and open the file again",
+        "the file can't be read: close the node, and look after the disk",
+        "memory ran out: close the node, and open its file again",
+        "the file is another one's, or damaged: close the node, and give another path; the file is as it was",
+        "the links in the path lead back to it: give another path",
+        "the system has no such names: give another path",
+        "the user's share of the disk is full: make room in it, close the node, and open its file again",
+    };
+    return reason >= 0 && (size_t)reason < sizeof texts / sizeof texts[0] ? texts[reason] : "unknown";
+}
+
+/* Why nothing more is sent from a client's file, and what to do. */
+REALM_SYNC_API const char *realm_text_of_stale(int why) {
+    switch (why) {
+    case REALM_NOT_STALE: return "the client may send";
+    case REALM_STALE_FILE:
+        return "the file was copied, or restored from a backup, and the server has other changes under its numbers. Nothing more is sent: keep "
+               "the file, whose unsent changes are safe, and go on in a new file with a new uuid";
+    case REALM_STALE_SERVER:
+        return "the server has less than this client took: it is another one, or its own file was restored. Nothing more is sent: ask the right "
+               "server, or keep the file, and go on in a new one with a new uuid";
+    case REALM_STALE_IDENT:
+        return "this client's ident was given up. Nothing more is sent: keep the file, and go on in a new one with a new uuid";
+    case REALM_STALE_HISTORY:
+        return "the server gave up the history that this client needs. Nothing more is sent: keep the file, and go on in a new one that begins "
+               "with the server's objects";
     default: return "unknown";
     }
 }
@@ -378,7 +420,7 @@ REALM_SYNC_API const char *realm_text_of_code(uint32_t code) {
     case 30: return "no such object";
     case 31: return "the key is of another kind than the table's";
     case 60: return "the ident wasn't given by this server";
-    case 61: return "not the client's next number: the file was copied or restored";
+    case 61: return "not the client's next number: the server's file was restored, or it is another server";
     case 62: return "a base before the last one: the file was copied or restored";
     case 63: return "ahead of the server's history: its file was restored, or it is another server";
     case 64: return "the history is full";
@@ -393,18 +435,17 @@ REALM_SYNC_API const char *realm_text_of_code(uint32_t code) {
     }
 }
 
-/* Says in words what the last call answered, a refusal with its numbers, in at most `room` bytes with the 0 at the end. */
-REALM_SYNC_API const char *realm_words(const realm_node *node, int status, char *text, size_t room) {
+/* Writes a refusal with its numbers by name. */
+REALM_SYNC_API void realm_refusal_words(realm_refused why, char *text, size_t room) {
     static const char *const names[][3] = {
         {0}, {0}, {0}, {0}, {0}, {0}, {"place"}, {"place"}, {"place", "code"}, {0}, {"kept", "got"}, {"cursor", "from"},
         {"version", "offset", "code"}, {"version"}, {"version", "number", "code"}, {"number"}, {"version", "place", "code"},
         {"number", "code"}, {0}, {0},
     };
-    realm_refused why = realm_refusal(node);
     uint32_t numbers[3] = {why.first, why.second, why.third};
-    bool is_known = why.number > 0 && why.number < sizeof names / sizeof names[0];
-    if (room == 0) return text;
-    snprintf(text, room, "%s", is_known ? realm_text_of(why.number) : realm_text_of_status(status));
+    bool is_known = why.number < sizeof names / sizeof names[0];
+    bool is_message = why.number == REALM_WAS_REFUSED && why.first == 0;
+    snprintf(text, room, "%s", is_message ? "the server refused a message of this client" : realm_text_of(why.number));
     for (int i = 0; i < 3 && is_known && names[why.number][i]; i++) {
         const char *name = names[why.number][i];
         size_t at = strlen(text);
@@ -412,20 +453,53 @@ REALM_SYNC_API const char *realm_words(const realm_node *node, int status, char 
         at = strlen(text);
         if (strcmp(name, "code") == 0) snprintf(text + at, room - at, ", %s", realm_text_of_code(numbers[i]));
     }
+}
+
+/* Says in words what the last call answered, and what to do, in at most `room` bytes with the 0 at the end; 512 are enough. */
+REALM_SYNC_API const char *realm_words(const realm_node *node, int status, char *text, size_t room) {
+    realm_refused why = realm_refusal(node);
+    if (room == 0) return text;
+    if (status == REALM_REFUSED && why.number > 0)
+        realm_refusal_words(why, text, room);
+    else if (status == REALM_BAD_REQUEST && node->wrong)
+        snprintf(text, room, "%s: nothing changed", node->wrong);
+    else if (status == REALM_BAD_FILE)
+        snprintf(text, room, "from byte %" PRIu64 " on %s", realm_bad_place(node), realm_text_of_status(status));
+    else if (status == REALM_STALE)
+        snprintf(text, room, "%s", realm_text_of_stale(node->stale));
+    else if (status == REALM_CLOSED && node->reason && node->error)
+        snprintf(text, room, "%s (error %d of the system)", realm_text_of_reason(node->reason), (int)node->error);
+    else
+        snprintf(text, room, "%s", status == REALM_CLOSED && node->reason ? realm_text_of_reason(node->reason) : realm_text_of_status(status));
     return text;
 }
 
 /* ---- a client */
 
+/* The same answer; of a request that is none, with what was expected. */
+REALM_SYNC_API int realm_told(realm_node *node, int status, const char *expected) {
+    if (status == REALM_BAD_REQUEST && !node->wrong) node->wrong = expected;
+    return status;
+}
+
+/* A request to a client alone. */
+REALM_SYNC_API int realm_ask_client(realm_node *node, char verb, const void *body, size_t len, const char *expected) {
+    int status = realm_ask_of(node, verb, body, len);
+    return realm_told(node, status, node->is_client ? expected : "node: expected a client, and this is a server");
+}
+
 /* Does what a node line says: docs/FORMATS.md, "Lines". */
-REALM_SYNC_API int realm_line(realm_node *node, const char *json, size_t len) { return realm_ask_of(node, 'L', json, len); }
+REALM_SYNC_API int realm_line(realm_node *node, const char *json, size_t len) {
+    return realm_ask_client(node, 'L', json, len, "line: expected a node line, as docs/FORMATS.md, \"Lines\", has them");
+}
 
 /* Gives a new client its uuid, once. */
 REALM_SYNC_API int realm_born(realm_node *node, const char *uuid) {
+    static const char expected[] = "uuid: expected 32 hexadecimal digits, as in 00000000-0000-4000-8000-000000000001";
     char line[128];
-    int len = snprintf(line, sizeof line, "{\"uuid\":\"%s\"}", uuid);
-    if (len < 0 || (size_t)len >= sizeof line) return REALM_BAD_REQUEST;
-    return realm_line(node, line, (size_t)len);
+    int len = uuid && !strpbrk(uuid, "\"\\") ? snprintf(line, sizeof line, "{\"uuid\":\"%s\"}", uuid) : -1;
+    if (len < 0 || (size_t)len >= sizeof line) return realm_expect(node, expected);
+    return realm_ask_client(node, 'L', line, (size_t)len, expected);
 }
 
 /* Brings the client's file to form 2. */
@@ -458,61 +532,210 @@ REALM_SYNC_API const char *realm_quote(char *into, size_t room, const char *text
 /* Commits a transaction at that many milliseconds since the epoch. `edits` is a JSON list: docs/FORMATS.md, "Edits".
  * realm_number tells its number. */
 REALM_SYNC_API int realm_commit(realm_node *node, uint64_t ms, const char *edits) {
+    static const char expected[] = "edits: expected a JSON list of edits, as docs/FORMATS.md, \"Edits\", has them";
     char small[1024];
+    if (!edits || edits[strspn(edits, " \t\r\n")] != '[') return realm_expect(node, expected);
     size_t room = strlen(edits) + 64;
     char *request = room <= sizeof small ? small : (char *)malloc(room);
+    node->reply_len = 0;
     if (!request) return REALM_NO_MEMORY;
-    int len = snprintf(request, room, "L{\"ms\":%" PRIu64 ",\"edits\":%s}", ms, edits);
-    int status = len < 0 ? (int)REALM_BAD_REQUEST : realm_turn(node, (const uint8_t *)request, (size_t)len);
+    int len = snprintf(request, room, "{\"ms\":%" PRIu64 ",\"edits\":%s}", ms, edits);
+    int status = realm_ask_client(node, 'L', request, (size_t)len, expected);
     if (request != small) free(request);
     return status;
 }
 
-/* The message to send next: Bind while the client has no ident, then Upload while the server may lack changes, else Ask. */
-REALM_SYNC_API int realm_next(realm_node *node) { return realm_ask_of(node, 'N', NULL, 0); }
+REALM_SYNC_API int realm_bind(realm_node *node) { return realm_ask_client(node, 'B', NULL, 0, NULL); }
 
-REALM_SYNC_API int realm_bind(realm_node *node) { return realm_ask_of(node, 'B', NULL, 0); }
-
-/* The unsent changes with a number above `after`. */
-REALM_SYNC_API int realm_upload(realm_node *node, uint32_t after) { return realm_ask_by_number(node, 'U', after); }
-
-REALM_SYNC_API int realm_ask(realm_node *node) { return realm_ask_of(node, 'A', NULL, 0); }
+/* The unsent changes with a number above `after`. What is to be sent is told by realm_next. */
+REALM_SYNC_API int realm_upload(realm_node *node, uint32_t after) {
+    uint8_t body[4];
+    realm_put_number(body, after);
+    return realm_ask_client(node, 'U', body, sizeof body, NULL);
+}
 
 /* Gives the client of that ident up. */
-REALM_SYNC_API int realm_retire(realm_node *node, uint32_t ident) { return realm_ask_by_number(node, 'G', ident); }
+REALM_SYNC_API int realm_retire(realm_node *node, uint32_t ident) {
+    uint8_t body[4];
+    realm_put_number(body, ident);
+    return realm_ask_client(node, 'G', body, sizeof body, "ident: expected a number above 0");
+}
+
+/* ---- what a client sends, and when it has all
+ *
+ * Rounds of realm_next, the server's reply and realm_take, until realm_is_current: then the client has all that the server had when it
+ * replied last, and the server has all of the client. A client uploads once a reply has said since the opening that it has all: so one whose
+ * file was restored is told before it sends changes under numbers that it had given before. */
+
+/* A message's tag, and the first numbers behind it. */
+typedef struct realm_head {
+    uint8_t tag;
+    uint32_t numbers[4];
+} realm_head;
+
+enum { REALM_PROBE = 255 };
+enum { REALM_TAG_UPLOAD = 3, REALM_TAG_ASK = 4, REALM_TAG_DOWNLOAD = 5, REALM_TAG_STORED = 7, REALM_TAG_ASK_2 = 8, REALM_TAG_ASK_TABLES = 11 };
+
+REALM_SYNC_API realm_head realm_head_of(const uint8_t *message, size_t len) {
+    realm_head head = {0, {0, 0, 0, 0}};
+    if (len > 0) head.tag = message[0];
+    size_t at = 1;
+    for (int i = 0; i < 4; i++) {
+        uint32_t number = 0;
+        int shift = 0;
+        do {
+            if (at >= len || shift > 28) return head;
+            number |= (uint32_t)(message[at] & 127) << shift;
+            shift += 7;
+        } while (message[at++] & 128);
+        head.numbers[i] = number;
+    }
+    return head;
+}
 
 /* Whether the message that the last call answered is a question for the history. */
 REALM_SYNC_API bool realm_is_question(const realm_node *node) {
     uint8_t tag = node->reply_len > 1 ? node->reply[1] : 0;
-    return tag == 4 || tag == 8 || tag == 11;
+    return tag == REALM_TAG_ASK || tag == REALM_TAG_ASK_2 || tag == REALM_TAG_ASK_TABLES;
 }
+
+/* A message that the client makes; of a question its form is noted. */
+REALM_SYNC_API int realm_ask_message(realm_node *node, char verb) {
+    int status = realm_ask_client(node, verb, NULL, 0, NULL);
+    node->question = 0;
+    if (status == REALM_DONE && realm_is_question(node)) {
+        realm_head head = realm_head_of(node->reply + 1, node->reply_len - 1);
+        node->question = head.tag == REALM_TAG_ASK_2 || (head.tag == REALM_TAG_ASK_TABLES && head.numbers[3] == 2) ? 2 : 1;
+    }
+    return status;
+}
+
+/* The question for the history behind the client's cursor. */
+REALM_SYNC_API int realm_ask(realm_node *node) { return realm_ask_message(node, 'A'); }
+
+REALM_SYNC_API realm_place realm_place_at(const uint8_t *bytes) {
+    realm_place place;
+    place.ident = (uint32_t)realm_number_at(bytes, 4);
+    place.cursor = (uint32_t)realm_number_at(bytes + 4, 4);
+    place.last = (uint32_t)realm_number_at(bytes + 8, 4);
+    place.unsent = (uint32_t)realm_number_at(bytes + 12, 4);
+    return place;
+}
+
+/* Where the node stands; the last answer stays. */
+REALM_SYNC_API bool realm_peek(const realm_node *node, realm_place *out) {
+    static const uint8_t request = 'I';
+    uint8_t reply[17];
+    if (realm_node_turn(node->host, &request, 1, reply, sizeof reply) != sizeof reply || reply[0] != REALM_DONE) return false;
+    *out = realm_place_at(reply + 1);
+    return true;
+}
+
+/* An Upload of nothing. The server's Stored tells how many changes of the client it has, also one that can't take the history further. */
+REALM_SYNC_API int realm_probe(realm_node *node) {
+    realm_place place;
+    size_t at = 0;
+    int status = realm_askable(node);
+    if (status != REALM_DONE) return status;
+    if (!realm_peek(node, &place)) return realm_fail(node, REALM_NOT_OPEN);
+    node->reply[at++] = REALM_DONE;
+    node->reply[at++] = REALM_TAG_UPLOAD;
+    for (; place.ident > 127; place.ident >>= 7) node->reply[at++] = (uint8_t)(place.ident | 128);
+    node->reply[at++] = (uint8_t)place.ident;
+    node->reply[at++] = 0;
+    node->reply_len = at;
+    node->question = REALM_PROBE;
+    return REALM_DONE;
+}
+
+/* The message to send next: Bind while the client has no ident, then questions until it has all of the history, then Upload while the
+ * server may lack changes, else a question. REALM_STALE where nothing more is to be sent. */
+REALM_SYNC_API int realm_next(realm_node *node) {
+    if (node->stale && realm_askable(node) == REALM_DONE) return REALM_STALE;
+    if (node->is_client && !node->verified) {
+        int status = node->held_up ? realm_probe(node) : realm_ask(node);
+        if (status != REALM_REFUSED || realm_refusal(node).number != REALM_NOT_NAMED) return status;
+    }
+    return realm_ask_message(node, 'N');
+}
+
+/* Why nothing more is to be sent, by what a client refused, or what the server did. */
+REALM_SYNC_API uint8_t realm_stale_by(realm_refused why) {
+    if (why.number == REALM_FORKED) return REALM_STALE_FILE;
+    if (why.number != REALM_WAS_REFUSED) return REALM_NOT_STALE;
+    switch (why.second) {
+    case 61:
+    case 63: return REALM_STALE_SERVER;
+    case 62: return REALM_STALE_FILE;
+    case 68: return REALM_STALE_IDENT;
+    case 71: return REALM_STALE_HISTORY;
+    default: return REALM_NOT_STALE;
+    }
+}
+
+/* Whether a Download has all that the server had behind the client's cursor. One that was cut has 4,096 entries, or more than 4 MiB, since a
+ * changeset has less than 12 MiB of the 16 MiB that there is room for (docs/LIMITS.md, "Sizes"); or its client is of form 1, and an entry of
+ * form 2 follows. */
+REALM_SYNC_API bool realm_is_end(uint8_t question, realm_head head, size_t len, uint32_t cursor) {
+    uint32_t from = head.numbers[1], count = head.numbers[2];
+    if (question == 0 || question == REALM_PROBE || head.tag != REALM_TAG_DOWNLOAD || (uint64_t)from + count != cursor) return false;
+    return count == 0 || (question == 2 && count < 4096 && len <= 4194304);
+}
+
+/* What a message that was taken says of what the client sends next. */
+REALM_SYNC_API void realm_note_taken(realm_node *node, int status, realm_head head, size_t len) {
+    realm_place place;
+    uint8_t question = node->question;
+    node->question = 0;
+    node->current = false;
+    node->held_up = false;
+    if (status == REALM_REFUSED) {
+        realm_refused why = realm_refusal(node);
+        node->verified = false;
+        node->held_up = why.number == REALM_MISMATCH;
+        if (!node->stale) node->stale = realm_stale_by(why);
+    } else if (status == REALM_DONE && realm_peek(node, &place)) {
+        bool is_end = realm_is_end(question, head, len, place.cursor);
+        bool is_stored = head.tag == REALM_TAG_STORED;
+        if (is_stored && head.numbers[1] > place.last) node->stale = REALM_STALE_FILE;
+        /* The answer to an Upload of nothing: the history has no change of the client but those that it took. */
+        if (is_end || (question == REALM_PROBE && is_stored && head.numbers[1] == place.last - place.unsent)) node->verified = true;
+        node->current = is_end && place.unsent == 0;
+    }
+}
+
+/* Whether the last message that a client took said that it has all of the history, and nothing is unsent: the rounds end here. */
+REALM_SYNC_API bool realm_is_current(const realm_node *node) { return node->current; }
 
 /* ---- a client or a server */
 
 /* Takes a message. A client answers its cursor (realm_number), a server the reply (realm_bytes). */
-REALM_SYNC_API int realm_take(realm_node *node, const void *message, size_t len) { return realm_ask_of(node, 'T', message, len); }
+REALM_SYNC_API int realm_take(realm_node *node, const void *message, size_t len) {
+    realm_head head = realm_head_of((const uint8_t *)message, len);
+    int status = realm_ask_of(node, 'T', message, len);
+    if (node->is_client) realm_note_taken(node, status, head, len);
+    return realm_told(node, status, "message: expected the bytes of a message, as docs/FORMATS.md, \"Messages\", has them");
+}
 
 /* All objects, a line of JSON each, behind those of tables and columns: docs/FORMATS.md, "Report and dump". */
 REALM_SYNC_API int realm_dump(realm_node *node) { return realm_ask_of(node, 'D', NULL, 0); }
 
 /* The line of one object, by a line that names it: {"table":"notes","key":1}. REALM_ABSENT where there is none. */
-REALM_SYNC_API int realm_object(realm_node *node, const char *name) { return realm_ask_of(node, 'O', name, strlen(name)); }
+REALM_SYNC_API int realm_object(realm_node *node, const char *name) {
+    static const char expected[] = "name: expected {\"table\":NAME,\"key\":KEY}";
+    return name ? realm_told(node, realm_ask_of(node, 'O', name, strlen(name)), expected) : realm_expect(node, expected);
+}
 
 /* What the last realm_line, realm_commit or realm_take may have changed of a client's objects, a line of JSON for each place:
  * docs/FORMATS.md, "Places". What none of them covers is as it was; of a list with "front" and "back" so many of its first and its last
  * elements, as the least of each says. */
-REALM_SYNC_API int realm_changed(realm_node *node) { return realm_ask_of(node, 'C', NULL, 0); }
+REALM_SYNC_API int realm_changed(realm_node *node) { return realm_ask_client(node, 'C', NULL, 0, NULL); }
 
 /* Where it stands. */
 REALM_SYNC_API int realm_standing(realm_node *node, realm_place *out) {
     int status = realm_ask_of(node, 'I', NULL, 0);
     memset(out, 0, sizeof *out);
-    if (status == REALM_DONE && node->reply_len == 17) {
-        out->ident = (uint32_t)realm_number_at(node->reply + 1, 4);
-        out->cursor = (uint32_t)realm_number_at(node->reply + 5, 4);
-        out->last = (uint32_t)realm_number_at(node->reply + 9, 4);
-        out->unsent = (uint32_t)realm_number_at(node->reply + 13, 4);
-    }
+    if (status == REALM_DONE && node->reply_len == 17) *out = realm_place_at(node->reply + 1);
     return status;
 }
 

@@ -127,6 +127,8 @@ static int open_node(int number, const uint8_t *file, size_t len) {
     check(request != NULL, "memory");
     request[0] = number == SERVER ? 's' : 'c';
     if (len > 0) memcpy(request + 1, file, len);
+    node->verified = node->current = node->held_up = false;
+    node->stale = node->question = 0;
     int status = realm_turn(node, request, len + 1);
     free(request);
     return status;
@@ -134,10 +136,8 @@ static int open_node(int number, const uint8_t *file, size_t len) {
 
 static void new_node(int number) {
     realm_node *node = &nodes[number];
-    memset(node, 0, sizeof *node);
-    node->file = -1;
     detached[number] = false;
-    check(realm_node_new(&node->host), "memory for a node");
+    check(realm_make(node, number == SERVER ? 's' : 'c') == REALM_DONE, "memory for a node");
     if (over_files && number != SECOND) {
         if (!files[number]) files[number] = memfd_create("node", MFD_CLOEXEC);
         check(ftruncate(files[number], 0) == 0, "an empty file");
@@ -151,8 +151,9 @@ static void look(int number, uint8_t verb, int status) {
     realm_node *node = &nodes[number];
     realm_refused why = realm_refusal(node);
     char words[64];
-    check(status >= REALM_DONE && status <= REALM_BAD_FILE && status != 4, "a status that there is, and no end of memory");
-    check(status == REALM_CLOSED || node->reply_len > 0, "an answer");
+    bool is_stale = status == REALM_STALE && hostile;
+    check(is_stale || (status >= REALM_DONE && status <= REALM_BAD_FILE && status != 4), "a status that there is, and no end of memory");
+    check(is_stale || status == REALM_CLOSED || node->reply_len > 0, "an answer");
     check((status == REALM_REFUSED) == (why.number > 0 && why.number <= REALM_TOO_LATE), "a refusal has its number");
     realm_words(node, status, words, sizeof words);
     count_answer(verb, (uint8_t)status, &why);
@@ -163,7 +164,7 @@ static int ask(int number, char verb, const void *body, size_t len) {
     realm_place before, after;
     realm_node *node = &nodes[number];
     bool stood = realm_standing(node, &before) == REALM_DONE;
-    int status = realm_ask_of(node, verb, body, len);
+    int status = verb == 'T' ? realm_take(node, body, len) : verb == 'N' ? realm_next(node) : realm_ask_of(node, verb, body, len);
     look(number, (uint8_t)verb, status);
     bool is_same = status == REALM_REFUSED || status == REALM_BAD_REQUEST || status == REALM_ABSENT;
     if (stood && is_same && verb != 'T') {
@@ -189,7 +190,7 @@ static void ask_raw(int number, const uint8_t *request, size_t len, size_t room)
         check(memcmp(all, reply, have) == 0, "the same bytes again");
     }
     if (len > 0 && memchr("csxV", request[0], 4)) detached[number] = true;
-    if (!realm_settle(node)) node->failed = node->file >= 0;
+    if (realm_settle(node)) node->failed = node->file != 0;
 }
 
 /* ---- messages */
@@ -255,11 +256,9 @@ static bool pass(source *from, int client, unsigned changes, unsigned reply_chan
 /* A whole round of the sync, as an application does it. */
 static bool sync_client(int client) {
     source none = {NULL, 0};
-    for (int turns = 0; turns < 8; turns++) {
-        if (ask(client, 'N', NULL, 0) != REALM_DONE) return false;
-        bool is_last = realm_is_question(&nodes[client]);
-        if (!pass(&none, client, 0, 0)) return false;
-        if (is_last) return true;
+    for (int turns = 0; turns < 16; turns++) {
+        if (ask(client, 'N', NULL, 0) != REALM_DONE || !pass(&none, client, 0, 0)) return false;
+        if (realm_is_current(&nodes[client])) return true;
     }
     check(hostile, "a round ends");
     return false;
@@ -332,12 +331,12 @@ static void open_again(source *from, int number) {
     size_t len;
     unsigned changes = next_byte(from) & 3;
     realm_node *node = &nodes[number];
-    if (node->file < 0 || node->failed) return;
-    uint8_t *request = realm_file_request(node->file, 'c', &len);
-    check(request != NULL, "a file is read");
+    if (!node->file || node->failed) return;
+    uint8_t *request;
+    check(!realm_file_request(node->file, 'c', &request, &len), "a file is read");
     len -= 1;
     uint8_t *file = changed(from, request + 1, &len, changes);
-    check(ftruncate(node->file, 0) == 0 && realm_write_all(node->file, file, len, 0), "a file is written");
+    check(ftruncate((int)node->file, 0) == 0 && !realm_file_write(node->file, file, len, 0), "a file is written");
     int status = open_node(number, file, len);
     look(number, 'c', status);
     check(changes > 0 || detached[number] || status == REALM_DONE, "a node's file opens again");

@@ -3,14 +3,14 @@
 #
 #     cc -Iinclude app.c $(examples/c/library.sh) -o app
 #
-# The shared library, which examples/python/realm_sync.py loads, is put into out/ at the top, or into the folder of the first argument. It
+# The shared library, which the Python package loads, is put into out/ at the top, or into the folder of the first argument. It
 # takes `rt`, the command of the Rattle toolchain, and a C compiler. What isn't built yet is proved and built first (./build library);
-# with REALM_SYNC_TRIAL=1 it is a trial build, without any proof.
+# with REALM_SYNC_TRIAL=1 it is a trial build, without any proof. REALM_SYNC_ARCHIVE=FILE takes that archive, and builds nothing.
 set -eu
 top=$(cd "$(dirname "$(readlink -f "$0")")/../.." && pwd)
 out=${1:-$top/out}
 mkdir -p "$out"
-archive=$("$top/build" ${REALM_SYNC_TRIAL:+--trial} library)
+archive=${REALM_SYNC_ARCHIVE:-$("$top/build" ${REALM_SYNC_TRIAL:+--trial} library)}
 heap=$(dirname "$(rt doc)")/c/liblibc_c.a
 
 # Nodes may be used by several threads at once since the archive has no data that can be written: no section of some size with a W among

@@ -99,7 +99,7 @@ static bool is_same(realm_refused a, realm_refused b) {
 
 /* Makes a request; false where it isn't answered so. A refusal or another status is printed with its words. */
 static bool answers(realm_node *node, const row *want) {
-    char words[256];
+    char words[512];
     int status = realm_ask_of(node, want->verb, want->body, want->len);
     realm_refused why = realm_refusal(node);
     bool is_right = status == want->status && is_same(why, want->why);
@@ -131,7 +131,7 @@ static char *edit_of(size_t bytes) {
 
 /* At a limit a transaction is refused for what it does, and behind it as too large. */
 static bool is_refused_so(realm_node *node, char *edits, uint8_t number) {
-    char words[256];
+    char words[512];
     int status = realm_commit(node, 1, edits);
     free(edits);
     bool is_right = status == REALM_REFUSED && realm_refusal(node).number == number;
@@ -142,9 +142,7 @@ static bool is_refused_so(realm_node *node, char *edits, uint8_t number) {
 int main(void) {
     realm_node node;
     bool is_right = true;
-    memset(&node, 0, sizeof node);
-    node.file = -1;
-    if (!realm_node_new(&node.host)) return 1;
+    if (realm_make(&node, 'c') != REALM_DONE) return 1;
     for (size_t i = 0; i < sizeof rows / sizeof rows[0]; i++) is_right = answers(&node, &rows[i]) && is_right;
     realm_close(&node);
 

@@ -7,7 +7,7 @@
 #include <pthread.h>
 #include <time.h>
 
-enum { THREADS = 4, CLIENTS = 6, TURNS = 40 };
+enum { THREADS = 4, CLIENTS = 6, TURNS = 40, MOST_ROUNDS = 10000 };
 
 typedef struct shared_node {
     pthread_mutex_t lock;
@@ -18,7 +18,7 @@ static shared_node clients[CLIENTS], server;
 static pthread_barrier_t all_are_open;
 
 static void expect(int status, const char *what, const realm_node *node) {
-    char words[256];
+    char words[512];
     if (status == REALM_DONE) return;
     fprintf(stderr, "%s: %s\n", what, realm_words(node, status, words, sizeof words));
     exit(1);
@@ -59,13 +59,13 @@ static void pass_message(shared_node *client) {
 }
 
 static void sync_client(shared_node *client) {
-    bool is_last = false;
+    int rounds = 0;
     pthread_mutex_lock(&client->lock);
-    while (!is_last) {
+    do {
+        if (++rounds > MOST_ROUNDS) exit(1);
         expect(realm_next(&client->node), "next message", &client->node);
-        is_last = realm_is_question(&client->node);
         pass_message(client);
-    }
+    } while (!realm_is_current(&client->node));
     pthread_mutex_unlock(&client->lock);
 }
 

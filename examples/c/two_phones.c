@@ -2,9 +2,11 @@
  * Between the nodes pass bytes alone, which an application sends over its own network. */
 #include "realm_sync.h"
 
+enum { MOST_ROUNDS = 10000 };
+
 /* Ends the program where a call didn't answer as it should. */
 static void expect(int status, const char *what, const realm_node *node) {
-    char words[256];
+    char words[512];
     if (status == REALM_DONE) return;
     fprintf(stderr, "%s: %s\n", what, realm_words(node, status, words, sizeof words));
     exit(1);
@@ -19,14 +21,16 @@ static void pass_message(realm_node *client, realm_node *server) {
     expect(realm_take(client, reply, len), "client", client);
 }
 
-/* Sends what the server lacks, and takes what the client lacks. */
+/* Sends what the server lacks, and takes what the client lacks, until a reply says that the client has all of the history. Each round brings
+ * up to 4,096 entries; a history that grows faster than they are taken would never end. */
 static void sync_with(realm_node *client, realm_node *server) {
-    bool is_last = false;
-    while (!is_last) {
+    for (int rounds = 0; rounds < MOST_ROUNDS; rounds++) {
         expect(realm_next(client), "next message", client);
-        is_last = realm_is_question(client);
         pass_message(client, server);
+        if (realm_is_current(client)) return;
     }
+    fprintf(stderr, "sync: no end after %d rounds: sync again\n", MOST_ROUNDS);
+    exit(1);
 }
 
 static void print_objects(const char *title, realm_node *node) {

@@ -1,8 +1,7 @@
 use crate::disks::{disk_with, holds};
 use byte_lists::ByteLists;
-use gathered_disk::GatheredDisk;
 use std::alloc::Global;
-use sync_disk::{Disk, DiskRefusal, Leaves, MemoryDisk};
+use sync_disk::{Disk, MemoryDisk};
 use sync_journal::{Journal, JournalRefusal, OpenCause};
 
 /// The journal of a disk.
@@ -88,118 +87,10 @@ pub(crate) fn an_append_stands_in_the_file(alloc: Global) -> bool {
     is_added && holds(alloc, &mut journal.into_disk(), FILE)
 }
 
-/// A journal with the record `a` over a disk that is armed.
-fn armed(alloc: Global, at: u32, leaves: Leaves) -> Option<Journal<MemoryDisk>> {
-    let Some(mut journal) = new_journal(alloc) else {
-        return None;
-    };
-    if append(&mut journal, b"a").is_err() {
-        return None;
-    }
-    journal.arm(at.max(1), leaves);
-    Some(journal)
-}
-
 /// Whether an append meets a fault of the disk, and the next one a closed journal.
 fn closes(journal: &mut Journal<MemoryDisk>) -> bool {
     append(journal, b"bc") == Err(JournalRefusal::DiskFault)
         && append(journal, b"d") == Err(JournalRefusal::Closed)
-}
-
-/// Whether the journal has these records after a crash of its disk.
-fn stands_after_a_crash(alloc: Global, journal: Journal<MemoryDisk>, want: &[&[u8]]) -> bool {
-    let mut disk = journal.into_disk();
-    disk.crash();
-    stands(alloc, disk, want)
-}
-
-/// Whether the disk stops at that stroke of an append, and what must stands after the crash.
-fn stops(alloc: Global, at: u32, leaves: Leaves) -> bool {
-    let Some(mut journal) = armed(alloc, at, leaves) else {
-        return false;
-    };
-    let is_met = closes(&mut journal) && journal.stopped();
-    let is_kept = at >= 3 && leaves == Leaves::Keep;
-    let want: &[&[u8]] = if is_kept { &[b"a", b"bc"] } else { &[b"a"] };
-    is_met && stands_after_a_crash(alloc, journal, want)
-}
-
-/// Whether an append doesn't meet a stop behind it, and another one is done once the disk is disarmed.
-fn goes_past(journal: &mut Journal<MemoryDisk>) -> bool {
-    if append(journal, b"bc").is_err() || journal.stopped() {
-        return false;
-    }
-    journal.disarm();
-    append(journal, b"d").is_ok()
-}
-
-fn passes(alloc: Global, leaves: Leaves) -> bool {
-    match armed(alloc, 5, leaves) {
-        Some(mut journal) => {
-            let is_past = goes_past(&mut journal);
-            is_past && stands_after_a_crash(alloc, journal, &[b"a", b"bc", b"d"])
-        }
-        None => false,
-    }
-}
-
-pub(crate) fn a_stop_at_each_stroke_of_an_append(alloc: Global) -> bool {
-    let mut all = true;
-    for leaves in [Leaves::Drop, Leaves::Keep, Leaves::Torn] {
-        for at in 1..=4 {
-            all &= stops(alloc, at, leaves);
-        }
-        all &= passes(alloc, leaves);
-    }
-    all
-}
-
-/// Three records that a journal gathers.
-fn gathers(journal: &mut Journal<GatheredDisk<MemoryDisk>>) -> bool {
-    append(journal, b"bc").is_ok() && append(journal, b"").is_ok() && append(journal, b"d").is_ok()
-}
-
-/// Whether the disk stops at that stroke of a landing of three records, and what must stand after the crash.
-fn stops_landing(alloc: Global, at: u32, leaves: Leaves) -> bool {
-    let Some(journal) = armed(alloc, at, leaves) else {
-        return false;
-    };
-    let mut journal = journal.gathered();
-    let is_met = gathers(&mut journal) && journal.land() == Err(DiskRefusal::Failed);
-    let mut disk = journal.into_disk().into_disk();
-    let is_met = is_met && disk.stopped();
-    disk.crash();
-    let is_kept = at >= 3 && leaves == Leaves::Keep;
-    let want: &[&[u8]] = if is_kept {
-        &[b"a", b"bc", b"", b"d"]
-    } else {
-        &[b"a"]
-    };
-    is_met && stands(alloc, disk, want)
-}
-
-/// Whether a landing doesn't meet a stop behind it, and a crash leaves all records.
-fn passes_landing(alloc: Global, leaves: Leaves) -> bool {
-    let Some(journal) = armed(alloc, 5, leaves) else {
-        return false;
-    };
-    let mut journal = journal.gathered();
-    let is_done = gathers(&mut journal) && journal.land().is_ok();
-    let mut disk = journal.into_disk().into_disk();
-    let is_done = is_done && !disk.stopped();
-    disk.crash();
-    is_done && stands(alloc, disk, &[b"a", b"bc", b"", b"d"])
-}
-
-pub(crate) fn a_stop_at_each_stroke_of_a_landing(alloc: Global) -> bool {
-    let mut all = true;
-    for leaves in [Leaves::Drop, Leaves::Keep, Leaves::Torn] {
-        for at in 1..=4 {
-            all &= stops_landing(alloc, at, leaves);
-        }
-        all &= passes_landing(alloc, leaves);
-    }
-    all
 }
 
 /// Whether a landing makes the file that an append makes, and nothing is there before.

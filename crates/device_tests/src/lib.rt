@@ -12,7 +12,7 @@ mod sources;
 mod statuses;
 
 /// Each case by its name, and whether it comes out as it must.
-pub fn cases(rt: &HostRuntime) -> [(&'static str, bool); 19] {
+pub fn cases(rt: &HostRuntime) -> [(&'static str, bool); 17] {
     let alloc = rt.alloc();
     [
         (
@@ -38,14 +38,6 @@ pub fn cases(rt: &HostRuntime) -> [(&'static str, bool); 19] {
         (
             "an append stands in the file",
             journals::an_append_stands_in_the_file(alloc),
-        ),
-        (
-            "a stop at each stroke of an append",
-            journals::a_stop_at_each_stroke_of_an_append(alloc),
-        ),
-        (
-            "a stop at each stroke of a landing",
-            journals::a_stop_at_each_stroke_of_a_landing(alloc),
         ),
         (
             "a landing stands in the file",

@@ -1,5 +1,5 @@
 /// A part of a generated exchange.
-#[derive(Clone, Copy, Debug, PartialEq, Eq)]
+#[derive(Clone, Copy, PartialEq, Eq)]
 pub enum Move {
     /// The client comes in, and gets its ident.
     Join { client: u32 },

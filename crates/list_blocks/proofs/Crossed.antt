@@ -7,7 +7,7 @@ use Rattle.sync_theory.specs.Lists.{cross, Crossing}
 use Rattle.sync_theory.specs.Changesets.{later_stamp}
 use Rattle.sync_theory.proofs.Cross.{cross_is}
 use Rattle.sync_law.specs.Instrs.{meet}
-use Rattle.sync_transform.specs.declared.moves.ListAction.{ListAction}
+use Rattle.list_places.specs.declared.moves.ListAction.{ListAction}
 use Rattle.list_lane.specs.Lanes.{LaneOf}
 use Rattle.list_blocks.specs.Blocks.{slot_actions, acted, block, Tells, CrossesBlock}
 use Rattle.list_blocks.proofs.Passing.{actions_tell}

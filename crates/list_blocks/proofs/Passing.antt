@@ -8,10 +8,10 @@ use Rattle.sync_theory.specs.Lists.{Crossing, no_left, below}
 use Rattle.sync_theory.specs.Changesets.{Changeset, cross_sets, later_stamp}
 use Rattle.sync_theory.specs.Grid.{carry}
 use Rattle.sync_law.specs.Instrs.{meet}
-use Rattle.sync_transform.specs.Moves.{instr_at, moved}
-use Rattle.sync_transform.specs.declared.places.Does.{Does}
-use Rattle.sync_transform.specs.declared.places.Does.TheVariants.{Inserts, Erases, Updates}
-use Rattle.sync_transform.specs.declared.moves.ListAction.{ListAction}
+use Rattle.list_places.specs.Moves.{instr_at, moved}
+use Rattle.list_places.specs.declared.places.Does.{Does}
+use Rattle.list_places.specs.declared.places.Does.TheVariants.{Inserts, Erases, Updates}
+use Rattle.list_places.specs.declared.moves.ListAction.{ListAction}
 use Rattle.list_lane.specs.Ops.{lane_later}
 use Rattle.list_lane.specs.Lanes.{LaneOf, crossed, length_after, length_at_end, lane_after}
 use Rattle.list_lane.specs.Told.{action, told, told_set, told_sets, IsOne, IsTold, AreTold}

@@ -8,9 +8,9 @@ use Rattle.sync_data.specs.Payload.{payload, IsSmall}
 use Rattle.sync_base.specs.Effects.{effect_of}
 use Rattle.sync_base.specs.Objects.{object_of}
 use Rattle.sync_index.specs.Touched.{Touched, touches, Covers}
-use Rattle.sync_transform.specs.Moves.{moved}
-use Rattle.sync_transform.specs.declared.moves.ListAction.{ListAction}
-use Rattle.sync_transform.proofs.Stands.{same_elsewhere}
+use Rattle.list_places.specs.Moves.{moved}
+use Rattle.list_places.specs.declared.moves.ListAction.{ListAction}
+use Rattle.list_places.proofs.Stands.{same_elsewhere}
 use Rattle.list_blocks.specs.Blocks.{acted}
 
 -- the element at a place

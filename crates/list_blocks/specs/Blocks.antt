@@ -7,8 +7,8 @@ use Rattle.sync_data.specs.declared.instr.Instr.{Instr}
 use Rattle.sync_theory.specs.Lists.{Crossing}
 use Rattle.sync_theory.specs.Changesets.{Changeset, later_stamp}
 use Rattle.sync_law.specs.Instrs.{meet}
-use Rattle.sync_transform.specs.Moves.{instr_at, moved}
-use Rattle.sync_transform.specs.declared.moves.ListAction.{ListAction}
+use Rattle.list_places.specs.Moves.{instr_at, moved}
+use Rattle.list_places.specs.declared.moves.ListAction.{ListAction}
 use Rattle.list_lane.specs.Lanes.{LaneOf, length_after}
 use Rattle.list_lane.specs.Told.{action, told_sets, AreTold}
 use Rattle.list_lane.specs.declared.op.Op.{Op}

@@ -1,13 +1,13 @@
 ghost use Rattle.std.specs.Prelude.{◌≡◌, IfSome};
 ghost use Rattle.sync_data.specs.declared.value.Value.{Value};
-ghost use Rattle.sync_transform.specs.Places.{Within};
-ghost use Rattle.sync_transform.specs.Moves.{instr_at};
+ghost use Rattle.list_places.specs.Places.{Within};
+ghost use Rattle.list_places.specs.Moves.{instr_at};
 ghost use Rattle.list_lane.specs.Lanes.{Fits};
 ghost use Rattle.list_blocks.specs.Blocks.{slot_action, ActsAs};
 
 use list_lane::{Op, action_of};
+use list_places::{Does, ListAction};
 use sync_base::{CellName, Instr, Stamp, same_cell};
-use sync_transform::{Does, ListAction};
 
 /// What an instruction is in a lane, where it is one of the list in that cell, and its list has that length.
 pub(crate) fn op_in(instr: &Instr, cell: &CellName, length: u32, stamp: Stamp) -> Option<Op>

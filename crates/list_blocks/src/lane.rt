@@ -3,10 +3,10 @@ ghost use Rattle.sync_base.specs.Rules.{top};
 ghost use Rattle.list_blocks.specs.Blocks.{slot_actions, CrossesBlock, Tells};
 
 use super::action::{action_told, op_in};
+use list_places::ListAction;
 use list_regions::Regions;
 use std::alloc::Global;
 use sync_base::{CellName, Instr, Stamp};
-use sync_transform::ListAction;
 
 /// The instructions as a lane, where they are of the list in that cell, one after another from that length on.
 pub(crate) fn lane_of(

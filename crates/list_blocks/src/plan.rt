@@ -6,9 +6,9 @@ ghost use Rattle.list_blocks.specs.Blocks.{acted};
 
 use super::action::start_of;
 use super::lane::{actions_of, cross_lane, lane_of};
+use list_places::ListAction;
 use std::alloc::Global;
 use sync_base::{Changeset, Ident, Stamp};
-use sync_transform::ListAction;
 
 /// So many meetings of two instructions are quicker than a lane.
 const FEW_MEETINGS: usize = 4_096;

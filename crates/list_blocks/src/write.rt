@@ -1,10 +1,10 @@
 ghost use Rattle.std.specs.Prelude.{◌≡◌, ◌+◌, ◌<◌, ◌≤◌, ◌∷◌, ◌++◌, [], length, take, drop};
 ghost use Rattle.sync_data.specs.declared.instr.Instr.{Instr};
-ghost use Rattle.sync_transform.specs.Moves.{moved};
+ghost use Rattle.list_places.specs.Moves.{moved};
 ghost use Rattle.list_blocks.specs.Blocks.{acted};
 
+use list_places::{ListAction, put_action};
 use sync_base::{Changeset, Instr};
-use sync_transform::{ListAction, put_action};
 
 /// A changeset of list instructions as each does what is told beside it, without those that fell. It takes no memory.
 pub(crate) fn written(changes: Changeset, actions: &[Option<ListAction>]) -> Changeset

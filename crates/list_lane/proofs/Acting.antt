@@ -6,13 +6,13 @@ use Rattle.sync_data.specs.declared.instr.CellName.{CellName}
 use Rattle.sync_data.specs.declared.instr.Instr.{Instr}
 use Rattle.sync_data.specs.declared.instr.Instr.TheVariants as instrs
 use Rattle.sync_base.specs.Effects.{CellPath, path_of}
-use Rattle.sync_transform.specs.Places.{longer, place_after}
-use Rattle.sync_transform.specs.Moves.{instr_at, kind_of, action_at, action_in, kind_in, first_cell, moved_first, shown}
-use Rattle.sync_transform.specs.declared.places.Does.{Does}
-use Rattle.sync_transform.specs.declared.places.Does.TheVariants.{Inserts, Erases, Updates}
-use Rattle.sync_transform.specs.declared.moves.ListAction.{ListAction}
-use Rattle.sync_transform.specs.declared.moves.ListAction.TheVariants.{Insert, Erase, Update}
-use Rattle.sync_transform.proofs.Stands.{shown_itself, shown_action, shown_kind, told_written}
+use Rattle.list_places.specs.Places.{longer, place_after}
+use Rattle.list_places.specs.Moves.{instr_at, kind_of, action_at, action_in, kind_in, first_cell, moved_first, shown}
+use Rattle.list_places.specs.declared.places.Does.{Does}
+use Rattle.list_places.specs.declared.places.Does.TheVariants.{Inserts, Erases, Updates}
+use Rattle.list_places.specs.declared.moves.ListAction.{ListAction}
+use Rattle.list_places.specs.declared.moves.ListAction.TheVariants.{Insert, Erase, Update}
+use Rattle.list_places.proofs.Stands.{shown_itself, shown_action, shown_kind, told_written}
 use Rattle.list_lane.specs.Told.{action, place_in, prior_in, IsOne}
 use Rattle.list_lane.specs.Actions.{action_there, action_after}
 

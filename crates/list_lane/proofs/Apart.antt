@@ -4,10 +4,10 @@ use Rattle.std.specs.Prelude.{IfSome}
 use Rattle.std.specs.Option.{option_map}
 use Rattle.std.proofs.lemmas.Bool.{le-leb}
 use Rattle.sync_data.specs.declared.entry.Stamp.{Stamp}
-use Rattle.sync_transform.specs.Places.{longer, Within, place_after}
-use Rattle.sync_transform.specs.declared.places.Does.{Does}
-use Rattle.sync_transform.specs.declared.places.Does.TheVariants.{Inserts, Erases, Updates}
-use Rattle.sync_transform.proofs.Stands.{WithinIf, within_after}
+use Rattle.list_places.specs.Places.{longer, Within, place_after}
+use Rattle.list_places.specs.declared.places.Does.{Does}
+use Rattle.list_places.specs.declared.places.Does.TheVariants.{Inserts, Erases, Updates}
+use Rattle.list_places.proofs.Stands.{WithinIf, within_after}
 use Rattle.list_lane.specs.Ops.{moved}
 use Rattle.list_lane.specs.Lanes.{Crossed, behind, crossed, length_at_end}
 use Rattle.list_lane.specs.Parts.{Parts, end, empty, front, back, from, IsOfElement, CrossesBefore, CrossesBehind, PassesAmong, PassesOne}

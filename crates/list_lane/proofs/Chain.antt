@@ -2,9 +2,9 @@
 use Rattle.std.proofs.Common.{◌≡◌, ℕ, suc, Bool, true, false, not, List, [], ◌∷◌, Option, Some, None, refl, sym, ap, ◌∙◌, subst, length}
 use Rattle.std.specs.Prelude.{IfSome}
 use Rattle.sync_data.specs.declared.entry.Stamp.{Stamp}
-use Rattle.sync_transform.specs.Places.{longer, Within, place_after}
-use Rattle.sync_transform.specs.declared.places.Does.{Does}
-use Rattle.sync_transform.proofs.Stands.{WithinIf, within_after}
+use Rattle.list_places.specs.Places.{longer, Within, place_after}
+use Rattle.list_places.specs.declared.places.Does.{Does}
+use Rattle.list_places.proofs.Stands.{WithinIf, within_after}
 use Rattle.list_lane.specs.Ops.{moved}
 use Rattle.list_lane.specs.Lanes.{Crossed, crossed, length_after, length_at_end, Chains, IsLeftOf}
 use Rattle.list_lane.specs.declared.op.Op.{Op}

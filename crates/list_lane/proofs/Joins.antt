@@ -3,7 +3,7 @@ use Rattle.std.proofs.Common.{◌≡◌, ℕ, zero, suc, ◌+◌, ◌-◌, ◌<�
 use Rattle.std.proofs.lemmas.List.{drop_more, take_more_set}
 use Rattle.sync_data.specs.declared.entry.Stamp.{Stamp}
 use Rattle.list_lane.specs.Ops.{op_after}
-use Rattle.sync_transform.specs.Places.{longer}
+use Rattle.list_places.specs.Places.{longer}
 use Rattle.list_lane.specs.Lanes.{Crossed, behind, crossed, length_after, length_before, slot_at}
 use Rattle.list_lane.specs.Bursts.{lift_all}
 use Rattle.list_lane.proofs.Rooms.{after_more}

@@ -11,12 +11,12 @@ use Rattle.sync_theory.specs.Lists.{kept, row, cross, met, rowed, step_down}
 use Rattle.sync_theory.specs.Changesets.{Changeset, cross_sets, with_lists, later_stamp}
 use Rattle.sync_theory.specs.Grid.{rebase, rebase_put, rebase_one, carry, carry_put, carry_one}
 use Rattle.sync_law.specs.Instrs.{meet}
-use Rattle.sync_transform.specs.Places.{longer, Within, place_after}
-use Rattle.sync_transform.specs.Moves.{instr_at, instr_left, moved_first}
-use Rattle.sync_transform.specs.declared.places.Does.{Does}
-use Rattle.sync_transform.specs.declared.places.Does.TheVariants.{Inserts, Erases, Updates}
-use Rattle.sync_transform.proofs.Rows.{grows, pair}
-use Rattle.sync_transform.proofs.Stands.{within_after}
+use Rattle.list_places.specs.Places.{longer, Within, place_after}
+use Rattle.list_places.specs.Moves.{instr_at, instr_left, moved_first}
+use Rattle.list_places.specs.declared.places.Does.{Does}
+use Rattle.list_places.specs.declared.places.Does.TheVariants.{Inserts, Erases, Updates}
+use Rattle.list_places.proofs.Rows.{grows, pair}
+use Rattle.list_places.proofs.Stands.{within_after}
 use Rattle.list_lane.specs.Ops.{moved, op_after, lane_later}
 use Rattle.list_lane.specs.Lanes.{crossed, length_after, length_at_end, Chains}
 use Rattle.list_lane.specs.Told.{action, told, told_set, told_sets, IsOne, stamp_of, IsTold, AreTold}

@@ -4,9 +4,9 @@ use Rattle.std.specs.Prelude.{◌==◌, nat_lt, nat_le, IfSome}
 use Rattle.sync_data.specs.declared.entry.Stamp.{Stamp}
 use Rattle.sync_base.specs.Rules.{top}
 use Rattle.sync_theory.specs.Grid.{tail}
-use Rattle.sync_transform.specs.Places.{longer, Within, place_after}
-use Rattle.sync_transform.specs.declared.places.Does.{Does}
-use Rattle.sync_transform.specs.declared.places.Does.TheVariants.{Inserts, Erases, Updates}
+use Rattle.list_places.specs.Places.{longer, Within, place_after}
+use Rattle.list_places.specs.declared.places.Does.{Does}
+use Rattle.list_places.specs.declared.places.Does.TheVariants.{Inserts, Erases, Updates}
 use Rattle.list_lane.specs.Ops.{moved, op_after, lane_later}
 use Rattle.list_lane.specs.Lanes.{Crossed, crossed, length_after, length_at_end, length_before, Fits, Chains, first_slot, without_first, slot_at, lane_after, IsLeftOf}
 use Rattle.list_lane.specs.Flat.{Placed, IsLane}

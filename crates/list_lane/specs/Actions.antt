@@ -1,10 +1,10 @@
 -- One list instruction after another one of that list, and what is left of it.
 use Rattle.std.specs.Prelude.{ℕ, Bool, List, [], Option, Some, None}
 use Rattle.sync_data.specs.declared.instr.Instr.{Instr}
-use Rattle.sync_transform.specs.Places.{longer, place_after}
-use Rattle.sync_transform.specs.Moves.{kind_of, moved_first}
-use Rattle.sync_transform.specs.declared.places.Does.{Does}
-use Rattle.sync_transform.specs.declared.moves.ListAction.{ListAction}
+use Rattle.list_places.specs.Places.{longer, place_after}
+use Rattle.list_places.specs.Moves.{kind_of, moved_first}
+use Rattle.list_places.specs.declared.places.Does.{Does}
+use Rattle.list_places.specs.declared.moves.ListAction.{ListAction}
 use Rattle.list_lane.specs.Told.{action, place_in, prior_in}
 
 abbrev pub action_there : Does → ℕ → Option ℕ → Option ListAction

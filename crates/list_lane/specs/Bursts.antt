@@ -2,9 +2,9 @@
 use Rattle.std.specs.Prelude.{◌≡◌, ℕ, ◌+◌, ◌-◌, ◌≤◌, min, max, Bool, true, false, not, if◌then◌else◌, List, [], ◌∷◌, Option, None, Some}
 use Rattle.sync_data.specs.declared.entry.Stamp.{Stamp}
 use Rattle.sync_theory.specs.Changesets.{later_stamp}
-use Rattle.sync_transform.specs.Places.{longer}
-use Rattle.sync_transform.specs.declared.places.Does.{Does}
-use Rattle.sync_transform.specs.declared.places.Does.TheVariants.{Inserts, Erases, Updates}
+use Rattle.list_places.specs.Places.{longer}
+use Rattle.list_places.specs.declared.places.Does.{Does}
+use Rattle.list_places.specs.declared.places.Does.TheVariants.{Inserts, Erases, Updates}
 use Rattle.list_lane.specs.declared.op.Op.{Op}
 use Rattle.list_lane.specs.declared.bounds.Bounds.{Bounds}
 

@@ -1,7 +1,7 @@
 -- A lane: list instructions one after another, each in a slot, which is empty where its instruction fell.
 use Rattle.std.specs.Prelude.{◌≡◌, ℕ, zero, suc, Bool, not, List, [], ◌∷◌, Option, None, Some}
 use Rattle.sync_data.specs.declared.entry.Stamp.{Stamp}
-use Rattle.sync_transform.specs.Places.{longer, Within}
+use Rattle.list_places.specs.Places.{longer, Within}
 use Rattle.list_lane.specs.Ops.{op_after}
 use Rattle.list_lane.specs.declared.op.Op.{Op}
 

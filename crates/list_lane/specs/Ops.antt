@@ -2,7 +2,7 @@
 use Rattle.std.specs.Prelude.{ℕ, Bool, not, if◌then◌else◌, Option, None, Some}
 use Rattle.sync_data.specs.declared.entry.Stamp.{Stamp}
 use Rattle.sync_theory.specs.Changesets.{later_stamp}
-use Rattle.sync_transform.specs.Places.{place_after}
+use Rattle.list_places.specs.Places.{place_after}
 use Rattle.list_lane.specs.declared.op.Op.{Op}
 
 -- the instruction at another place, or none

@@ -6,11 +6,11 @@ use Rattle.sync_data.specs.declared.instr.Instr.{Instr}
 use Rattle.sync_data.specs.declared.entry.Stamp.{Stamp}
 use Rattle.sync_base.specs.Rules.{spot}
 use Rattle.sync_theory.specs.Changesets.{Changeset}
-use Rattle.sync_transform.specs.Moves.{instr_at, moved_first}
-use Rattle.sync_transform.specs.declared.places.Does.{Does}
-use Rattle.sync_transform.specs.declared.places.Does.TheVariants.{Inserts, Erases, Updates}
-use Rattle.sync_transform.specs.declared.moves.ListAction.{ListAction}
-use Rattle.sync_transform.specs.declared.moves.ListAction.TheVariants.{Insert, Erase, Update}
+use Rattle.list_places.specs.Moves.{instr_at, moved_first}
+use Rattle.list_places.specs.declared.places.Does.{Does}
+use Rattle.list_places.specs.declared.places.Does.TheVariants.{Inserts, Erases, Updates}
+use Rattle.list_places.specs.declared.moves.ListAction.{ListAction}
+use Rattle.list_places.specs.declared.moves.ListAction.TheVariants.{Insert, Erase, Update}
 use Rattle.list_lane.specs.Lanes.{length_after}
 use Rattle.list_lane.specs.declared.op.Op.{Op}
 

@@ -1,13 +1,13 @@
 ghost use Rattle.std.specs.Prelude.{◌≡◌, ◌<◌};
 ghost use Rattle.sync_base.specs.Rules.{top};
-ghost use Rattle.sync_transform.specs.Places.{Within};
-ghost use Rattle.sync_transform.specs.Moves.{kind_of};
+ghost use Rattle.list_places.specs.Places.{Within};
+ghost use Rattle.list_places.specs.Moves.{kind_of};
 ghost use Rattle.list_lane.specs.Told.{place_in, prior_in};
 ghost use Rattle.list_lane.specs.Actions.{action_after};
 
 use super::op::{Op, action_of};
+use list_places::{Does, ListAction, length_after, place_after};
 use sync_data::Stamp;
-use sync_transform::{Does, ListAction, length_after, place_after};
 
 /// What an action does, where, and on a list of which length.
 pub fn parts_of(action: &ListAction) -> (Does, u32, u32)

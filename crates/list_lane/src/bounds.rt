@@ -3,8 +3,8 @@ ghost use Rattle.list_lane.specs.Bursts.{Bounded, with_slot as with, without_slo
 ghost use Rattle.sync_base.specs.Rules.{top};
 
 use super::op::Op;
+use list_places::{Does, is_later};
 use sync_data::Stamp;
-use sync_transform::{Does, is_later};
 
 /// Where instructions lie, as they are written, and when they were made.
 #[derive(Clone, Copy)]

@@ -4,16 +4,16 @@ ghost use Rattle.list_lane.specs.Lanes.{crossed as crosses, first_slot, length_a
 ghost use Rattle.list_lane.specs.Ops.{lane_later as later};
 ghost use Rattle.list_lane.specs.Flat.{Placed};
 ghost use Rattle.list_lane.specs.Bursts.{lift, lift_all, pushed_all, AllBefore, AllBehind, AllLater};
-ghost use Rattle.sync_transform.specs.declared.places.Does.TheVariants.{Inserts};
+ghost use Rattle.list_places.specs.declared.places.Does.TheVariants.{Inserts};
 ghost use Rattle.sync_theory.specs.Grid.{tail};
 
 use super::bounds::{Bounds, bounds_of, no_bounds, with_slot, without_slot};
 use super::flat::{cross_slots, is_later_in, left_behind, length_in, lift_slots, lifted};
 use super::op::Op;
+use list_places::Does;
 use std::alloc::Global;
 use std::marker::Model;
 use sync_data::NoMemory;
-use sync_transform::Does;
 
 /// How far from them an instruction that follows may be.
 const NEAR: u64 = 8;

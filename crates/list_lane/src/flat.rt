@@ -7,8 +7,8 @@ ghost use Rattle.list_lane.specs.Flat.{done, Placed};
 ghost use Rattle.list_lane.specs.Bursts.{lifted as lifts, lift_all};
 
 use super::op::Op;
+use list_places::{is_later, length_after, place_after};
 use sync_data::Stamp;
-use sync_transform::{is_later, length_after, place_after};
 
 /// What is left of an instruction that crosses the slots in turn. They stand as crossed, by places alone.
 pub(crate) fn cross_slots(slots: &mut [Option<Op>], traveller: Op, lane_left: bool) -> Option<Op>

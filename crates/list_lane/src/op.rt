@@ -1,11 +1,11 @@
 ghost use Rattle.std.specs.Prelude.{◌≡◌};
-ghost use Rattle.sync_transform.specs.Places.{Within};
-ghost use Rattle.sync_transform.specs.Moves.{kind_of};
+ghost use Rattle.list_places.specs.Places.{Within};
+ghost use Rattle.list_places.specs.Moves.{kind_of};
 ghost use Rattle.list_lane.specs.Told.{action, place_in, prior_in};
 
+use list_places::{Does, ListAction};
 use sync_base::{Between, Inside};
 use sync_data::Stamp;
-use sync_transform::{Does, ListAction};
 
 /// An instruction of a lane: what it does, where, and its stamp. How long its list is then is told by the lane.
 #[derive(Clone, Copy)]

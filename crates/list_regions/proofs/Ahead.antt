@@ -3,9 +3,9 @@ use Rattle.std.proofs.Common.{◌≡◌, ℕ, ◌+◌, true, false, not, List, [
 use Rattle.std.proofs.lemmas.Bool.Decides.{nat_tests}
 use Rattle.sync_data.specs.declared.entry.Stamp.{Stamp}
 use Rattle.sync_theory.specs.Changesets.{later_stamp}
-use Rattle.sync_transform.specs.Places.{place_after}
-use Rattle.sync_transform.specs.declared.places.Does.{Does}
-use Rattle.sync_transform.specs.declared.places.Does.TheVariants.{Inserts, Erases, Updates}
+use Rattle.list_places.specs.Places.{place_after}
+use Rattle.list_places.specs.declared.places.Does.{Does}
+use Rattle.list_places.specs.declared.places.Does.TheVariants.{Inserts, Erases, Updates}
 use Rattle.list_lane.specs.Ops.{moved, lane_later}
 use Rattle.list_lane.specs.Lanes.{behind, crossed}
 use Rattle.list_lane.specs.declared.op.Op.{Op}

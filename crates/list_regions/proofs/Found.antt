@@ -4,7 +4,7 @@ use Rattle.std.specs.Prelude.{sum_by, slice_get}
 use Rattle.std.specs.Option.{option_map}
 use Rattle.std.proofs.lemmas.List.Sums.{sum_by-cons}
 use Rattle.sync_data.specs.declared.entry.Stamp.{Stamp}
-use Rattle.sync_transform.specs.Places.{longer, Within}
+use Rattle.list_places.specs.Places.{longer, Within}
 use Rattle.list_lane.specs.Lanes.{crossed}
 use Rattle.list_lane.specs.Parts.{from}
 use Rattle.list_lane.specs.declared.op.Op.{Op}

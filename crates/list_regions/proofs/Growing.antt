@@ -1,6 +1,6 @@
 -- A region takes an element beside it.
 use Rattle.std.proofs.Common.{◌≡◌, ℕ, suc, ◌+◌, ◌-◌, ◌<◌, List, [], ◌∷◌, Option, Some, None, refl, sym, ap, ◌∙◌, subst, arith}
-use Rattle.sync_transform.specs.Places.{longer}
+use Rattle.list_places.specs.Places.{longer}
 use Rattle.list_lane.specs.Lanes.{length_at_end, Chains}
 use Rattle.list_lane.specs.Parts.{Parts, end, empty, front, back}
 use Rattle.list_lane.specs.declared.op.Op.{Op}

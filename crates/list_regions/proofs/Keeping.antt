@@ -4,10 +4,10 @@ use Rattle.std.specs.Prelude.{max}
 use Rattle.sync_data.specs.declared.entry.Stamp.{Stamp}
 use Rattle.sync_base.specs.Rules.{top}
 use Rattle.sync_theory.specs.Grid.{tail}
-use Rattle.sync_transform.specs.Places.{longer, Within}
+use Rattle.list_places.specs.Places.{longer, Within}
 use Rattle.list_lane.specs.Lanes.{LaneOf, crossed, slot_at, length_before, first_slot, without_first, length_after, length_at_end}
-use Rattle.sync_transform.specs.declared.places.Does.{Does}
-use Rattle.sync_transform.specs.declared.places.Does.TheVariants.{Inserts, Erases, Updates}
+use Rattle.list_places.specs.declared.places.Does.{Does}
+use Rattle.list_places.specs.declared.places.Does.TheVariants.{Inserts, Erases, Updates}
 use Rattle.list_lane.specs.Flat.{IsLane}
 use Rattle.list_lane.specs.declared.op.Op.{Op}
 use Rattle.list_lane.proofs.Rooms.{crossed_length, crossed_lane, lane_more, lane_less}

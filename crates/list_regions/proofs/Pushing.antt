@@ -1,7 +1,7 @@
 -- A slot more.
 use Rattle.std.proofs.Common.{◌≡◌, ℕ, zero, suc, ◌+◌, List, [], ◌∷◌, ◌++◌, length, take, set, Option, Some, None, sym, subst, arith}
 use Rattle.std.specs.Prelude.{slice_get}
-use Rattle.sync_transform.specs.Places.{Within}
+use Rattle.list_places.specs.Places.{Within}
 use Rattle.list_lane.specs.Lanes.{length_after, length_at_end, Chains, Fits}
 use Rattle.list_lane.specs.Parts.{Parts, end, empty, front, back, from}
 use Rattle.list_lane.specs.declared.op.Op.{Op}

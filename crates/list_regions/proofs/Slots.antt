@@ -1,7 +1,7 @@
 -- A slot by its number, and the length of the list before it.
 use Rattle.std.proofs.Common.{◌≡◌, ℕ, zero, suc, ◌+◌, ◌<◌, ◌≤◌, cond, List, [], ◌∷◌, Option, Some, None, refl, sym, ap, ◌∙◌, arith}
 use Rattle.std.proofs.lemmas.Bool.{eq-eqb, ne_eqb, lt-ltb, le-ltb}
-use Rattle.sync_transform.specs.Places.{longer}
+use Rattle.list_places.specs.Places.{longer}
 use Rattle.list_lane.specs.Lanes.{length_after, length_before, slot_at, Chains}
 use Rattle.list_lane.specs.Parts.{Parts, end, empty, front, back}
 use Rattle.list_lane.specs.declared.op.Op.{Op}

@@ -3,7 +3,7 @@ use Rattle.std.proofs.Common.{◌≡◌, ℕ, zero, suc, ◌+◌, ◌<◌, ◌�
 use Rattle.std.specs.Prelude.{slice_get, IfSome}
 use Rattle.sync_base.specs.Rules.{top}
 use Rattle.list_lane.proofs.Rooms.{last_below, within_most}
-use Rattle.sync_transform.specs.Places.{Within}
+use Rattle.list_places.specs.Places.{Within}
 use Rattle.list_lane.specs.Lanes.{length_after, length_at_end, length_before, slot_at, Fits}
 use Rattle.list_lane.specs.declared.op.Op.{Op}
 use Rattle.list_regions.specs.Regions.{RegionOf, Ahead, Merge, nothing, left, right, both, moved_on, either}

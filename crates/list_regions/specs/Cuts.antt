@@ -1,6 +1,6 @@
 -- A region becomes two, slot by slot.
 use Rattle.std.specs.Prelude.{◌≡◌, ℕ, ◌+◌, List, [], ◌∷◌, ◌++◌, drop, Option, None, Some}
-use Rattle.sync_transform.specs.Places.{longer, Within}
+use Rattle.list_places.specs.Places.{longer, Within}
 use Rattle.list_lane.specs.Lanes.{length_at_end, length_before}
 use Rattle.list_lane.specs.Parts.{from}
 use Rattle.list_lane.specs.declared.op.Op.{Op}

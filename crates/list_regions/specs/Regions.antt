@@ -1,6 +1,6 @@
 -- A lane in regions, in order of places. Between them lie elements that none of the lane erases or updates.
 use Rattle.std.specs.Prelude.{◌≡◌, ℕ, zero, suc, ◌+◌, ◌<◌, ◌==◌, nat_lt, if◌then◌else◌, List, [], ◌∷◌, Option, None, Some}
-use Rattle.sync_transform.specs.Places.{longer}
+use Rattle.list_places.specs.Places.{longer}
 use Rattle.list_lane.specs.Lanes.{LaneOf, length_after, length_at_end, Chains}
 use Rattle.list_lane.specs.Parts.{Parts, from}
 use Rattle.list_lane.specs.declared.op.Op.{Op}

@@ -2,7 +2,7 @@
 ghost use Rattle.std.specs.Prelude.{◌≡◌, ℕ, ◌+◌, ◌≤◌, ◌<◌, List, Option, Some, IfSome, IfOk, OnErr, length, slice_get, slice_set};
 ghost use Rattle.std.specs.Option.{option_map};
 ghost use Rattle.sync_base.specs.Rules.{top};
-ghost use Rattle.sync_transform.specs.Places.{Within};
+ghost use Rattle.list_places.specs.Places.{Within};
 ghost use Rattle.list_lane.specs.Ops.{lane_later as later};
 ghost use Rattle.list_lane.specs.Lanes.{crossed};
 ghost use Rattle.list_lane.specs.Parts.{from};
@@ -15,10 +15,10 @@ use super::merge::merge_at;
 use super::push::gap_at;
 use super::region::Region;
 use list_lane::Op;
+use list_places::{Does, length_after};
 use std::alloc::Global;
 use sum_list::SumList;
 use sync_data::NoMemory;
-use sync_transform::{Does, length_after};
 
 /// What is left of an instruction that crosses the regions. It takes memory where it erases the last element between two, which
 /// become one before. A region that is worn becomes two behind an insertion into it, if there is memory.

@@ -11,10 +11,10 @@ use super::crossing::lifted;
 use super::listed::Listed;
 use super::region::Region;
 use list_lane::Op;
+use list_places::length_after;
 use std::alloc::Global;
 use sum_list::SumList;
 use sync_data::NoMemory;
-use sync_transform::length_after;
 
 /// How far two regions are merged: so many slots of each, and how long the list of the first is there.
 #[derive(Clone, Copy)]

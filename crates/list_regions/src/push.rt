@@ -1,7 +1,7 @@
 //! A slot more.
 ghost use Rattle.std.specs.Prelude.{◌≡◌, ◌∷◌, ◌++◌, [], ◌+◌, ◌-◌, ◌≤◌, ◌<◌, ◌^◌, Some, IfOk, IfErr, OnOk, OnErr, length, insert, slice_get, slice_set};
 ghost use Rattle.sync_base.specs.Rules.{top};
-ghost use Rattle.sync_transform.specs.Places.{Within};
+ghost use Rattle.list_places.specs.Places.{Within};
 ghost use Rattle.list_lane.specs.Lanes.{length_at_end};
 ghost use Rattle.list_regions.specs.Regions.{RegionOf};
 ghost use Rattle.list_regions.specs.Kept.{elements, fresh, pushed_region, with_fresh, with_front, Ends, LiesBehind, Opened, Pushed, Touches};
@@ -10,10 +10,10 @@ use super::crossing::{placed, reach, set_gap_at};
 use super::merge::merge_at;
 use super::region::Region;
 use list_lane::Op;
+use list_places::Does;
 use std::alloc::Global;
 use sum_list::SumList;
 use sync_data::NoMemory;
-use sync_transform::Does;
 
 /// A region, by its place, and what touches it there, by its place in the region.
 #[derive(Clone, Copy)]

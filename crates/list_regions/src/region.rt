@@ -1,18 +1,18 @@
 ghost use Rattle.std.specs.Prelude.{◌≡◌, ◌+◌, ◌<◌, [], Some, IfOk, OnOk, OnErr, IsTrue, length, slice_get};
 ghost use Rattle.sync_base.specs.Rules.{top};
-ghost use Rattle.sync_transform.specs.Places.{Within};
+ghost use Rattle.list_places.specs.Places.{Within};
 ghost use Rattle.list_lane.specs.Ops.{lane_later as later};
 ghost use Rattle.list_lane.specs.Lanes.{crossed, first_slot, length_at_end, length_before, slot_at, Fits};
 ghost use Rattle.list_regions.specs.Kept.{crossed_region, fresh as fresh_region, popped_region, pushed_region, with_front, with_gap as having};
 
 use super::listed::{Listed, numbers_of};
 use list_lane::{Lane, Op};
+use list_places::Does;
 use std::alloc::Global;
 use std::collections::VecDeque;
 use std::marker::Model;
 use sum_list::Measured;
 use sync_data::{NoMemory, Stamp};
-use sync_transform::Does;
 
 /// From so many bursts on a region may be cut: a crossing looks at fewer about as fast as it finds a region.
 const MANY_BURSTS: usize = 8;

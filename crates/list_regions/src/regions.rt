@@ -1,6 +1,6 @@
 ghost use Rattle.std.specs.Prelude.{◌≡◌, ◌+◌, ◌<◌, ◌∷◌, ◌++◌, [], None, Some, IfSome, IfOk, OnOk, OnErr, IsTrue, IsFalse, length};
 ghost use Rattle.sync_base.specs.Rules.{top};
-ghost use Rattle.sync_transform.specs.Places.{Within};
+ghost use Rattle.list_places.specs.Places.{Within};
 ghost use Rattle.list_lane.specs.Ops.{lane_later};
 ghost use Rattle.list_lane.specs.Lanes.{crossed, first_slot, length_at_end, length_before as before, slot_at, without_first, lane_after, Chains, Fits, IsLeftOf};
 ghost use Rattle.list_lane.specs.Laws.{CrossesLeft, CrossesRight};
@@ -12,11 +12,11 @@ use super::push::push_to;
 use super::region::Region;
 use super::walk::{lengths_in, slot_in};
 use list_lane::Op;
+use list_places::length_after;
 use std::alloc::Global;
 use std::marker::Model;
 use sum_list::SumList;
 use sync_data::NoMemory;
-use sync_transform::length_after;
 
 /// The instructions of one list, in order, each in a slot, which is empty where its instruction fell. They lie in regions.
 #[derive(Drop)]

@@ -1,13 +1,15 @@
 -- The headline of a server's file and a client's file that go together, whether the client's ident is given up or not.
-use Rattle.std.proofs.Common.{◌≡◌, ◌⊎◌, ⊎_elim, ℕ, zero, suc, ◌≤◌, ◌<◌, Bool, true, false, ◌&&◌, ◌==◌, not, List, [], ◌∷◌, ◌++◌, Option, Some, None, Result, Err, refl, sym, ap, ap₂, ◌∙◌, subst, arith, length, map, drop, take, if◌then◌else◌, eqb-true}
+use Rattle.std.proofs.Common.{◌≡◌, ◌⊎◌, inl, inr, ⊎_elim, ℕ, zero, suc, ◌≤◌, ◌<◌, Bool, true, false, ◌&&◌, ◌==◌, not, List, [], ◌∷◌, ◌++◌, Option, Some, None, Result, Err, refl, sym, ap, ap₂, ◌∙◌, subst, arith, length, map, drop, take, if◌then◌else◌, eqb-true, nat_le}
+use Rattle.std.specs.Prelude.{nat_lt}
+use Rattle.std.proofs.lemmas.Bool.Decides.{nat_tests}
 use Rattle.sync_theory.specs.Lists.{run, and_then}
 use Rattle.sync_theory.specs.Changesets.{Changeset}
 use Rattle.sync_theory.specs.Logs.{of_origin}
 use Rattle.sync_model.specs.Profile.{Profile, Lawful, act_changeset, only_by}
 use Rattle.sync_model.specs.Snapshots.{Buildable}
-use Rattle.sync_model.specs.Messages.{Sent, Change}
+use Rattle.sync_model.specs.Messages.{Sent, Change, Stored, Refused}
 use Rattle.sync_model.specs.Clients.{Client as ClientState, ClientRecord, Original, Unsent, as_made, changeset_of, no_client, client_of, floor_of}
-use Rattle.sync_model.specs.Servers.{Server, ServerRecord, Client, Entry, Form, Retired, Settled, Part, Floor, Count, Carried, Past, ServerRefusal, IdentRetired, no_server, place_of, server_of, after_server, after_all, server_objects, history_of, state_of, heir_of, is_retired, is_given, count, merge}
+use Rattle.sync_model.specs.Servers.{ServerStep, NumberGap, BaseBack, AheadOfHistory, HistoryFull, last_base, merge_read, merged, serve_changes, Server, ServerRecord, Client, Entry, Form, Retired, Settled, Part, Floor, Count, Carried, Past, ServerRefusal, IdentRetired, no_server, place_of, server_of, after_server, after_all, server_objects, history_of, state_of, heir_of, is_retired, is_given, count, merge}
 use Rattle.sync_model.specs.Files.{is_fine, is_second, server_admits, server_opens}
 use Rattle.sync_model.specs.Bytes.{Uuid}
 use Rattle.sync_model.specs.Worlds.{Node, World, is_there}
@@ -15,7 +17,7 @@ use Rattle.sync_model.specs.Log.{WorldFacts, NamedFacts, UnnamedFacts, as_log, i
 use Rattle.sync_model.proofs.Alone.{both_true}
 use Rattle.sync_model.proofs.Sim.{Agrees, Given, no_change}
 use Rattle.sync_model.proofs.Serving.{objects_of}
-use Rattle.lives_law.specs.Pair.{IsEntry, Fit, IsActive, PairHolds, OneExchange, Converge, ident_for, pair_world, without_retired}
+use Rattle.lives_law.specs.Pair.{IsEntry, Fit, IsActive, PairHolds, RefusesUploads, OneExchange, Converge, ident_for, pair_world, without_retired}
 use Rattle.lives_law.proofs.Pair.{floors_stay, pairs_hold, together, given_of}
 
 some_is : {A : Type 0} {x y : A} → Some x ≡ Some y → x ≡ y
@@ -90,9 +92,9 @@ module _ {I S : Type 0} (p : Profile I S) {Fits Bounded Old : S → Type 0} (law
       base = base;
       state = state_is (client_of p g).cursor within ∙ state;
       objects = objects;
-      equal = λ cursor none.
-          let end : base ≡ server_objects p (server_of p f) = some_is (sym state ∙ ap (state_in p (pair_world p f [] g)) cursor ∙ facts.objects) in
-          sym (ran _ _ _ (ap (map (changeset_of (ident_for p (server_of p f) (client_of p g)))) none) objects) ∙ ap (only_by p (client_of p g).subset) end;
+      equal = λ current.
+          let end : base ≡ server_objects p (server_of p f) = some_is (sym state ∙ ap (state_in p (pair_world p f [] g)) current.0 ∙ facts.objects) in
+          sym (ran _ _ _ (ap (map (changeset_of (ident_for p (server_of p f) (client_of p g)))) current.1) objects) ∙ ap (only_by p (client_of p g).subset) end;
     }
 
     named : NamedFacts p (pair_world p f [] g) (record { name = []; records = g }) → Converge p (server_of p f) (client_of p g)
@@ -113,7 +115,27 @@ module _ {I S : Type 0} (p : Profile I S) {Fits Bounded Old : S → Type 0} (law
     active_converge : Converge p (server_of p f) (client_of p g)
     active_converge = ⊎_elim (λ h. named h.1) (λ h. unnamed h.0 h.1) (facts.clients 0 (record { name = []; records = g }) refl)
 
-  -- ---- where idents are given up: the records that say so are left out
+  -- ---- where idents are given up
+
+  pub refuses_uploads : (s : Server I) (c by : ℕ) → heir_of c s.retired ≡ Some by → RefusesUploads p s c
+  refuses_uploads s c by gone [] = (refl, inl refl)
+  refuses_uploads s c by gone (h ∷ hs) = on (nat_le h.number (count s c)) refl (refuses_uploads s c by gone hs)
+    where
+      refused : merge p s c h ≡ Err (IdentRetired (count s c))
+      refused = ap (λ o. if is_retired o then Err (IdentRetired (count s c)) else (if nat_lt (suc (count s c)) h.number then Err (NumberGap (suc (count s c))) else if nat_lt h.base (last_base (of_origin c s.log)) then Err (BaseBack (last_base (of_origin c s.log))) else if nat_lt (length s.log) h.base then Err (AheadOfHistory (length s.log)) else if length s.log == p.full then Err (HistoryFull (length s.log)) else merge_read p s c h (p.unspell h.body))) gone
+
+      Answers : ServerStep → Type 0
+      Answers did = (did.records ≡ []) × ((did.answer ≡ Stored c (count s c)) ⊎ ((number : ℕ) × (count s c < number) × (did.answer ≡ Refused c number 68 (count s c))))
+
+      on : (b : Bool) → nat_le h.number (count s c) ≡ b → ((serve_changes p s c hs).records ≡ []) × (((serve_changes p s c hs).answer ≡ Stored c (count s c)) ⊎ ((number : ℕ) × (count s c < number) × ((serve_changes p s c hs).answer ≡ Refused c number 68 (count s c))))
+          → ((if b then serve_changes p s c hs else merged c h.number (merge p s c h) (λ new. serve_changes p (after_all p s new) c hs)).records ≡ []) × (((if b then serve_changes p s c hs else merged c h.number (merge p s c h) (λ new. serve_changes p (after_all p s new) c hs)).answer ≡ Stored c (count s c)) ⊎ ((number : ℕ) × (count s c < number) × ((if b then serve_changes p s c hs else merged c h.number (merge p s c h) (λ new. serve_changes p (after_all p s new) c hs)).answer ≡ Refused c number 68 (count s c))))
+      on true is rest = rest
+      on false is rest =
+          let it = ap (λ r. merged c h.number r (λ new. serve_changes p (after_all p s new) c hs)) refused in
+          let above : count s c < h.number = grind (arith, nat_tests) in
+          (ap (λ (d : ServerStep). d.records) it, inr (h.number, above, ap (λ (d : ServerStep). d.answer) it))
+
+  -- the records that say so are left out
 
   abbrev pub forget : Server I → Server I
   forget s = record s { retired = [] }

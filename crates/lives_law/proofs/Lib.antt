@@ -17,4 +17,10 @@ pub mod Converging
 pub mod Notes
 pub mod Passages
 pub mod Stored
+pub mod Standing
 pub mod Heirs
+pub mod Acting
+pub mod Telling
+pub mod Saving
+pub mod Sending
+mod Examples

@@ -1,5 +1,5 @@
 -- Of files with notes.
-use Rattle.std.proofs.Common.{◌≡◌, ◌≢◌, ◌⊎◌, inl, inr, ⊎_elim, ℕ, zero, suc, ◌+◌, Bool, true, false, List, [], ◌∷◌, ◌++◌, Option, Some, None, refl, sym, ap, ap₂, ◌∙◌, subst, arith, append-nil, length, take, drop, length-append, if◌then◌else◌, ◌==◌, eqb-true}
+use Rattle.std.proofs.Common.{◌≡◌, ⊎_elim, ℕ, zero, suc, ◌+◌, Bool, true, false, List, [], ◌∷◌, ◌++◌, Option, Some, None, refl, sym, ap, ap₂, ◌∙◌, subst, arith, append-nil, length, take, length-append, if◌then◌else◌, ◌==◌, eqb-true}
 use Rattle.sync_theory.specs.World.{put_at}
 use Rattle.sync_theory.specs.Changesets.{Changeset}
 use Rattle.sync_theory.specs.Logs.{Made as LogMade, of_origin}
@@ -13,8 +13,59 @@ use Rattle.sync_model.specs.Servers.{Server, ServerRecord, Client, Entry, Retire
 use Rattle.lives_law.specs.Lives.{Written, Files, Open, Among, here, there, grown_by, opened, written}
 use Rattle.lives_law.specs.Instances.{plain}
 use Rattle.lives_law.specs.Roaming.{written_all}
-use Rattle.lives_law.specs.Stored.{Noted, it, note, Kept, entry_by, took_by, is_by, is_life, bare, bare_on, bare_file, bare_node, keeps, keeps_all, noted_one, with_notes, SameFiles}
+use Rattle.lives_law.specs.Stored.{Noted, it, note, Kept, entry_by, took_by, is_by, is_life, bare, bare_on, bare_file, open_by, keeps, keeps_all, noted_one, with_notes, SameBy}
 use Rattle.lives_law.proofs.Lists.{take_nil}
+
+-- ---- the same files, read so
+
+module _ {R Q : Type 0} (read : List (Written R) → List (Written Q)) where
+  pub same_opened : (w : Files R) (v : Files Q) (n l : ℕ) (f : List (Written R)) → SameBy read w v → Among f w.kept → SameBy read (opened w n l f) (opened v n l (read f))
+  same_opened w v n l f s a = record {
+    kept = s.kept;
+    nodes = λ m. on m (m == n);
+    used = ap (λ ls. l ∷ ls) s.used;
+  }
+    where
+      on : (m : ℕ) (b : Bool) → (if b then Some (record { file = read f; life = l }) else v.nodes m) ≡ open_by read (if b then Some (record { file = f; life = l }) else w.nodes m)
+      on m true = refl
+      on m false = s.nodes m
+
+  abbrev at_file : List (Written Q) → ℕ → Open Q
+  at_file f l = record { file = f; life = l }
+
+  -- a record that is read as one
+  pub same_one : (w : Files R) (v : Files Q) (n : ℕ) (o : Open R) (x : R) (q : Open Q) (y : Q) → SameBy read w v → grown_by q y ≡ read (grown_by o x) → q.life ≡ o.life → SameBy read (written w n o x) (written v n q y)
+  same_one w v n o x q y s e life = record {
+    kept = λ f a. old a;
+    nodes = λ m. on m (m == n);
+    used = s.used;
+  }
+    where
+      old : {f : List (Written R)} → Among f (grown_by o x ∷ w.kept) → Among (read f) (grown_by q y ∷ v.kept)
+      old here = subst (λ z. Among z (grown_by q y ∷ v.kept)) e here
+      old (there a) = there (s.kept _ a)
+
+      grown : at_file (grown_by q y) q.life ≡ at_file (read (grown_by o x)) o.life
+      grown = ap₂ at_file e life
+
+      on : (m : ℕ) (b : Bool) → (if b then Some (record { file = grown_by q y; life = q.life }) else v.nodes m) ≡ open_by read (if b then Some (record { file = grown_by o x; life = o.life }) else w.nodes m)
+      on m true = ap (λ z. Some z) grown
+      on m false = s.nodes m
+
+  -- and one that is read as none
+  pub same_none : (w : Files R) (v : Files Q) (n : ℕ) (o : Open R) (x : R) → SameBy read w v → Among (read o.file) v.kept → v.nodes n ≡ Some (record { file = read o.file; life = o.life }) → read (grown_by o x) ≡ read o.file → SameBy read (written w n o x) v
+  same_none w v n o x s a e same = record {
+    kept = λ f k. old k;
+    nodes = λ m. ⊎_elim
+        (λ is. ap v.nodes is ∙ e ∙ ap (λ z. Some (record { file = z; life = o.life })) (sym same) ∙ ap (open_by read) (sym (ap (put_at n (Some (record { file = grown_by o x; life = o.life })) w.nodes) is ∙ put_same n (Some (record { file = grown_by o x; life = o.life })) w.nodes)))
+        (λ ne. s.nodes m ∙ ap (open_by read) (sym (put_other n (Some (record { file = grown_by o x; life = o.life })) w.nodes m ne)))
+        (same_or_not m n);
+    used = s.used;
+  }
+    where
+      old : {f : List (Written R)} → Among f (grown_by o x ∷ w.kept) → Among (read f) v.kept
+      old here = subst (λ z. Among z v.kept) (sym same) a
+      old (there k) = s.kept _ k
 
 -- ---- the records without the notes
 
@@ -40,69 +91,21 @@ module _ {R : Type 0} where
       on (it r) e = ap (λ l. r ∷ l) e
       on (note c l) e = e
 
-  -- ---- worlds with notes, and without
-
-  pub same_opened : (w : Files (Noted R)) (v : Files R) (n l : ℕ) (f : List (Written (Noted R))) → SameFiles w v → Among f w.kept → SameFiles (opened w n l f) (opened v n l (bare_file f))
-  same_opened w v n l f s a = record {
-    kept = s.kept;
-    nodes = λ m. on m (m == n);
-    used = ap (λ ls. l ∷ ls) s.used;
-  }
-    where
-      on : (m : ℕ) (b : Bool) → (if b then Some (record { file = bare_file f; life = l }) else v.nodes m) ≡ bare_node (if b then Some (record { file = f; life = l }) else w.nodes m)
-      on m true = refl
-      on m false = s.nodes m
-
-  abbrev at_file : List (Written R) → ℕ → Open R
-  at_file f l = record { file = f; life = l }
-
-  same_one : (w : Files (Noted R)) (v : Files R) (n : ℕ) (o : Open (Noted R)) (r : R) (q : Open R) → SameFiles w v → grown_by q r ≡ bare_file (grown_by o (it r)) → q.life ≡ o.life → SameFiles (written w n o (it r)) (written v n q r)
-  same_one w v n o r q s e life = record {
-    kept = λ f a. old a;
-    nodes = λ m. on m (m == n);
-    used = s.used;
-  }
-    where
-      old : {f : List (Written (Noted R))} → Among f (grown_by o (it r) ∷ w.kept) → Among (bare_file f) (grown_by q r ∷ v.kept)
-      old here = subst (λ z. Among z (grown_by q r ∷ v.kept)) e here
-      old (there a) = there (s.kept _ a)
-
-      grown : at_file (grown_by q r) q.life ≡ at_file (bare_file (grown_by o (it r))) o.life
-      grown = ap₂ at_file e life
-
-      on : (m : ℕ) (b : Bool) → (if b then Some (record { file = grown_by q r; life = q.life }) else v.nodes m) ≡ bare_node (if b then Some (record { file = grown_by o (it r); life = o.life }) else w.nodes m)
-      on m true = ap (λ z. Some z) grown
-      on m false = s.nodes m
-
-  same_note : (w : Files (Noted R)) (v : Files R) (n c l : ℕ) (o : Open (Noted R)) → SameFiles w v → Among (bare_file o.file) v.kept → v.nodes n ≡ Some (record { file = bare_file o.file; life = o.life }) → SameFiles (written w n o (note c l)) v
-  same_note w v n c l o s a e = record {
-    kept = λ f k. old k;
-    nodes = λ m. ⊎_elim
-        (λ is. ap v.nodes is ∙ e ∙ ap (λ z. Some (record { file = z; life = o.life })) (sym same) ∙ ap bare_node (sym (ap (put_at n (Some (record { file = grown_by o (note c l); life = o.life })) w.nodes) is ∙ put_same n (Some (record { file = grown_by o (note c l); life = o.life })) w.nodes)))
-        (λ ne. s.nodes m ∙ ap bare_node (sym (put_other n (Some (record { file = grown_by o (note c l); life = o.life })) w.nodes m ne)))
-        (same_or_not m n);
-    used = s.used;
-  }
-    where
-      same : bare_file (grown_by o (note c l)) ≡ bare_file o.file
-      same = bare_file_both o.file (record { life = o.life; what = note c l } ∷ []) ∙ append-nil (bare_file o.file)
-
-      old : {f : List (Written (Noted R))} → Among f (grown_by o (note c l) ∷ w.kept) → Among (bare_file f) v.kept
-      old here = subst (λ z. Among z v.kept) (sym same) a
-      old (there k) = s.kept _ k
+  -- a note is read as no record
+  pub note_none : (o : Open (Noted R)) (c l : ℕ) → bare_file (grown_by o (note c l)) ≡ bare_file o.file
+  note_none o c l = bare_file_both o.file (record { life = o.life; what = note c l } ∷ []) ∙ append-nil (bare_file o.file)
 
   -- what a node writes is the same, but for the notes
-  pub same_written : (ns : List (Noted R)) (w : Files (Noted R)) (v : Files R) (n : ℕ) (o : Open (Noted R)) (q : Open R) → SameFiles w v → q ≡ record { file = bare_file o.file; life = o.life } → w.nodes n ≡ Some o → Among o.file w.kept → SameFiles (written_all w n o ns) (written_all v n q (bare ns))
+  pub same_written : (ns : List (Noted R)) (w : Files (Noted R)) (v : Files R) (n : ℕ) (o : Open (Noted R)) (q : Open R) → SameBy bare_file w v → q ≡ record { file = bare_file o.file; life = o.life } → w.nodes n ≡ Some o → Among o.file w.kept → SameBy bare_file (written_all w n o ns) (written_all v n q (bare ns))
   same_written [] w v n o q s e is a = s
   same_written (it r ∷ ns) w v n o q s e is a =
       let file : q.file ≡ bare_file o.file = ap (λ (z : Open R). z.file) e in
       let life : q.life ≡ o.life = ap (λ (z : Open R). z.life) e in
       let grown : grown_by q r ≡ bare_file (grown_by o (it r)) = ap₂ (λ x k. x ++ record { life = k; what = r } ∷ []) file life ∙ sym (bare_file_both o.file (record { life = o.life; what = it r } ∷ [])) in
       let next : record q { file = grown_by q r } ≡ record { file = bare_file (grown_by o (it r)); life = o.life } = ap₂ (λ x k. record { file = x; life = k }) grown life in
-      same_written ns (written w n o (it r)) (written v n q r) n (record o { file = grown_by o (it r) }) (record q { file = grown_by q r }) (same_one w v n o r q s grown life) next (put_same n (Some (record o { file = grown_by o (it r) })) w.nodes) here
+      same_written ns (written w n o (it r)) (written v n q r) n (record o { file = grown_by o (it r) }) (record q { file = grown_by q r }) (same_one bare_file w v n o (it r) q r s grown life) next (put_same n (Some (record o { file = grown_by o (it r) })) w.nodes) here
   same_written (note c l ∷ ns) w v n o q s e is a =
-      let same : bare_file (grown_by o (note c l)) ≡ bare_file o.file = bare_file_both o.file (record { life = o.life; what = note c l } ∷ []) ∙ append-nil (bare_file o.file) in
-      same_written ns (written w n o (note c l)) v n (record o { file = grown_by o (note c l) }) q (same_note w v n c l o s (s.kept o.file a) (s.nodes n ∙ ap bare_node is)) (e ∙ ap (λ z. record { file = z; life = o.life }) (sym same)) (put_same n (Some (record o { file = grown_by o (note c l) })) w.nodes) here
+      same_written ns (written w n o (note c l)) v n (record o { file = grown_by o (note c l) }) q (same_none bare_file w v n o (note c l) s (s.kept o.file a) (s.nodes n ∙ ap (open_by bare_file) is) (note_none o c l)) (e ∙ ap (λ z. record { file = z; life = o.life }) (sym (note_none o c l))) (put_same n (Some (record o { file = grown_by o (note c l) })) w.nodes) here
 
 -- ---- notes that are written
 

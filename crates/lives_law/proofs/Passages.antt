@@ -1,25 +1,25 @@
 -- A message that passes the test by what is stored is one that passes the test of marks.
-use Rattle.std.proofs.Common.{◌≡◌, ◌≢◌, ◌⊎◌, inl, inr, ⊎_elim, ℕ, zero, suc, ◌+◌, ◌-◌, ◌<◌, ◌≤◌, Bool, true, false, ◌&&◌, ◌||◌, List, [], ◌∷◌, ◌++◌, Option, Some, None, refl, sym, ap, ap₂, ◌∙◌, subst, arith, length, take, drop, if◌then◌else◌, ◌==◌, eqb-true, nat_le, sum_by}
+use Rattle.std.proofs.Common.{◌≡◌, ◌⊎◌, inl, inr, ⊎_elim, ℕ, zero, suc, ◌+◌, ◌-◌, ◌≤◌, Bool, true, false, ◌&&◌, ◌||◌, List, [], ◌∷◌, ◌++◌, Option, Some, None, refl, sym, ap, ap₂, ◌∙◌, subst, arith, length, take, drop, if◌then◌else◌, ◌==◌, eqb-true, nat_le, sum_by}
 use Rattle.std.specs.Prelude.{nat_lt}
 use Rattle.std.proofs.lemmas.List.Sums.{sum_by-cons}
 use Rattle.std.proofs.lemmas.Bool.{leb-true, le-leb, le-ltb}
 use Rattle.sync_theory.specs.Changesets.{Changeset}
-use Rattle.sync_model.specs.Bytes.{Uuid}
-use Rattle.sync_model.specs.Profile.{Profile, restricted}
+use Rattle.sync_theory.proofs.Server.{test_true, test_false}
+use Rattle.sync_model.specs.Profile.{Profile}
 use Rattle.sync_model.specs.Each.{Each, and_each}
 use Rattle.sync_model.specs.Limits.{IsMessage}
 use Rattle.sync_model.specs.Messages.{Change, Sent, Download}
 use Rattle.sync_model.specs.Clients.{Client, ClientRecord, ClientStep, Gap, NotMine, refuse, if_born, client_of, tooks_of, take_entries, take as take_message}
-use Rattle.sync_model.specs.Servers.{Server, ServerRecord, ServerRefusal, server_of, after_all, count, merge, merged, serve_changes, sent_of}
+use Rattle.sync_model.specs.Servers.{Server, ServerRecord, server_of, after_all, count, merge, merged, serve_changes}
 use Rattle.sync_model.specs.Worlds.{at}
-use Rattle.lives_law.specs.Lives.{Written, Files, Among, Mark, Reached}
-use Rattle.lives_law.specs.Readers.{Piece, AreLives, IsOf, end_of}
+use Rattle.lives_law.specs.Lives.{Written, Files, Among, Mark, Reached, tally}
+use Rattle.lives_law.specs.Readers.{Piece, AreLives, IsOf}
 use Rattle.lives_law.specs.Instances.{is_entry, is_made}
-use Rattle.lives_law.specs.Uploads.{InOrder, none, one, changes_of, HasLine}
+use Rattle.lives_law.specs.Uploads.{InOrder, one, changes_of, HasLine}
 use Rattle.lives_law.specs.Passing.{history_told, HasHistory, AreOf}
 use Rattle.lives_law.specs.Pair.{IsWhole}
 use Rattle.lives_law.specs.Roaming.{TakesUpload, TakesDownload}
-use Rattle.lives_law.specs.Stored.{is_life, Passage, HasLives, passes, IsUploadOf, IsDownloadOf}
+use Rattle.lives_law.specs.Stored.{is_life, Passage, HasLives, LetsThrough, passes, IsUploadOf, IsDownloadOf}
 use Rattle.lives_law.proofs.Taking.{at_dropped, at_to_drop, keeps_history, begins_history}
 use Rattle.lives_law.proofs.Uploads.{keeps_lines, begins_lines}
 use Rattle.lives_law.proofs.Roaming.{cursor_is}
@@ -48,6 +48,45 @@ passed last n m e =
     on : (b : Bool) → (n == 0) ≡ b → (b || is_life last (at m.lives (n - m.from))) ≡ true → (n ≡ 0) ⊎ (at m.lives (n - m.from) ≡ last)
     on true is h = inl (eqb-true n 0 is)
     on false is h = inr (life_at last (at m.lives (n - m.from)) h)
+
+-- the life of the record that counts as number n
+abbrev first_or : ℕ → (ℕ → Option ℕ) → ℕ → Option ℕ
+first_or l later zero = Some l
+first_or l later (suc n) = later n
+
+abbrev life_in : {R : Type 0} → (R → Bool) → List (Written R) → ℕ → Option ℕ
+life_in counts [] n = None
+life_in counts (x ∷ f) n = if counts x.what then first_or x.life (life_in counts f) n else life_in counts f n
+
+life_there : {R : Type 0} (counts : R → Bool) (before : List (Written R)) (x : Written R) (more : List (Written R)) → counts x.what ≡ true → life_in counts (before ++ x ∷ more) (tally counts before) ≡ Some x.life
+life_there counts [] x more e = ap (λ b. if b then first_or x.life (life_in counts more) 0 else life_in counts more 0) e
+life_there counts (y ∷ before) x more e = on (counts y.what) (life_there counts before x more e)
+  where
+    on : (b : Bool) → life_in counts (before ++ x ∷ more) (tally counts before) ≡ Some x.life
+        → (if b then first_or y.life (life_in counts (before ++ x ∷ more)) (if b then suc (tally counts before) else tally counts before) else life_in counts (before ++ x ∷ more) (if b then suc (tally counts before) else tally counts before)) ≡ Some x.life
+    on true h = h
+    on false h = h
+
+-- so one number of a file has one life
+one_life : {R : Type 0} (counts : R → Bool) (f : List (Written R)) (n l k : ℕ) → Mark counts f n l → Mark counts f n k → Some l ≡ Some k
+one_life counts f n l k a b = sym (is l a) ∙ is k b
+  where
+    is : (l : ℕ) → Mark counts f n l → life_in counts f n ≡ Some l
+    is l m = ap₂ (λ g v. life_in counts g v) m.is (sym m.number) ∙ life_there counts m.before m.last m.more m.counted ∙ ap (λ z. Some z) m.life
+
+-- what the test lets through
+pub lets_through : {R X : Type 0} (counts : R → Bool) (f : List (Written R)) (m : Passage X) → HasLives counts f m → LetsThrough counts f m
+lets_through {R} {X} counts f m h = record {
+  none = λ last z. ands (le-leb m.from 0 (omega arith)) (ands (le-leb 0 (m.from + length m.tells) (omega arith)) refl);
+  some = λ n life behind within mark.
+      let l = h.all (suc n - m.from) (omega arith) in
+      let same : Some l.0 ≡ Some life = one_life counts f n l.0 life (h.marks (suc n - m.from) l.0 n l.1 (omega arith)) mark in
+      ands (le-leb m.from (suc n) behind) (ands (le-leb (suc n) (m.from + length m.tells) within) (ap (λ b. b || is_life (Some life) (at m.lives (suc n - m.from))) (test_false (suc n) 0 (λ z. absurd (omega arith))) ∙ ap (is_life (Some life)) (l.1 ∙ same) ∙ test_true life life refl));
+}
+  where
+    ands : {a b : Bool} → a ≡ true → b ≡ true → (a && b) ≡ true
+    ands {a = true} e h = h
+    ands {a = false} e h = cc
 
 tail_take : {A : Type 0} (t : A) (ts ys : List A) → t ∷ ts ≡ take (suc (length ts)) ys → ts ≡ take (length ts) (drop 1 ys)
 tail_take t ts [] e = cc

@@ -1,64 +1,62 @@
 -- Worlds in which each node tests by what stands in its own file are worlds of roaming files.
-use Rattle.std.proofs.Common.{◌≡◌, ◌≢◌, ◌⊎◌, inl, inr, ⊎_elim, ℕ, zero, suc, ◌+◌, ◌-◌, ◌<◌, ◌≤◌, Bool, true, false, List, [], ◌∷◌, ◌++◌, Option, Some, None, refl, sym, ap, ◌∙◌, subst, arith, append-nil, length, take, drop, length-append, if◌then◌else◌}
+use Rattle.std.proofs.Common.{◌≡◌, ◌≢◌, ◌⊎◌, inl, inr, ⊎_elim, ℕ, zero, suc, ◌+◌, ◌-◌, ◌≤◌, Bool, true, false, List, [], ◌++◌, Some, None, refl, sym, ap, ◌∙◌, subst, arith, append-nil, length, take, drop, length-append, if◌then◌else◌}
 use Rattle.sync_theory.specs.Logs.{of_origin}
 use Rattle.sync_theory.proofs.World.{same_or_not}
-use Rattle.sync_model.specs.Profile.{Profile, Lawful}
+use Rattle.sync_model.specs.Profile.{Profile}
 use Rattle.sync_model.specs.Each.{Each}
 use Rattle.sync_model.specs.Limits.{IsMessage}
 use Rattle.sync_model.specs.Messages.{Change, Sent, Download}
-use Rattle.sync_model.specs.Clients.{ClientRecord, Born, Named, Made, Took, Form, Subset, Part, Floor, no_client, client_of, tooks_of, take as take_message}
-use Rattle.sync_model.specs.Servers.{Server, ServerRecord, Client, Entry, Retired, Settled, Count, Carried, Past, no_server, server_of, after_all, count, is_given, serve_changes}
+use Rattle.sync_model.specs.Clients.{ClientRecord, client_of, tooks_of, take as take_message}
+use Rattle.sync_model.specs.Servers.{Server, ServerRecord, no_server, server_of, after_all, count, serve_changes}
 use Rattle.sync_model.specs.Worlds.{at}
-use Rattle.sync_model.specs.Files.{client_admits, server_admits}
 use Rattle.sync_model.proofs.Own.{tooks_append}
-use Rattle.lives_law.specs.Lives.{Written, Files, Open, Among, Reached, no_files, opened}
-use Rattle.lives_law.specs.Readers.{Reader}
-use Rattle.lives_law.specs.Instances.{plain, is_entry, is_made}
+use Rattle.lives_law.specs.Lives.{Written, Files, Open, Among, Reached, opened}
+use Rattle.lives_law.specs.Instances.{is_entry, is_made}
 use Rattle.lives_law.specs.Uploads.{HasLine, changes_of}
 use Rattle.lives_law.specs.Passing.{HasHistory, history_told}
-use Rattle.lives_law.specs.Pair.{IsWhole, Fit, ident_at}
-use Rattle.lives_law.specs.Roaming.{Both, nobody, written_all, NoEntry, NoTook, Happens, Roams, AllFollow, Meets}
-use Rattle.lives_law.specs.Stored.{Noted, it, note, Kept, entry_by, took_by, bare, bare_file, keeps_all, kept_of, with_notes, Passage, passes, Stores, no_stores, upload_records, download_records, IsUploadOf, IsDownloadOf, Occurs, server_opens, client_opens, server_writes, client_writes, server_takes, client_takes, Stands, Agree, SameFiles, SameStores}
+use Rattle.lives_law.specs.Pair.{IsWhole}
+use Rattle.lives_law.specs.Roaming.{written_all}
+use Rattle.lives_law.specs.Stored.{Noted, Kept, entry_by, took_by, bare, keeps_all, kept_of, with_notes, Passage, passes, upload_records, download_records, IsUploadOf, IsDownloadOf}
 use Rattle.lives_law.proofs.Instances.{all_on}
 use Rattle.lives_law.proofs.Lists.{take_nil}
 use Rattle.lives_law.proofs.Taking.{at_to_drop}
-use Rattle.lives_law.proofs.Notes.{bare_both, plain_bare, same_opened, same_written, count_by, cut_bare, quiet, ends, keeps_both, count_is, tooks_are}
+use Rattle.lives_law.proofs.Notes.{bare_both, count_by, cut_bare, quiet, ends, keeps_both, count_is, tooks_are}
 use Rattle.lives_law.proofs.Passages.{passed, Taken, upload_taken, Got, download_taken}
-use Rattle.lives_law.proofs.Roaming.{OpenKept, some_is, all_open, opened_open, all_new, all_stay, cut_cut, beside_cut, log_cut, own_cut, OwnCut, all_follow, meeting_fits}
+use Rattle.lives_law.proofs.Roaming.{all_stay, beside_cut}
 
 module _ {I S : Type 0} (p : Profile I S) where
   -- what a server's file has of an ident, none or a line up to the life that it keeps
-  abbrev LineKept : Files ClientRecord → List (Noted ServerRecord) → ℕ → Type 0
+  abbrev pub LineKept : Files ClientRecord → List (Noted ServerRecord) → ℕ → Type 0
   LineKept v xs c = (count (server_of p (bare xs)) c ≡ 0) ⊎ ((life : ℕ) × ((kept_of entry_by c xs).last ≡ Some life) × HasLine p v (server_of p (bare xs)) c life)
 
-  abbrev HistoryKept : Files ServerRecord → List (Noted ClientRecord) → Type 0
+  abbrev pub HistoryKept : Files ServerRecord → List (Noted ClientRecord) → Type 0
   HistoryKept w xs = (tooks_of (bare xs) ≡ []) ⊎ ((number life : ℕ) × ((kept_of took_by 0 xs).last ≡ Some life) × HasHistory p w (bare xs) number life)
 
   -- ---- other files may change
 
-  line_grows : (v : Files ClientRecord) (rs : List ClientRecord) (n : ℕ) (o : Open ClientRecord) (xs : List (Noted ServerRecord)) (c : ℕ) → LineKept v xs c → LineKept (written_all v n o rs) xs c
+  pub line_grows : (v : Files ClientRecord) (rs : List ClientRecord) (n : ℕ) (o : Open ClientRecord) (xs : List (Noted ServerRecord)) (c : ℕ) → LineKept v xs c → LineKept (written_all v n o rs) xs c
   line_grows v rs n o xs c (inl z) = inl z
   line_grows v rs n o xs c (inr h) = let l = h.2 in inr (h.0, h.1, record { has = l.has; number = l.number; log = l.log; counted = l.counted; line = all_stay is_made (changes_of p) rs v n o (record { number = l.number; life = h.0; has = l.has }) l.line })
 
-  line_opens : (v : Files ClientRecord) (n k : ℕ) (f : List (Written ClientRecord)) (xs : List (Noted ServerRecord)) (c : ℕ) → LineKept v xs c → LineKept (opened v n k f) xs c
+  pub line_opens : (v : Files ClientRecord) (n k : ℕ) (f : List (Written ClientRecord)) (xs : List (Noted ServerRecord)) (c : ℕ) → LineKept v xs c → LineKept (opened v n k f) xs c
   line_opens v n k f xs c (inl z) = inl z
   line_opens v n k f xs c (inr h) = let l = h.2 in let q = l.line in inr (h.0, h.1, record { has = l.has; number = l.number; log = l.log; counted = l.counted; line = record { file = q.file; kept = q.kept; mark = q.mark; has = q.has } })
 
-  history_grows : (w : Files ServerRecord) (rs : List ServerRecord) (n : ℕ) (o : Open ServerRecord) (xs : List (Noted ClientRecord)) → HistoryKept w xs → HistoryKept (written_all w n o rs) xs
+  pub history_grows : (w : Files ServerRecord) (rs : List ServerRecord) (n : ℕ) (o : Open ServerRecord) (xs : List (Noted ClientRecord)) → HistoryKept w xs → HistoryKept (written_all w n o rs) xs
   history_grows w rs n o xs (inl z) = inl z
   history_grows w rs n o xs (inr h) = let q = h.3 in inr (h.0, h.1, h.2, record { has = q.has; line = all_stay is_entry (history_told p) rs w n o (record { number = h.0; life = h.1; has = q.has }) q.line; counted = q.counted; took = q.took })
 
-  history_opens : (w : Files ServerRecord) (n k : ℕ) (f : List (Written ServerRecord)) (xs : List (Noted ClientRecord)) → HistoryKept w xs → HistoryKept (opened w n k f) xs
+  pub history_opens : (w : Files ServerRecord) (n k : ℕ) (f : List (Written ServerRecord)) (xs : List (Noted ClientRecord)) → HistoryKept w xs → HistoryKept (opened w n k f) xs
   history_opens w n k f xs (inl z) = inl z
   history_opens w n k f xs (inr h) = let q = h.3 in let l = q.line in inr (h.0, h.1, h.2, record { has = q.has; line = record { file = l.file; kept = l.kept; mark = l.mark; has = l.has }; counted = q.counted; took = q.took })
 
   -- ---- a server's file goes on
 
-  server_on : (xs ys : List (Noted ServerRecord)) → server_of p (bare (xs ++ ys)) ≡ after_all p (server_of p (bare xs)) (bare ys)
+  pub server_on : (xs ys : List (Noted ServerRecord)) → server_of p (bare (xs ++ ys)) ≡ after_all p (server_of p (bare xs)) (bare ys)
   server_on xs ys = ap (server_of p) (bare_both xs ys) ∙ all_on p no_server (bare xs) (bare ys)
 
   -- by records of others
-  line_beside : (v : Files ClientRecord) (xs ys : List (Noted ServerRecord)) (d : ℕ) → of_origin d (after_all p (server_of p (bare xs)) (bare ys)).log ≡ of_origin d (server_of p (bare xs)).log → LineKept v xs d → LineKept v (xs ++ ys) d
+  pub line_beside : (v : Files ClientRecord) (xs ys : List (Noted ServerRecord)) (d : ℕ) → of_origin d (after_all p (server_of p (bare xs)) (bare ys)).log ≡ of_origin d (server_of p (bare xs)).log → LineKept v xs d → LineKept v (xs ++ ys) d
   line_beside v xs ys d same h =
       let on = server_on xs ys in
       let log : of_origin d (server_of p (bare (xs ++ ys))).log ≡ of_origin d (server_of p (bare xs)).log = ap (λ (s : Server I). of_origin d s.log) (server_on xs ys) ∙ same in
@@ -68,7 +66,7 @@ module _ {I S : Type 0} (p : Profile I S) where
       let last : (kept_of entry_by d (xs ++ ys)).last ≡ (kept_of entry_by d xs).last = ap (λ (k : Kept). k.last) (keeps_both entry_by d xs ys (record { noted = None; last = None })) ∙ quiet entry_by d ys (kept_of entry_by d xs) none in
       ⊎_elim (λ z. inl (ap length log ∙ z)) (λ l. let q = l.2 in inr (l.0, last ∙ l.1, record { has = q.has; number = q.number; log = log ∙ q.log; counted = ap length log ∙ q.counted; line = q.line })) h
 
-  module _ (v : Files ClientRecord) (reached : Reached v) (xs : List (Noted ServerRecord)) (lines : (d : ℕ) → LineKept v xs d) (c : ℕ) (m : Passage Change) (f : List (Written ClientRecord)) (kept : Among f v.kept) (u : IsUploadOf p f m) where
+  module _ (v : Files ClientRecord) (reached : Reached v) (xs : List (Noted ServerRecord)) (c : ℕ) (line : LineKept v xs c) (m : Passage Change) (f : List (Written ClientRecord)) (kept : Among f v.kept) (u : IsUploadOf p f m) where
     abbrev s : Server I
     s = server_of p (bare xs)
 
@@ -86,7 +84,7 @@ module _ {I S : Type 0} (p : Profile I S) where
 
     module _ (pass : passes (kept_of entry_by c xs).last (count (server_of p (bare xs)) c) m ≡ true) where
       pub taken : Taken p v reached (bare xs) c (kept_of entry_by c xs).last m f kept u (passed (kept_of entry_by c xs).last (count (server_of p (bare xs)) c) m pass)
-      taken = upload_taken p v reached (bare xs) c (kept_of entry_by c xs).last m f kept u (passed (kept_of entry_by c xs).last (count (server_of p (bare xs)) c) m pass) (lines c)
+      taken = upload_taken p v reached (bare xs) c (kept_of entry_by c xs).last m f kept u (passed (kept_of entry_by c xs).last (count (server_of p (bare xs)) c) m pass) line
 
       line_now : (j : ℕ) → LineKept v (xs ++ take j new) c
       line_now j =
@@ -106,16 +104,16 @@ module _ {I S : Type 0} (p : Profile I S) where
           last le tested (suc i) is l number c1 c2 e = ends entry_by c rs told j (kept_of entry_by c xs) i l is (at_to_drop (suc (count (server_of p (bare xs)) c - m.from)) m.lives i l (let k : suc (count (server_of p (bare xs)) c - m.from) + i ≡ suc number - m.from = omega arith in ap (at m.lives) k ∙ e))
 
     -- of each ident, whatever is appended
-    pub lines_now : (j d : ℕ) → LineKept v (xs ++ take j (upload_records p xs c m)) d
-    lines_now j d = on (passes (kept_of entry_by c xs).last (count (server_of p (bare xs)) c) m) refl
+    pub lines_now : (j d : ℕ) → (d ≢ c → LineKept v xs d) → LineKept v (xs ++ take j (upload_records p xs c m)) d
+    lines_now j d beside = on (passes (kept_of entry_by c xs).last (count (server_of p (bare xs)) c) m) refl
       where
         on : (b : Bool) → passes (kept_of entry_by c xs).last (count (server_of p (bare xs)) c) m ≡ b → LineKept v (xs ++ take j (if b then new else [])) d
-        on false is = subst (λ l. LineKept v l d) (sym (ap (λ l. xs ++ l) (take_nil j) ∙ append-nil xs)) (lines d)
+        on false is = subst (λ l. LineKept v l d) (sym (ap (λ l. xs ++ l) (take_nil j) ∙ append-nil xs)) (⊎_elim (λ same. subst (λ x. LineKept v xs x) (sym same) line) beside (same_or_not d c))
         on true is = ⊎_elim
             (λ same. subst (λ x. LineKept v (xs ++ take j new) x) (sym same) (line_now is j))
             (λ ne.
             let cut = cut_bare entry_by c rs told now.noted j in
-            line_beside v xs (take j new) d (ap (λ l. of_origin d (after_all p (server_of p (bare xs)) l).log) cut.1 ∙ beside_cut p m.tells (server_of p (bare xs)) c d cut.0 ne) (lines d))
+            line_beside v xs (take j new) d (ap (λ l. of_origin d (after_all p (server_of p (bare xs)) l).log) cut.1 ∙ beside_cut p m.tells (server_of p (bare xs)) c d cut.0 ne) (beside ne))
             (same_or_not d c)
 
   -- ---- a client's

@@ -7,4 +7,6 @@ pub mod Passing
 pub mod Arriving
 pub mod Roaming
 pub mod Stored
+pub mod Sending
 pub mod Heirs
+pub mod Saving

@@ -1,11 +1,9 @@
-//! Clients and servers over disks in memory, those that fail at a call or stop at a stroke among them, what is made of their
-//! objects and files, and what an application and a host in another language call. What nodes answer to messages is tried in `program_cases`.
+//! Clients and servers over disks in memory, what is made of their objects and files, and what an application and a host in another
+//! language call. What nodes answer to messages, and disks that stop, are tried in `program_cases`.
 #![tactic(auto)]
 
 mod changed;
-mod client;
 mod clients;
-mod disks;
 mod heirs;
 mod hosts;
 mod laws;
@@ -20,29 +18,7 @@ mod trims;
 pub use laws::the_instructions_can_be_exchanged;
 use std::alloc::Global;
 
-/// Each case of disks that stop or fail by its name, and whether it comes out as it must.
-pub fn cases_of_disks(alloc: Global) -> [(&'static str, bool); 4] {
-    [
-        (
-            "a stop at each stroke of a client's call",
-            disks::a_stop_at_each_stroke_of_a_clients_call(alloc),
-        ),
-        (
-            "a stop at each stroke of a server's call",
-            disks::a_stop_at_each_stroke_of_a_servers_call(alloc),
-        ),
-        (
-            "each call of a client's disk fails in turn",
-            disks::each_call_of_a_clients_disk_fails_in_turn(alloc),
-        ),
-        (
-            "each call of a server's disk fails in turn",
-            disks::each_call_of_a_servers_disk_fails_in_turn(alloc),
-        ),
-    ]
-}
-
-/// The same of the other cases.
+/// Each case of nodes by its name, and whether it comes out as it must.
 pub fn cases(alloc: Global) -> [(&'static str, bool); 9] {
     [
         (

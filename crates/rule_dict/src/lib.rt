@@ -1,12 +1,11 @@
 //! What is left where a key of a dictionary is bound, or a cell is cleared.
 #![tactic(auto)]
 
-mod apart;
 mod clearing;
 
 use sync_base::{
-    Clear, DictUpdate, EraseObject, Meets, Mismatch, Outcome, erases, is_erased, left_wins,
-    right_wins, same_cell, same_text_key,
+    Clear, DictUpdate, EraseObject, Meets, Mismatch, Outcome, erases, is_erased, later_wins,
+    left_wins, right_wins, same_cell, same_text_key,
 };
 
 /// The rules of DictUpdate and Clear, also where they meet the instructions of tables, objects, fields, lists and sets.
@@ -14,22 +13,19 @@ pub struct DictRules;
 
 impl Meets<EraseObject, DictUpdate> for DictRules {
     fn meet(left: EraseObject, right: DictUpdate, _: bool) -> Result<Outcome, Mismatch> {
-        let clash = erases(&left, &right.cell);
-        left_wins(clash, left, right)
+        left_wins(erases(&left, &right.cell), left, right)
     }
 }
 
 impl Meets<EraseObject, Clear> for DictRules {
     fn meet(left: EraseObject, right: Clear, _: bool) -> Result<Outcome, Mismatch> {
-        let clash = erases(&left, &right.cell);
-        left_wins(clash, left, right)
+        left_wins(erases(&left, &right.cell), left, right)
     }
 }
 
 impl Meets<DictUpdate, EraseObject> for DictRules {
     fn meet(left: DictUpdate, right: EraseObject, _: bool) -> Result<Outcome, Mismatch> {
-        let clash = is_erased(&left.cell, &right);
-        right_wins(clash, left, right)
+        right_wins(is_erased(&left.cell, &right), left, right)
     }
 }
 
@@ -46,7 +42,6 @@ impl Meets<DictUpdate, DictUpdate> for DictRules {
 
 impl Meets<Clear, EraseObject> for DictRules {
     fn meet(left: Clear, right: EraseObject, _: bool) -> Result<Outcome, Mismatch> {
-        let clash = is_erased(&left.cell, &right);
-        right_wins(clash, left, right)
+        right_wins(is_erased(&left.cell, &right), left, right)
     }
 }

@@ -5,8 +5,6 @@ ghost use Rattle.std.specs.Prelude.{◌≡◌};
 ghost use Rattle.sync_base.specs.After.{added};
 ghost use Rattle.sync_base.specs.Rules.{is_summed};
 
-mod apart;
-
 use sync_base::{
     AddInteger, EraseObject, Meets, Mismatch, Outcome, Update, Value, erases, is_erased, keep_both,
     keep_left, keep_right, later_wins, left_wins, right_wins, same_cell,
@@ -71,12 +69,6 @@ impl Meets<AddInteger, Update> for FieldRules {
     }
 }
 
-impl Meets<AddInteger, AddInteger> for FieldRules {
-    fn meet(left: AddInteger, right: AddInteger, _: bool) -> Result<Outcome, Mismatch> {
-        keep_both(left, right)
-    }
-}
-
 /// Whether an addition changes the value or leaves it null.
 fn takes_additions(value: &Value) -> bool
     ensures { result ≡ is_summed value.now }
@@ -84,23 +76,14 @@ fn takes_additions(value: &Value) -> bool
     matches!(value, Value::Null | Value::Int(_))
 }
 
-/// The update to the sum.
+/// The update to the sum, modulo 2^64.
+#[tactic(auto, using(std::proofs::lemmas::Int::wrapping_add_is))]
 fn increased(update: Update, amount: i64) -> Update
     ensures { result ≡ record { cell = update.cell; value = added amount update.value } }
 {
-    Update {
-        cell: update.cell,
-        value: sum(update.value, amount),
+    let mut update = update;
+    if let Value::Int(n) = update.value {
+        update.value = Value::Int(n.wrapping_add(amount));
     }
-}
-
-/// The value after the addition, modulo 2^64.
-#[tactic(auto, using(std::proofs::lemmas::Int::wrapping_add_is))]
-fn sum(value: Value, amount: i64) -> Value
-    ensures { result ≡ added amount value }
-{
-    match value {
-        Value::Int(n) => Value::Int(n.wrapping_add(amount)),
-        other => other,
-    }
+    update
 }

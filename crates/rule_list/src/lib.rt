@@ -1,7 +1,6 @@
 //! What is left where an element of a list is inserted, erased or updated.
 #![tactic(auto)]
 
-mod apart;
 mod places;
 mod shifts;
 

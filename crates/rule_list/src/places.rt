@@ -33,11 +33,9 @@ pub fn update_at(update: ListUpdate, place: u32, prior: u32) -> ListUpdate
     requires { place < prior }
     ensures { result ≡ record { cell = update.cell; spot = spot place prior; value = update.value } }
 {
-    ListUpdate {
-        cell: update.cell,
-        spot: Inside::new(place, prior).unwrap(),
-        value: update.value,
-    }
+    let mut update = update;
+    update.spot = Inside::new(place, prior).unwrap();
+    update
 }
 
 /// The erasure at another place, of a list of another length.
@@ -45,8 +43,7 @@ pub fn erase_at(erase: ListErase, place: u32, prior: u32) -> ListErase
     requires { place < prior }
     ensures { result ≡ record { cell = erase.cell; spot = spot place prior } }
 {
-    ListErase {
-        cell: erase.cell,
-        spot: Inside::new(place, prior).unwrap(),
-    }
+    let mut erase = erase;
+    erase.spot = Inside::new(place, prior).unwrap();
+    erase
 }

@@ -1,11 +1,9 @@
 //! What is left where an object is created or erased.
 #![tactic(auto)]
 
-mod apart;
-
 use sync_base::{
-    CreateObject, EraseObject, Meets, Mismatch, Outcome, keep_both, keep_neither, left_wins,
-    right_wins, same_object,
+    CreateObject, EraseObject, Meets, Mismatch, Outcome, left_wins, neither_wins, right_wins,
+    same_object,
 };
 
 /// The rules of CreateObject and EraseObject, also where they meet AddTable and AddColumn.
@@ -27,10 +25,7 @@ impl Meets<EraseObject, CreateObject> for ObjectRules {
 
 impl Meets<EraseObject, EraseObject> for ObjectRules {
     fn meet(left: EraseObject, right: EraseObject, _: bool) -> Result<Outcome, Mismatch> {
-        if same_object(&left.table, &left.key, &right.table, &right.key) {
-            keep_neither()
-        } else {
-            keep_both(left, right)
-        }
+        let clash = same_object(&left.table, &left.key, &right.table, &right.key);
+        neither_wins(clash, left, right)
     }
 }

@@ -21,18 +21,6 @@ impl Meets<AddTable, AddTable> for SchemaRules {
     }
 }
 
-impl Meets<AddTable, AddColumn> for SchemaRules {
-    fn meet(left: AddTable, right: AddColumn, _: bool) -> Result<Outcome, Mismatch> {
-        keep_both(left, right)
-    }
-}
-
-impl Meets<AddColumn, AddTable> for SchemaRules {
-    fn meet(left: AddColumn, right: AddTable, _: bool) -> Result<Outcome, Mismatch> {
-        keep_both(left, right)
-    }
-}
-
 impl Meets<AddColumn, AddColumn> for SchemaRules {
     fn meet(left: AddColumn, right: AddColumn, _: bool) -> Result<Outcome, Mismatch> {
         if !(same_name(&left.table, &right.table) & same_name(&left.column, &right.column)) {

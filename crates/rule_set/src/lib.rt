@@ -1,11 +1,9 @@
 //! What is left where a value is made a member of a set, or no member.
 #![tactic(auto)]
 
-mod apart;
-
 use sync_base::{
-    EraseObject, Meets, Mismatch, Outcome, SetErase, SetInsert, erases, is_erased, keep_both,
-    left_wins, right_wins, same_cell, same_value,
+    EraseObject, Meets, Mismatch, Outcome, SetErase, SetInsert, erases, is_erased, left_wins,
+    right_wins, same_cell, same_value,
 };
 
 /// The rules of SetInsert and SetErase, also where they meet the instructions of tables, objects, fields and lists.
@@ -13,28 +11,19 @@ pub struct SetRules;
 
 impl Meets<EraseObject, SetInsert> for SetRules {
     fn meet(left: EraseObject, right: SetInsert, _: bool) -> Result<Outcome, Mismatch> {
-        let clash = erases(&left, &right.cell);
-        left_wins(clash, left, right)
+        left_wins(erases(&left, &right.cell), left, right)
     }
 }
 
 impl Meets<EraseObject, SetErase> for SetRules {
     fn meet(left: EraseObject, right: SetErase, _: bool) -> Result<Outcome, Mismatch> {
-        let clash = erases(&left, &right.cell);
-        left_wins(clash, left, right)
+        left_wins(erases(&left, &right.cell), left, right)
     }
 }
 
 impl Meets<SetInsert, EraseObject> for SetRules {
     fn meet(left: SetInsert, right: EraseObject, _: bool) -> Result<Outcome, Mismatch> {
-        let clash = is_erased(&left.cell, &right);
-        right_wins(clash, left, right)
-    }
-}
-
-impl Meets<SetInsert, SetInsert> for SetRules {
-    fn meet(left: SetInsert, right: SetInsert, _: bool) -> Result<Outcome, Mismatch> {
-        keep_both(left, right)
+        right_wins(is_erased(&left.cell, &right), left, right)
     }
 }
 
@@ -51,8 +40,7 @@ impl Meets<SetInsert, SetErase> for SetRules {
 
 impl Meets<SetErase, EraseObject> for SetRules {
     fn meet(left: SetErase, right: EraseObject, _: bool) -> Result<Outcome, Mismatch> {
-        let clash = is_erased(&left.cell, &right);
-        right_wins(clash, left, right)
+        right_wins(is_erased(&left.cell, &right), left, right)
     }
 }
 
@@ -64,11 +52,5 @@ impl Meets<SetErase, SetInsert> for SetRules {
         } else {
             right_wins(clash, left, right)
         }
-    }
-}
-
-impl Meets<SetErase, SetErase> for SetRules {
-    fn meet(left: SetErase, right: SetErase, _: bool) -> Result<Outcome, Mismatch> {
-        keep_both(left, right)
     }
 }

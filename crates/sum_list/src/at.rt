@@ -4,7 +4,7 @@ ghost use Rattle.sum_list.specs.Counts.{by};
 use crate::measured::Measure;
 
 /// A place of a list, and the sums of both lengths of the items in front of it.
-#[derive(Clone, Copy, Debug, PartialEq, Eq)]
+#[derive(Clone, Copy, PartialEq, Eq)]
 pub struct At {
     pub place: usize,
     pub before: u64,

@@ -1,9 +1,9 @@
--- Which object an instruction is about, pairs that are apart, and what is left of an instruction.
+-- Which object an instruction is about, which cell it changes, pairs that are apart, and what is left of an instruction.
 use Rattle.std.specs.Prelude.{◌≡◌, Bool, true, false, if◌then◌else◌, Option, None, Some, Ok, IfOk}
 use Rattle.std.specs.Ordering.{eq_by_cmp}
 use Rattle.sync_data.specs.declared.instr.Instr.{Instr}
 use Rattle.sync_data.specs.Payload.{payload}
-use Rattle.sync_base.specs.Effects.{ObjectName, Effect, NewTable, NewColumn, Create, Erase, Change, effect_of}
+use Rattle.sync_base.specs.Effects.{ObjectName, CellPath, Effect, NewTable, NewColumn, Create, Erase, Change, effect_of}
 use Rattle.sync_base.specs.States.{object_cmp}
 use Rattle.sync_base.specs.Rules.{meeting}
 
@@ -14,6 +14,11 @@ object_of (NewColumn t c def) = None
 object_of (Create o) = Some o
 object_of (Erase o) = Some o
 object_of (Change p e) = Some p.0
+
+-- the cell that it changes: of an object or of the schema, none
+abbrev pub cell_in : Effect → Option CellPath
+cell_in (Change p e) = Some p
+cell_in d = None
 
 -- they are about two objects, or one is about an object and the other about a table or a column
 abbrev pub are_apart : Option ObjectName → Option ObjectName → Bool

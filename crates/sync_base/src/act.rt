@@ -8,7 +8,7 @@ use sync_data::{
     ListErase, ListInsert, ListUpdate, SetErase, SetInsert, Update,
 };
 
-/// One of the thirteen kinds of instructions.
+/// An instruction, or one of its thirteen kinds.
 pub trait Act {
     /// It as an instruction, whose effect the definitions tell.
     ghost instr: { Self → Instr };
@@ -19,6 +19,14 @@ pub trait Act {
 
     /// It reads its footprint alone, and changes nothing but what the footprint names as changed.
     ghost frame: { (i : Self) → Framed (instr i) } = { λ i. framed (instr i) };
+}
+
+impl Act for Instr {
+    ghost instr = { λ i. i };
+
+    fn wrap(self) -> Instr {
+        self
+    }
 }
 
 impl Act for AddTable {

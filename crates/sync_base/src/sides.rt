@@ -5,7 +5,7 @@ ghost use Rattle.sync_base.specs.States.{object_cmp};
 
 use super::act::Act;
 use super::answers::{Mismatch, Outcome};
-use super::meets::{keep_both, keep_left, keep_right};
+use super::meets::{keep_both, keep_left, keep_neither, keep_right};
 use super::same::same_object;
 use sync_data::{CellName, EraseObject};
 
@@ -30,6 +30,21 @@ pub fn right_wins<A: Act + Drop, B: Act>(
 {
     if clash {
         keep_right(right)
+    } else {
+        keep_both(left, right)
+    }
+}
+
+/// Where the sides clash, neither stays; else both.
+pub fn neither_wins<A: Act + Drop, B: Act + Drop>(
+    clash: bool,
+    left: A,
+    right: B,
+) -> Result<Outcome, Mismatch>
+    ensures { result ≡ Ok (record { left = cond clash None (Some (A.instr left)); right = cond clash None (Some (B.instr right)) }) }
+{
+    if clash {
+        keep_neither()
     } else {
         keep_both(left, right)
     }

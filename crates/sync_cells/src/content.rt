@@ -4,10 +4,20 @@ use sum_list::SumList;
 use sync_base::{KeyText, Value as Held};
 
 /// What a cell holds.
-#[derive(Drop)]
 pub enum Content {
     One(Held),
     List(SumList<Element>),
     Set(BTreeSet<Held>),
     Dict(BTreeMap<KeyText, Held>),
+}
+
+impl Drop for Content {
+    fn drop(self) {
+        match self {
+            Content::One(_) => {}
+            Content::List(_) => {}
+            Content::Set(_) => {}
+            Content::Dict(_) => {}
+        }
+    }
 }

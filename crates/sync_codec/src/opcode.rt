@@ -2,7 +2,7 @@ ghost use Rattle.std.specs.Prelude.{◌≡◌};
 ghost use Rattle.sync_codec.specs.Instrs.{opcode_of};
 
 /// What an instruction does, told by its first byte: 1 to 13, in this order.
-#[derive(Clone, Copy, Debug, PartialEq, Eq)]
+#[derive(Clone, Copy, PartialEq, Eq)]
 pub enum Opcode {
     AddTable,
     AddColumn,

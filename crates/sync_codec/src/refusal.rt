@@ -18,7 +18,7 @@ pub enum DecodeRefusal {
 }
 
 /// The rules of the bytes, in the order of their numbers.
-#[derive(Clone, Copy, Debug, PartialEq, Eq)]
+#[derive(Clone, Copy, PartialEq, Eq)]
 pub enum Rule {
     /// The bytes end inside a field, or before a field that must come.
     Truncated,
@@ -51,14 +51,14 @@ pub enum Rule {
 }
 
 /// A broken rule, with the number of bytes from the faulty field on.
-#[derive(Clone, Copy, Debug, PartialEq, Eq)]
+#[derive(Clone, Copy, PartialEq, Eq)]
 pub struct Fault {
     pub left: usize,
     pub rule: Rule,
 }
 
 /// Why a reader has no value.
-#[derive(Clone, Copy, Debug, PartialEq, Eq)]
+#[derive(Clone, Copy, PartialEq, Eq)]
 pub enum ReadRefusal {
     Bad(Fault),
     NoMemory,

@@ -9,9 +9,14 @@ use std::cmp::Ordering;
 use std::marker::Model;
 
 /// Bytes of any length. Contracts see them as a list.
-#[derive(Drop)]
 pub struct Blob {
     bytes: Vec<u8>,
+}
+
+impl Drop for Blob {
+    fn drop(self) {
+        let Blob { bytes: _ } = self;
+    }
 }
 
 impl Model for Blob {

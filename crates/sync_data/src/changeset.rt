@@ -20,10 +20,15 @@ pub struct TooLarge {
 
 /// The instructions of one transaction, with its time in milliseconds since the epoch.
 /// At most 65,536 instructions, which carry at most 4,194,304 bytes.
-#[derive(Drop)]
 pub struct Changeset {
     ms: u64,
     instrs: Vec<Instr>,
+}
+
+impl Drop for Changeset {
+    fn drop(self) {
+        let Changeset { ms: _, instrs: _ } = self;
+    }
 }
 
 impl Model for Changeset {
@@ -78,7 +83,8 @@ impl Changeset {
         ensures listed { result.items ≡ self.instrs }
         ensures small { IsSmall self.instrs }
     {
-        self.instrs
+        let Changeset { ms: _, instrs } = self;
+        instrs
     }
 
     /// An equal changeset.

@@ -10,11 +10,21 @@ use super::value::Value;
 use std::alloc::AllocError;
 
 /// The name of a cell: an object and a column of its table.
-#[derive(PartialEq, Eq, Drop)]
+#[derive(PartialEq, Eq)]
 pub struct CellName {
     pub table: Name,
     pub key: Key,
     pub column: Name,
+}
+
+impl Drop for CellName {
+    fn drop(self) {
+        let CellName {
+            table: _,
+            key: _,
+            column: _,
+        } = self;
+    }
 }
 
 impl CellName {
@@ -46,82 +56,149 @@ pub struct AddColumn {
 }
 
 /// Creates an object with default cells. Where it is there, nothing changes.
-#[derive(Drop)]
 pub struct CreateObject {
     pub table: Name,
     pub key: Key,
 }
 
+impl Drop for CreateObject {
+    fn drop(self) {
+        let CreateObject { table: _, key: _ } = self;
+    }
+}
+
 /// Erases an object.
-#[derive(Drop)]
 pub struct EraseObject {
     pub table: Name,
     pub key: Key,
 }
 
+impl Drop for EraseObject {
+    fn drop(self) {
+        let EraseObject { table: _, key: _ } = self;
+    }
+}
+
 /// Sets the value of a cell of one value.
-#[derive(Drop)]
 pub struct Update {
     pub cell: CellName,
     pub value: Value,
 }
 
+impl Drop for Update {
+    fn drop(self) {
+        let Update { cell: _, value: _ } = self;
+    }
+}
+
 /// Adds to an integer cell, modulo 2^64. A null stays null.
-#[derive(Drop)]
 pub struct AddInteger {
     pub cell: CellName,
     pub amount: i64,
 }
 
+impl Drop for AddInteger {
+    fn drop(self) {
+        let AddInteger { cell: _, amount: _ } = self;
+    }
+}
+
 /// Replaces an element of a list.
-#[derive(Drop)]
 pub struct ListUpdate {
     pub cell: CellName,
     pub spot: Inside,
     pub value: Value,
 }
 
+impl Drop for ListUpdate {
+    fn drop(self) {
+        let ListUpdate {
+            cell: _,
+            spot: _,
+            value: _,
+        } = self;
+    }
+}
+
 /// Inserts a value into a list, before the element at the place, or at the end.
-#[derive(Drop)]
 pub struct ListInsert {
     pub cell: CellName,
     pub spot: Between,
     pub value: Value,
 }
 
+impl Drop for ListInsert {
+    fn drop(self) {
+        let ListInsert {
+            cell: _,
+            spot: _,
+            value: _,
+        } = self;
+    }
+}
+
 /// Removes an element of a list.
-#[derive(Drop)]
 pub struct ListErase {
     pub cell: CellName,
     pub spot: Inside,
 }
 
+impl Drop for ListErase {
+    fn drop(self) {
+        let ListErase { cell: _, spot: _ } = self;
+    }
+}
+
 /// Makes a value a member of a set.
-#[derive(Drop)]
 pub struct SetInsert {
     pub cell: CellName,
     pub value: Value,
 }
 
+impl Drop for SetInsert {
+    fn drop(self) {
+        let SetInsert { cell: _, value: _ } = self;
+    }
+}
+
 /// Makes a value no member of a set.
-#[derive(Drop)]
 pub struct SetErase {
     pub cell: CellName,
     pub value: Value,
 }
 
+impl Drop for SetErase {
+    fn drop(self) {
+        let SetErase { cell: _, value: _ } = self;
+    }
+}
+
 /// Binds a text key of a dictionary to a value, or unbinds it where there is none.
-#[derive(Drop)]
 pub struct DictUpdate {
     pub cell: CellName,
     pub at: KeyText,
     pub value: Option<Value>,
 }
 
+impl Drop for DictUpdate {
+    fn drop(self) {
+        let DictUpdate {
+            cell: _,
+            at: _,
+            value: _,
+        } = self;
+    }
+}
+
 /// Empties a list, a set or a dictionary.
-#[derive(Drop)]
 pub struct Clear {
     pub cell: CellName,
+}
+
+impl Drop for Clear {
+    fn drop(self) {
+        let Clear { cell: _ } = self;
+    }
 }
 
 /// One instruction.

@@ -20,11 +20,20 @@ pub enum KeyKind {
 }
 
 /// The key of an object: a number, a text or a uuid.
-#[derive(Drop)]
 pub enum Key {
     Int(i64),
     Text(KeyText),
     Uuid(Id),
+}
+
+impl Drop for Key {
+    fn drop(self) {
+        match self {
+            Key::Int(_) => {}
+            Key::Text(_) => {}
+            Key::Uuid(_) => {}
+        }
+    }
 }
 
 impl Key {

@@ -19,9 +19,14 @@ pub enum KeyRefusal {
 }
 
 /// The text of a key: 0 to 255 bytes of UTF-8. Contracts see it as its bytes.
-#[derive(Drop)]
 pub struct KeyText {
     text: String,
+}
+
+impl Drop for KeyText {
+    fn drop(self) {
+        let KeyText { text: _ } = self;
+    }
 }
 
 impl Model for KeyText {

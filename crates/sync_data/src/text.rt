@@ -9,9 +9,14 @@ use std::cmp::Ordering;
 use std::marker::Model;
 
 /// A text value: UTF-8 of any length. Contracts see it as its bytes.
-#[derive(Drop)]
 pub struct Text {
     text: String,
+}
+
+impl Drop for Text {
+    fn drop(self) {
+        let Text { text: _ } = self;
+    }
 }
 
 impl Model for Text {

@@ -13,7 +13,6 @@ use std::alloc::AllocError;
 use std::cmp::Ordering;
 
 /// A value of a cell, or an element of a list, set or dictionary. A link names an object by its table and key.
-#[derive(Drop)]
 pub enum Value {
     Null,
     Int(i64),
@@ -23,6 +22,21 @@ pub enum Value {
     Time(Time),
     Uuid(Id),
     Link { table: Name, key: Key },
+}
+
+impl Drop for Value {
+    fn drop(self) {
+        match self {
+            Value::Null => {}
+            Value::Int(_) => {}
+            Value::Bool(_) => {}
+            Value::Text(_) => {}
+            Value::Bytes(_) => {}
+            Value::Time(_) => {}
+            Value::Uuid(_) => {}
+            Value::Link { table: _, key: _ } => {}
+        }
+    }
 }
 
 impl Value {

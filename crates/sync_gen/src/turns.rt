@@ -4,7 +4,7 @@ ghost use Rattle.sync_gen.specs.Turns.{kind_of, turn_of};
 use super::generator::Gen;
 
 /// What a client does in a turn.
-#[derive(Clone, Copy, Debug, PartialEq, Eq)]
+#[derive(Clone, Copy, PartialEq, Eq)]
 pub enum TurnKind {
     Restart,
     Edit { ms: u64 },
@@ -13,7 +13,7 @@ pub enum TurnKind {
 }
 
 /// A turn: a client from 1 to 8, and what it does.
-#[derive(Clone, Copy, Debug, PartialEq, Eq)]
+#[derive(Clone, Copy, PartialEq, Eq)]
 pub struct Turn {
     pub client: u32,
     pub kind: TurnKind,

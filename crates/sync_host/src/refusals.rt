@@ -5,7 +5,7 @@ ghost use Rattle.sync_host.specs.Refusals.{declined, declined_bytes, plain as nu
 use sync_client::ClientRefusal;
 
 /// Why a client refuses, by its number and up to three numbers that say more of it (docs/FORMATS.md, "Refusals by number").
-#[derive(Clone, Copy, Debug, PartialEq, Eq)]
+#[derive(Clone, Copy, PartialEq, Eq)]
 pub struct Declined {
     pub number: u8,
     pub first: u32,

@@ -5,7 +5,7 @@ use crate::refusals::Declined;
 
 /// Where a client stands: its ident or 0, how many entries it has taken, the number of its last change, and how many are unsent.
 /// A server: 0, the length of its history, 0 and 0.
-#[derive(Clone, Copy, Debug, PartialEq, Eq)]
+#[derive(Clone, Copy, PartialEq, Eq)]
 pub struct Standing {
     pub ident: u32,
     pub cursor: u32,

@@ -2,7 +2,7 @@ ghost use Rattle.std.specs.Prelude.{◌≡◌};
 ghost use Rattle.sync_host.specs.Verbs.{verb_of};
 
 /// What a host asks for, by the first byte of its request (docs/FORMATS.md, "Requests of a host").
-#[derive(Clone, Copy, Debug, PartialEq, Eq)]
+#[derive(Clone, Copy, PartialEq, Eq)]
 pub enum Verb {
     /// Opens the client of these bytes of a file.
     OpenClient,

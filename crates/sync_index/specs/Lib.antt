@@ -1,5 +1,4 @@
 pub mod Codes
-pub mod Cells
 pub mod Touched
 pub mod Filters
 pub mod Spots

@@ -10,5 +10,5 @@ mod objects;
 mod spot;
 
 pub use index::Index;
-pub use object::{are_apart, cell_of};
+pub use object::are_apart;
 pub use spot::shared_spot;

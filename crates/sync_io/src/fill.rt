@@ -1,5 +1,5 @@
 /// What a fill met.
-#[derive(Clone, Copy, Debug, PartialEq, Eq)]
+#[derive(Clone, Copy, PartialEq, Eq)]
 pub enum Fill {
     /// More bytes.
     More,

@@ -1,5 +1,5 @@
 /// What stands behind the line under way.
-#[derive(Clone, Copy, Debug, PartialEq, Eq)]
+#[derive(Clone, Copy, PartialEq, Eq)]
 pub enum Found {
     /// A line feed, at this place of the bytes that are held.
     Feed { place: usize },

@@ -1,5 +1,5 @@
 /// What stands at the front of bytes.
-#[derive(Clone, Copy, Debug, PartialEq, Eq)]
+#[derive(Clone, Copy, PartialEq, Eq)]
 pub enum Front {
     /// Less than a frame.
     Part,
@@ -10,7 +10,7 @@ pub enum Front {
 }
 
 /// What stands ahead of a reader of frames.
-#[derive(Clone, Copy, Debug, PartialEq, Eq)]
+#[derive(Clone, Copy, PartialEq, Eq)]
 pub enum Ahead {
     /// A frame of so many bytes behind its length, among the bytes that are held.
     Frame { size: usize },

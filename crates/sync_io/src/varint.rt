@@ -124,7 +124,7 @@ pub fn unzigzag32(number: u32) -> i32
     ensures { result ≡ unzigzag number }
 {
     let half = (number / 2) as i32;
-    if number % 2 == 0 { half } else { -half - 1 }
+    if number % 2 == 0 { half } else { !half }
 }
 
 /// The number whose form without a sign this is.
@@ -132,5 +132,5 @@ pub fn unzigzag64(number: u64) -> i64
     ensures { result ≡ unzigzag number }
 {
     let half = (number / 2) as i64;
-    if number % 2 == 0 { half } else { -half - 1 }
+    if number % 2 == 0 { half } else { !half }
 }

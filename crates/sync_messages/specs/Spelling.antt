@@ -50,3 +50,30 @@ message_spelling (Ask2 ask) = 8 ∷ ask_spelling ask
 message_spelling (Retire retire) = 9 ∷ retire_spelling retire
 message_spelling (Retired retired) = 10 ∷ retired_spelling retired
 message_spelling (AskTables asked) = 11 ∷ ask_tables_spelling asked
+
+-- the first byte of it, and what follows
+abbrev pub message_tag : Message → ℕ
+message_tag (Bind uuid) = 1
+message_tag (Ident given) = 2
+message_tag (Upload upload) = 3
+message_tag (Ask ask) = 4
+message_tag (Download download) = 5
+message_tag (Refused ident number code place) = 6
+message_tag (Stored stored) = 7
+message_tag (Ask2 ask) = 8
+message_tag (Retire retire) = 9
+message_tag (Retired retired) = 10
+message_tag (AskTables asked) = 11
+
+abbrev pub fields_spelling : Message → List ℕ
+fields_spelling (Bind uuid) = uuid
+fields_spelling (Ident given) = given_spelling given
+fields_spelling (Upload upload) = upload_spelling upload
+fields_spelling (Ask ask) = ask_spelling ask
+fields_spelling (Download download) = download_spelling download
+fields_spelling (Refused ident number code place) = varint ident ++ varint number ++ varint code ++ varint place
+fields_spelling (Stored stored) = stored_spelling stored
+fields_spelling (Ask2 ask) = ask_spelling ask
+fields_spelling (Retire retire) = retire_spelling retire
+fields_spelling (Retired retired) = retired_spelling retired
+fields_spelling (AskTables asked) = ask_tables_spelling asked

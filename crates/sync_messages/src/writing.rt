@@ -4,7 +4,7 @@ ghost use Rattle.sync_io.specs.Formats.{body, listed};
 ghost use Rattle.sync_io.specs.Varints.{varint};
 ghost use Rattle.sync_messages.specs.Parts.{most_listed, most_bytes};
 ghost use Rattle.sync_messages.specs.Whole.{IsWholeGiven, IsWholeChange, IsWholeUpload, IsWholeAsk, IsWholeEntry, IsWholeDownload, IsWholeStored, IsWholeRetire, IsWholeRetired, IsWholeAskTables, IsMessage};
-ghost use Rattle.sync_messages.specs.Spelling.{given_spelling, change_spelling, upload_spelling, ask_spelling, entry_spelling, download_spelling, stored_spelling, retire_spelling, retired_spelling, ask_tables_spelling, message_spelling};
+ghost use Rattle.sync_messages.specs.Spelling.{given_spelling, change_spelling, upload_spelling, ask_spelling, entry_spelling, download_spelling, stored_spelling, retire_spelling, retired_spelling, ask_tables_spelling, fields_spelling, message_spelling, message_tag};
 
 use crate::ask::Ask;
 use crate::ask_tables::AskTables;
@@ -19,7 +19,7 @@ use crate::stored::Stored;
 use crate::upload::Upload;
 use std::alloc::Global;
 use subset_bytes::put_tables;
-use sync_data::NoMemory;
+use sync_data::{Id, NoMemory};
 use sync_io::{put_varint32, put_varint64};
 
 fn put_given(out: &mut Vec<u8>, given: &Given) -> Result<(), sync_io::NoMemory>
@@ -158,62 +158,70 @@ fn put_ask_tables(out: &mut Vec<u8>, asked: &AskTables) -> Result<(), sync_io::N
     put_tables(out, asked.tables())
 }
 
+#[tactic(auto, using(crate::proofs::Tagged::tagged))]
 fn put_message(out: &mut Vec<u8>, message: &Message) -> Result<(), sync_io::NoMemory>
     ensures spelled { OnOk result (out.new.items ≡ out.old.items ++ message_spelling message.now) }
     ensures is { OnOk result (IsMessage message.now) }
 {
+    out.push(tag_of(message))?;
+    put_fields(out, message)
+}
+
+/// The first byte of a message.
+fn tag_of(message: &Message) -> u8
+    ensures { result ≡ message_tag message.now }
+{
     match message {
-        Message::Bind { uuid } => {
-            out.push(1)?;
-            out.extend_from_slice(uuid)?;
-            Ok(())
-        }
-        Message::Ident(given) => {
-            out.push(2)?;
-            put_given(out, given)
-        }
-        Message::Upload(upload) => {
-            out.push(3)?;
-            put_upload(out, upload)
-        }
-        Message::Ask(ask) => {
-            out.push(4)?;
-            put_ask(out, ask)
-        }
-        Message::Download(download) => {
-            out.push(5)?;
-            put_download(out, download)
-        }
+        Message::Bind { uuid: _ } => 1,
+        Message::Ident(_) => 2,
+        Message::Upload(_) => 3,
+        Message::Ask(_) => 4,
+        Message::Download(_) => 5,
+        Message::Refused {
+            ident: _,
+            number: _,
+            code: _,
+            place: _,
+        } => 6,
+        Message::Stored(_) => 7,
+        Message::Ask2(_) => 8,
+        Message::Retire(_) => 9,
+        Message::Retired(_) => 10,
+        Message::AskTables(_) => 11,
+    }
+}
+
+/// Writes what follows that byte.
+fn put_fields(out: &mut Vec<u8>, message: &Message) -> Result<(), sync_io::NoMemory>
+    ensures spelled { OnOk result (out.new.items ≡ out.old.items ++ fields_spelling message.now) }
+    ensures is { OnOk result (IsMessage message.now) }
+{
+    match message {
+        Message::Bind { uuid } => put_uuid(out, uuid),
+        Message::Ident(given) => put_given(out, given),
+        Message::Upload(upload) => put_upload(out, upload),
+        Message::Ask(ask) => put_ask(out, ask),
+        Message::Download(download) => put_download(out, download),
         Message::Refused {
             ident,
             number,
             code,
             place,
-        } => {
-            out.push(6)?;
-            put_refused(out, *ident, *number, *code, *place)
-        }
-        Message::Stored(stored) => {
-            out.push(7)?;
-            put_stored(out, stored)
-        }
-        Message::Ask2(ask) => {
-            out.push(8)?;
-            put_ask(out, ask)
-        }
-        Message::Retire(retire) => {
-            out.push(9)?;
-            put_retire(out, retire)
-        }
-        Message::Retired(retired) => {
-            out.push(10)?;
-            put_retired(out, retired)
-        }
-        Message::AskTables(asked) => {
-            out.push(11)?;
-            put_ask_tables(out, asked)
-        }
+        } => put_refused(out, *ident, *number, *code, *place),
+        Message::Stored(stored) => put_stored(out, stored),
+        Message::Ask2(ask) => put_ask(out, ask),
+        Message::Retire(retire) => put_retire(out, retire),
+        Message::Retired(retired) => put_retired(out, retired),
+        Message::AskTables(asked) => put_ask_tables(out, asked),
     }
+}
+
+fn put_uuid(out: &mut Vec<u8>, uuid: &Id) -> Result<(), sync_io::NoMemory>
+    ensures spelled { OnOk result (out.new.items ≡ out.old.items ++ uuid.now) }
+    ensures is { OnOk result (length uuid.now ≡ 16) }
+{
+    out.extend_from_slice(uuid)?;
+    Ok(())
 }
 
 /// The one spelling of the message (docs/FORMATS.md, "Messages").

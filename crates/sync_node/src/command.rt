@@ -14,7 +14,7 @@ use sync_disk::{Disk, DiskRefusal};
 use sync_io::Status;
 
 /// Why a run ends at an item.
-#[derive(Clone, Copy, Debug, PartialEq, Eq)]
+#[derive(Clone, Copy, PartialEq, Eq)]
 pub enum ItemEnd {
     /// The item is none of the command's.
     BadItem,

@@ -24,7 +24,7 @@ use sync_disk::Disk;
 use sync_io::{Sink, Source, Status};
 
 /// A command over the file of a node (docs/FORMATS.md, "The commands over files").
-#[derive(Clone, Copy, Debug, PartialEq, Eq)]
+#[derive(Clone, Copy, PartialEq, Eq)]
 pub enum FileCommand {
     /// A client does what node lines say: each gets one outcome line. A blank line is counted, and does nothing.
     Edit,

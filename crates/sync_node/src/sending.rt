@@ -23,7 +23,7 @@ use sync_messages::{Message, Retire};
 use sync_words::{put, put_standing};
 
 /// What a client over a file is to write.
-#[derive(Clone, Copy, Debug, PartialEq, Eq)]
+#[derive(Clone, Copy, PartialEq, Eq)]
 pub enum Errand {
     /// Its part of the report.
     Report,

@@ -20,7 +20,7 @@ use sync_trim::{started_file, trimmed_file};
 use sync_words::put_server;
 
 /// What is asked of a server over a file.
-#[derive(Clone, Copy, Debug, PartialEq, Eq)]
+#[derive(Clone, Copy, PartialEq, Eq)]
 pub enum ServerText {
     /// Its part of the report.
     Report,

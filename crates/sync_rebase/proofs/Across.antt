@@ -10,12 +10,12 @@ use Rattle.sync_theory.specs.Changesets.{Changeset, cross_sets, later_stamp}
 use Rattle.sync_theory.specs.Grid.{rebase}
 use Rattle.sync_law.specs.Instrs.{meet}
 use Rattle.sync_model.specs.Clients.{Unsent, changeset_of}
-use Rattle.sync_transform.specs.Places.{longer, Within, place_after}
-use Rattle.sync_transform.specs.Moves.{action_in, kind_in, moved_first}
-use Rattle.sync_transform.specs.declared.places.Does.{Does}
-use Rattle.sync_transform.specs.declared.places.Does.TheVariants.{Inserts, Erases, Updates}
-use Rattle.sync_transform.specs.declared.moves.ListAction.{ListAction}
-use Rattle.sync_transform.proofs.Stands.{WithinIf, within_after}
+use Rattle.list_places.specs.Places.{longer, Within, place_after}
+use Rattle.list_places.specs.Moves.{action_in, kind_in, moved_first}
+use Rattle.list_places.specs.declared.places.Does.{Does}
+use Rattle.list_places.specs.declared.places.Does.TheVariants.{Inserts, Erases, Updates}
+use Rattle.list_places.specs.declared.moves.ListAction.{ListAction}
+use Rattle.list_places.proofs.Stands.{WithinIf, within_after}
 use Rattle.list_lane.specs.Ops.{lane_later, moved}
 use Rattle.list_lane.specs.Lanes.{LaneOf, crossed, length_after, length_at_end, lane_after, Chains}
 use Rattle.list_lane.specs.Told.{action, prior_in, told, told_set, told_sets, IsTold, AreTold}

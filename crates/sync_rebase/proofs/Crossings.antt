@@ -8,10 +8,10 @@ use Rattle.sync_theory.specs.Changesets.{cross_sets}
 use Rattle.sync_theory.specs.Grid.{rebase}
 use Rattle.sync_law.specs.Instrs.{meet}
 use Rattle.sync_model.specs.Clients.{Unsent, changeset_of}
-use Rattle.sync_transform.specs.Places.{Within}
-use Rattle.sync_transform.specs.Moves.{action_in, kind_in, kind_of, first_cell, moved_first}
+use Rattle.list_places.specs.Places.{Within}
+use Rattle.list_places.specs.Moves.{action_in, kind_in, kind_of, first_cell, moved_first}
 use Rattle.sync_transform.specs.Sets.{made_by}
-use Rattle.sync_transform.specs.declared.moves.ListAction.{ListAction}
+use Rattle.list_places.specs.declared.moves.ListAction.{ListAction}
 use Rattle.list_lane.specs.Ops.{lane_later, moved}
 use Rattle.list_lane.specs.Lanes.{LaneOf, crossed, lane_after, length_at_end, Chains}
 use Rattle.list_lane.specs.Told.{action, place_in, prior_in, IsTold}

@@ -4,8 +4,8 @@ use Rattle.sync_data.specs.declared.instr.Instr.{Instr}
 use Rattle.sync_data.specs.declared.entry.Stamp.{Stamp}
 use Rattle.sync_theory.specs.Changesets.{later_stamp}
 use Rattle.sync_model.specs.Clients.{Unsent}
-use Rattle.sync_transform.specs.Moves.{action_in}
-use Rattle.sync_transform.specs.declared.moves.ListAction.{ListAction}
+use Rattle.list_places.specs.Moves.{action_in}
+use Rattle.list_places.specs.declared.moves.ListAction.{ListAction}
 use Rattle.list_lane.specs.Actions.{own_left, other_left}
 use Rattle.sync_rebase.specs.Settling.{passed, Meets, CanPass}
 use Rattle.sync_rebase.specs.Stretches.{from_place}

@@ -7,8 +7,8 @@ use Rattle.sync_theory.specs.Grid.{tail}
 use Rattle.sync_model.specs.Clients.{Unsent}
 use Rattle.sync_rivals.specs.Lists.{Indexed, AreListed, Lists, StaysListed}
 use Rattle.sync_rivals.specs.Marks.{Marks}
-use Rattle.sync_transform.specs.Moves.{action_in}
-use Rattle.sync_transform.specs.declared.moves.ListAction.{ListAction}
+use Rattle.list_places.specs.Moves.{action_in}
+use Rattle.list_places.specs.declared.moves.ListAction.{ListAction}
 use Rattle.list_lane.specs.Actions.{own_left, other_left}
 use Rattle.sync_rebase.specs.Settling.{currents, passed, put_across}
 use Rattle.sync_rebase.specs.Stretches.{from_place}

@@ -7,8 +7,8 @@ use Rattle.sync_rivals.specs.Homes.{listed, rivals}
 use Rattle.sync_rivals.specs.Lists.{StaysListed}
 use Rattle.sync_rivals.specs.Marks.{Knows, is_at}
 use Rattle.sync_rivals.specs.Strangers.{place_of}
-use Rattle.sync_transform.specs.declared.moves.ListAction.{ListAction}
-use Rattle.sync_transform.proofs.Stands.{same_elsewhere}
+use Rattle.list_places.specs.declared.moves.ListAction.{ListAction}
+use Rattle.list_places.proofs.Stands.{same_elsewhere}
 use Rattle.list_lane.specs.Actions.{instrs_left}
 use Rattle.list_lane.specs.Told.{action, told}
 use Rattle.list_lane.specs.declared.op.Op.{Op}

@@ -6,9 +6,9 @@ use Rattle.sync_data.specs.declared.instr.Instr.{Instr}
 use Rattle.sync_data.specs.declared.entry.Stamp.{Stamp}
 use Rattle.sync_base.specs.Effects.{CellPath}
 use Rattle.sync_model.specs.Clients.{Unsent}
-use Rattle.sync_transform.specs.Moves.{action_in, first_cell, kind_of, moved_first}
-use Rattle.sync_transform.specs.Places.{Within}
-use Rattle.sync_transform.specs.declared.moves.ListAction.{ListAction}
+use Rattle.list_places.specs.Moves.{action_in, first_cell, kind_of, moved_first}
+use Rattle.list_places.specs.Places.{Within}
+use Rattle.list_places.specs.declared.moves.ListAction.{ListAction}
 use Rattle.list_lane.specs.Lanes.{LaneOf, length_after, length_at_end}
 use Rattle.list_lane.specs.Told.{action, place_in, prior_in}
 use Rattle.sync_rebase.specs.Stretches.{told_unsent, overlaid, laid, lane_with, shown_by, stamp_by, Follows, Holds, AllHold, IsSlotOf, Stands}

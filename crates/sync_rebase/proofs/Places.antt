@@ -9,9 +9,9 @@ use Rattle.sync_rivals.specs.Homes.{listed}
 use Rattle.sync_rivals.specs.Strangers.{place_of}
 use Rattle.sync_rivals.specs.Marks.{is_at}
 use Rattle.sync_rivals.proofs.Listed.{pushed}
-use Rattle.sync_transform.specs.Moves.{shown}
-use Rattle.sync_transform.specs.declared.moves.ListAction.{ListAction}
-use Rattle.sync_transform.proofs.Stands.{same_elsewhere}
+use Rattle.list_places.specs.Moves.{shown}
+use Rattle.list_places.specs.declared.moves.ListAction.{ListAction}
+use Rattle.list_places.proofs.Stands.{same_elsewhere}
 use Rattle.sync_model.specs.Clients.{Original, Unsent, changeset_of, carried_to, number_at}
 use Rattle.sync_data.specs.declared.entry.Stamp.{Stamp}
 use Rattle.sync_rebase.specs.declared.carried.Crossed.{Crossed}

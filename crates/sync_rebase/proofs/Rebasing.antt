@@ -13,8 +13,8 @@ use Rattle.sync_index.specs.Touched.{Touched, Covers}
 use Rattle.sync_rivals.specs.Lists.{Indexed, Pass}
 use Rattle.sync_model.specs.Clients.{Unsent, changeset_of}
 use Rattle.sync_transform.specs.Sets.{made_by}
-use Rattle.sync_transform.specs.declared.moves.ListAction.{ListAction}
-use Rattle.sync_transform.proofs.Stands.{shown_covered}
+use Rattle.list_places.specs.declared.moves.ListAction.{ListAction}
+use Rattle.sync_transform.proofs.Shown.{shown_covered}
 use Rattle.sync_rebase.specs.declared.carried.Crossed.{Crossed}
 use Rattle.sync_rebase.specs.declared.carried.Crossed.TheVariants.{Stretch}
 use Rattle.sync_rebase.specs.declared.items.Passing.{Passing}

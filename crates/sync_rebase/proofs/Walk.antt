@@ -16,8 +16,8 @@ use Rattle.sync_rivals.proofs.Listed.{stands_at}
 use Rattle.sync_rivals.specs.Lemmas.Skips.{lists_of, known_right, listed_left}
 use Rattle.sync_model.specs.Clients.{Unsent, changeset_of}
 use Rattle.sync_transform.specs.Sets.{made_by}
-use Rattle.sync_transform.specs.Moves.{kind_in, kind_of, moved_first}
-use Rattle.sync_transform.specs.declared.moves.ListAction.{ListAction}
+use Rattle.list_places.specs.Moves.{kind_in, kind_of, moved_first}
+use Rattle.list_places.specs.declared.moves.ListAction.{ListAction}
 use Rattle.sync_rebase.specs.declared.carried.Crossed.{Crossed}
 use Rattle.sync_rebase.specs.declared.carried.Crossed.TheVariants.{One}
 use Rattle.sync_rebase.specs.declared.carried.Became.{Became}

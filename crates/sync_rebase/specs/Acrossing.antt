@@ -7,11 +7,11 @@ use Rattle.sync_theory.specs.Changesets.{cross_sets}
 use Rattle.sync_theory.specs.Grid.{rebase}
 use Rattle.sync_law.specs.Instrs.{meet}
 use Rattle.sync_model.specs.Clients.{Unsent, changeset_of}
-use Rattle.sync_transform.specs.Places.{Within}
-use Rattle.sync_transform.specs.Moves.{kind_in, kind_of, moved_changes, moved_first}
-use Rattle.sync_transform.specs.declared.moves.Moves.{Moves}
+use Rattle.list_places.specs.Places.{Within}
+use Rattle.list_places.specs.Moves.{kind_in, kind_of, moved_changes, moved_first}
+use Rattle.list_places.specs.declared.moves.Moves.{Moves}
 use Rattle.sync_transform.specs.Sets.{made_by}
-use Rattle.sync_transform.specs.declared.moves.ListAction.{ListAction}
+use Rattle.list_places.specs.declared.moves.ListAction.{ListAction}
 use Rattle.list_lane.specs.Told.{action, place_in, prior_in}
 use Rattle.list_lane.specs.Ops.{lane_later}
 use Rattle.list_lane.specs.Lanes.{lane_after, length_at_end, Chains}

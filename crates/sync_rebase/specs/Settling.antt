@@ -7,10 +7,10 @@ use Rattle.sync_base.specs.Rules.{top}
 use Rattle.sync_theory.specs.Changesets.{later_stamp}
 use Rattle.sync_model.specs.Clients.{Unsent}
 use Rattle.sync_rivals.specs.Lists.{StaysListed}
-use Rattle.sync_transform.specs.Places.{longer, place_after}
-use Rattle.sync_transform.specs.Moves.{action_in, kind_in, kind_of, moved_first}
-use Rattle.sync_transform.specs.declared.places.Does.{Does}
-use Rattle.sync_transform.specs.declared.moves.ListAction.{ListAction}
+use Rattle.list_places.specs.Places.{longer, place_after}
+use Rattle.list_places.specs.Moves.{action_in, kind_in, kind_of, moved_first}
+use Rattle.list_places.specs.declared.places.Does.{Does}
+use Rattle.list_places.specs.declared.moves.ListAction.{ListAction}
 use Rattle.list_lane.specs.Told.{action, place_in, prior_in}
 use Rattle.sync_rebase.specs.Stretches.{from_place}
 use Rattle.sync_rebase.specs.declared.carried.Across.{Across}

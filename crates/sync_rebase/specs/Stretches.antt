@@ -5,7 +5,7 @@ use Rattle.sync_data.specs.declared.entry.Stamp.{Stamp}
 use Rattle.sync_base.specs.Effects.{CellPath}
 use Rattle.sync_base.specs.Rules.{top}
 use Rattle.sync_model.specs.Clients.{Unsent}
-use Rattle.sync_transform.specs.Moves.{kind_in, first_cell}
+use Rattle.list_places.specs.Moves.{kind_in, first_cell}
 use Rattle.list_lane.specs.Lanes.{LaneOf, length_after, length_at_end, length_before, slot_at, Fits}
 use Rattle.list_lane.specs.Told.{told}
 use Rattle.list_lane.specs.declared.op.Op.{Op}

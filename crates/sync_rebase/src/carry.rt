@@ -6,7 +6,7 @@ ghost use Rattle.sync_data.specs.declared.instr.Instr.{Instr};
 ghost use Rattle.sync_model.specs.Clients as clients;
 ghost use Rattle.sync_model.specs.Clients.{changeset_of};
 ghost use Rattle.sync_transform.specs.Sets.{made_by};
-ghost use Rattle.sync_transform.specs.Moves.{kind_in, kind_of};
+ghost use Rattle.list_places.specs.Moves.{kind_in, kind_of};
 ghost use Rattle.sync_rivals.specs.Lists.{Lists, Serves};
 ghost use Rattle.sync_rebase.specs.Settling.{settled, Fits, currents};
 ghost use Rattle.sync_rebase.specs.Taking.{Crosses, Refuses};
@@ -19,11 +19,12 @@ use super::items::{Items, Passing};
 use super::refusal::RebaseRefusal;
 use super::unsent::nothing;
 use list_blocks::cross_blocks_indexed;
+use list_places::ListAction;
 use std::alloc::Global;
 use sync_data::{Changeset, Entry, Ident};
 use sync_index::Index;
 use sync_rivals::{Pace, RivalIndex};
-use sync_transform::{ListAction, Shifted};
+use sync_transform::Shifted;
 
 /// Carries an entry of another client over the unsent changesets, from the first on. Those alone that are listed under a
 /// place of its rivals are visited; the others stay. Where there are none no index is made. Of two list instructions that

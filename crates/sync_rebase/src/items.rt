@@ -18,12 +18,13 @@ use super::stretch::{
     takes, told_at, write_around, write_head, write_whole,
 };
 use super::unsent::Unsent;
+use list_places::{ListAction, Moves, same_first_cell};
 use std::alloc::Global;
 use std::collections::VecDeque;
 use std::marker::Model;
 use sync_data::{Changeset, Entry, Ident, Instr, NoMemory, Stamp};
 use sync_index::Index;
-use sync_transform::{ListAction, Moves, Shifted, same_first_cell};
+use sync_transform::Shifted;
 
 /// Unsent changesets, from the oldest on. Of a stretch of them what they do now is kept in a lane, and written once one of them
 /// is looked at.

@@ -12,11 +12,11 @@ use super::items::Items;
 use super::original::Original;
 use super::refusal::RebaseRefusal;
 use super::unsent::Unsent;
+use list_places::ListAction;
 use std::alloc::Global;
 use std::marker::Model;
 use sync_data::{Changeset, Entry, Ident, NoMemory};
 use sync_rivals::RivalIndex;
-use sync_transform::ListAction;
 
 /// After so many looks at a changeset it has paid to list it.
 const LOOKS: usize = 64;

@@ -6,17 +6,17 @@ ghost use Rattle.sync_rebase.specs.Acrossing.{op_across, CrossedAt, LeavesAction
 ghost use Rattle.list_lane.specs.Ops.{lane_later};
 ghost use Rattle.list_lane.specs.Lanes.{lane_after, length_at_end, Chains, Fits};
 ghost use Rattle.list_lane.specs.Told.{place_in, prior_in};
-ghost use Rattle.sync_transform.specs.Moves.{kind_of};
-ghost use Rattle.sync_transform.specs.Places.{Within};
+ghost use Rattle.list_places.specs.Moves.{kind_of};
+ghost use Rattle.list_places.specs.Places.{Within};
 
 use super::carried::Across;
 use super::unsent::Unsent;
 use list_lane::{Op, action_of, op_of, prior_of};
+use list_places::ListAction;
 use list_regions::Regions;
 use std::alloc::Global;
 use std::collections::VecDeque;
 use sync_data::{Changeset, Ident, NoMemory};
-use sync_transform::ListAction;
 
 /// Unsent changesets next to each other, each of one list instruction of one cell, or of none any more: the place of the
 /// first, the ident of the client, a changeset of that cell, and what the instructions do now, as a lane in regions.

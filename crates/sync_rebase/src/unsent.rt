@@ -7,8 +7,8 @@ ghost use Rattle.sync_index.specs.Touched.{Covers};
 ghost use Rattle.sync_model.specs.Clients.{as_made, changeset_of};
 ghost use Rattle.sync_rivals.specs.Lists.{StaysListed};
 ghost use Rattle.sync_transform.specs.Sets.{made_by};
-ghost use Rattle.sync_transform.specs.Moves.{action_in, first_cell, kind_in, kind_of, moved_changes, moved_first, IsShown};
-ghost use Rattle.sync_transform.specs.declared.moves.ListAction.{ListAction as Action};
+ghost use Rattle.list_places.specs.Moves.{action_in, first_cell, kind_in, kind_of, moved_changes, moved_first, IsShown};
+ghost use Rattle.list_places.specs.declared.moves.ListAction.{ListAction as Action};
 ghost use Rattle.list_lane.specs.Lanes.{Fits};
 ghost use Rattle.list_lane.specs.Told.{told};
 ghost use Rattle.sync_rebase.specs.Stretches.{told_unsent, IsSlotOf};
@@ -19,13 +19,12 @@ ghost use Rattle.sync_rebase.specs.Taking.{IsEntryOf};
 use super::carried::Became;
 use super::original::Original;
 use list_lane::{Op, action_left, action_of, parts_of};
+use list_places::{ListAction, Moves, both_move, is_later, same_first_cell};
 use std::alloc::Global;
 use std::marker::Model;
 use sync_data::{Changeset, Entry, Ident, Instr, NoMemory, Stamp};
 use sync_index::{Index, shared_spot};
-use sync_transform::{
-    ListAction, Moves, Shifted, both_move, is_later, ones_stay, same_first_cell, stays_apart,
-};
+use sync_transform::{Shifted, ones_stay, stays_apart};
 
 /// A changeset that the server hasn't acknowledged, as it was made and as it was rebased since.
 #[derive(Drop)]

@@ -4,8 +4,8 @@ use Rattle.sync_data.specs.declared.instr.Instr.{Instr}
 use Rattle.sync_data.specs.declared.entry.Stamp.{Stamp}
 use Rattle.sync_theory.specs.Changesets.{Changeset}
 use Rattle.sync_rivals.specs.Lists.{StaysListed}
-use Rattle.sync_transform.specs.Moves.{action_in}
-use Rattle.sync_transform.specs.declared.moves.ListAction.{ListAction}
+use Rattle.list_places.specs.Moves.{action_in}
+use Rattle.list_places.specs.declared.moves.ListAction.{ListAction}
 use Rattle.sync_recip.specs.declared.carried.Crossed.{Crossed}
 use Rattle.sync_recip.specs.declared.carried.Crossed.TheVariants.{One, Stretch}
 use Rattle.sync_recip.specs.declared.carried.Became.{Became}

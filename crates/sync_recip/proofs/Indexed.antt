@@ -7,8 +7,8 @@ use Rattle.sync_theory.specs.Changesets.{Changeset}
 use Rattle.sync_rivals.specs.Lists.{AreListed, Indexed, Lists, StaysAt, StaysListed, put_list}
 use Rattle.sync_rivals.specs.Marks.{Marks, IsListed}
 use Rattle.sync_rivals.proofs.Listed.{pushed}
-use Rattle.sync_transform.specs.Moves.{action_in}
-use Rattle.sync_transform.specs.declared.moves.ListAction.{ListAction}
+use Rattle.list_places.specs.Moves.{action_in}
+use Rattle.list_places.specs.declared.moves.ListAction.{ListAction}
 use Rattle.sync_recip.specs.declared.across.Across.{Across}
 use Rattle.sync_recip.specs.declared.carried.Became.{Became}
 use Rattle.sync_recip.specs.declared.carried.Became.TheVariants.{Changed}

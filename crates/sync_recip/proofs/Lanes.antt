@@ -12,12 +12,12 @@ use Rattle.sync_law.specs.Instrs.{meet}
 use Rattle.sync_recip.specs.declared.kept.Kept.{Kept}
 use Rattle.sync_recip.specs.Lists.{kept_entry}
 use Rattle.list_lane.proofs.Chain.{crossed_none, not_not}
-use Rattle.sync_transform.specs.Places.{longer, Within, place_after}
-use Rattle.sync_transform.specs.Moves.{action_in, kind_in, moved_first}
-use Rattle.sync_transform.specs.declared.places.Does.{Does}
-use Rattle.sync_transform.specs.declared.places.Does.TheVariants.{Inserts, Erases, Updates}
-use Rattle.sync_transform.specs.declared.moves.ListAction.{ListAction}
-use Rattle.sync_transform.proofs.Stands.{WithinIf, within_after}
+use Rattle.list_places.specs.Places.{longer, Within, place_after}
+use Rattle.list_places.specs.Moves.{action_in, kind_in, moved_first}
+use Rattle.list_places.specs.declared.places.Does.{Does}
+use Rattle.list_places.specs.declared.places.Does.TheVariants.{Inserts, Erases, Updates}
+use Rattle.list_places.specs.declared.moves.ListAction.{ListAction}
+use Rattle.list_places.proofs.Stands.{WithinIf, within_after}
 use Rattle.list_lane.specs.Ops.{lane_later, moved}
 use Rattle.list_lane.specs.Lanes.{LaneOf, crossed, length_after, length_at_end, lane_after, Chains}
 use Rattle.list_lane.specs.Told.{action, prior_in, told, told_set, told_sets, IsTold, AreTold}

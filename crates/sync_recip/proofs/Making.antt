@@ -6,10 +6,10 @@ use Rattle.sync_data.specs.declared.entry.Entry.{Entry}
 use Rattle.sync_data.specs.declared.entry.Stamp.{Stamp}
 use Rattle.sync_data.specs.declared.instr.Instr.{Instr}
 use Rattle.sync_base.specs.Effects.{CellPath}
-use Rattle.sync_transform.specs.Places.{Within}
-use Rattle.sync_transform.specs.Moves.{action_in, first_cell, kind_of}
-use Rattle.sync_transform.specs.declared.places.Does.{Does}
-use Rattle.sync_transform.specs.declared.moves.ListAction.{ListAction}
+use Rattle.list_places.specs.Places.{Within}
+use Rattle.list_places.specs.Moves.{action_in, first_cell, kind_of}
+use Rattle.list_places.specs.declared.places.Does.{Does}
+use Rattle.list_places.specs.declared.moves.ListAction.{ListAction}
 use Rattle.list_lane.specs.Lanes.{length_after, length_at_end}
 use Rattle.list_lane.specs.Told.{action, place_in, prior_in}
 use Rattle.list_lane.specs.declared.op.Op.{Op}

@@ -11,11 +11,11 @@ use Rattle.sync_recip.specs.Lists.{kept_entry, lists_in, versions}
 use Rattle.sync_rivals.specs.Lists.{StandsAt, StaysListed}
 use Rattle.sync_theory.specs.Changesets.{cross_sets}
 use Rattle.sync_law.specs.Instrs.{meet}
-use Rattle.sync_transform.specs.Moves.{kind_in, kind_of, moved_changes, moved_first}
+use Rattle.list_places.specs.Moves.{kind_in, kind_of, moved_changes, moved_first}
 use Rattle.sync_transform.specs.Sets.{made_by}
-use Rattle.sync_transform.specs.declared.moves.Moves.{Moves}
+use Rattle.list_places.specs.declared.moves.Moves.{Moves}
 use Rattle.sync_recip.specs.Acrossing.{BothMove}
-use Rattle.sync_transform.specs.declared.moves.ListAction.{ListAction}
+use Rattle.list_places.specs.declared.moves.ListAction.{ListAction}
 use Rattle.list_lane.specs.Lanes.{length_after, slot_at}
 use Rattle.list_lane.specs.Told.{action, told}
 use Rattle.sync_recip.specs.Stretches.{instrs_in, told_kept, overlaid, laid, shown_by, Holds, AllHold, Stands, Outside, IsToldAt}

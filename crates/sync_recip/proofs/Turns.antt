@@ -12,7 +12,7 @@ use Rattle.sync_index.specs.Touched.{Touched, Covers}
 use Rattle.sync_rivals.specs.Lists.{Indexed, Serves, StandsAt, StaysListed}
 use Rattle.sync_rivals.specs.Lemmas.Skips.{lists_of, known_left, listed_right}
 use Rattle.sync_transform.specs.Sets.{made_by}
-use Rattle.sync_transform.specs.declared.moves.ListAction.{ListAction}
+use Rattle.list_places.specs.declared.moves.ListAction.{ListAction}
 use Rattle.sync_recip.specs.declared.across.Across.{Across}
 use Rattle.sync_recip.specs.declared.kept.Kept.{Kept}
 use Rattle.sync_recip.specs.declared.carried.Crossed.{Crossed}

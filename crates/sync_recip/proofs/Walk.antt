@@ -9,11 +9,11 @@ use Rattle.sync_theory.specs.Grid.{carry}
 use Rattle.sync_law.specs.Instrs.{meet}
 use Rattle.sync_index.specs.Touched.{Touched, Covers}
 use Rattle.sync_rivals.specs.Lists.{Indexed, Serves, Pass}
-use Rattle.sync_transform.specs.Moves.{moved_changes}
+use Rattle.list_places.specs.Moves.{moved_changes}
 use Rattle.sync_transform.specs.Sets.{made_by}
-use Rattle.sync_transform.specs.declared.moves.ListAction.{ListAction}
-use Rattle.sync_transform.specs.declared.moves.Moves.{Moves}
-use Rattle.sync_transform.proofs.Stands.{shown_covered}
+use Rattle.list_places.specs.declared.moves.ListAction.{ListAction}
+use Rattle.list_places.specs.declared.moves.Moves.{Moves}
+use Rattle.sync_transform.proofs.Shown.{shown_covered}
 use Rattle.sync_recip.specs.declared.carried.Became.{Became}
 use Rattle.sync_recip.specs.declared.carried.Became.TheVariants.{Moved}
 use Rattle.sync_recip.specs.declared.carried.Crossed.{Crossed}

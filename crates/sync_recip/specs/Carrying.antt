@@ -6,8 +6,8 @@ use Rattle.sync_base.specs.declared.answers.Mismatch.{Mismatch}
 use Rattle.sync_theory.specs.Changesets.{Changeset}
 use Rattle.sync_theory.specs.Reciprocals.{from_base}
 use Rattle.sync_rivals.specs.Lists.{StaysListed}
-use Rattle.sync_transform.specs.Moves.{kind_in, kind_of, moved_first}
-use Rattle.sync_transform.specs.declared.moves.ListAction.{ListAction}
+use Rattle.list_places.specs.Moves.{kind_in, kind_of, moved_first}
+use Rattle.list_places.specs.declared.moves.ListAction.{ListAction}
 use Rattle.sync_recip.specs.Lists.{entry_of, lists_in}
 use Rattle.sync_recip.specs.declared.carried.Became.{Became}
 use Rattle.sync_recip.specs.declared.carried.Became.TheVariants.{Moved, Changed}

@@ -4,10 +4,10 @@ use Rattle.sync_data.specs.declared.instr.Instr.{Instr}
 use Rattle.sync_data.specs.declared.entry.Stamp.{Stamp}
 use Rattle.sync_base.specs.Rules.{top}
 use Rattle.sync_theory.specs.Changesets.{Changeset, later_stamp}
-use Rattle.sync_transform.specs.Places.{longer, place_after}
-use Rattle.sync_transform.specs.Moves.{action_in, kind_of, moved_first}
-use Rattle.sync_transform.specs.declared.places.Does.{Does}
-use Rattle.sync_transform.specs.declared.moves.ListAction.{ListAction}
+use Rattle.list_places.specs.Places.{longer, place_after}
+use Rattle.list_places.specs.Moves.{action_in, kind_of, moved_first}
+use Rattle.list_places.specs.declared.places.Does.{Does}
+use Rattle.list_places.specs.declared.moves.ListAction.{ListAction}
 use Rattle.list_lane.specs.Told.{action, place_in, prior_in}
 
 abbrev pub action_there : Does → ℕ → Option ℕ → Option ListAction

@@ -4,8 +4,8 @@ use Rattle.sync_data.specs.declared.instr.Instr.{Instr}
 use Rattle.sync_data.specs.declared.entry.Entry.{Entry}
 use Rattle.sync_data.specs.declared.entry.Stamp.{Stamp}
 use Rattle.sync_base.specs.Effects.{CellPath}
-use Rattle.sync_transform.specs.Places.{Within}
-use Rattle.sync_transform.specs.Moves.{action_in, kind_in, first_cell}
+use Rattle.list_places.specs.Places.{Within}
+use Rattle.list_places.specs.Moves.{action_in, kind_in, first_cell}
 use Rattle.list_lane.specs.Lanes.{LaneOf, length_after, length_before, slot_at}
 use Rattle.list_lane.specs.Told.{action, told}
 use Rattle.list_lane.specs.declared.op.Op.{Op}

@@ -1,5 +1,5 @@
+use list_places::ListAction;
 use sync_base::Stamp;
-use sync_transform::ListAction;
 
 /// So many entries from a place on, each of one list instruction or of none; and what a change that is one instruction of that
 /// list does, and its stamp, as it came to them.

@@ -8,10 +8,11 @@ ghost use Rattle.sync_recip.specs.Stretches.{from_place};
 use super::across::Across;
 use super::items::Items;
 use super::shared::SharedEntry;
+use list_places::ListAction;
 use std::marker::Model;
 use sync_base::Changeset;
 use sync_rivals::RivalIndex;
-use sync_transform::{ListAction, Shifted};
+use sync_transform::Shifted;
 
 /// What became of an entry as a change crossed it.
 #[derive(Drop)]

@@ -4,7 +4,7 @@ ghost use Rattle.sync_theory.specs.Grid.{carry};
 ghost use Rattle.sync_law.specs.Instrs.{meet};
 ghost use Rattle.sync_index.specs.Touched.{Covers};
 ghost use Rattle.sync_rivals.specs.Lists.{Lists, Serves};
-ghost use Rattle.sync_transform.specs.Moves.{kind_in, kind_of};
+ghost use Rattle.list_places.specs.Moves.{kind_in, kind_of};
 ghost use Rattle.sync_transform.specs.Sets.{made_by};
 ghost use Rattle.sync_recip.specs.Acrossing.{changes_left};
 ghost use Rattle.sync_recip.specs.Lists.{entry_of, kept_entry, lists_in};
@@ -19,11 +19,12 @@ use super::refusal::RecipRefusal;
 use super::shared::SharedEntry;
 use super::shifted::nothing;
 use list_blocks::cross_blocks;
+use list_places::ListAction;
 use std::alloc::Global;
 use sync_base::{Changeset, Entry, Ident, NoMemory};
 use sync_index::Index;
 use sync_rivals::{Pace, RivalIndex};
-use sync_transform::{ListAction, Shifted};
+use sync_transform::Shifted;
 
 /// A change of a client is carried over the entries of others from the place `first` on. By an index of the change and the
 /// codes of its rivals, what it can't meet is passed over.

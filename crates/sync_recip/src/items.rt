@@ -18,11 +18,12 @@ use super::stretch::{
     Stretch, cross_at_once, cross_each, extend_last, first_stretch, left_by, takes, told_at,
     write_around, write_before, write_whole,
 };
+use list_places::{ListAction, Moves};
 use std::alloc::Global;
 use std::marker::Model;
 use sync_base::{Changeset, Entry, Ident, Instr, NoMemory, Stamp};
 use sync_index::Index;
-use sync_transform::{ListAction, Moves, Shifted};
+use sync_transform::Shifted;
 
 /// Entries as one client's changes crossed them, and their versions. Of a stretch of them what they do now is kept in a lane,
 /// and written once one of them is looked at.

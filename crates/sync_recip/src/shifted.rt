@@ -6,8 +6,8 @@ ghost use Rattle.sync_law.specs.Instrs.{meet};
 ghost use Rattle.sync_index.specs.Touched.{Covers};
 ghost use Rattle.sync_rivals.specs.Lists.{StaysListed};
 ghost use Rattle.sync_transform.specs.Sets.{made_by};
-ghost use Rattle.sync_transform.specs.Moves.{action_in as action_told, first_cell, kind_in, kind_of, moved_changes, moved_first};
-ghost use Rattle.sync_transform.specs.declared.moves.ListAction.{ListAction as Action};
+ghost use Rattle.list_places.specs.Moves.{action_in as action_told, first_cell, kind_in, kind_of, moved_changes, moved_first};
+ghost use Rattle.list_places.specs.declared.moves.ListAction.{ListAction as Action};
 ghost use Rattle.list_lane.specs.Lanes.{Fits};
 ghost use Rattle.list_lane.specs.Told.{told};
 ghost use Rattle.sync_recip.specs.Lists.{entry_of};
@@ -19,14 +19,12 @@ ghost use Rattle.sync_recip.specs.Stretches.{holding, IsOpOn};
 use super::carried::Became;
 use super::shared::SharedEntry;
 use list_lane::{Op, action_left, action_of, parts_of};
+use list_places::{ListAction, Moves, action_in, both_move, is_later, same_first_cell, shown};
 use std::alloc::Global;
 use std::marker::Model;
 use sync_base::{Changeset, Entry, Ident, Instr, NoMemory, Stamp};
 use sync_index::Index;
-use sync_transform::{
-    ListAction, Moves, Shifted, action_in, both_move, is_later, ones_stay, same_first_cell, shown,
-    stays_apart,
-};
+use sync_transform::{Shifted, ones_stay, stays_apart};
 
 /// An entry as one client's changes crossed it. Where it is one list instruction that was only shifted, or that fell, others
 /// hold it too, and what that instruction does now is kept beside it; and the spot of its changes, so that what an index tells
@@ -43,7 +41,7 @@ impl Model for ShiftedEntry {
     ghost use Rattle.std.specs.Prelude.{◌≡◌};
     ghost use Rattle.std.specs.Option.{option_map};
     ghost use Rattle.sync_data.specs.declared.entry.Entry.{Entry};
-    ghost use Rattle.sync_transform.specs.Moves.{kind_in, kind_of};
+    ghost use Rattle.list_places.specs.Moves.{kind_in, kind_of};
     ghost use Rattle.sync_recip.specs.Standing.{stood};
 
     ghost Value = { Entry };

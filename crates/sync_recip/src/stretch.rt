@@ -1,7 +1,7 @@
 ghost use Rattle.std.specs.Prelude.{◌≡◌, ◌<◌, ◌+◌, None, Some, IfSome, IsFalse, IsTrue, OnOk, OnErr, false, drop, length, map};
 ghost use Rattle.sync_base.specs.Rules.{top};
-ghost use Rattle.sync_transform.specs.Places.{Within};
-ghost use Rattle.sync_transform.specs.Moves.{kind_of};
+ghost use Rattle.list_places.specs.Places.{Within};
+ghost use Rattle.list_places.specs.Moves.{kind_of};
 ghost use Rattle.list_lane.specs.Lanes.{lane_after, Chains, Fits};
 ghost use Rattle.list_lane.specs.Ops.{lane_later};
 ghost use Rattle.list_lane.specs.Told.{place_in, prior_in};
@@ -13,10 +13,10 @@ use super::across::Across;
 use super::kept::Kept;
 use super::shifted::ShiftedEntry;
 use list_lane::{Op, action_of, op_of, prior_of};
+use list_places::ListAction;
 use list_regions::Regions;
 use std::alloc::Global;
 use sync_base::NoMemory;
-use sync_transform::ListAction;
 
 /// Entries next to each other, each of one list instruction of one cell, or of none any more: the place of the first, and what
 /// the instructions do now, as a lane in regions.

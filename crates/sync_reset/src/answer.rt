@@ -1,7 +1,7 @@
 use sync_base::{Instr, Listed};
 
 /// An instruction that wasn't kept: its place in the change, counted from 0, and the code of its break.
-#[derive(Clone, Copy, Debug, PartialEq, Eq)]
+#[derive(Clone, Copy, PartialEq, Eq)]
 pub struct Dropped {
     pub place: u32,
     pub code: u8,

@@ -5,7 +5,7 @@ use std::alloc::Global;
 use sync_data::NoMemory;
 
 /// Why a run ends at a line.
-#[derive(Clone, Copy, Debug, PartialEq, Eq)]
+#[derive(Clone, Copy, PartialEq, Eq)]
 pub enum LineEnd {
     /// The line is none of the command's.
     BadLine,

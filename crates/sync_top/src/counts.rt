@@ -19,7 +19,7 @@ use sync_words::Outcome;
 use sync_world::World;
 
 /// What the events of an exchange came to.
-#[derive(Clone, Copy, Debug, PartialEq, Eq)]
+#[derive(Clone, Copy, PartialEq, Eq)]
 pub struct Counts {
     /// The messages that were made.
     pub messages: u32,

@@ -8,7 +8,7 @@ use uuid::Uuid;
 pub const MOST_TURNS: u32 = 100_000;
 
 /// What a command line asks for (docs/FORMATS.md, "Commands").
-#[derive(Clone, Copy, Debug, PartialEq, Eq)]
+#[derive(Clone, Copy, PartialEq, Eq)]
 pub enum Job {
     /// Event lines are read and answered.
     Replay,

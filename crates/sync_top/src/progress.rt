@@ -30,11 +30,15 @@ fn one_edit(alloc: Global, edit: Instr) -> Result<Listed<Instr>, NoMemory>
     ensures { IfOk result (λ edits. edits ≡ edit ∷ []) }
 {
     let Ok(mut edits) = Vec::with_capacity(alloc, 1) else {
+        drop(edit);
         return Err(NoMemory);
     };
     match edits.push(edit) {
         Ok(()) => Ok(Listed::of(edits)),
-        Err(_) => Err(NoMemory),
+        Err(failed) => {
+            drop(failed);
+            Err(NoMemory)
+        }
     }
 }
 

@@ -10,17 +10,16 @@ use Rattle.sync_data.specs.declared.instr.SetErase.{SetErase}
 use Rattle.sync_data.specs.declared.instr.CreateObject.{CreateObject}
 use Rattle.sync_base.specs.Effects.{CellPath, effect_of}
 use Rattle.sync_base.specs.Merged.{path_cmp}
-use Rattle.sync_base.specs.Objects.{object_of, are_apart}
+use Rattle.sync_base.specs.Objects.{cell_in, object_of, are_apart}
 use Rattle.sync_base.specs.Rules.{meeting}
 use Rattle.sync_base.specs.Lemmas.Objects.{apart_stay}
 use Rattle.sync_theory.specs.Lists.{kept, met, row, rowed, cross}
 use Rattle.sync_law.specs.Instrs.{as_pair, meet}
-use Rattle.sync_index.specs.Cells.{cell_in}
-use Rattle.sync_transform.specs.Moves.{inserted_at, erased_at, updated_at, moved, moved_first, kind_in, kind_of, shown, IsShown}
-use Rattle.sync_transform.specs.declared.moves.ListAction.{ListAction}
-use Rattle.sync_transform.specs.declared.moves.ListAction.TheVariants.{Insert, Erase, Update}
+use Rattle.list_places.specs.Moves.{inserted_at, erased_at, updated_at, moved, moved_first, kind_in, kind_of, shown, IsShown}
+use Rattle.list_places.specs.declared.moves.ListAction.{ListAction}
+use Rattle.list_places.specs.declared.moves.ListAction.TheVariants.{Insert, Erase, Update}
 use Rattle.sync_transform.proofs.Cells.{two_cells}
-use Rattle.sync_transform.proofs.Stands.{same_elsewhere, told_written}
+use Rattle.list_places.proofs.Stands.{same_elsewhere, told_written}
 use Rattle.sync_transform.specs.Staying.{StayAnywhere}
 
 -- ---- lists of one
@@ -110,7 +109,7 @@ abbrev rights : {L R M : Type 0} → Result (List L × List R) M → List R
 rights (Ok p) = p.1
 rights (Err e) = []
 
-one_left : {L R M : Type 0} (m : L → R → Result (Option L × Option R) M) (r : Result (Option L × Option R) M) (a : L) (b : R)
+pub one_left : {L R M : Type 0} (m : L → R → Result (Option L × Option R) M) (r : Result (Option L × Option R) M) (a : L) (b : R)
     → rowed (met r (λ x. row m x [])) (λ cs. cross m [] cs) ≡ Ok (a ∷ [], b ∷ []) → r ≡ Ok (Some a, Some b)
 one_left m (Err e) a b h = cc
 one_left m (Ok (None, y)) a b h = λ i. Ok (one_kept None a (ap lefts h) i, one_kept y b (ap rights h) i)

@@ -3,10 +3,10 @@ use Rattle.std.proofs.Common.{◌≡◌, Bool, true, false, not, ◌&&◌, cond,
 use Rattle.std.specs.Ordering.{eq_by_cmp}
 use Rattle.sync_data.specs.declared.instr.Instr.{Instr}
 use Rattle.sync_base.specs.Effects.{CellPath, Effect, NewTable, NewColumn, Create, Erase, Change, effect_of}
+use Rattle.sync_base.specs.Objects.{cell_in}
 use Rattle.sync_base.specs.Merged.{path_cmp}
 use Rattle.sync_base.specs.Rules.{rule, meeting, outcome_of, kept, has_row, lifted, rule_of_edits}
 use Rattle.sync_base.specs.Lemmas.Whole.{instr-effect}
-use Rattle.sync_index.specs.Cells.{cell_in}
 
 and_false : (b c : Bool) → c ≡ false → (b && c) ≡ false
 and_false true c h = h

@@ -4,6 +4,6 @@ pub mod Covered
 pub mod Parts
 pub mod Sizes
 pub mod Agreed
-pub mod Rows
-pub mod Stands
+pub mod Shown
 pub mod Anywhere
+pub mod InPlace

@@ -1,5 +1,3 @@
 pub mod Indexes
 pub mod Sets
-pub mod Places
-pub mod Moves
 pub mod Staying

@@ -10,9 +10,11 @@ use rule_set::SetRules;
 use sync_base::{
     AddColumn, AddInteger, AddTable, Clear, CreateObject, DictUpdate, EraseObject, Instr,
     ListErase, ListInsert, ListUpdate, Meets, Mismatch, Outcome, SetErase, SetInsert, Update,
+    keep_both,
 };
 
-/// What is left of two instructions that meet, by the rule table over all pairs. It takes no memory.
+/// What is left of two instructions that meet, by the rule table over all pairs. Of 51 pairs a rule tells; both sides of the
+/// other 118 stay. It takes no memory.
 pub fn meet(left: Instr, right: Instr, left_later: bool) -> Result<Outcome, Mismatch>
     ensures { result ≡ meeting left right left_later }
 {
@@ -38,18 +40,7 @@ fn meet_add_table(left: AddTable, right: Instr, left_later: bool) -> Result<Outc
 {
     match right {
         Instr::AddTable(right) => SchemaRules::meet(left, right, left_later),
-        Instr::AddColumn(right) => SchemaRules::meet(left, right, left_later),
-        Instr::CreateObject(right) => ObjectRules::meet(left, right, left_later),
-        Instr::EraseObject(right) => ObjectRules::meet(left, right, left_later),
-        Instr::Update(right) => FieldRules::meet(left, right, left_later),
-        Instr::AddInteger(right) => FieldRules::meet(left, right, left_later),
-        Instr::ListUpdate(right) => ListRules::meet(left, right, left_later),
-        Instr::ListInsert(right) => ListRules::meet(left, right, left_later),
-        Instr::ListErase(right) => ListRules::meet(left, right, left_later),
-        Instr::SetInsert(right) => SetRules::meet(left, right, left_later),
-        Instr::SetErase(right) => SetRules::meet(left, right, left_later),
-        Instr::DictUpdate(right) => DictRules::meet(left, right, left_later),
-        Instr::Clear(right) => DictRules::meet(left, right, left_later),
+        right => keep_both(left, right),
     }
 }
 
@@ -57,19 +48,8 @@ fn meet_add_column(left: AddColumn, right: Instr, left_later: bool) -> Result<Ou
     ensures { result ≡ meeting (Instr.AddColumn left) right left_later }
 {
     match right {
-        Instr::AddTable(right) => SchemaRules::meet(left, right, left_later),
         Instr::AddColumn(right) => SchemaRules::meet(left, right, left_later),
-        Instr::CreateObject(right) => ObjectRules::meet(left, right, left_later),
-        Instr::EraseObject(right) => ObjectRules::meet(left, right, left_later),
-        Instr::Update(right) => FieldRules::meet(left, right, left_later),
-        Instr::AddInteger(right) => FieldRules::meet(left, right, left_later),
-        Instr::ListUpdate(right) => ListRules::meet(left, right, left_later),
-        Instr::ListInsert(right) => ListRules::meet(left, right, left_later),
-        Instr::ListErase(right) => ListRules::meet(left, right, left_later),
-        Instr::SetInsert(right) => SetRules::meet(left, right, left_later),
-        Instr::SetErase(right) => SetRules::meet(left, right, left_later),
-        Instr::DictUpdate(right) => DictRules::meet(left, right, left_later),
-        Instr::Clear(right) => DictRules::meet(left, right, left_later),
+        right => keep_both(left, right),
     }
 }
 
@@ -81,19 +61,8 @@ fn meet_create_object(
     ensures { result ≡ meeting (Instr.CreateObject left) right left_later }
 {
     match right {
-        Instr::AddTable(right) => ObjectRules::meet(left, right, left_later),
-        Instr::AddColumn(right) => ObjectRules::meet(left, right, left_later),
-        Instr::CreateObject(right) => ObjectRules::meet(left, right, left_later),
         Instr::EraseObject(right) => ObjectRules::meet(left, right, left_later),
-        Instr::Update(right) => FieldRules::meet(left, right, left_later),
-        Instr::AddInteger(right) => FieldRules::meet(left, right, left_later),
-        Instr::ListUpdate(right) => ListRules::meet(left, right, left_later),
-        Instr::ListInsert(right) => ListRules::meet(left, right, left_later),
-        Instr::ListErase(right) => ListRules::meet(left, right, left_later),
-        Instr::SetInsert(right) => SetRules::meet(left, right, left_later),
-        Instr::SetErase(right) => SetRules::meet(left, right, left_later),
-        Instr::DictUpdate(right) => DictRules::meet(left, right, left_later),
-        Instr::Clear(right) => DictRules::meet(left, right, left_later),
+        right => keep_both(left, right),
     }
 }
 
@@ -101,8 +70,6 @@ fn meet_erase_object(left: EraseObject, right: Instr, left_later: bool) -> Resul
     ensures { result ≡ meeting (Instr.EraseObject left) right left_later }
 {
     match right {
-        Instr::AddTable(right) => ObjectRules::meet(left, right, left_later),
-        Instr::AddColumn(right) => ObjectRules::meet(left, right, left_later),
         Instr::CreateObject(right) => ObjectRules::meet(left, right, left_later),
         Instr::EraseObject(right) => ObjectRules::meet(left, right, left_later),
         Instr::Update(right) => FieldRules::meet(left, right, left_later),
@@ -114,6 +81,7 @@ fn meet_erase_object(left: EraseObject, right: Instr, left_later: bool) -> Resul
         Instr::SetErase(right) => SetRules::meet(left, right, left_later),
         Instr::DictUpdate(right) => DictRules::meet(left, right, left_later),
         Instr::Clear(right) => DictRules::meet(left, right, left_later),
+        right => keep_both(left, right),
     }
 }
 
@@ -121,19 +89,10 @@ fn meet_update(left: Update, right: Instr, left_later: bool) -> Result<Outcome, 
     ensures { result ≡ meeting (Instr.Update left) right left_later }
 {
     match right {
-        Instr::AddTable(right) => FieldRules::meet(left, right, left_later),
-        Instr::AddColumn(right) => FieldRules::meet(left, right, left_later),
-        Instr::CreateObject(right) => FieldRules::meet(left, right, left_later),
         Instr::EraseObject(right) => FieldRules::meet(left, right, left_later),
         Instr::Update(right) => FieldRules::meet(left, right, left_later),
         Instr::AddInteger(right) => FieldRules::meet(left, right, left_later),
-        Instr::ListUpdate(right) => ListRules::meet(left, right, left_later),
-        Instr::ListInsert(right) => ListRules::meet(left, right, left_later),
-        Instr::ListErase(right) => ListRules::meet(left, right, left_later),
-        Instr::SetInsert(right) => SetRules::meet(left, right, left_later),
-        Instr::SetErase(right) => SetRules::meet(left, right, left_later),
-        Instr::DictUpdate(right) => DictRules::meet(left, right, left_later),
-        Instr::Clear(right) => DictRules::meet(left, right, left_later),
+        right => keep_both(left, right),
     }
 }
 
@@ -141,19 +100,9 @@ fn meet_add_integer(left: AddInteger, right: Instr, left_later: bool) -> Result<
     ensures { result ≡ meeting (Instr.AddInteger left) right left_later }
 {
     match right {
-        Instr::AddTable(right) => FieldRules::meet(left, right, left_later),
-        Instr::AddColumn(right) => FieldRules::meet(left, right, left_later),
-        Instr::CreateObject(right) => FieldRules::meet(left, right, left_later),
         Instr::EraseObject(right) => FieldRules::meet(left, right, left_later),
         Instr::Update(right) => FieldRules::meet(left, right, left_later),
-        Instr::AddInteger(right) => FieldRules::meet(left, right, left_later),
-        Instr::ListUpdate(right) => ListRules::meet(left, right, left_later),
-        Instr::ListInsert(right) => ListRules::meet(left, right, left_later),
-        Instr::ListErase(right) => ListRules::meet(left, right, left_later),
-        Instr::SetInsert(right) => SetRules::meet(left, right, left_later),
-        Instr::SetErase(right) => SetRules::meet(left, right, left_later),
-        Instr::DictUpdate(right) => DictRules::meet(left, right, left_later),
-        Instr::Clear(right) => DictRules::meet(left, right, left_later),
+        right => keep_both(left, right),
     }
 }
 
@@ -161,19 +110,12 @@ fn meet_list_update(left: ListUpdate, right: Instr, left_later: bool) -> Result<
     ensures { result ≡ meeting (Instr.ListUpdate left) right left_later }
 {
     match right {
-        Instr::AddTable(right) => ListRules::meet(left, right, left_later),
-        Instr::AddColumn(right) => ListRules::meet(left, right, left_later),
-        Instr::CreateObject(right) => ListRules::meet(left, right, left_later),
         Instr::EraseObject(right) => ListRules::meet(left, right, left_later),
-        Instr::Update(right) => ListRules::meet(left, right, left_later),
-        Instr::AddInteger(right) => ListRules::meet(left, right, left_later),
         Instr::ListUpdate(right) => ListRules::meet(left, right, left_later),
         Instr::ListInsert(right) => ListRules::meet(left, right, left_later),
         Instr::ListErase(right) => ListRules::meet(left, right, left_later),
-        Instr::SetInsert(right) => SetRules::meet(left, right, left_later),
-        Instr::SetErase(right) => SetRules::meet(left, right, left_later),
-        Instr::DictUpdate(right) => DictRules::meet(left, right, left_later),
         Instr::Clear(right) => DictRules::meet(left, right, left_later),
+        right => keep_both(left, right),
     }
 }
 
@@ -181,19 +123,12 @@ fn meet_list_insert(left: ListInsert, right: Instr, left_later: bool) -> Result<
     ensures { result ≡ meeting (Instr.ListInsert left) right left_later }
 {
     match right {
-        Instr::AddTable(right) => ListRules::meet(left, right, left_later),
-        Instr::AddColumn(right) => ListRules::meet(left, right, left_later),
-        Instr::CreateObject(right) => ListRules::meet(left, right, left_later),
         Instr::EraseObject(right) => ListRules::meet(left, right, left_later),
-        Instr::Update(right) => ListRules::meet(left, right, left_later),
-        Instr::AddInteger(right) => ListRules::meet(left, right, left_later),
         Instr::ListUpdate(right) => ListRules::meet(left, right, left_later),
         Instr::ListInsert(right) => ListRules::meet(left, right, left_later),
         Instr::ListErase(right) => ListRules::meet(left, right, left_later),
-        Instr::SetInsert(right) => SetRules::meet(left, right, left_later),
-        Instr::SetErase(right) => SetRules::meet(left, right, left_later),
-        Instr::DictUpdate(right) => DictRules::meet(left, right, left_later),
         Instr::Clear(right) => DictRules::meet(left, right, left_later),
+        right => keep_both(left, right),
     }
 }
 
@@ -201,19 +136,12 @@ fn meet_list_erase(left: ListErase, right: Instr, left_later: bool) -> Result<Ou
     ensures { result ≡ meeting (Instr.ListErase left) right left_later }
 {
     match right {
-        Instr::AddTable(right) => ListRules::meet(left, right, left_later),
-        Instr::AddColumn(right) => ListRules::meet(left, right, left_later),
-        Instr::CreateObject(right) => ListRules::meet(left, right, left_later),
         Instr::EraseObject(right) => ListRules::meet(left, right, left_later),
-        Instr::Update(right) => ListRules::meet(left, right, left_later),
-        Instr::AddInteger(right) => ListRules::meet(left, right, left_later),
         Instr::ListUpdate(right) => ListRules::meet(left, right, left_later),
         Instr::ListInsert(right) => ListRules::meet(left, right, left_later),
         Instr::ListErase(right) => ListRules::meet(left, right, left_later),
-        Instr::SetInsert(right) => SetRules::meet(left, right, left_later),
-        Instr::SetErase(right) => SetRules::meet(left, right, left_later),
-        Instr::DictUpdate(right) => DictRules::meet(left, right, left_later),
         Instr::Clear(right) => DictRules::meet(left, right, left_later),
+        right => keep_both(left, right),
     }
 }
 
@@ -221,19 +149,10 @@ fn meet_set_insert(left: SetInsert, right: Instr, left_later: bool) -> Result<Ou
     ensures { result ≡ meeting (Instr.SetInsert left) right left_later }
 {
     match right {
-        Instr::AddTable(right) => SetRules::meet(left, right, left_later),
-        Instr::AddColumn(right) => SetRules::meet(left, right, left_later),
-        Instr::CreateObject(right) => SetRules::meet(left, right, left_later),
         Instr::EraseObject(right) => SetRules::meet(left, right, left_later),
-        Instr::Update(right) => SetRules::meet(left, right, left_later),
-        Instr::AddInteger(right) => SetRules::meet(left, right, left_later),
-        Instr::ListUpdate(right) => SetRules::meet(left, right, left_later),
-        Instr::ListInsert(right) => SetRules::meet(left, right, left_later),
-        Instr::ListErase(right) => SetRules::meet(left, right, left_later),
-        Instr::SetInsert(right) => SetRules::meet(left, right, left_later),
         Instr::SetErase(right) => SetRules::meet(left, right, left_later),
-        Instr::DictUpdate(right) => DictRules::meet(left, right, left_later),
         Instr::Clear(right) => DictRules::meet(left, right, left_later),
+        right => keep_both(left, right),
     }
 }
 
@@ -241,19 +160,10 @@ fn meet_set_erase(left: SetErase, right: Instr, left_later: bool) -> Result<Outc
     ensures { result ≡ meeting (Instr.SetErase left) right left_later }
 {
     match right {
-        Instr::AddTable(right) => SetRules::meet(left, right, left_later),
-        Instr::AddColumn(right) => SetRules::meet(left, right, left_later),
-        Instr::CreateObject(right) => SetRules::meet(left, right, left_later),
         Instr::EraseObject(right) => SetRules::meet(left, right, left_later),
-        Instr::Update(right) => SetRules::meet(left, right, left_later),
-        Instr::AddInteger(right) => SetRules::meet(left, right, left_later),
-        Instr::ListUpdate(right) => SetRules::meet(left, right, left_later),
-        Instr::ListInsert(right) => SetRules::meet(left, right, left_later),
-        Instr::ListErase(right) => SetRules::meet(left, right, left_later),
         Instr::SetInsert(right) => SetRules::meet(left, right, left_later),
-        Instr::SetErase(right) => SetRules::meet(left, right, left_later),
-        Instr::DictUpdate(right) => DictRules::meet(left, right, left_later),
         Instr::Clear(right) => DictRules::meet(left, right, left_later),
+        right => keep_both(left, right),
     }
 }
 
@@ -261,19 +171,10 @@ fn meet_dict_update(left: DictUpdate, right: Instr, left_later: bool) -> Result<
     ensures { result ≡ meeting (Instr.DictUpdate left) right left_later }
 {
     match right {
-        Instr::AddTable(right) => DictRules::meet(left, right, left_later),
-        Instr::AddColumn(right) => DictRules::meet(left, right, left_later),
-        Instr::CreateObject(right) => DictRules::meet(left, right, left_later),
         Instr::EraseObject(right) => DictRules::meet(left, right, left_later),
-        Instr::Update(right) => DictRules::meet(left, right, left_later),
-        Instr::AddInteger(right) => DictRules::meet(left, right, left_later),
-        Instr::ListUpdate(right) => DictRules::meet(left, right, left_later),
-        Instr::ListInsert(right) => DictRules::meet(left, right, left_later),
-        Instr::ListErase(right) => DictRules::meet(left, right, left_later),
-        Instr::SetInsert(right) => DictRules::meet(left, right, left_later),
-        Instr::SetErase(right) => DictRules::meet(left, right, left_later),
         Instr::DictUpdate(right) => DictRules::meet(left, right, left_later),
         Instr::Clear(right) => DictRules::meet(left, right, left_later),
+        right => keep_both(left, right),
     }
 }
 
@@ -281,12 +182,7 @@ fn meet_clear(left: Clear, right: Instr, left_later: bool) -> Result<Outcome, Mi
     ensures { result ≡ meeting (Instr.Clear left) right left_later }
 {
     match right {
-        Instr::AddTable(right) => DictRules::meet(left, right, left_later),
-        Instr::AddColumn(right) => DictRules::meet(left, right, left_later),
-        Instr::CreateObject(right) => DictRules::meet(left, right, left_later),
         Instr::EraseObject(right) => DictRules::meet(left, right, left_later),
-        Instr::Update(right) => DictRules::meet(left, right, left_later),
-        Instr::AddInteger(right) => DictRules::meet(left, right, left_later),
         Instr::ListUpdate(right) => DictRules::meet(left, right, left_later),
         Instr::ListInsert(right) => DictRules::meet(left, right, left_later),
         Instr::ListErase(right) => DictRules::meet(left, right, left_later),
@@ -294,5 +190,6 @@ fn meet_clear(left: Clear, right: Instr, left_later: bool) -> Result<Outcome, Mi
         Instr::SetErase(right) => DictRules::meet(left, right, left_later),
         Instr::DictUpdate(right) => DictRules::meet(left, right, left_later),
         Instr::Clear(right) => DictRules::meet(left, right, left_later),
+        right => keep_both(left, right),
     }
 }

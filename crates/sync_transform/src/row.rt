@@ -7,7 +7,7 @@ ghost use Rattle.sync_theory.specs.Lists.{row};
 ghost use Rattle.sync_theory.specs.Loops.{row_after};
 ghost use Rattle.sync_law.specs.Instrs.{meet};
 
-use super::in_place::{InPlace, meet_where_they_lie};
+use super::in_place::meet_where_they_lie;
 use super::pairs::meet;
 use super::slots::{close, hole, lay, lift, put, settle};
 use std::mem;
@@ -118,14 +118,11 @@ fn meet_at(
     ensures err { IfErr result (λ kind. row_after (take written rights.old) read (row (λ a b. meet a b left_later) (Some left.old) (drop read rights.old)) ≡ Err (read, kind)) }
     ensures next { IfOk result (λ s. s.next ≤ written + 1) }
 {
-    match meet_where_they_lie(left, &mut rights[read], left_later) {
-        InPlace::Stuck(kind) => Err(kind),
-        InPlace::Both => {
-            let next = settle(rights, written, read);
-            Ok(Step { stays: true, next })
-        }
-        InPlace::Untold => meet_apart(left, rights, written, read, left_later),
+    if meet_where_they_lie(left, &mut rights[read], left_later) {
+        let next = settle(rights, written, read);
+        return Ok(Step { stays: true, next });
     }
+    meet_apart(left, rights, written, read, left_later)
 }
 
 /// The same of two instructions that are taken out of their places.

@@ -11,10 +11,11 @@ ghost use Rattle.sync_index.specs.Touched.{Covers};
 ghost use Rattle.sync_index.specs.Spots.{LieAt, Misses};
 ghost use Rattle.sync_transform.specs.Indexes.{IsCovered};
 ghost use Rattle.sync_transform.specs.Sets.{made_by};
-ghost use Rattle.sync_transform.specs.Moves.{shown};
-ghost use Rattle.sync_transform.specs.declared.moves.ListAction.{ListAction};
+ghost use Rattle.list_places.specs.Moves.{shown};
+ghost use Rattle.list_places.specs.declared.moves.ListAction.{ListAction};
 
 use super::crossing::{CrossMismatch, cross_all};
+use list_places::is_later;
 use sync_base::{Changeset, Ident, Instr, Stamp};
 use sync_index::Index;
 
@@ -114,12 +115,4 @@ fn touches_nothing(changes: &Changeset, index: &Index) -> bool
         }
     }
     true
-}
-
-/// Whether the left stamp is the later one.
-pub fn is_later(left: Stamp, right: Stamp) -> bool
-    ensures { result ≡ later_stamp left.ms left.ident right.ms right.ident }
-{
-    sync_law::stamps_tell();
-    left > right
 }

@@ -4,10 +4,10 @@ ghost use Rattle.sync_theory.specs.Lists.{cross as crossed};
 ghost use Rattle.sync_law.specs.Instrs.{meet};
 ghost use Rattle.sync_index.specs.Touched.{Covers};
 ghost use Rattle.sync_index.specs.Spots.{LieAt};
-ghost use Rattle.sync_transform.specs.Moves.{action_in, kind_in, kind_of, moved_changes, IsShown};
+ghost use Rattle.list_places.specs.Moves.{action_in, kind_in, kind_of, moved_changes, IsShown};
 
-use super::moves::{ListAction, action_in, moved_to, shown, write};
 use super::sets::stays_apart;
+use list_places::{ListAction, action_in, moved_to, shown, write};
 use std::alloc::Global;
 use std::marker::Model;
 use sync_base::{Changeset, NoMemory};
@@ -26,7 +26,7 @@ impl Model for Shifted {
     ghost use Rattle.std.specs.Prelude.{◌≡◌};
     ghost use Rattle.std.specs.Option.{option_map};
     ghost use Rattle.sync_data.specs.Payload.{Changes};
-    ghost use Rattle.sync_transform.specs.Moves.{kind_in, kind_of, shown_changes};
+    ghost use Rattle.list_places.specs.Moves.{kind_in, kind_of, shown_changes};
 
     ghost Value = { Changes };
 

@@ -2,8 +2,8 @@ ghost use Rattle.std.specs.Prelude.{◌≡◌, ◌∷◌, [], IsTrue};
 ghost use Rattle.sync_base.specs.Effects.{effect_of};
 ghost use Rattle.sync_transform.specs.Staying.{creates, StayAnywhere};
 
-use sync_base::{Changeset, Instr, same_cell};
-use sync_index::{are_apart, cell_of};
+use sync_base::{Changeset, Instr, cell_of, same_cell};
+use sync_index::are_apart;
 
 /// Whether it is plain that two changesets of one instruction each stay as they are, whichever is later, also where those of
 /// lists do the same elsewhere. Both are only read.

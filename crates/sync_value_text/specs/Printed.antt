@@ -1,5 +1,5 @@
 -- The form of each value, key and column, with its fields in the order of their bytes.
-use Rattle.std.specs.Prelude.{ℕ, ℤ, List, codes, Option, Some, None}
+use Rattle.std.specs.Prelude.{ℕ, ℤ, Bool, List, codes, Option, Some, None}
 use Rattle.serde_json.specs.Data.{Data, null, boolean, number, string, object, Members, no_members, member}
 use Rattle.serde_json.specs.Find.{of_integer}
 use Rattle.hex.specs.Hex.{encode_lower}
@@ -68,9 +68,12 @@ abbrev pub target_field : Option (List ℕ) → Members
 target_field (Some target) = member (codes "target") (string target) no_members
 target_field None = no_members
 
+abbrev pub column_fields : List ℕ → Bool → List ℕ → Members → Data
+column_fields kind nullable shape target = object (
+    member (codes "kind") (string kind)
+    (member (codes "nullable") (boolean nullable)
+    (member (codes "shape") (string shape)
+    target)))
+
 abbrev pub data_of_column : Column → Data
-data_of_column column = object (
-    member (codes "kind") (string (kind_word column.kind))
-    (member (codes "nullable") (boolean column.nullable)
-    (member (codes "shape") (string (shape_word column.shape))
-    (target_field (target_name column.kind)))))
+data_of_column column = column_fields (kind_word column.kind) column.nullable (shape_word column.shape) (target_field (target_name column.kind))

@@ -1,5 +1,5 @@
-ghost use Rattle.std.specs.Prelude.{◌≡◌, IfOk, Some, option_map};
-ghost use Rattle.sync_value_text.specs.Printed.{data_of_int, data_of_id, data_of_key, data_of_bytes, data_of_time, data_of_link, data_of_value, kind_word as word_of_kind, shape_word as word_of_shape, data_of_column, target_name};
+ghost use Rattle.std.specs.Prelude.{◌≡◌, IfOk, None, Some, option_map};
+ghost use Rattle.sync_value_text.specs.Printed.{data_of_int, data_of_id, data_of_key, data_of_bytes, data_of_time, data_of_link, data_of_value, kind_word as word_of_kind, shape_word as word_of_shape, data_of_column, column_fields, target_field, target_name};
 ghost use Rattle.sync_value_text.specs.Keys.{uuid_form, key_form};
 ghost use Rattle.sync_value_text.specs.Values.{bytes_form, time_form, link_form, value_form};
 ghost use Rattle.sync_value_text.specs.Columns.{column_form};
@@ -51,19 +51,38 @@ pub fn json_of_column(alloc: Global, column: &Column) -> Result<Json, NoMemory>
     ensures reads_back { column_form (data_of_column column.now) ≡ Some column.now }
 {
     let kind = kind_word(&column.kind);
-    let nullable = column.nullable;
     let shape = shape_word(column.shape);
     match target_of(&column.kind) {
-        Some(target) => {
-            let target = target.text();
-            json!(in alloc; {"kind": kind, "nullable": nullable, "shape": shape, "target": target}).map_err(
-                |_| NoMemory,
-            )
-        }
-        None => json!(in alloc; {"kind": kind, "nullable": nullable, "shape": shape}).map_err(
-            |_| NoMemory,
-        ),
+        Some(target) => json_of_link_column(alloc, kind, column.nullable, shape, target.text()),
+        None => json_of_plain_column(alloc, kind, column.nullable, shape),
     }
+}
+
+/// The form of a column whose kind has that word, and is a link to objects of that table.
+fn json_of_link_column(
+    alloc: Global,
+    kind: &str,
+    nullable: bool,
+    shape: &str,
+    target: &str,
+) -> Result<Json, NoMemory>
+    ensures { IfOk result (λ json. view json ≡ column_fields kind.now nullable shape.now (target_field (Some target.now))) }
+{
+    json!(in alloc; {"kind": kind, "nullable": nullable, "shape": shape, "target": target}).map_err(
+        |_| NoMemory,
+    )
+}
+
+/// The form of a column whose kind has that word, and is no link.
+fn json_of_plain_column(
+    alloc: Global,
+    kind: &str,
+    nullable: bool,
+    shape: &str,
+) -> Result<Json, NoMemory>
+    ensures { IfOk result (λ json. view json ≡ column_fields kind.now nullable shape.now (target_field None)) }
+{
+    json!(in alloc; {"kind": kind, "nullable": nullable, "shape": shape}).map_err(|_| NoMemory)
 }
 
 fn target_of(kind: &Kind) -> Option<&Name>

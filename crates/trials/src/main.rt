@@ -1,15 +1,11 @@
 //! Tries all cases of the crates of cases and of tests, those of its folder `data/` among them. It prints how many there are of each
 //! kind, each that comes out otherwise, and at the end the words that it knows.
 //!
-//! With words it draws other cases, or measures: `trials drawn SEED COUNT` is described in `crossing_cases`, `growth` in `merge_tests`,
-//! and `bytes`, `crossing`, `node` and `store` in the files of `benches`.
+//! With the word `growth` it runs one case alone, of `merge_cases`, and with `notes` the application `notes_example`.
 #![tactic(auto)]
 
 use std::process::ExitCode;
 use sync_cli::words;
-
-/// The seed of the drawn cases that are always tried, and how many there are.
-const DRAWN: (u64, u32) = (1, 20_000);
 
 fn main(rt: HostRuntime) -> ExitCode {
     match words(&rt) {
@@ -22,7 +18,11 @@ fn main(rt: HostRuntime) -> ExitCode {
 fn tries(rt: &HostRuntime, words: &[String]) -> bool {
     match words {
         [] => try_cases(rt),
-        [first, rest @ ..] => try_words(rt, first.as_str(), rest),
+        [word] if word.as_str() == "growth" => {
+            merge_cases::each_item_lives_while_its_list_has_it(rt.alloc())
+        }
+        [word] if word.as_str() == "notes" => notes_example::run(rt),
+        _ => false,
     }
 }
 
@@ -30,13 +30,7 @@ fn try_cases(rt: &HostRuntime) -> bool {
     let mut all = program_cases::try_all(rt);
     all &= format_cases::try_all(rt);
     all &= merge_cases::try_all(rt);
-    let (seed, count) = DRAWN;
-    all &= crossing_cases::try_drawn(rt, seed, count);
-    all &= tell(
-        rt,
-        "disks of nodes",
-        &node_tests::cases_of_disks(rt.alloc()),
-    );
+    all &= notes_example::run(rt);
     all &= tell(rt, "nodes", &node_tests::cases(rt.alloc()));
     all &= tell(
         rt,
@@ -44,8 +38,8 @@ fn try_cases(rt: &HostRuntime) -> bool {
         &node_tests::cases_of_applications(rt.alloc()),
     );
     all &= tell(rt, "devices", &device_tests::cases(rt));
-    all &= tell(rt, "parts", &merge_tests::cases(rt.alloc()));
-    all & println!(rt; "words: bytes, crossing, drawn, growth, node, store").is_ok()
+    all &= tell(rt, "parts", &merge_cases::cases(rt.alloc()));
+    all & println!(rt; "words: growth, notes").is_ok()
 }
 
 /// Prints how many cases there are about something, and each that came out otherwise. Whether none did.
@@ -59,12 +53,4 @@ fn tell(rt: &HostRuntime, about: &str, cases: &[(&str, bool)]) -> bool {
     }
     let count = cases.len();
     println!(rt; "{count} cases of {about}, {wrong} otherwise").is_ok() && wrong == 0
-}
-
-fn try_words(rt: &HostRuntime, first: &str, rest: &[String]) -> bool {
-    match first {
-        "drawn" => crossing_cases::try_words(rt, rest),
-        "growth" => merge_tests::each_item_lives_while_its_list_has_it(rt.alloc()),
-        _ => benches::measure(rt, first, rest),
-    }
 }

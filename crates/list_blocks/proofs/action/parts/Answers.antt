@@ -1,7 +1,7 @@
 use Rattle.std.proofs.Common.{sym, ◌∙◌}
 use Rattle.sync_data.specs.declared.value.Value.TheVariants as values
-use Rattle.sync_transform.specs.Moves.{instr_at}
-use Rattle.sync_transform.specs.declared.places.Does.TheVariants.{Inserts, Erases, Updates}
+use Rattle.list_places.specs.Moves.{instr_at}
+use Rattle.list_places.specs.declared.places.Does.TheVariants.{Inserts, Erases, Updates}
 use Rattle.list_blocks.proofs.action.parts.Goals as goal
 
 pub returns-in-ListInsert-clause-is : goal.returns-in-ListInsert-clause-is

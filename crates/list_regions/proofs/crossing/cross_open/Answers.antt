@@ -1,6 +1,6 @@
 use Rattle.std.proofs.Common.{◌≡◌, ◌+◌, ◌-◌, ◌<◌, Some, set, sym, ap, ◌∙◌, subst, arith}
 use Rattle.std.specs.Option.{option_map, option_copied}
-use Rattle.sync_transform.specs.Places.{longer, Within}
+use Rattle.list_places.specs.Places.{longer, Within}
 use Rattle.list_lane.specs.Ops.{lane_later as later}
 use Rattle.list_lane.specs.Lanes.{crossed}
 use Rattle.list_lane.specs.Parts.{from}

@@ -4,8 +4,8 @@ use Rattle.sync_theory.specs.Changesets.{cross_sets}
 use Rattle.sync_law.specs.Instrs.{meet}
 use Rattle.sync_model.specs.Clients.{changeset_of}
 use Rattle.sync_transform.specs.Sets.{made_by}
-use Rattle.sync_transform.specs.Moves.{moved_changes}
-use Rattle.sync_transform.proofs.Stands.{shown_covered}
+use Rattle.list_places.specs.Moves.{moved_changes}
+use Rattle.sync_transform.proofs.Shown.{shown_covered}
 use Rattle.sync_rebase.specs.declared.carried.Crossed.{Crossed}
 use Rattle.sync_rebase.specs.declared.carried.Crossed.TheVariants.{One, Stretch}
 use Rattle.sync_rebase.specs.declared.carried.Became.TheVariants.{Moved, Changed}

@@ -1,5 +1,5 @@
 use Rattle.std.proofs.Common.{◌≡◌, ◌∙◌, Option, sym, ap, subst, drop, arith}
-use Rattle.sync_transform.specs.declared.moves.ListAction.{ListAction}
+use Rattle.list_places.specs.declared.moves.ListAction.{ListAction}
 use Rattle.sync_rebase.specs.Settling.{CanPass, passed}
 use Rattle.sync_rebase.specs.Stretches.{from_place}
 use Rattle.sync_rebase.proofs.Each.{passed_none, passed_zero, can_within, can_first, can_step, passed_step}

@@ -1,7 +1,7 @@
 use Rattle.std.proofs.Common.{◌≡◌, ◌+◌, ◌-◌, ◌∙◌, List, Option, refl, sym, ap, subst, drop, map, set, arith}
 use Rattle.sync_data.specs.declared.instr.Instr.{Instr}
 use Rattle.sync_theory.specs.Changesets.{Changeset}
-use Rattle.sync_transform.specs.declared.moves.ListAction.{ListAction}
+use Rattle.list_places.specs.declared.moves.ListAction.{ListAction}
 use Rattle.sync_recip.specs.Lists.{entry_of, kept_entry}
 use Rattle.sync_recip.specs.Passing.{CanPass, passed}
 use Rattle.sync_recip.specs.Stretches.{from_place}

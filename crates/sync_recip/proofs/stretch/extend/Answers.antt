@@ -1,6 +1,6 @@
 use Rattle.std.proofs.Common.{◌≡◌, ◌+◌, ◌<◌, ◌∙◌, get_or, length, refl, sym, ap, subst, arith}
 use Rattle.list_lane.specs.Lanes.{LaneOf}
-use Rattle.sync_transform.specs.Places.{Within}
+use Rattle.list_places.specs.Places.{Within}
 use Rattle.sync_recip.specs.Stretches.{laid, Stands, IsOpOn}
 use Rattle.sync_recip.proofs.Making.{grown_shown, grown_stands}
 use Rattle.sync_recip.proofs.stretch.extend.Goals as goal

@@ -1,6 +1,6 @@
-use Rattle.sync_transform.specs.Moves.{shown}
+use Rattle.list_places.specs.Moves.{shown}
 use Rattle.sync_transform.proofs.Covered.{missed_apart, apart_cross, turned_apart}
-use Rattle.sync_transform.proofs.Stands.{shown_missed}
+use Rattle.sync_transform.proofs.Shown.{shown_missed}
 use Rattle.sync_transform.proofs.sets.stays_apart.Goals as goal
 
 pub returns-then-passes_over-clause-left : goal.returns-then-passes_over-clause-left

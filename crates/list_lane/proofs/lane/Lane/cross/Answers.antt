@@ -1,7 +1,7 @@
 use Rattle.std.proofs.Common.{◌≡◌, ◌<◌, ◌+◌, Some, length, sym, ap, ◌∙◌, subst, arith}
 use Rattle.std.specs.Prelude.{IfSome}
 use Rattle.sync_base.specs.Rules.{top}
-use Rattle.sync_transform.specs.Places.{Within, longer}
+use Rattle.list_places.specs.Places.{Within, longer}
 use Rattle.list_lane.specs.Lanes.{LaneOf, crossed, lane_after, length_at_end, IsLeftOf, length_after as after}
 use Rattle.list_lane.specs.Ops.{lane_later}
 use Rattle.list_lane.specs.Laws.{CrossesLeft, CrossesRight}

@@ -1,6 +1,6 @@
 use Rattle.std.proofs.Common.{sym, subst}
 use Rattle.std.specs.Prelude.{IfSome}
-use Rattle.sync_transform.specs.Places.{Within}
+use Rattle.list_places.specs.Places.{Within}
 use Rattle.list_lane.specs.Lanes.{LaneOf, lane_after, length_at_end, IsLeftOf}
 use Rattle.list_lane.specs.Ops.{lane_later}
 use Rattle.list_lane.specs.Laws.{CrossesLeft, CrossesRight}

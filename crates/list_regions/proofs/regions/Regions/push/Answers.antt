@@ -1,6 +1,6 @@
 use Rattle.std.proofs.Common.{◌<◌, ◌+◌, [], ◌∷◌, ◌++◌, Some, length, sym, ap, ◌∙◌, subst, arith}
 use Rattle.sync_base.specs.Rules.{top}
-use Rattle.sync_transform.specs.Places.{Within}
+use Rattle.list_places.specs.Places.{Within}
 use Rattle.list_lane.specs.Lanes.{LaneOf, length_at_end}
 use Rattle.list_lane.proofs.Rooms.{last_below}
 use Rattle.list_regions.specs.Kept.{IsRegions}

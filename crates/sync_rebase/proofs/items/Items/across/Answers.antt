@@ -1,6 +1,6 @@
 use Rattle.std.proofs.Common.{◌≡◌, ◌≤◌, ◌<◌, ◌+◌, ◌∙◌, IfSome, refl, sym, ap, subst, arith}
-use Rattle.sync_transform.specs.Moves.{first_cell}
-use Rattle.sync_transform.proofs.Stands.{shown_cell}
+use Rattle.list_places.specs.Moves.{first_cell}
+use Rattle.list_places.proofs.Stands.{shown_cell}
 use Rattle.sync_rebase.specs.Acrossing.{CrossesStretch}
 use Rattle.sync_rebase.specs.Stretches.{laid, shown_by, Stands}
 use Rattle.sync_rebase.specs.declared.items.Passing.{Passing}

@@ -2,9 +2,9 @@ use Rattle.std.proofs.Common.{◌≡◌, refl, sym, ap, subst, ◌∙◌}
 use Rattle.sync_data.specs.declared.instr.Instr.{Instr}
 use Rattle.sync_data.specs.declared.entry.Stamp.{Stamp}
 use Rattle.sync_model.specs.Clients.{Unsent}
-use Rattle.sync_transform.specs.Places.{Within}
-use Rattle.sync_transform.specs.Moves.{action_in, first_cell}
-use Rattle.sync_transform.proofs.Stands.{shown_cell}
+use Rattle.list_places.specs.Places.{Within}
+use Rattle.list_places.specs.Moves.{action_in, first_cell}
+use Rattle.list_places.proofs.Stands.{shown_cell}
 use Rattle.sync_rebase.proofs.Making.{op_slot}
 use Rattle.sync_rebase.proofs.unsent.Unsent.op_in.Goals as goal
 

@@ -1,7 +1,7 @@
 use Rattle.std.proofs.Common.{ap, subst}
 use Rattle.sync_model.specs.Clients.{Unsent}
 use Rattle.sync_data.specs.declared.instr.Instr.{Instr}
-use Rattle.sync_transform.specs.Moves.{moved_first, IsShown}
+use Rattle.list_places.specs.Moves.{moved_first, IsShown}
 use Rattle.sync_transform.proofs.Anywhere.{shown_stay, moved_shown}
 use Rattle.sync_rebase.proofs.unsent.Unsent.stays.Goals as goal
 

@@ -3,8 +3,8 @@ use Rattle.sync_data.specs.declared.instr.Instr.{Instr}
 use Rattle.sync_theory.specs.Lists.{cross}
 use Rattle.sync_law.specs.Instrs.{meet}
 use Rattle.sync_model.specs.Clients.{Unsent}
-use Rattle.sync_transform.specs.Moves.{kind_in, moved_first, shown}
-use Rattle.sync_transform.proofs.Stands.{told_written}
+use Rattle.list_places.specs.Moves.{kind_in, moved_first, shown}
+use Rattle.list_places.proofs.Stands.{told_written}
 use Rattle.sync_rebase.proofs.unsent.Unsent.stays_apart.Goals as goal
 
 pub returns-clause-told : goal.returns-clause-told

@@ -1,6 +1,6 @@
 use Rattle.std.proofs.Common.{◌≡◌, ◌≤◌, ◌<◌, ◌+◌, ◌∙◌, Option, IfSome, refl, sym, ap, subst, arith}
-use Rattle.sync_transform.specs.Moves.{first_cell}
-use Rattle.sync_transform.proofs.Stands.{shown_cell}
+use Rattle.list_places.specs.Moves.{first_cell}
+use Rattle.list_places.proofs.Stands.{shown_cell}
 use Rattle.sync_recip.specs.Acrossing.{CrossesStretch}
 use Rattle.sync_recip.specs.Stretches.{laid, shown_by, Stands}
 use Rattle.sync_recip.specs.declared.items.Passing.{Passing}

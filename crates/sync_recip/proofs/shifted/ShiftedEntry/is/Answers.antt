@@ -1,7 +1,7 @@
 use Rattle.std.proofs.Common.{sym, ap, ◌∙◌}
 use Rattle.sync_data.specs.declared.entry.Entry.{Entry}
 use Rattle.sync_data.specs.Equality.{changes_decides}
-use Rattle.sync_transform.specs.Moves.{shown_changes}
+use Rattle.list_places.specs.Moves.{shown_changes}
 use Rattle.sync_recip.specs.Standing.{stood}
 use Rattle.sync_recip.proofs.shifted.ShiftedEntry.is.Goals as goal
 

@@ -1,7 +1,7 @@
 use Rattle.std.proofs.Common.{sym, ap, ◌∙◌}
 use Rattle.sync_data.specs.declared.entry.Entry.{Entry}
-use Rattle.sync_transform.specs.Moves.{first_cell}
-use Rattle.sync_transform.proofs.Stands.{shown_cell}
+use Rattle.list_places.specs.Moves.{first_cell}
+use Rattle.list_places.proofs.Stands.{shown_cell}
 use Rattle.sync_recip.specs.Standing.{stood}
 use Rattle.sync_recip.proofs.shifted.ShiftedEntry.is_in_cell_with.Goals as goal
 

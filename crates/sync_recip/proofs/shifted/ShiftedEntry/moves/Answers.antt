@@ -1,7 +1,8 @@
 use Rattle.std.proofs.Common.{refl, sym, ap, ◌∙◌}
 use Rattle.sync_theory.specs.Changesets.{later_stamp}
-use Rattle.sync_transform.specs.Moves.{first_cell}
-use Rattle.sync_transform.proofs.Stands.{kind_told, moves_cross, shown_cell, some_map}
+use Rattle.list_places.specs.Moves.{first_cell}
+use Rattle.list_places.proofs.Stands.{kind_told, shown_cell}
+use Rattle.sync_transform.proofs.Shown.{moves_cross, some_map}
 use Rattle.sync_recip.proofs.shifted.ShiftedEntry.moves.Goals as goal
 
 pub returns-clause-crosses : goal.returns-clause-crosses

@@ -3,7 +3,7 @@ use Rattle.sync_data.specs.declared.entry.Entry.{Entry}
 use Rattle.sync_data.specs.declared.instr.Instr.{Instr}
 use Rattle.sync_theory.specs.Lists.{cross}
 use Rattle.sync_law.specs.Instrs.{meet}
-use Rattle.sync_transform.specs.Moves.{moved_first, shown, IsShown}
+use Rattle.list_places.specs.Moves.{moved_first, shown, IsShown}
 use Rattle.sync_transform.proofs.Anywhere.{shown_stay, moved_shown}
 use Rattle.sync_recip.specs.Standing.{stood}
 use Rattle.sync_recip.proofs.Standing.{none_crossed}

@@ -3,9 +3,9 @@ use Rattle.sync_data.specs.declared.entry.Entry.{Entry}
 use Rattle.sync_data.specs.declared.instr.Instr.{Instr}
 use Rattle.sync_theory.specs.Lists.{cross}
 use Rattle.sync_law.specs.Instrs.{meet}
-use Rattle.sync_transform.specs.Moves.{kind_in, moved_first, shown}
+use Rattle.list_places.specs.Moves.{kind_in, moved_first, shown}
 use Rattle.sync_recip.specs.Standing.{stood}
-use Rattle.sync_transform.proofs.Stands.{told_written}
+use Rattle.list_places.proofs.Stands.{told_written}
 use Rattle.sync_recip.proofs.Standing.{none_crossed}
 use Rattle.sync_recip.proofs.shifted.ShiftedEntry.stays_apart.Goals as goal
 

@@ -1,0 +1,27 @@
+#!/bin/sh
+# Builds the npm package into js/dist: the modules of src/, their types, and the C library as WebAssembly.
+#
+#     js/build.sh [--trial]
+#
+# The library is proved first where it isn't (`./build library.bc`), which takes long on a fresh machine. With --trial nothing is proved, in
+# some four minutes: for work on the package alone. REALM_SYNC_WASM names a module that is built already, in place of both.
+# `npm pack ./js` then makes the package's archive.
+set -eu
+here=$(cd "$(dirname "$(readlink -f "$0")")" && pwd)
+top=$(dirname "$here")
+. "$top/building/need.sh"
+need tsc node-typescript
+wasm=${REALM_SYNC_WASM:-}
+if [ -z "$wasm" ]; then
+    need wasm-opt binaryen
+    module=$("$top/build" "$@" library.bc | tail -n 1)
+    wasm=$(dirname "$module")/door.wasm
+    if [ ! -f "$wasm" ] || [ -n "$(find "$module" "$top"/wasm/*.py "$top"/wasm/*.c -newer "$wasm" -print)" ]; then
+        "$top/wasm/retarget.py" --door "$module" "$wasm.new"
+        mv "$wasm.new" "$wasm"
+    fi
+fi
+rm -rf "$here/dist"
+tsc -p "$here"
+cp "$wasm" "$here/dist/realm_sync.wasm"
+echo "$here/dist"

@@ -1,0 +1,89 @@
+// A client over a file: each answer is told once what it rests on is on the disk.
+
+import { Door, expectDone, gathered, numberOf, standingOf, textOf, type Reply, type Standing } from './door.js';
+import { StorageFailed, WrongKey, storageError, type RealmError } from './errors.js';
+import type { OpenFile } from './storage.js';
+import { isSealed } from './storage_sealed.js';
+
+export class Engine {
+  private isFailed = false;
+
+  private constructor(private readonly door: Door, private readonly file: OpenFile) {}
+
+  /** Opens the client of a file, or a new one. */
+  static async open(module: WebAssembly.Module, file: OpenFile, kind: 'c' | 's' = 'c'): Promise<Engine> {
+    const engine = new Engine(new Door(module), file);
+    const bytes = await file.read();
+    if (isSealed(bytes)) throw new WrongKey('the file is encrypted: open it with its key');
+    expectDone(engine.door.turn(kind, bytes));
+    await engine.settle();
+    return engine;
+  }
+
+  /** A request, without its strokes. */
+  ask(verb: string, body?: string | Uint8Array): Uint8Array {
+    return expectDone(this.reply(verb, body));
+  }
+
+  reply(verb: string, body?: string | Uint8Array): Reply {
+    if (this.isFailed) throw new StorageFailed('the storage failed before');
+    return this.door.turn(verb, body);
+  }
+
+  /** Does what the node asked of its disk. Where that fails the engine is of no use any more: its file is opened anew. */
+  settle(note?: string): void | Promise<void> {
+    const strokes = gathered(this.door.strokes());
+    if (strokes.length === 0) return;
+    let pending: void | Promise<void>;
+    try {
+      pending = this.file.apply(strokes, note);
+    } catch (error) {
+      throw this.failed(error);
+    }
+    if (!pending) return this.door.done();
+    return pending.then(() => this.door.done(), (error) => { throw this.failed(error); });
+  }
+
+  private failed(error: unknown): RealmError {
+    this.isFailed = true;
+    return storageError(error);
+  }
+
+  async settled<T>(answer: T, note?: string): Promise<T> {
+    const pending = this.settle(note);
+    if (pending) await pending;
+    return answer;
+  }
+
+  /** A node line, for its number. */
+  async line(text: string): Promise<number> {
+    return this.settled(numberOf(this.ask('L', text)));
+  }
+
+  dump(): string {
+    return textOf(this.ask('D'));
+  }
+
+  standing(): Standing {
+    return standingOf(this.ask('I'));
+  }
+
+  /** The note of the last strokes. */
+  noted(): string {
+    return this.file.noted?.() ?? '';
+  }
+
+  /** The bytes of the file. */
+  bytes(): Uint8Array | Promise<Uint8Array> {
+    return this.file.read();
+  }
+
+  get memory(): number {
+    return this.door.memory;
+  }
+
+  async close(): Promise<void> {
+    this.door.close();
+    await this.file.close();
+  }
+}

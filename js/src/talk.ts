@@ -1,0 +1,64 @@
+// What a client says next, and what it answers to a message. Which message there is to send is the core's to say; when changes may be sent
+// is decided here.
+
+import { Status, expectDone, type Reply } from './door.js';
+import type { Engine } from './engine.js';
+import { Refused } from './errors.js';
+import { endOf, storedOf } from './messages.js';
+
+export class Talk {
+  /**
+   * Whether the client had all of the history since its file was opened and since the last refusal. Until then it only asks: a file that
+   * was copied, or restored from a backup, learns of it before a change of it is sent under a number that the history has already.
+   */
+  private isCurrent = false;
+  /** The number of the last Stored. */
+  private stored = 0;
+
+  constructor(private readonly engine: Engine) {}
+
+  /** The message to send next. */
+  next(): Uint8Array {
+    const isAsking = !this.isCurrent && this.engine.standing().ident !== 0;
+    return this.engine.ask(isAsking ? 'A' : 'N');
+  }
+
+  /** A text that changes with each step forward. */
+  progress(): string {
+    const { ident, cursor, last, unsent } = this.engine.standing();
+    return [ident, cursor, last, unsent, this.stored].join(' ');
+  }
+
+  /** Hands a message to the client, whose strokes then wait. Answers its refusal, and whether the message says that nothing is behind the
+   * cursor. */
+  take(message: Uint8Array): { refused: Refused | null; isEnd: boolean } {
+    const { ident, cursor, last } = this.engine.standing();
+    const stored = storedOf(message);
+    if (stored && stored.ident === ident && stored.number > last) {
+      this.isCurrent = false;
+      return { refused: new Refused('Forked', [last + 1, 0, 0]), isEnd: false };
+    }
+    const reply = this.engine.reply('T', message);
+    if (reply.status === Status.Refused) {
+      this.isCurrent = false;
+      return { refused: refusalOf(reply), isEnd: false };
+    }
+    expectDone(reply);
+    if (stored) this.stored = stored.number;
+    const end = endOf(message);
+    const isEnd = end !== null && end.ident === ident && end.cursor === cursor;
+    if (isEnd) this.isCurrent = true;
+    return { refused: null, isEnd };
+  }
+}
+
+/** The refusal that a reply says. */
+export function refusalOf(reply: Reply): Refused {
+  try {
+    expectDone(reply);
+  } catch (error) {
+    if (error instanceof Refused) return error;
+    throw error;
+  }
+  throw new Error('nothing was refused');
+}

@@ -1,0 +1,243 @@
+// Transports: one message there, one reply back.
+
+import { Outdated, RealmError, Unauthorized } from './errors.js';
+import type { Stop } from './query.js';
+import type { Transport } from './sync.js';
+
+/** A token, or what hands one over: `wasRefused` asks for another one than before. */
+export type TokenSource = string | ((wasRefused: boolean) => string | Promise<string>);
+
+/** The token of a transport: asked for anew once it was refused. */
+class Token {
+  private wasRefused = false;
+  private renewed: string | null = null;
+  constructor(private readonly source: TokenSource) {}
+
+  async get(): Promise<string> {
+    if (this.renewed !== null) return this.renewed;
+    return typeof this.source === 'string' ? this.source : this.source(this.wasRefused);
+  }
+
+  renew(token: string): void {
+    this.renewed = token;
+    this.wasRefused = false;
+  }
+
+  /** The server refused the token. Throws where there is no other one to try: one is asked for once. */
+  refused(text: string): void {
+    if (typeof this.source === 'string' || this.wasRefused) throw new Unauthorized(text);
+    this.renewed = null;
+    this.wasRefused = true;
+  }
+
+  accepted(): void {
+    this.wasRefused = false;
+  }
+}
+
+const headersOf = (token: string): Record<string, string> => (token ? { authorization: `Bearer ${token}` } : {});
+/** What a server says by these it says for good. */
+const isForGood = (status: number): boolean => status === 401 || status === 403 || status === 404;
+function refusal(status: number): string {
+  if (status === 401) return 'the server refuses the token';
+  return status === 404 ? 'the server has no such history' : `the server refuses this device (${status})`;
+}
+
+const OUTDATED = 410;
+/** An address, with the generation in which the client's file began. */
+function addressOf(url: string, generation: number): string {
+  return generation === 1 ? url : `${url}${url.includes('?') ? '&' : '?'}generation=${generation}`;
+}
+const newsAt = (url: string, generation: number, after: number, wait: number): string => {
+  const at = new URL(addressOf(url, generation));
+  at.pathname += '/news';
+  at.searchParams.set('after', String(after));
+  at.searchParams.set('wait', String(wait));
+  return String(at);
+};
+function generationIn(headers: Headers): number | null {
+  const told = Number(headers.get('realm-generation') ?? 0);
+  return told > 0 ? told : null;
+}
+
+/** Waits for a history to grow: `GET URL/news?after=N&wait=S` is answered by `{"news":LENGTH}`, or by 204 after S seconds. */
+async function* newsOf(at: (after: number, wait: number) => string, token: Token, signal: AbortSignal): AsyncIterableIterator<number> {
+  for (let length = -1, seconds = 0; !signal.aborted; seconds = 25) {
+    try {
+      const response = await fetch(at(Math.max(0, length), seconds), { headers: headersOf(await token.get()), signal });
+      if (response.status === 200) {
+        const { news } = (await response.json()) as { news: number };
+        if (length >= 0) yield news;
+        length = news;
+      } else if (response.status === 204) length = Math.max(0, length);
+      else await later(60_000, signal); // a server without news: the loop asks from time to time
+    } catch {
+      await later(5_000, signal);
+    }
+  }
+}
+
+const later = (ms: number, signal: AbortSignal): Promise<void> =>
+  new Promise((done) => {
+    const timer = setTimeout(done, ms);
+    (timer as { unref?(): void }).unref?.();
+    signal.addEventListener('abort', () => {
+      clearTimeout(timer);
+      done();
+    }, { once: true });
+  });
+
+/** A server over HTTP: a POST of the message, its reply in the body. `url` is the history's own address. */
+export class HttpTransport implements Transport {
+  generation = 1;
+  private readonly token: Token;
+  private readonly isWatching: boolean;
+
+  /** With `news: false` the server isn't asked to tell by itself when the history has grown. */
+  constructor(private readonly url: string, token: TokenSource = '', { news = true }: { news?: boolean } = {}) {
+    this.token = new Token(token);
+    this.isWatching = news;
+  }
+
+  async exchange(message: Uint8Array, signal: AbortSignal): Promise<Uint8Array> {
+    for (;;) {
+      const headers = { 'content-type': 'application/octet-stream', ...headersOf(await this.token.get()) };
+      const response = await fetch(addressOf(this.url, this.generation), { method: 'POST', body: message, signal, headers });
+      if (response.status === OUTDATED) throw new Outdated(generationIn(response.headers));
+      if (response.status === 401) {
+        this.token.refused(refusal(401));
+        continue;
+      }
+      if (isForGood(response.status)) throw new Unauthorized(refusal(response.status));
+      if (!response.ok) throw new RealmError(`the server answered ${response.status}`);
+      this.token.accepted();
+      return new Uint8Array(await response.arrayBuffer());
+    }
+  }
+
+  watch(callback: () => void): Stop {
+    const stopped = new AbortController();
+    const at = (after: number, seconds: number): string => newsAt(this.url, this.generation, after, seconds);
+    if (this.isWatching) void (async () => { for await (const _ of newsOf(at, this.token, stopped.signal)) callback(); })();
+    return () => stopped.abort();
+  }
+
+  renew(token: string): void {
+    this.token.renew(token);
+  }
+}
+
+interface Waiting { done: (reply: Uint8Array) => void; fail: (error: Error) => void }
+
+/**
+ * A server over a WebSocket: a binary frame is a message or its reply, in turn; a text frame `{"news":LENGTH}` says that the history grew. The
+ * token is the subprotocol `bearer.TOKEN` beside `realm`, since a page can set no header.
+ */
+export class WebSocketTransport implements Transport {
+  generation = 1;
+  private readonly token: Token;
+  private socket: WebSocket | null = null;
+  private waiting: Waiting | null = null;
+  private watcher: () => void = () => {};
+  private isClosed = false;
+
+  /** `Socket` is the class of WebSockets where the platform has none of its own (Node before 22): that of the package `ws`. */
+  constructor(private readonly url: string, token: TokenSource = '', private readonly Socket: typeof WebSocket = globalThis.WebSocket) {
+    this.token = new Token(token);
+  }
+
+  private async connected(): Promise<WebSocket> {
+    if (this.socket?.readyState === 1) return this.socket;
+    if (!this.Socket) throw new Unauthorized('this platform has no WebSocket: hand a class of them over, or use HTTP');
+    const token = await this.token.get();
+    const socket = new this.Socket(addressOf(this.url, this.generation), token ? ['realm', `bearer.${token}`] : ['realm']);
+    socket.binaryType = 'arraybuffer';
+    const code = await new Promise<number>((done) => {
+      socket.onopen = () => done(0);
+      socket.onerror = () => done(1006);
+      socket.onclose = (event) => done(event.code);
+    });
+    if (code !== 0) throw await this.unconnected(code, token);
+    this.token.accepted();
+    socket.onerror = null;
+    socket.onmessage = ({ data }) => this.take(data as ArrayBuffer | string);
+    socket.onclose = ({ code: why }) => this.lost(socket, why);
+    this.socket = socket;
+    return socket;
+  }
+
+  /** Why there is no connection. A page isn't told the status with which one was refused, so it is asked for by HTTP. */
+  private async unconnected(code: number, token: string): Promise<Error> {
+    if (code >= 4000 && code !== 4000 + OUTDATED) return this.refused(code - 4000) ?? new RealmError(`the server ended the connection (${code})`);
+    const asked = newsAt(this.url.replace(/^ws/, 'http'), this.generation, 0xffffffff, 0);
+    const response = await fetch(asked, { headers: headersOf(token) }).catch(() => null);
+    if (response?.status === OUTDATED) return new Outdated(generationIn(response.headers));
+    return this.refused(response?.status ?? 0) ?? new RealmError('the server cannot be reached');
+  }
+
+  private refused(status: number): Error | null {
+    if (status === 401) {
+      try {
+        this.token.refused(refusal(401));
+        return new RealmError('the token has ended: another one is tried');
+      } catch (error) {
+        return error as Error;
+      }
+    }
+    return isForGood(status) ? new Unauthorized(refusal(status)) : null;
+  }
+
+  private take(data: ArrayBuffer | string): void {
+    if (typeof data === 'string') return this.watcher();
+    const waiting = this.waiting;
+    this.waiting = null;
+    waiting?.done(new Uint8Array(data));
+  }
+
+  private lost(socket: WebSocket, code: number): void {
+    if (this.socket !== socket) return;
+    this.socket = null;
+    const waiting = this.waiting;
+    this.waiting = null;
+    const refused = code >= 4000 ? this.refused(code - 4000) : null;
+    if (waiting) waiting.fail(refused ?? new RealmError('the connection was lost'));
+    else if (!this.isClosed) {
+      // Nobody waits: the loop connects again, and asks what came meanwhile.
+      setTimeout(() => this.watcher(), 1000 * Math.random());
+    }
+  }
+
+  async exchange(message: Uint8Array, signal: AbortSignal): Promise<Uint8Array> {
+    const socket = await this.connected();
+    if (signal.aborted) throw new RealmError('no reply came in time');
+    return new Promise((done, fail) => {
+      this.waiting = { done, fail };
+      // A late reply would be taken for the next one's.
+      signal.addEventListener('abort', () => {
+        if (this.socket === socket) this.socket = null;
+        socket.close();
+        fail(new RealmError('no reply came in time'));
+      }, { once: true });
+      socket.send(message);
+    });
+  }
+
+  watch(callback: () => void): Stop {
+    this.watcher = callback;
+    return () => { this.watcher = () => {}; };
+  }
+
+  renew(token: string): void {
+    this.token.renew(token);
+    if (this.socket?.readyState === 1) this.socket.send(JSON.stringify({ token }));
+  }
+
+  close(): void {
+    this.isClosed = true;
+    this.socket?.close();
+  }
+}
+
+/** By the address: `ws:` and `wss:` a WebSocket, else HTTP. */
+export const transportOf = (url: string, token?: TokenSource): Transport =>
+  /^wss?:/.test(url) ? new WebSocketTransport(url, token) : new HttpTransport(url, token);

@@ -1,0 +1,102 @@
+// What was answered is there: after reloads, after kills, where the disk is full, and with encrypted files.
+import assert from 'node:assert/strict';
+import { test, wait } from './harness.mjs';
+
+for (const storage of ['opfs', 'indexeddb']) {
+  const open = `open({ storage: '${storage}' })`;
+
+  test(`${storage}: a reload in the middle of writes`, async (bench) => {
+    const browser = await bench.browser();
+    const tab = await bench.tab(browser);
+    let answered = -1;
+    for (let round = 0; round < 6; round++) {
+      const count = await tab.evaluate(open);
+      answered = round ? await tab.evaluate('Number(sessionStorage.last)') : -1;
+      assert.ok(count >= answered + 1 && count <= answered + 2, `${count} days, ${answered} answered`);
+      await tab.evaluate(`void writeOn(${count})`);
+      await wait(300 + round * 37);
+      await tab.send('Page.reload');
+      await wait(50);
+      await tab.ready();
+    }
+    assert.ok(answered > 5, `only ${answered} writes`);
+    return `${answered + 1} writes over 6 reloads`;
+  });
+
+  test(`${storage}: the browser is killed in the middle of writes`, async (bench) => {
+    let browser = await bench.browser();
+    let answered = -1;
+    const all = [];
+    for (let round = 0; round < 4; round++) {
+      const tab = await bench.tab(browser);
+      const count = await tab.evaluate(open);
+      all.push(`${answered + 1} answered, ${count} there`);
+      assert.ok(count >= answered + 1, all.at(-1));
+      await tab.evaluate(`void writeOn(${count})`);
+      await wait(500);
+      answered = await tab.evaluate('last');
+      await browser.kill();
+      browser = await bench.browser(browser.profile);
+    }
+    return all.join('; ');
+  });
+
+  test(`${storage}: encrypted files open with their key alone`, async (bench) => {
+    const browser = await bench.browser();
+    const tab = await bench.tab(browser);
+    const sealed = (byte) => `open({ storage: '${storage}', encryptionKey: new Uint8Array(32).fill(${byte}) })`;
+    assert.equal(await tab.evaluate(sealed(7)), 0);
+    await tab.evaluate(`(async () => { for (let day = 0; day < 5; day++) await db.write((tx) => tx.days.create({ day })); await db.close(); })()`);
+    assert.equal(await tab.evaluate(`${sealed(8)}.catch((error) => error.name)`), 'WrongKey');
+    assert.equal(await tab.evaluate(`${open}.catch((error) => error.name)`), 'WrongKey');
+    assert.equal(await tab.evaluate(sealed(7)), 5);
+  });
+}
+
+test('opfs: a full disk refuses a transaction, and the database goes on', async (bench) => {
+  const { origin } = bench.server;
+  const tab = await bench.tab(await bench.browser());
+  await tab.evaluate(`open({ storage: 'opfs' }).then(() => db.write((tx) => tx.days.create({ day: 0 })))`);
+  const { usage } = await tab.evaluate('navigator.storage.estimate()');
+  await tab.send('Storage.overrideQuotaForOrigin', { origin, quotaSize: usage + 3_000_000 });
+  const said = await tab.evaluate(`(async () => {
+    const said = [];
+    const noise = () => Array.from(crypto.getRandomValues(new Uint8Array(50000)), (it) => it.toString(16).padStart(2, '0')).join('');
+    for (let day = 1; day <= 20; day++) {
+      const note = Array.from({ length: 12 }, noise).join('');
+      said.push(await db.write((tx) => tx.days.create({ day, note })).then(() => 'done', (error) => error.name));
+    }
+    return said;
+  })()`);
+  assert.ok(said.includes('StorageFull'), said.join());
+  assert.ok(said.every((it) => it === 'done' || it === 'StorageFull'), said.join());
+  const shown = await tab.evaluate('db.days.toArray().map((it) => it.day)');
+  assert.deepEqual(shown, [0, ...said.map((it, place) => (it === 'done' ? place + 1 : null)).filter((it) => it !== null)]);
+  await tab.send('Storage.overrideQuotaForOrigin', { origin });
+  await tab.evaluate(`db.write((tx) => tx.days.create({ day: 99, note: 'x'.repeat(100000) }))`);
+  await tab.send('Page.reload');
+  await wait(100);
+  await tab.ready();
+  await tab.evaluate(`open({ storage: 'opfs' })`);
+  assert.deepEqual(await tab.evaluate('db.days.toArray().map((it) => it.day)'), [...shown, 99]);
+  return said.join(' ');
+});
+
+test('indexeddb: a database transaction that is aborted undoes its write, and the database goes on', async (bench) => {
+  const tab = await bench.tab(await bench.browser());
+  const open = `open({ storage: 'indexeddb', makeWorker: () => new Worker('/js/test/browser/bad_worker.js', { type: 'module' }) }).then(() => db.days.toArray().map((it) => it.day))`;
+  await tab.evaluate(open);
+  const said = await tab.evaluate(`(async () => {
+    const said = [];
+    for (let day = 1; day <= 12; day++) said.push(await db.write((tx) => tx.days.create({ day, note: 'x' })).then(() => 'done', (error) => error.name));
+    return said;
+  })()`);
+  assert.ok(said.filter((it) => it === 'StorageFailed').length >= 3 && said.every((it) => it === 'done' || it === 'StorageFailed'), said.join());
+  const shown = await tab.evaluate('db.days.toArray().map((it) => it.day)');
+  assert.deepEqual(shown, said.map((it, place) => (it === 'done' ? place + 1 : null)).filter((it) => it !== null));
+  await tab.send('Page.reload');
+  await wait(100);
+  await tab.ready();
+  assert.deepEqual(await tab.evaluate(open), shown);
+  return said.join(' ');
+});

@@ -1,0 +1,15 @@
+#!/bin/sh
+# The package's archive in an empty folder, and there the ten-minute start of js/README.md, as it is printed there.
+set -eu
+here=$(cd "$(dirname "$(readlink -f "$0")")/.." && pwd)
+room=$(mktemp -d)
+trap 'rm -rf "$room"' EXIT
+(cd "$room" && npm pack --silent "$here" >/dev/null)
+mkdir "$room/start"
+cd "$room/start"
+npm install --silent --offline --no-audit --no-fund "$room"/realm-sync-*.tgz
+awk '/^```js start.mjs$/ { on = 1; next } /^```$/ { on = 0 } on' "$here/README.md" >start.mjs
+awk '/^```text start.mjs$/ { on = 1; next } /^```$/ { on = 0 } on' "$here/README.md" >start.out
+[ -s start.mjs ] && [ -s start.out ]
+node start.mjs | diff - start.out
+echo "the ten-minute start runs in an empty folder"

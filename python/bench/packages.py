@@ -1,0 +1,124 @@
+#!/usr/bin/env python3
+"""What the package takes in Python, beside SQLite with its journal ahead of it (WAL) and synced at each commit. Times are those on the clock, and those on
+the processor in brackets, in milliseconds.
+
+usage: PYTHONPATH=python/src python/bench/packages.py
+"""
+
+from __future__ import annotations
+
+import os
+import resource
+import sqlite3
+import tempfile
+import time
+from collections.abc import Callable
+
+from realm_sync import Client, Counter, Database, Server, table
+
+COUNT = 10_000
+
+
+@table("notes")
+class Note:
+    id: int
+    text: str
+    done: bool
+    read: Counter
+
+
+def timed(what: str, times: int, work: Callable[[], object]) -> None:
+    began, used = time.perf_counter(), time.process_time()
+    work()
+    clock, processor = (1000 * it / times for it in (time.perf_counter() - began, time.process_time() - used))
+    digits = 4 if times > 1 else 1
+    print(f"{what:66} {clock:9.{digits}f} ms ({processor:.{digits}f})")
+
+
+def add(db: Database, first: int, count: int) -> None:
+    for number in range(first, first + count):
+        with db.write() as tx:
+            tx.create(Note, id=number, text=f"note {number}", done=number % 3 == 0)
+
+
+def sqlite(path: str) -> sqlite3.Connection:
+    found = sqlite3.connect(path, isolation_level=None)
+    found.executescript("PRAGMA journal_mode=WAL; PRAGMA synchronous=FULL; CREATE TABLE notes (id INTEGER PRIMARY KEY, text TEXT, done INTEGER, read INTEGER)")
+    return found
+
+
+def add_sqlite(db: sqlite3.Connection, first: int, count: int) -> None:
+    for number in range(first, first + count):
+        db.execute("INSERT INTO notes VALUES (?, ?, ?, 0)", (number, f"note {number}", number % 3 == 0))
+
+
+def commits(folder: str) -> None:
+    with Database(None, [Note]) as db:
+        timed("a commit of an object, in memory", 5000, lambda: add(db, 0, 5000))
+    with Database(f"{folder}/db", [Note]) as db:
+        timed("a commit onto a file, on the disk when it ends", 300, lambda: add(db, 0, 300))
+    with Database(f"{folder}/sealed", [Note], key=bytes(32)) as db:
+        timed("the same, encrypted", 300, lambda: add(db, 0, 300))
+    beside = sqlite(f"{folder}/sqlite")
+    timed("beside: a commit of SQLite", 300, lambda: add_sqlite(beside, 0, 300))
+    beside.close()
+
+
+def queries(folder: str) -> None:
+    with Database(None, [Note]) as db:
+        for part in range(0, COUNT, 1000):
+            db.run(lambda tx: [tx.create(Note, id=it, text=f"note {it}", done=it % 3 == 0) for it in range(part, part + 1000)])
+        timed("where and sort of 10,000 objects, anew", 1, lambda: db[Note].where(done=False).sort("text").all())
+        db[Note].where(done=False).sort("text").observe(lambda rows: None)
+
+        def change() -> None:
+            for number in range(500):
+                with db.write() as tx:
+                    tx.update(Note, number * 7, text=f"changed {number}")
+
+        timed("a commit beside a live query of 6,666 of them, in memory", 500, change)
+    beside = sqlite(f"{folder}/queries")
+    beside.execute("BEGIN")
+    add_sqlite(beside, 0, COUNT)
+    beside.execute("COMMIT")
+    timed("beside: SELECT of the same, of SQLite", 1, lambda: beside.execute("SELECT * FROM notes WHERE NOT done ORDER BY text").fetchall())
+    beside.close()
+
+
+def opening(folder: str, count: int) -> None:
+    path = f"{folder}/opened{count}"
+    with Client() as made:
+        made.born("00000000-0000-4000-8000-000000000001")
+        made.commit(
+            [{"op": "AddTable", "table": "notes", "key": "Int"}]
+            + [{"op": "AddColumn", "table": "notes", "column": name, "kind": kind, "nullable": False, "shape": "One"} for name, kind in (("text", "Text"), ("done", "Bool"), ("read", "Int"))]
+        )
+        for number in range(count):
+            made.commit([{"op": "CreateObject", "table": "notes", "key": number}, {"op": "Update", "table": "notes", "key": number, "column": "text", "value": f"note {number}"}])
+        with open(path, "wb") as it:
+            it.write(made._engine.data())
+    timed(f"opening {count:,} own transactions, all unsent", 1, lambda: Database(path, [Note]).close())
+    print(f"{'  the most memory of the process until then':66} {resource.getrusage(resource.RUSAGE_SELF).ru_maxrss // 1024:9} MB")
+
+
+def first_sync(folder: str) -> None:
+    with Server() as server, Client() as one, Client(f"{folder}/first") as other:
+        for place, it in enumerate((one, other)):
+            it.born(f"00000000-0000-4000-8000-00000000000{place}")
+        one.commit([{"op": "AddTable", "table": "notes", "key": "Int"}])
+        for number in range(4000):
+            one.commit([{"op": "CreateObject", "table": "notes", "key": number}])
+        timed("sending 4,000 transactions, and taking them back", 1, lambda: one.sync(server.take))
+        timed("a new device's first sync of 4,000 entries, onto a file", 1, lambda: other.sync(server.take))
+
+
+def main() -> None:
+    with tempfile.TemporaryDirectory(dir=os.environ.get("FOLDER")) as folder:
+        commits(folder)
+        queries(folder)
+        first_sync(folder)
+        opening(folder, 10_000)
+        opening(folder, 100_000)
+
+
+main()

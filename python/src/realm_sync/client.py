@@ -1,0 +1,189 @@
+"""A database's client: its engine over the database's files, opened again after a failure, and replaced by a new one in a recovery."""
+
+from __future__ import annotations
+
+import dataclasses
+import json
+from collections.abc import Callable, Iterator
+from typing import Any
+
+from .door import Standing, to_json
+from .engine import Engine
+from .errors import BadRequest, OtherProcess, Refused, StorageFailed
+from .lost import LostEdits, LostForm
+from .problems import Problem
+from .recovery import Recovery, Takeover, born
+from .storage import Files, Write
+from .talk import Talk
+
+CLIENT, HEIR, REASON, GENERATION = "client", "heir", "reason", "generation"
+
+
+@dataclasses.dataclass(frozen=True)
+class Taken:
+    """What a message came to: what may have changed, what of this device's edits isn't seen any more, the client's refusal, and whether nothing is
+    behind the cursor."""
+
+    places: list[dict[str, Any]]
+    lost: list[LostForm]
+    refused: Refused | None
+    is_end: bool
+
+
+class DatabaseClient:
+    """One call at a time: the database's lock is held."""
+
+    def __init__(self, files: Files) -> None:
+        self._files = files
+        if files.has(HEIR) and not files.has(CLIENT):
+            files.replace(CLIENT, HEIR)  # it was cut off between the two names
+        self._engine = Engine(files.open(CLIENT))
+        self._talk = Talk(self._engine)
+        try:
+            born(self._engine)
+        except BaseException:
+            self._engine.close()
+            raise
+
+    def dump(self) -> str:
+        return self._engine.dump()
+
+    def object(self, table: str, key: str) -> str | None:
+        return self._engine.object(table, key)
+
+    def standing(self) -> Standing:
+        return self._engine.standing()
+
+    def next(self) -> bytes:
+        return self._talk.next()
+
+    def progress(self) -> tuple[int, ...]:
+        return self._talk.progress()
+
+    def upgrade(self) -> None:
+        self._engine.line('{"upgrade":2}')
+
+    def _places(self) -> list[dict[str, Any]]:
+        return [json.loads(line) for line in self._engine.ask(b"C").decode().split("\n")[:-1]]
+
+    def commit(self, edits: list[dict[str, Any]], ms: int) -> list[dict[str, Any]] | None:
+        """Commits a transaction, and answers what may have changed: None where that is all, since the file had to be opened again."""
+        last = self._engine.standing().last
+        try:
+            self._engine.line(to_json({"ms": ms, "edits": edits}))
+            return self._places()
+        except (Refused, BadRequest, OtherProcess):
+            raise
+        except Exception as why:
+            self._open_again()
+            if self._engine.standing().last > last:
+                return None  # it had reached the disk all the same
+            raise why if isinstance(why, StorageFailed) else StorageFailed(f"{why}; the file was opened again") from why
+
+    def take(self, message: bytes) -> Taken:
+        """Takes a message of the server."""
+        try:
+            watched = LostEdits(self._engine, message)
+            refused, _, is_end = self._talk.take(message)
+            # A Download that is refused at an entry has been taken up to it.
+            places, lost = self._places(), watched.found()
+            self._engine.settle()
+            return Taken(places, lost, refused, is_end)
+        except (BadRequest, OtherProcess):
+            raise
+        except Exception as why:
+            self._open_again()
+            raise StorageFailed(f"{why}; the file was opened again") from why
+
+    def _open_again(self) -> None:
+        """After a failure: what was answered is in the file."""
+        self._engine.close()
+        self._engine = Engine(self._files.open(CLIENT))
+        self._talk = Talk(self._engine)
+
+    # ---- recovery
+
+    def pending_reason(self) -> Problem | None:
+        """Why a new client had begun to take over, where it was cut off."""
+        if not self._files.has(HEIR):
+            return None
+        return Problem(**self._note(REASON))
+
+    def _keep(self, name: str, note: Any) -> None:
+        """Keeps something small beside the client's file."""
+        self._files.remove(name)
+        storage = self._files.open(name)
+        storage.apply([Write(0, to_json(note).encode()), None])
+        storage.close()
+
+    def _note(self, name: str) -> Any:
+        storage = self._files.open(name)
+        try:
+            return json.loads(storage.read())
+        finally:
+            storage.close()
+
+    @property
+    def generation(self) -> int:
+        """In which generation of the server's history this client's file began."""
+        return int(self._note(GENERATION)) if self._files.has(GENERATION) else 1
+
+    def agree_on(self, generation: int) -> None:
+        self._keep(GENERATION, generation)
+
+    def takeover(self, exchange: Callable[[bytes], bytes], problem: Problem) -> Replacement:
+        """A new client that takes this one's place."""
+        # Written down before the new client has a file: where it is cut off, it goes on for the same reason.
+        if not self._files.has(HEIR):
+            reason = {"cause": problem.cause, "text": problem.text, "is_recoverable": True, "generation": problem.generation}
+            self._keep(REASON, reason)
+        return Replacement(self, Engine(self._files.open(HEIR)), exchange, problem)
+
+    def _kept_name(self) -> str:
+        return next(name for name in _kept_names() if not self._files.has(name))
+
+    def replaced(self, heir: Engine, problem: Problem) -> None:
+        """The new client is the database's from now on. Where the old one may have what no history has, its file is kept beside."""
+        if problem.generation:
+            self.agree_on(problem.generation)
+        if problem.cause in ("other server", "damaged"):
+            self._files.replace(self._kept_name(), CLIENT)
+        self._files.replace(CLIENT, HEIR)
+        self._files.remove(REASON)
+        self._engine.close()
+        self._engine, self._talk = heir, Talk(heir)
+
+    @property
+    def engine(self) -> Engine:
+        return self._engine
+
+    def close(self) -> None:
+        self._engine.close()
+
+
+def _kept_names() -> Iterator[str]:
+    number = 1
+    while True:
+        yield f"kept-{number}"
+        number += 1
+
+
+class Replacement:
+    """A takeover under way: `join` asks the server, and needs no lock; `replace` needs it."""
+
+    def __init__(self, client: DatabaseClient, heir: Engine, exchange: Callable[[bytes], bytes], problem: Problem) -> None:
+        self._client, self._heir, self._problem, self._is_done = client, heir, problem, False
+        self._takeover = Takeover(heir, exchange, problem)
+
+    def join(self) -> None:
+        self._takeover.join(self._client.standing())
+
+    def replace(self) -> Recovery:
+        recovery = self._takeover.inherit(self._client.engine)
+        self._client.replaced(self._heir, self._problem)
+        self._is_done = True
+        return recovery
+
+    def close(self) -> None:
+        if not self._is_done:
+            self._heir.close()

@@ -1,0 +1,120 @@
+"""A new client takes a refused one's place, and saves what that had unsent: docs/FORMATS.md, "Recovering what an old client had unsent"."""
+
+from __future__ import annotations
+
+import dataclasses
+import uuid
+from collections.abc import Callable
+from typing import Any
+
+from .door import REFUSED, Standing, expect_done, refusal_of, to_json
+from .engine import Engine
+from .errors import NeedsAttention, Reason, Refused
+from .messages import code_of, edits_of, retired_of, times_of
+from .problems import Problem
+from .talk import Talk, definitions_of, unsent_of
+
+
+@dataclasses.dataclass(frozen=True)
+class Dropped:
+    """An edit that the new client couldn't keep, and why."""
+
+    number: int
+    ms: int
+    edit: dict[str, Any]
+    why: str
+
+
+@dataclasses.dataclass(frozen=True)
+class Recovery:
+    """What became of the changes that a client had unsent when a new one took its place: how many were in the history already, how many the
+    new client has now, and what of these couldn't be kept."""
+
+    problem: Problem
+    integrated: int
+    saved: int
+    dropped: tuple[Dropped, ...]
+
+
+def born(engine: Engine) -> None:
+    """Gives a new client its uuid, and brings its file to form 2, unless both was done."""
+    try:
+        engine.line(to_json({"uuid": str(uuid.uuid4())}))
+    except Refused as why:
+        if why.reason != Reason.ALREADY_BORN:
+            raise
+    # Also where it was killed between the two.
+    engine.line('{"upgrade":2}')
+
+
+class Takeover:
+    """The steps of a new client, the heir, that takes an old one's place."""
+
+    def __init__(self, heir: Engine, exchange: Callable[[bytes], bytes], problem: Problem) -> None:
+        self._heir, self._exchange, self._problem = heir, exchange, problem
+        self._talk = Talk(heir)
+        # The times of the old client's changes in the history, by their numbers.
+        self._own: dict[int, int] = {}
+
+    def join(self, old: Standing) -> None:
+        """The heir takes the history, retires the old client, and takes what that had sent before."""
+        born(self._heir)
+        self._take_all()
+        # At another server the old ident may be somebody else's: it is left alone, and nothing of the old client is in that history.
+        if self._problem.cause == "other server":
+            return
+        self._retire(old.ident)
+        self._take_all()
+        self._own = times_of(old.ident, self._heir.data())
+
+    def _take_all(self) -> None:
+        is_end = False
+        while not is_end:
+            refused, _, is_end = self._talk.take(self._exchange(self._talk.next()))
+            self._heir.settle()
+            if refused:
+                raise refused
+
+    def _retire(self, ident: int) -> None:
+        if ident == 0:
+            return
+        reply = self._exchange(self._heir.ask(b"G", ident.to_bytes(4, "little")))
+        # Codes 60 and 69: not an ident of this server, or the heir's own; there is nothing to retire.
+        if retired_of(reply) != ident and code_of(reply) not in (60, 69):
+            raise NeedsAttention(Problem("retired", "another device has taken this one's place", False))
+
+    def inherit(self, old: Engine) -> Recovery:
+        """Commits in the heir what the old client has unsent, in order. A change is in the history where it belongs to the longest beginning
+        of the unsent ones whose numbers and times stand there under the old ident. The number alone doesn't say it: a file that was restored
+        from a backup gives numbers anew."""
+        dropped: list[Dropped] = []
+        integrated = saved = 0
+        is_other = self._problem.cause == "other server"
+        if is_other and self._heir.standing().last == 0:
+            self._save(0, 0, definitions_of(old.dump()), [])
+        known = self._heir.standing().last - is_other  # saved by an earlier try that was cut off
+        is_beginning = True
+        for change in unsent_of(old):
+            is_beginning = is_beginning and self._own.get(change.number) == change.ms
+            if is_beginning:
+                integrated += 1
+                continue
+            saved += 1
+            if saved > known:
+                self._save(change.number, change.ms, edits_of(change.body), dropped)
+        self._heir.settle()
+        return Recovery(self._problem, integrated, saved, tuple(dropped))
+
+    def _save(self, number: int, ms: int, edits: list[dict[str, Any]], dropped: list[Dropped]) -> None:
+        """One transaction, without the edits that don't act on the heir's objects."""
+        while True:
+            reply = self._heir.reply(b"L", to_json({"ms": ms, "edits": edits}).encode())
+            if reply.status != REFUSED:
+                expect_done(reply)
+                return self._heir.settle()
+            refused = refusal_of(reply)
+            if refused.reason != Reason.BREAK:
+                raise refused
+            place = refused.details[0]
+            dropped.append(Dropped(number, ms, edits[place], str(refused)))
+            edits = edits[:place] + edits[place + 1 :]

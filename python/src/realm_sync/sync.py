@@ -1,0 +1,223 @@
+"""The background loop of sync: what there is to say is said, what came is taken, and the state is told."""
+
+from __future__ import annotations
+
+import dataclasses
+import random
+import threading
+import time
+from collections.abc import Callable
+from typing import Literal, Protocol
+
+from .errors import Endless, Outdated, Reason, Refused, Unauthorized, error_of, words_of_code
+from .problems import BY_CODE, Problem
+from .transports import Transport
+
+Status = Literal["off", "connecting", "offline", "syncing", "up to date", "recovering", "needs attention"]
+# So many messages in a row may leave a client as it was.
+_MOST_IDLE = 16
+
+
+@dataclasses.dataclass(frozen=True)
+class SyncState:
+    """What an application shows: `text` says more, `unsent` how many transactions the history doesn't have yet as far as this device knows,
+    `retry_at` when it is tried again (time.time()), `problem` why sync is recovering or needs attention."""
+
+    status: Status
+    text: str = ""
+    unsent: int = 0
+    retry_at: float = 0.0
+    problem: Problem | None = None
+
+
+@dataclasses.dataclass(frozen=True)
+class SyncOptions:
+    """Times in seconds. `poll` is how often a server is asked that doesn't tell by itself that there is something new. After `most_messages` without
+    the end of the history a round ends with `Endless`."""
+
+    poll: float = 10
+    retry_from: float = 0.5
+    retry_most: float = 60
+    most_messages: int = 100_000
+
+
+class Syncable(Protocol):
+    """What the loop asks of the client."""
+
+    def next(self) -> bytes: ...
+
+    def take(self, message: bytes) -> bool:
+        """Answers whether the message says that nothing is behind the client's cursor."""
+
+    def upgrade(self) -> None: ...
+
+    def unsent(self) -> int: ...
+
+    def progress(self) -> tuple[int, ...]:
+        """It changes with each step forward."""
+
+
+def problem_of(why: Refused, is_repeated: bool) -> Problem | Literal["again", "upgrade"]:
+    """What a client's refusal of a reply asks for: docs/EMBEDDING.md, "What each answer asks for". `again` is a question for the history, which is
+    what a client sends next after any refusal."""
+    first, second, third = why.details
+    match why.reason:
+        case Reason.NOT_MINE:
+            return "again"
+        case Reason.OLD_ENTRY:
+            return "upgrade"
+        case Reason.MISMATCH:
+            text = f"the history and the unsent change {second} can't be merged: {words_of_code(third)}"
+            return Problem("schema", text, True, why.conflict)
+        case Reason.FORKED:
+            return Problem("restored", f"the history has a change {first} of this device that its file doesn't have", True)
+        case Reason.IDENT_DIFFERS:
+            return Problem("other server", "the server knows this device by another number", True)
+        case Reason.WAS_REFUSED:
+            if second == 67:
+                return "upgrade"
+            cause, can = BY_CODE.get(second, ("damaged", True))
+            # The reply to the question that comes next says which column.
+            if cause == "schema" and not is_repeated:
+                return "again"
+            return Problem(cause, f"the server refused change {first}: {words_of_code(second)}", can)
+        case _:
+            return Problem("damaged", str(why), True) if is_repeated else "again"
+
+
+def void(_: object) -> None:
+    """Drops an answer."""
+
+
+class SyncLoop:
+    """A thread that syncs until it is stopped."""
+
+    def __init__(
+        self, node: Syncable, transport: Transport, options: SyncOptions, tell: Callable[[SyncState], None], on_problem: Callable[[Problem], bool]
+    ) -> None:
+        self._node, self._transport, self._options, self._tell, self._on_problem = node, transport, options, tell, on_problem
+        self._wake = threading.Condition()
+        self._asked, self._done, self._fails = 1, 0, 0
+        self._stopped = self._is_repeated = False
+        self._held: Problem | None = None
+        self.state = SyncState("connecting")
+        self._poll = options.poll
+        self._thread = threading.Thread(target=self._run, name="realm_sync", daemon=True)
+
+    def start(self) -> None:
+        if self._transport.watch(lambda: void(self.poke())):
+            self._poll = 300.0
+        self._thread.start()
+
+    def poke(self) -> int:
+        """There may be something to do: answers the number of the round that does it."""
+        with self._wake:
+            self._asked += 1
+            self._wake.notify_all()
+            return self._asked
+
+    def committed(self) -> None:
+        """Something was committed: it is sent at once, but where the loop waits before it tries again."""
+        if self.state.status in ("up to date", "syncing", "connecting"):
+            self.poke()
+
+    def resume(self) -> None:
+        """Goes on after a problem that was settled."""
+        with self._wake:
+            self._held, self._is_repeated, self._fails = None, False, 0
+        self.poke()
+
+    def synced(self, timeout: float | None = None) -> bool:
+        """Waits until all that was committed is in the history, and all that the history had is here; False after `timeout` seconds. Raises where sync
+        needs attention."""
+        want = self.poke()
+        with self._wake:
+            self._wake.wait_for(lambda: self._done >= want or self._stopped or self._held, timeout)
+            if self._held:
+                raise error_of(self._held)
+            return self._done >= want
+
+    def stop(self) -> None:
+        with self._wake:
+            self._stopped = True
+            self._wake.notify_all()
+        self._transport.close()
+        if threading.current_thread() is not self._thread and self._thread.is_alive():
+            self._thread.join(10)
+
+    def _set(self, state: SyncState) -> None:
+        self.state = state
+        if not self._stopped:
+            self._tell(state)
+
+    def _run(self) -> None:
+        while not self._stopped:
+            with self._wake:
+                want = self._asked
+            try:
+                self._round()
+                if self._stopped:
+                    return
+                self._fails, self._is_repeated = 0, False
+                self._set(SyncState("up to date"))
+                with self._wake:
+                    self._done = want
+                    self._wake.notify_all()
+                self._sleep(self._poll, want)
+            except Exception as why:
+                if self._stopped:
+                    return
+                self._failed(why, want)
+
+    def _failed(self, why: Exception, want: int) -> None:
+        if isinstance(why, Unauthorized):
+            return self._stop_for(Problem("unauthorized", str(why), False))
+        if isinstance(why, Outdated):
+            return self._stop_for(Problem("other server", str(why), why.generation is not None, generation=why.generation))
+        if isinstance(why, Refused):
+            what, was_repeated = problem_of(why, self._is_repeated), self._is_repeated
+            self._is_repeated = True
+            if isinstance(what, Problem):
+                return self._stop_for(what)
+            if what == "upgrade":
+                self._node.upgrade()
+            if not was_repeated:
+                return None  # at once, and with pauses where it comes to the same again
+        self._fails += 1
+        options = self._options
+        wait = min(options.retry_most, options.retry_from * 2 ** min(self._fails - 1, 30)) * random.uniform(0.75, 1.25)
+        self._set(SyncState("offline", str(why), self._node.unsent(), retry_at=time.time() + wait))
+        return self._sleep(wait, want)
+
+    def _stop_for(self, problem: Problem) -> None:
+        if self._on_problem(problem):
+            self._is_repeated = False
+            return
+        if self._stopped:
+            return
+        self._set(SyncState("needs attention", problem.text, self._node.unsent(), problem=problem))
+        with self._wake:
+            self._held = problem
+            self._wake.notify_all()
+            self._wake.wait_for(lambda: self._stopped or self._held is None)
+
+    def _sleep(self, seconds: float, want: int) -> None:
+        with self._wake:
+            self._wake.wait_for(lambda: self._stopped or self._asked > want, seconds)
+
+    def _round(self) -> None:
+        """Sends and takes until a reply says that the end of the history is reached and nothing is unsent."""
+        before: tuple[int, ...] = ()
+        count = idle = 0
+        is_done = False
+        while not is_done and not self._stopped:
+            now = self._node.progress()
+            idle, before = (idle + 1 if now == before else 0), now
+            if count == self._options.most_messages or idle == _MOST_IDLE:
+                raise Endless(f"sync didn't reach the end of the history in {count} messages")
+            unsent = self._node.unsent()
+            if unsent or self.state.status != "up to date":
+                self._set(SyncState("syncing", unsent=unsent))
+            is_end = self._node.take(self._transport.exchange(self._node.next()))
+            is_done = is_end and not self._node.unsent()
+            count += 1

@@ -1,0 +1,298 @@
+"""Transports: one message there, one reply back."""
+
+from __future__ import annotations
+
+import json
+import threading
+import urllib.error
+import urllib.parse
+import urllib.request
+from collections.abc import Callable
+from typing import Any, Protocol
+
+from .errors import Error, Outdated, Unauthorized
+
+# A token, or what hands one over: it is asked for another one than before where that was refused.
+TokenSource = str | Callable[[bool], str]
+
+
+class Transport(Protocol):
+    """The way to a server. `watch`, `renew` and `close` may do nothing. `generation` is that of the server's history in which this client's file
+    began: 1, unless the server said another one (`Outdated`)."""
+
+    generation: int
+
+    def exchange(self, message: bytes) -> bytes:
+        """Brings a message to the server, and its reply back. Where none came it raises, and is tried again; after an Unauthorized it isn't."""
+
+    def watch(self, callback: Callable[[], None]) -> bool:
+        """From now on calls back when the server may have something new; False where it doesn't, and is to be asked from time to time."""
+
+    def renew(self, token: str) -> None:
+        """A token in place of the one before."""
+
+    def close(self) -> None:
+        """Ends the connection, and the watch."""
+
+
+class CallTransport:
+    """A server in this process, by a function that takes a message and answers the reply: `Server.take`, for example."""
+
+    generation = 1
+
+    def __init__(self, exchange: Callable[[bytes], bytes]) -> None:
+        self._exchange = exchange
+
+    def exchange(self, message: bytes) -> bytes:
+        return self._exchange(message)
+
+    def watch(self, callback: Callable[[], None]) -> bool:
+        return False
+
+    def renew(self, token: str) -> None:
+        """There is no token."""
+
+    def close(self) -> None:
+        """There is no connection."""
+
+
+class _Token:
+    """The token of a transport: asked for anew once it was refused."""
+
+    def __init__(self, source: TokenSource) -> None:
+        self._source, self._renewed, self._was_refused = source, "", False
+
+    def get(self) -> str:
+        if self._renewed:
+            return self._renewed
+        return self._source if isinstance(self._source, str) else self._source(self._was_refused)
+
+    def renew(self, token: str) -> None:
+        self._renewed, self._was_refused = token, False
+
+    def refused(self, why: str) -> None:
+        """The server refused the token. Raises where there is no other one to try: one is asked for once."""
+        if isinstance(self._source, str) or self._was_refused:
+            raise Unauthorized(why)
+        self._renewed, self._was_refused = "", True
+
+    def accepted(self) -> None:
+        self._was_refused = False
+
+    def headers(self) -> dict[str, str]:
+        token = self.get()
+        return {"Authorization": f"Bearer {token}"} if token else {}
+
+
+def _refusal(status: int) -> str:
+    """What a server says for good by this status; nothing where it may be tried again."""
+    words = {401: "the server refuses the token", 403: "the server refuses this device", 404: "the server has no such history"}
+    return words.get(status, "")
+
+
+OUTDATED = 410
+_GENERATION = "Realm-Generation"
+
+
+def _address(url: str, generation: int, **words: int) -> str:
+    """An address, with the generation in which the client's file began, and other words."""
+    words = {**({"generation": generation} if generation != 1 else {}), **words}
+    return f"{url}{'&' if '?' in url else '?'}{urllib.parse.urlencode(words)}" if words else url
+
+
+def _generation_in(headers: Any) -> int | None:
+    """Of an answer's headers, whose names may be in lower case."""
+    found = {str(name).lower(): value for name, value in dict(headers or {}).items()}.get(_GENERATION.lower())
+    return int(found) if found else None
+
+
+class HttpTransport:
+    """A server over HTTP: a POST of the message, its reply in the body. `url` is the history's own address. Unless `news` is false, the server is
+    asked to answer `GET URL/news?after=N&wait=S` once the history has grown."""
+
+    def __init__(self, url: str, token: TokenSource = "", timeout: float = 60, news: bool = True) -> None:
+        self._url, self._token, self._timeout, self._news, self.generation = url, _Token(token), timeout, news, 1
+        self._stopped = threading.Event()
+
+    def exchange(self, message: bytes) -> bytes:
+        while True:
+            headers = {"Content-Type": "application/octet-stream", **self._token.headers()}
+            try:
+                request = urllib.request.Request(_address(self._url, self.generation), message, headers)
+                with urllib.request.urlopen(request, timeout=self._timeout) as reply:
+                    data: bytes = reply.read()
+                self._token.accepted()
+                return data
+            except urllib.error.HTTPError as why:
+                why.close()
+                if why.code == OUTDATED:
+                    raise Outdated(_generation_in(why.headers)) from why
+                if why.code == 401:
+                    self._token.refused(_refusal(401))
+                elif _refusal(why.code):
+                    raise Unauthorized(_refusal(why.code)) from why
+                else:
+                    raise Error(f"the server answered {why.code}") from why
+
+    def watch(self, callback: Callable[[], None]) -> bool:
+        if self._news:
+            threading.Thread(target=self._watching, args=(callback,), name="realm_sync news", daemon=True).start()
+        return self._news
+
+    def _watching(self, callback: Callable[[], None]) -> None:
+        length, wait = -1, 0
+        while not self._stopped.is_set():
+            try:
+                found = self._news_after(max(0, length), wait)
+                if length >= 0 and found > length:
+                    callback()
+                length, wait = max(length, found, 0), 25
+            except (OSError, ValueError, Error):
+                self._stopped.wait(30)
+
+    def _news_after(self, length: int, seconds: int) -> int:
+        """The length of the history once it is above that, or after so many seconds that length."""
+        base, _, query = self._url.partition("?")
+        url = f"{base}/news{'?' if query else ''}{query}"
+        request = urllib.request.Request(_address(url, self.generation, after=length, wait=seconds), headers=self._token.headers())
+        with urllib.request.urlopen(request, timeout=seconds + 10) as reply:
+            return int(json.load(reply)["news"]) if reply.status == 200 else length
+
+    def renew(self, token: str) -> None:
+        self._token.renew(token)
+
+    def close(self) -> None:
+        self._stopped.set()
+
+
+class WebSocketTransport:
+    """A server over a WebSocket: a binary frame is a message or its reply, in turn; a text frame `{"news":LENGTH}` says that the history grew. It takes
+    the package websocket-client: `pip install 'realm-sync[websocket]'`."""
+
+    def __init__(self, url: str, token: TokenSource = "", timeout: float = 60) -> None:
+        self._url, self._token, self._timeout, self.generation = url, _Token(token), timeout, 1
+        self._socket: Any = None
+        self._watcher: Callable[[], None] = lambda: None
+        self._replies = threading.Condition()
+        self._reply: bytes | Exception | None = None
+        self._is_closed = self._is_waiting = False
+
+    def _connected(self) -> Any:
+        if self._socket is not None:
+            return self._socket
+        websocket = _websocket_client()
+        headers = [f"{name}: {value}" for name, value in self._token.headers().items()]
+        try:
+            url = _address(self._url, self.generation)
+            socket = websocket.create_connection(url, timeout=self._timeout, header=headers, subprotocols=["realm"], enable_multithread=True)
+        except websocket.WebSocketBadStatusException as why:
+            if why.status_code == OUTDATED:
+                raise Outdated(_generation_in(why.resp_headers)) from why
+            raise self._refused(int(why.status_code)) from why
+        self._token.accepted()
+        socket.settimeout(None)
+        self._socket = socket
+        threading.Thread(target=self._reading, args=(socket,), name="realm_sync socket", daemon=True).start()
+        return socket
+
+    def _refused(self, status: int) -> Exception:
+        if status == 401:
+            try:
+                self._token.refused(_refusal(401))
+                return Error("the token has ended: another one is tried")
+            except Unauthorized as why:
+                return why
+        return Unauthorized(_refusal(status)) if _refusal(status) else Error(f"the server cannot be reached ({status})")
+
+    def _reading(self, socket: Any) -> None:
+        """Takes what comes: a thread for each connection."""
+        code = 0
+        try:
+            while True:
+                kind, data = socket.recv_data()
+                if kind == 1:
+                    self._watcher()
+                elif kind == 2:
+                    self._arrived(bytes(data))
+                elif kind == 8:
+                    code = int.from_bytes(data[:2], "big")
+                    break
+        except Exception:  # whatever ended the connection
+            pass
+        self._lost(socket, code)
+
+    def _arrived(self, reply: bytes | Exception) -> None:
+        with self._replies:
+            if self._is_waiting:
+                self._reply = reply
+                self._replies.notify_all()
+
+    def _lost(self, socket: Any, code: int) -> None:
+        with self._replies:
+            if self._socket is not socket:
+                return
+            self._socket = None
+            is_waiting = self._is_waiting
+        _shut(socket)
+        self._arrived(self._refused(code - 4000) if code >= 4000 else ConnectionError("the connection was lost"))
+        if not is_waiting and not self._is_closed:
+            self._watcher()  # nobody waits: the loop connects again, and asks what came meanwhile
+
+    def exchange(self, message: bytes) -> bytes:
+        socket = self._connected()
+        with self._replies:
+            self._reply, self._is_waiting = None, True
+        try:
+            socket.send_binary(message)
+            with self._replies:
+                self._replies.wait_for(lambda: self._reply is not None, self._timeout)
+                reply = self._reply
+        finally:
+            with self._replies:
+                self._reply, self._is_waiting = None, False
+        if isinstance(reply, bytes):
+            return reply
+        if reply is None:  # a late reply would be taken for the next one's
+            with self._replies:
+                self._socket = None
+            _shut(socket)
+            raise TimeoutError("no reply came in time")
+        raise reply
+
+    def watch(self, callback: Callable[[], None]) -> bool:
+        self._watcher = callback
+        return True
+
+    def renew(self, token: str) -> None:
+        self._token.renew(token)
+        socket = self._socket
+        if socket is not None:
+            socket.send(json.dumps({"token": token}))
+
+    def close(self) -> None:
+        self._is_closed, self._watcher = True, lambda: None
+        socket, self._socket = self._socket, None
+        if socket is not None:
+            _shut(socket)
+
+
+def _shut(socket: Any) -> None:
+    try:
+        socket.close(timeout=1)
+    except Exception:  # it was ended from the other side
+        pass
+
+
+def _websocket_client() -> Any:
+    try:
+        import websocket
+    except ImportError as why:
+        raise ImportError("a WebSocket takes the package websocket-client: pip install 'realm-sync[websocket]'") from why
+    return websocket
+
+
+def transport_of(url: str, token: TokenSource = "") -> Transport:
+    """By the address: `ws:` and `wss:` a WebSocket, else HTTP."""
+    if url.startswith(("ws:", "wss:")):
+        return WebSocketTransport(url, token)
+    return HttpTransport(url, token)

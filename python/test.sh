@@ -1,0 +1,43 @@
+#!/bin/sh
+# Tests the Python package: its types by mypy, its tests, the wheel in an empty environment, and without --quick its examples.
+#
+#     python/test.sh [--quick] [--quiet] [--trial]
+#
+# --quiet tells problems alone; --trial is for work on the package: the library is built without its proof.
+#
+# It takes Python 3.10 or later, and Debian's python3-mypy, python3-cryptography, python3-websocket and python3-aiohttp. What is missing is
+# installed by root, and named else.
+set -eu
+here=$(cd "$(dirname "$(readlink -f "$0")")" && pwd)
+top=$(dirname "$here")
+. "$top/building/need.sh"
+quick='' trial='' quiet=''
+for word in "$@"; do
+    case $word in
+        --quick) quick=yes ;;
+        --quiet) quiet=yes ;;
+        --trial) trial=--trial ;;
+        *) echo "usage: python/test.sh [--quick] [--quiet] [--trial]" >&2; exit 2 ;;
+    esac
+done
+# With --quiet what is printed is kept, and told where something fails.
+if [ -n "$quiet" ]; then
+    said=$(mktemp)
+    trap 'status=$?; [ "$status" -eq 0 ] || cat "$said" >&3; rm -f "$said"' EXIT
+    exec 3>&2 >"$said" 2>&1
+fi
+python=${PYTHON:-/usr/bin/python3}
+need mypy python3-mypy
+for module in cryptography websocket aiohttp wheel; do
+    "$python" -c "import $module" 2>/dev/null || need_package "python3-$module"
+done
+"$here/build.sh" $trial >/dev/null
+cd "$here"
+MYPYPATH=src mypy src tests "$top/examples/shopping"
+PYTHONPATH=src "$python" -m unittest discover -t . -s tests
+"$here/tests/empty_project.sh"
+[ -z "$quick" ] || exit 0
+for name in two_phones serve_sockets; do
+    PYTHONPATH=src "$python" "examples/$name.py" | diff - "examples/$name.out"
+done
+"$here/tests/together/test.sh"

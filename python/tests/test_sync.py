@@ -1,0 +1,341 @@
+"""Sync: agreement, order of messages, states, lost edits, recovery."""
+
+from __future__ import annotations
+
+import os
+import random
+import tempfile
+import threading
+import time
+import unittest
+
+from realm_sync import CallTransport, Client, Database, LostEdit, NeedsAttention, Recovery, SchemaConflict, Server, SyncState, table
+from realm_sync.messages import ASK2, BIND, DOWNLOAD, REFUSED, STORED, UPLOAD
+
+from .common import FAST, TYPES, Day, Item, Net, edit, keys, until
+
+
+class Agreement(unittest.TestCase):
+    def test_three_devices_that_go_offline_agree_where_replies_are_lost(self) -> None:
+        net, draw = Net(), random.Random(1)
+        net.lose_each = 7
+        some = keys(draw, 5)
+        dbs = [net.database() for _ in range(3)]
+        for round_ in range(9):
+            net.is_down = round_ % 3 != 0
+            for db in dbs:
+                for _ in range(8):
+                    with db.write() as tx:
+                        edit(tx, draw, some)
+                with db.write() as tx:
+                    if tx.get(Day, 1) is None:
+                        tx.create(Day, day=1)
+        net.is_down = False
+        for db in dbs + dbs:
+            self.assertTrue(db.synced(20))
+        self.assertEqual(dbs[0][Item].all(), dbs[1][Item].all())
+        self.assertEqual(dbs[0][Item].all(), dbs[2][Item].all())
+        for db in dbs:
+            db.close()
+
+    def test_others_hear_of_a_change_and_states_are_told(self) -> None:
+        net, states, heard = Net(), list[str](), threading.Event()
+        with net.database() as one, net.database() as other:
+            one.observe_sync(lambda state: states.append(state.status))
+            other[Day].where(note="new").observe(lambda days: heard.set() if days else None)
+            with one.write() as tx:
+                tx.create(Day, day=1, note="new")
+            self.assertTrue(heard.wait(5))
+            net.is_down = True
+            with one.write() as tx:
+                tx.create(Day, day=2)
+            until(lambda: one.sync_state.status == "offline" and one.sync_state.unsent == 1)
+            net.is_down = False
+            self.assertTrue(one.synced(5))
+            until(lambda: states[-1] == "up to date")
+            self.assertLessEqual({"offline", "syncing", "up to date"}, set(states))
+
+    def test_a_client_asks_before_it_sends(self) -> None:
+        net = Net()
+        with tempfile.TemporaryDirectory() as folder:
+            path = os.path.join(folder, "db")
+            with net.database(path) as db:
+                self.assertTrue(db.synced(5))
+                self.assertEqual([net.sent[0], net.sent[1]], [BIND, ASK2])
+                self.assertGreater(net.sent.index(UPLOAD), 1)
+                db.stop_sync()
+                with db.write() as tx:
+                    tx.create(Day, day=1)
+            net.sent.clear()
+            with net.database(path) as db:
+                self.assertTrue(db.synced(5))
+                self.assertEqual(net.sent[0], ASK2)
+                self.assertIn(UPLOAD, net.sent)
+                # A refusal to an Upload: the next message is a question.
+                refusals = [bytes([REFUSED, db._client.standing().ident, 3, 2, 0])]
+                net.answer = lambda message: refusals.pop() if message[0] == UPLOAD and refusals else None
+                net.sent.clear()
+                with db.write() as tx:
+                    tx.create(Day, day=2)
+                self.assertTrue(db.synced(5))
+                self.assertEqual(list(net.sent[net.sent.index(UPLOAD) :][:3]), [UPLOAD, ASK2, UPLOAD])
+
+    def test_a_server_that_never_comes_to_the_end_is_an_error(self) -> None:
+        net = Net()
+        net.answer = lambda message: bytes([5, message[1], message[2], 0]) if message[0] == ASK2 else None
+        with net.database() as db:
+            until(lambda: "didn't reach the end of the history" in db.sync_state.text)
+            net.answer = lambda message: None
+            self.assertTrue(db.synced(5))
+            self.assertEqual(db.unsent, 0)
+
+    def test_a_server_that_answers_what_is_no_message_is_asked_again(self) -> None:
+        net, draw, count = Net(), random.Random(3), 0
+        with net.database() as other:
+            with other.write() as tx:
+                tx.create(Day, day=1)
+            self.assertTrue(other.synced(5))
+
+        def breaking(message: bytes) -> bytes:
+            nonlocal count
+            count += 1
+            reply = net.exchange(message)
+            if count > 40:
+                return reply
+            match count % 3:
+                case 0:
+                    return reply[: draw.randrange(len(reply))]
+                case 1:
+                    return bytes([DOWNLOAD, message[1], 0, 255, 255, 255, 127])
+                case _:
+                    return reply + draw.randbytes(1)
+
+        with Database(None, TYPES) as db:
+            with db.write() as tx:
+                tx.create(Day, day=2)
+            db.start_sync(CallTransport(breaking), options=FAST)
+            until(lambda: count > 40 or db.sync_state.status == "needs attention")
+            db.start_sync(net.transport(), options=FAST)
+            self.assertTrue(db.synced(5))
+            self.assertEqual([it.day for it in db[Day]], [1, 2])
+
+    def test_a_new_device_takes_a_history_that_is_longer_than_one_reply(self) -> None:
+        with Server() as server, Client() as one, Client() as other:
+            one.born("00000000-0000-4000-8000-000000000001")
+            other.born("00000000-0000-4000-8000-000000000002")
+            one.commit([{"op": "AddTable", "table": "days", "key": "Int"}])
+            for day in range(5000):
+                one.commit([{"op": "CreateObject", "table": "days", "key": day}])
+            one.sync(server.take)
+            other.sync(server.take)
+            self.assertEqual(len(list(other.objects("days"))), 5000)
+
+    def test_what_another_device_overruled_is_told_once(self) -> None:
+        net, told = Net(), list[LostEdit]()
+        with net.database() as one, net.database() as other:
+            with one.write() as tx:
+                bread = tx.create(Item, title="bread", tags=["a"], steps=["x"], prices={"k": 1}, quantity=1)
+                gone, mine = tx.create(Item, title="gone"), tx.create(Item, title="mine")
+            self.assertTrue(one.synced(5) and other.synced(5))
+            one.on_lost(told.extend)
+            one.stop_sync()
+            with one.write() as tx:
+                tx.update(Item, bread, title="white bread", done=True)
+                tx.at(Item, bread, "prices")["k"] = 2
+                tx.add(Item, bread, "quantity", 1)
+                tx.update(Item, gone, title="still here?")
+                tx.update(Item, mine, title="stays")
+            time.sleep(0.01)
+            with other.write() as tx:
+                tx.update(Item, bread, title="rye bread")
+                tx.at(Item, bread, "prices")["k"] = 3
+                tx.add(Item, bread, "quantity", 5)
+                tx.erase(Item, gone)
+            self.assertTrue(other.synced(5))  # the other device's changes come first in the history
+            one.start_sync(net.transport(), options=FAST)
+            self.assertTrue(one.synced(5) and one.synced(5))
+        said = sorted(("bread" if it.key == bread else "gone", str(it.column), it.why, it.mine) for it in told)
+        self.assertEqual(said, [("bread", "prices", "overwritten", 2), ("bread", "title", "overwritten", "white bread"), ("gone", "None", "erased", None)])
+        title = next(it for it in told if it.column == "title")
+        assert isinstance(title.object, Item)
+        self.assertEqual((title.object.title, title.object.quantity), ("rye bread", 7))
+        self.assertEqual([it.before.title for it in told if it.why == "erased"], ["still here?"])
+
+
+class Recovering(unittest.TestCase):
+    def setUp(self) -> None:
+        folder = tempfile.TemporaryDirectory()
+        self.addCleanup(folder.cleanup)
+        self.path = os.path.join(folder.name, "db")
+        self.net = Net()
+
+    def restored(self) -> None:
+        """A file that was synced, restored from a backup, and has three changes more."""
+        with self.net.database(self.path) as db:
+            with db.write() as tx:
+                tx.create(Day, day=1, note="first")
+            self.assertTrue(db.synced(5))
+            with open(self.path, "rb") as it:
+                backup = it.read()
+            for day in (2, 3):
+                with db.write() as tx:
+                    tx.create(Day, day=day, note="lost file")
+            self.assertTrue(db.synced(5))
+        with open(self.path, "wb") as it:
+            it.write(backup)
+        with Database(self.path, TYPES) as db:
+            for day in (4, 5, 6):
+                with db.write() as tx:
+                    tx.create(Day, day=day, note="restored file")
+
+    def test_a_restored_file_recovers_by_itself_and_loses_nothing(self) -> None:
+        self.restored()
+        told: list[Recovery] = []
+        with Database(self.path, TYPES) as db:
+            db.on_recovered(told.append)
+            db.start_sync(self.net.transport(), options=FAST)
+            until(lambda: bool(told))
+            self.assertTrue(db.synced(10))
+            self.assertEqual((told[0].problem.cause, told[0].saved, told[0].integrated, told[0].dropped), ("restored", 3, 0, ()))
+            self.assertEqual([it.day for it in db[Day]], [1, 2, 3, 4, 5, 6])
+        self.assertEqual(os.listdir(os.path.dirname(self.path)), ["db"])
+
+    def test_a_restored_file_that_is_asked_about_sends_nothing(self) -> None:
+        self.restored()
+        self.net.sent.clear()
+        with self.net.database(self.path, on_problem="ask") as db:
+            with self.assertRaisesRegex(NeedsAttention, "the history has a change 3 of this device"):
+                db.synced(5)
+            with db.write() as tx:
+                tx.create(Day, day=7)
+            with self.assertRaises(NeedsAttention):
+                db.synced(5)
+            self.assertNotIn(UPLOAD, self.net.sent)
+            db.recover()
+            self.assertTrue(db.synced(5))
+            self.assertEqual(len(db[Day]), 7)
+
+    def test_a_stored_that_the_file_does_not_have_is_a_restored_file(self) -> None:
+        with self.net.database(self.path, on_problem="ask") as db:
+            self.assertTrue(db.synced(5))
+            self.net.answer = lambda message: bytes([STORED, message[1], 9]) if message[0] == UPLOAD else None
+            with db.write() as tx:
+                tx.create(Day, day=1)
+            with self.assertRaises(NeedsAttention) as told:
+                db.synced(5)
+            self.assertEqual(told.exception.problem.cause, "restored")
+
+    def test_another_server_is_never_taken_for_this_one(self) -> None:
+        work = Net()
+        with self.net.database(self.path) as db:
+            with db.write() as tx:
+                tx.create(Day, day=1, note="home")
+            self.assertTrue(db.synced(5))
+            db.stop_sync()
+            with db.write() as tx:
+                tx.create(Day, day=2, note="home, unsent")
+            db.start_sync(work.transport(), options=FAST)
+            with self.assertRaises(NeedsAttention) as told:
+                db.synced(5)
+            self.assertEqual(told.exception.problem.cause, "other server")
+            self.assertEqual(work.server.standing().cursor, 0)
+            db.recover()
+            self.assertTrue(db.synced(5))
+            self.assertEqual([it.note for it in db[Day]], ["home, unsent"])
+        self.assertEqual(sorted(os.listdir(os.path.dirname(self.path))), ["db", "db.kept-1"])
+
+    def test_a_retired_client_recovers_cut_off_at_each_message(self) -> None:
+        for cut in range(1, 12):
+            net = Net()
+            path = f"{self.path}{cut}"
+            with net.database(path) as db:
+                with db.write() as tx:
+                    tx.create(Day, day=1)
+                self.assertTrue(db.synced(5))
+                ident = db._client.standing().ident
+                db.stop_sync()
+                with db.write() as tx:
+                    tx.create(Day, day=2, note="unsent")
+            net.answer = lambda message, ident=ident: bytes([REFUSED, ident, 2, 68, 1]) if message[:2] == bytes([UPLOAD, ident]) else None  # type: ignore[misc]
+            count = 0
+
+            def cutting(message: bytes) -> bytes:
+                nonlocal count
+                count += 1
+                if count == cut:
+                    raise OSError("cut")
+                return net.exchange(message)
+
+            told: list[Recovery] = []
+            with Database(path, TYPES) as db:
+                db.on_recovered(told.append)
+                db.start_sync(CallTransport(cutting), options=FAST)
+                until(lambda: bool(told))
+                self.assertEqual((told[0].problem.cause, told[0].saved), ("retired", 1), f"cut {cut}")
+                self.assertTrue(db.synced(10))
+                self.assertEqual([it.note for it in db[Day]], ["", "unsent"])
+
+    def test_a_takeover_that_was_cut_off_goes_on_for_the_same_reason(self) -> None:
+        other = Net()
+        with self.net.database(self.path) as db:
+            self.assertTrue(db.synced(5))
+            db.stop_sync()
+            with db.write() as tx:
+                tx.create(Day, day=2)
+            replies = iter(range(3))
+
+            def cutting(message: bytes) -> bytes | None:
+                if next(replies, None) is None:
+                    raise OSError("cut")
+                return None
+
+            other.answer = cutting
+            db.start_sync(other.transport(), options=FAST)
+            with self.assertRaises(NeedsAttention):
+                db.synced(5)
+            replies = iter(range(1))
+            with self.assertRaises(OSError):
+                db.recover()
+        self.assertEqual(sorted(os.listdir(os.path.dirname(self.path))), ["db", "db.heir", "db.reason"])
+        other.answer = lambda message: None
+        told: list[Recovery] = []
+        with Database(self.path, TYPES) as db:
+            db.on_recovered(told.append)
+            db.start_sync(other.transport(), options=FAST)
+            until(lambda: bool(told))
+            self.assertEqual(told[0].problem.cause, "other server")
+            self.assertTrue(db.synced(5))
+            self.assertEqual([it.day for it in db[Day]], [2])
+
+    def test_schemas_that_differ_are_told_before_anything_is_sent(self) -> None:
+        @table("days")
+        class Other:
+            day: int
+            note: int
+
+        with self.net.database() as db:
+            with db.write() as tx:
+                tx.create(Day, day=1, note="phone")
+            self.assertTrue(db.synced(5))
+        states: list[SyncState] = []
+        with Database(self.path, [Other]) as laptop:
+            with laptop.write() as tx:
+                tx.create(Other, day=2, note=5)
+            self.net.sent.clear()
+            laptop.observe_sync(states.append)
+            laptop.start_sync(self.net.transport(), options=FAST)
+            with self.assertRaisesRegex(SchemaConflict, "days.note is declared as Int One, and is Text One in the data"):
+                laptop.synced(5)
+            self.assertNotIn(UPLOAD, self.net.sent)
+            recovery = laptop.recover()
+            self.assertEqual(recovery.saved, 2)
+            self.assertIn("the value doesn't fit the column", recovery.dropped[-1].why)
+            with self.assertRaises(SchemaConflict), laptop.write():
+                pass
+        with self.net.database(self.path) as again:
+            self.assertTrue(again.synced(5))
+            self.assertEqual([(it.day, it.note) for it in again[Day]], [(1, "phone"), (2, "")])
+
+
+if __name__ == "__main__":
+    unittest.main()

@@ -1,0 +1,242 @@
+"""The doors over HTTP, and the server that holds them all: docs/SERVICE.md, "Doors"."""
+
+import asyncio
+import functools
+import json
+import logging
+import typing
+from collections.abc import Awaitable, Callable
+
+import prometheus_client
+from aiohttp import web
+
+from .config import Config
+from .devices import Forbidden
+from .entries import Entries
+from .histories import Histories
+from .history import History
+from .limits import Guarded, Guards, Limits
+from .messages import BadMessage
+from .node import ABSENT, DONE, DUMP, OBJECT
+from .openapi import PAGE, described
+from .owners import LONGEST_WAIT, WORKER, Owners
+from .refusals import GENERATION, Refused, response_of
+from .sockets import Sockets
+from .stores import Fenced
+from .tokens import Tokens
+from .visits import Visits
+
+log = logging.getLogger("realm_service")
+NO_LOG: dict[str, typing.Any] = {"access_log": None}
+Handler = Callable[["Doors", web.Request], Awaitable[web.StreamResponse]]
+
+
+def _answered(handler: Handler) -> Handler:
+    """Whatever a handler raises is a refusal."""
+
+    @functools.wraps(handler)
+    async def answer(self: "Doors", request: web.Request) -> web.StreamResponse:
+        try:
+            return await handler(self, request)
+        except (web.HTTPException, asyncio.CancelledError):
+            raise
+        except Exception as error:
+            return response_of(error)
+
+    return answer
+
+
+def _number(request: web.Request, name: str, default: float) -> float:
+    try:
+        return float(request.query.get(name, default))
+    except ValueError:
+        raise Refused(400, f"{name} is a number") from None
+
+
+class Doors:
+    def __init__(self, histories: Histories, tokens: Tokens, address: str, config: Config):
+        self.histories, self.config = histories, config
+        self.limits, self.guards = Limits(config.limits), Guards(config.limits.message_seconds)
+        self.owners = Owners(histories, address, self.limits, config.service.create)
+        self.visits = Visits(tokens, self.owners, self.limits)
+        self.sockets, self.entries = Sockets(self.visits), Entries(self.visits)
+        self.server: asyncio.AbstractServer | None = None
+        self.runner: web.AppRunner | None = None
+
+    # ---- start and stop
+
+    def _app(self) -> web.Application:
+        app = web.Application(client_max_size=self.config.limits.message_bytes)
+        get, post, one = app.router.add_get, app.router.add_post, "/v1/histories/{history}"
+        get("/", self.page)
+        get("/openapi.json", self.openapi)
+        get("/healthz", self.healthz)
+        get("/readyz", self.readyz)
+        get("/metrics", self.metrics)
+        get(one, self.sockets.handle)
+        post(one, functools.partial(Doors.post, self))
+        get(one + "/news", functools.partial(Doors.news, self))
+        get(one + "/objects", functools.partial(Doors.objects, self))
+        get(one + "/entries", functools.partial(Doors.stream, self))
+        post(one + "/trim", functools.partial(Doors.trim, self))
+        return app
+
+    async def start(self, host: str, port: int) -> None:
+        self.runner = web.AppRunner(self._app(), access_log=None, handler_cancellation=False)
+        await self.runner.setup()
+        self.server = await asyncio.get_running_loop().create_server(self._connection, host, port, backlog=1024)
+        await self.owners.start()
+        self.sweeper = asyncio.create_task(self._sweep())
+
+    def _connection(self) -> Guarded:
+        assert self.runner is not None and self.runner.server is not None
+        made = Guarded(self.runner.server, loop=asyncio.get_running_loop(), keepalive_timeout=75, **NO_LOG)
+        self.guards.guarded.add(made)
+        return made
+
+    async def _sweep(self) -> None:
+        while True:
+            await asyncio.sleep(1)
+            self.guards.sweep()
+            self.limits.sweep()
+
+    async def stop(self) -> None:
+        """Nothing new is taken, and what is under way is answered."""
+        self.visits.is_open = False
+        if self.server is not None:
+            self.server.close()
+        self.entries.close()
+        await self.sockets.close()
+        for _ in range(100):
+            if not self.limits.in_flight:
+                break
+            await asyncio.sleep(0.05)
+
+    async def stopped(self) -> None:
+        self.sweeper.cancel()
+        await self.owners.stop()
+        if self.runner is not None:
+            await self.runner.cleanup()
+
+    # ---- for operators
+
+    async def page(self, _: web.Request) -> web.Response:
+        return web.Response(text=PAGE, content_type="text/html")
+
+    async def openapi(self, _: web.Request) -> web.Response:
+        return web.json_response(described())
+
+    async def healthz(self, _: web.Request) -> web.Response:
+        return web.Response(text="ok\n", headers={WORKER: str(self.histories.store.id or "")})
+
+    async def readyz(self, _: web.Request) -> web.Response:
+        is_ready = self.visits.is_open and await self.histories.store.ready()
+        return web.Response(text="ready\n" if is_ready else "not ready\n", status=200 if is_ready else 503)
+
+    async def metrics(self, _: web.Request) -> web.Response:
+        return web.Response(body=prometheus_client.generate_latest(), headers={"Content-Type": prometheus_client.CONTENT_TYPE_LATEST})
+
+    # ---- a history
+
+    @_answered
+    async def post(self, request: web.Request) -> web.StreamResponse:
+        """A message and its reply."""
+        self.visits.admitted(request)
+        try:
+            message = await asyncio.wait_for(request.read(), self.config.limits.message_seconds)
+        except web.HTTPRequestEntityTooLarge:
+            raise Refused(413, "a message has at most message_bytes of the configuration") from None
+        for _ in range(2):
+            visit = await self.visits.visit(request, is_device=True)
+            if visit.history is None:
+                return await self.owners.pass_on(visit.address, request, visit.token, message)
+            try:
+                reply = await self.visits.answer(visit.history, visit.caller, message)
+                return web.Response(body=reply, headers={GENERATION: str(visit.history.lease.generation)})
+            except Fenced:
+                continue  # nothing of it was stored by us: whoever has it now answers
+        raise Fenced(request.match_info["history"])
+
+    @_answered
+    async def news(self, request: web.Request) -> web.StreamResponse:
+        """Waits until the history has more than `after` entries."""
+        after, wait = _number(request, "after", 0), min(_number(request, "wait", 25), LONGEST_WAIT)
+        visit = await self.visits.visit(request)
+        if visit.history is None:
+            return await self.owners.pass_on(visit.address, request, visit.token)
+        if await visit.history.known_length() <= after and not await _has_grown(visit.history, wait):
+            return web.Response(status=204)
+        return web.json_response({"news": visit.history.length})
+
+    @_answered
+    async def objects(self, request: web.Request) -> web.StreamResponse:
+        """All objects, those of a table, or the one of a `table` and `key` (JSON), as the history has them now."""
+        visit = await self.visits.visit(request)
+        if visit.history is None:
+            return await self.owners.pass_on(visit.address, request, visit.token)
+        table, key, seen = request.query.get("table"), request.query.get("key"), visit.caller.tables
+        if key is not None and table is not None and seen is not None and table not in seen:
+            raise Forbidden("the token isn't for this table")
+        asked = DUMP if key is None else OBJECT + _named(table, key)
+        status, told = await visit.history.read(asked)
+        if status == ABSENT:
+            raise Refused(404, "there is no such object")
+        if status != DONE:
+            raise BadMessage("table is a name, and key a key in JSON")
+        if key is None and (table is not None or seen is not None):
+            told = await self.histories.work_aside(_lines_of, told, table, seen)
+        return web.Response(body=told, content_type="application/x-ndjson")
+
+    @_answered
+    async def stream(self, request: web.Request) -> web.StreamResponse:
+        """Entries from a version on."""
+        visit = await self.visits.visit(request)
+        if visit.history is None:
+            return await self.owners.pass_on(visit.address, request, visit.token)
+        return await self.entries.tell(request, visit)
+
+    @_answered
+    async def trim(self, request: web.Request) -> web.StreamResponse:
+        """Gives up what all devices have settled."""
+        if not self.visits.admitted(request)[2].rules:
+            raise Forbidden("the token may not trim: it takes one with `rule`")
+        visit = await self.visits.visit(request)
+        if visit.history is None:
+            return await self.owners.pass_on(visit.address, request, visit.token)
+        before, after = await visit.history.trim()
+        return web.json_response({"before": before, "after": after})
+
+
+async def _has_grown(history: History, wait: float) -> bool:
+    """Whether the history grows, or moves, within so many seconds."""
+    grown: asyncio.Future[int | None] = asyncio.get_running_loop().create_future()
+
+    def listener(length: int | None) -> None:
+        if not grown.done():
+            grown.set_result(length)
+
+    history.listeners.add(listener)
+    try:
+        if await asyncio.wait_for(grown, wait) is None:
+            raise Fenced(history.name)
+        return True
+    except asyncio.TimeoutError:
+        return False
+    finally:
+        history.listeners.discard(listener)
+
+
+def _named(table: str | None, key: str) -> bytes:
+    try:
+        return json.dumps({"table": table, "key": json.loads(key)}).encode()
+    except ValueError:
+        raise Refused(400, "key is a key in JSON") from None
+
+
+def _lines_of(dump: bytes, table: str | None, seen: frozenset[str] | None) -> bytes:
+    """The lines of a table, or of the tables that may be seen; those of the schema stay."""
+
+    def is_kept(line: dict[str, typing.Any]) -> bool:
+        return table in (None, line["table"]) and (seen is None or "cells" not in line or line["table"] in seen)
+
+    return b"".join(line + b"\n" for line in dump.splitlines() if is_kept(json.loads(line)))

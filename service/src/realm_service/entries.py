@@ -1,0 +1,140 @@
+"""Entries of a history from a version on, for search indexes and reports: lines of JSON, or server-sent events, which may be resumed."""
+
+import asyncio
+import contextlib
+import json
+import logging
+import time
+import typing
+import uuid
+from collections.abc import Iterator
+
+from aiohttp import web
+
+from .history import History
+from .messages import AHEAD, GIVEN_UP, Entry, NoEntries, entries
+from .node import NodeFailed
+from .refusals import GENERATION, Refused
+from .stores import Fenced, StoreDown
+from .visits import Visit, Visits
+
+log = logging.getLogger("realm_service")
+
+KEEP_ALIVE = 15.0  # seconds after which a stream of events says that it lives
+EVENTS, LINES = "text/event-stream", "application/x-ndjson"
+
+
+def _line(entry: Entry, device: bytes | None) -> str:
+    told = {"version": entry.version, "ident": entry.ident, "device": str(uuid.UUID(bytes=device)) if device else None,
+            "number": entry.number, "ms": entry.ms, "changeset": entry.changeset.hex()}
+    return json.dumps(told, separators=(",", ":"))
+
+
+def _first(request: web.Request) -> int:
+    """The version from which on entries are asked; a stream that is resumed says the last one that it has."""
+    last = request.headers.get("Last-Event-ID")
+    given = str(int(last) + 1) if last is not None and last.isdigit() else request.query.get("from", "0")
+    if not given.isdigit() or int(given) >= 1 << 32:
+        raise Refused(400, "from is a version")
+    return int(given)
+
+
+class _Page:
+    """The entries from a version on that one question brings."""
+
+    def __init__(self, told: bytes | None, history: History):
+        uuids = history.devices.uuids if history.devices else {}
+        found = entries(told) if told is not None else ()
+        self.lines = [(it.version, _line(it, uuids.get(it.ident))) for it in found]
+
+    def body(self, is_events: bool) -> bytes:
+        if is_events:
+            return "".join(f"id: {version}\ndata: {line}\n\n" for version, line in self.lines).encode()
+        return "".join(line + "\n" for _, line in self.lines).encode()
+
+
+def _refused(refusal: NoEntries) -> Refused:
+    if refusal.code == GIVEN_UP:
+        return Refused(410, "the history before that was trimmed: begin with its objects, and with entries from its length on")
+    if refusal.code == AHEAD:
+        return Refused(410, "the history is shorter: it was restored, or it is another one; begin anew")
+    return Refused(500, f"the server refuses with code {refusal.code}")
+
+
+class Entries:
+    def __init__(self, visits: Visits):
+        self.visits = visits
+        self.following: set[asyncio.Event] = set()
+        self.is_closing = False
+
+    def close(self) -> None:
+        """All streams end."""
+        self.is_closing = True
+        for event in self.following:
+            event.set()
+
+    async def tell(self, request: web.Request, visit: Visit) -> web.StreamResponse:
+        history, version = typing.cast(History, visit.history), _first(request)
+        is_events = EVENTS in request.headers.get("Accept", "")
+        is_followed = request.query.get("follow", "1" if is_events else "0") == "1"
+        page = await self._page(history, version, visit)
+        headers = {GENERATION: str(history.lease.generation), "Content-Type": EVENTS if is_events else LINES, "Cache-Control": "no-store"}
+        stream = web.StreamResponse(headers=headers)
+        await stream.prepare(request)
+        try:
+            await self._told(stream, visit, page, version, is_events, is_followed)
+            await stream.write_eof()
+        except (Fenced, StoreDown, Refused, NodeFailed, OSError, asyncio.TimeoutError) as error:
+            log.info("%s: a stream of entries is cut: %s", visit.name, error)
+            if request.transport is not None:
+                request.transport.abort()  # so that the client sees that there is more
+        return stream
+
+    async def _told(self, stream: web.StreamResponse, visit: Visit, page: _Page, version: int, is_events: bool, is_followed: bool) -> None:
+        history = typing.cast(History, visit.history)
+        with self._grown(history) as grown:
+            while True:
+                grown.clear()
+                while page.lines:
+                    await stream.write(page.body(is_events))
+                    version = page.lines[-1][0] + 1
+                    page = await self._page(history, version, visit)
+                if not is_followed or not await self._waited(grown, visit, stream, is_events):
+                    return
+                page = await self._page(history, version, visit)
+
+    async def _page(self, history: History, version: int, visit: Visit) -> _Page:
+        await self.visits.limits.admit(visit.caller.user, 0)
+        try:
+            return _Page(await history.entries(version, visit.caller.tables), history)
+        except NoEntries as refusal:
+            raise _refused(refusal) from refusal
+
+    async def _waited(self, grown: asyncio.Event, visit: Visit, stream: web.StreamResponse, is_events: bool) -> bool:
+        """Waits until there may be more. False where the stream is to end: the client comes back, and goes on from where it is."""
+        while not grown.is_set():
+            left = visit.until - time.time()
+            if left <= 0 or self.is_closing:
+                return False
+            try:
+                await asyncio.wait_for(grown.wait(), min(KEEP_ALIVE, left))
+            except asyncio.TimeoutError:
+                await stream.write(b":\n\n" if is_events else b"\n")
+        return not self.is_closing and visit.history is not None and not visit.history.gone
+
+    @contextlib.contextmanager
+    def _grown(self, history: History) -> Iterator[asyncio.Event]:
+        grown = asyncio.Event()
+
+        def listener(_: int | None) -> None:
+            grown.set()
+
+        if history.gone:
+            raise Fenced(history.name)
+        history.listeners.add(listener)
+        self.following.add(grown)
+        try:
+            yield grown
+        finally:
+            history.listeners.discard(listener)
+            self.following.discard(grown)

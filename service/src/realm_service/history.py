@@ -1,0 +1,313 @@
+"""A history in memory: it takes its messages in batches, one batch at a time, and tells no reply before all that it rests on is stored."""
+
+from __future__ import annotations
+
+import asyncio
+import collections
+import contextlib
+import dataclasses
+import logging
+import time
+import typing
+from collections.abc import Callable
+
+from . import metrics
+from .devices import Caller, Devices, Forbidden, Outdated, TooMuch
+from .messages import AHEAD, BIND, NAMES, UPLOAD, BadMessage, Head, NoEntries, head, question
+from .node import BAD_REQUEST, DONE, STANDING, TAKE, Damaged, Node, NodeFailed, Reply, Written, length_of
+from .stores import Fenced, Lease, StoreDown
+from .trimming import CantTrim
+from .weights import Sizes
+
+if typing.TYPE_CHECKING:
+    from .histories import Histories
+
+log = logging.getLogger("realm_service")
+BATCH_MESSAGES, BATCH_BYTES = 256, 16 << 20
+DECLINED = (Forbidden, BadMessage, Outdated, TooMuch)
+Listener = Callable[[int | None], None]  # told the length when it has grown, and None when the history is another worker's
+
+
+class Busy(Exception):
+    """Too much waits: try again later."""
+
+
+@dataclasses.dataclass(eq=False)
+class _Work:
+    """What waits: a caller's message, or with no caller a request that changes nothing. No request is a trim."""
+
+    request: bytes | None
+    future: asyncio.Future[typing.Any]
+    caller: Caller | None = None
+    listener: Listener | None = None
+    head: Head | None = None
+    began: float = dataclasses.field(default_factory=time.monotonic)
+
+    def fail(self, error: BaseException) -> None:
+        if not self.future.done():
+            self.future.set_exception(error)
+
+
+class History:
+    """One history that this worker owns. Its node is opened at the first message, and let go when it is idle."""
+
+    def __init__(self, histories: Histories, lease: Lease):
+        self.histories, self.lease, self.name = histories, lease, lease.name
+        self.node: Node | None = None
+        self.devices: Devices | None = None
+        self.runner: asyncio.Task[None] | None = None
+        self.length: int | None = None  # entries; None until the node was open once
+        self.sizes = Sizes(0, 0)
+        self.waiting: collections.deque[_Work] = collections.deque()
+        self.batch: list[_Work] = []  # what is at work
+        self.listeners: set[Listener] = set()
+        self.used = time.monotonic()
+        self.gone = False
+
+    async def ask(self, caller: Caller, message: bytes, listener: Listener | None = None) -> bytes:
+        """The reply to a caller's message."""
+        reply: bytes = await self._put(_Work(message, self._future(), caller, listener, head(message)))
+        return reply
+
+    async def read(self, request: bytes) -> Reply:
+        """What the node answers to a request that changes nothing."""
+        reply: Reply = await self._put(_Work(request, self._future()))
+        return reply
+
+    async def entries(self, version: int, tables: frozenset[str] | None) -> bytes | None:
+        """A Download of the entries from a version on, or None where the history has no device and so no entries. It is asked under the
+        first ident and settles nothing, so the server keeps nothing of it."""
+        if await self.known_length() == 0:
+            if version > 0:
+                raise NoEntries(AHEAD, 0)
+            return None
+        status, told = await self.read(TAKE + question(1, version, tables))
+        if status != DONE:
+            raise NodeFailed(f"entries: {status}")
+        return told
+
+    async def known_length(self) -> int:
+        if self.length is None:
+            await self.read(STANDING)
+        assert self.length is not None
+        return self.length
+
+    async def trim(self) -> tuple[int, int]:
+        """Gives up the history that all devices have settled: the bytes of the journal before and after."""
+        sizes: tuple[int, int] = await self._put(_Work(None, self._future()))
+        return sizes
+
+    @staticmethod
+    def _future() -> asyncio.Future[typing.Any]:
+        return asyncio.get_running_loop().create_future()
+
+    async def _put(self, work: _Work) -> typing.Any:
+        if self.gone:
+            raise Fenced(self.name)
+        if len(self.waiting) >= self.histories.most_waiting:
+            raise Busy(self.name)
+        self.waiting.append(work)
+        if self.runner is None:
+            self.runner = asyncio.create_task(self._run())
+        return await work.future
+
+    # ---- batches
+
+    async def _run(self) -> None:
+        try:
+            while self.waiting:
+                self.batch = self._next_batch()
+                try:
+                    await self._answer(self.batch)
+                except BaseException as error:  # whatever it is, the node may be ahead of what is stored
+                    self._fail(self.batch, error)
+                    if not isinstance(error, Exception):
+                        raise
+        finally:
+            self.runner, self.batch = None, []
+            self.used = time.monotonic()
+            if self.gone:
+                self.let_go()
+
+    def _next_batch(self) -> list[_Work]:
+        """A trim goes alone."""
+        batch: list[_Work] = []
+        size = 0
+        while self.waiting and len(batch) < BATCH_MESSAGES and size < BATCH_BYTES:
+            if batch and None in (self.waiting[0].request, batch[0].request):
+                break
+            batch.append(self.waiting.popleft())
+            size += len(batch[-1].request or b"")
+        return [it for it in batch if not it.future.done()]
+
+    def _fail(self, batch: list[_Work], error: BaseException) -> None:
+        self.let_go()
+        if isinstance(error, Fenced):
+            metrics.FENCED.inc()
+            self.histories.forget(self)
+        else:
+            metrics.FAILED.labels(type(error).__name__).inc()
+            if not isinstance(error, (StoreDown, NodeFailed, CantTrim)):
+                log.error("%s: a batch failed", self.name, exc_info=error)
+        for work in batch:
+            work.fail(error if isinstance(error, (Fenced, Damaged, CantTrim)) else StoreDown(str(error)))
+
+    async def _answer(self, batch: list[_Work]) -> None:
+        if not batch:
+            return
+        if batch[0].request is None:
+            sizes = await self._trim()
+            if not batch[0].future.done():
+                batch[0].future.set_result(sizes)
+            return
+        if self.node is None:
+            await self._open()
+        claims: dict[bytes, str] = {}
+        admitted = [work for work in batch if self._admit(work, claims)]
+        if not admitted:
+            return
+        requests = [work.request or b"" if work.caller is None else TAKE + (work.request or b"") for work in admitted]
+        with metrics.TURNS.time():
+            if all(self._is_light(work) for work in admitted):
+                replies, written, length = self._turns(requests)
+            else:
+                replies, written, length = await self.histories.work(self._turns, requests)
+        await self._store(written, list(claims.items()), length)
+        self._reply(admitted, replies)
+
+    def _admit(self, work: _Work, claims: dict[bytes, str]) -> bool:
+        """Whether the node gets it. A refusal is told at once."""
+        if work.caller is None or work.head is None:
+            return True
+        assert self.devices is not None
+        try:
+            uuid = self.devices.admit(work.caller, work.head)
+            self._is_bearable(work.head)
+        except DECLINED as error:
+            metrics.DECLINED.labels(type(error).__name__).inc()
+            work.fail(error)
+            return False
+        if uuid is not None:
+            claims[uuid] = work.caller.user
+            self.devices.bound(uuid, work.caller.user)
+        return True
+
+    def _is_bearable(self, given: Head) -> None:
+        """A call into the node can't be stopped, so a message that would be at work too long isn't begun."""
+        behind = max(0, (self.length or 0) - given.version)
+        most = self.histories.most_pairs
+        if given.changes * behind > most:
+            raise TooMuch(f"{given.changes} changes meet {behind} entries, and at most {most} pairs are merged at once: send less")
+
+    def _is_light(self, work: _Work) -> bool:
+        return work.head is not None and self.sizes.is_light(work.head, len(work.request or b""))
+
+    def _turns(self, requests: list[bytes]) -> tuple[list[Reply], Written, int]:
+        """The replies, what is to be stored before they are told, and the length of the history then."""
+        assert self.node is not None
+        *replies, standing = self.node.ask_all([*requests, STANDING])
+        return replies, self.node.written(), length_of(standing)
+
+    async def _store(self, written: Written, claims: list[tuple[bytes, str]], length: int) -> None:
+        """Stores what the node wrote; then, and not before, replies may be told."""
+        assert self.node is not None
+        if not written.tail and not claims:
+            await self.histories.store.check(self.lease)
+            return
+        with metrics.STORING.time():
+            await self.histories.store.append(self.lease, written.gate, written.tail, claims)
+        metrics.STORED_BYTES.inc(len(written.tail))
+        self.node.emptied()
+        self.sizes.grew(length, len(written.tail))
+        self.histories.grew(self)
+
+    def _reply(self, admitted: list[_Work], replies: list[Reply]) -> None:
+        uploaders: set[Listener | None] = set()
+        for work, (status, told) in zip(admitted, replies):
+            tag = work.head.tag if work.head else None
+            if tag == BIND and self.devices is not None:
+                self.devices.named(told)
+            if tag == UPLOAD:
+                uploaders.add(work.listener)
+            metrics.MESSAGES.labels(NAMES[tag] if tag else "read").inc()
+            if work.future.done():
+                continue
+            if tag is None:
+                work.future.set_result(Reply(status, told))
+            elif status == DONE:
+                work.future.set_result(told)
+            else:
+                work.fail(BadMessage("no message") if status == BAD_REQUEST else NodeFailed(str(status)))
+        if uploaders:
+            self._tell_news(uploaders)
+
+    def _tell_news(self, but: set[Listener | None]) -> None:
+        length = self.sizes.length
+        if self.length is not None and length > self.length:
+            metrics.ENTRIES.inc(length - self.length)
+            self.length = length
+            for listener in list(self.listeners - but):
+                listener(length)
+
+    # ---- the node
+
+    async def _open(self) -> None:
+        with metrics.OPENING.time():
+            journal, devices = await self.histories.store.read(self.lease)
+            self.histories.make_room(len(journal))
+            self.node = Node()
+            self.sizes = Sizes(0, len(journal))
+            self.histories.opened(self)
+            try:
+                self.devices = Devices(devices, self.lease.generation, self.histories.most_devices)
+                await self.histories.work_aside(self.node.open, journal)
+                await self._store(self.node.written(), [], 0)
+                await self.histories.work_aside(self._learn, list(devices))
+                await self._store(self.node.written(), [], self.sizes.length)
+            except BaseException:
+                self.let_go()
+                raise
+        metrics.OPENED.inc()
+
+    def _learn(self, uuids: list[bytes]) -> None:
+        """Whose each ident is, and how long the history is: a Bind that is repeated answers the same ident."""
+        assert self.node is not None and self.devices is not None
+        *replies, standing = self.node.ask_all([*(TAKE + bytes([BIND]) + uuid for uuid in uuids), STANDING])
+        for reply in replies:
+            self.devices.named(reply.told)
+        self.length = length_of(standing)
+        self.sizes = Sizes(self.length, self.sizes.size)
+
+    async def _trim(self) -> tuple[int, int]:
+        """The node is opened again from what is left."""
+        self.let_go()
+        journal, _ = await self.histories.store.read(self.lease)
+        left = await self.histories.trimmer(journal)
+        if len(left) < len(journal):
+            await self.histories.store.replace(self.lease, left)
+        return len(journal), min(len(left), len(journal))
+
+    def let_go(self) -> None:
+        """Lets the node go; what it was asked is stored, or void."""
+        node, self.node, self.devices = self.node, None, None
+        if node is not None:
+            self.histories.closed(self)
+            node.close()
+
+    def give_up(self, before: float) -> None:
+        """Tells those that it took too long whose work began before that. What is at work goes on all the same."""
+        for work in (*self.batch, *self.waiting):
+            if work.began < before:
+                work.fail(TimeoutError())
+
+    def is_idle(self) -> bool:
+        return self.runner is None and not self.waiting
+
+    async def close(self) -> None:
+        """Finishes what waits, and gives the history back."""
+        self.gone = True
+        while self.runner is not None:
+            await asyncio.wait([self.runner])
+        self.let_go()
+        with contextlib.suppress(StoreDown):
+            await self.histories.store.release(self.lease)

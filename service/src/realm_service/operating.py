@@ -1,0 +1,123 @@
+"""Commands of an operator: tokens, the generation of a restored history, and moving a history to another store."""
+
+import asyncio
+import contextlib
+import time
+import typing
+from collections.abc import AsyncIterator
+
+from .config import BadConfig, Config
+from .messages import journal_end
+from .node import Node
+from .server import store_of, tokens_of
+from .stores import Absent, Elsewhere, Fenced, Lease, Store, StoreDown
+from .tokens import LEVELS
+
+
+class Unable(Exception):
+    """What an operator asked can't be done: the text says why."""
+
+
+@contextlib.asynccontextmanager
+async def _started(config: Config) -> AsyncIterator[Store]:
+    store = store_of(config)
+    try:
+        await store.start("")
+    except Elsewhere:
+        raise Unable("the service runs: stop it first") from None
+    try:
+        yield store
+    except Elsewhere as error:
+        raise Unable(f"the service runs and has the history: stop it first ({error})") from error
+    except (StoreDown, Fenced) as error:
+        raise Unable(str(error)) from error
+    finally:
+        await store.stop()
+
+
+async def _taken(store: Store, name: str, create: bool, seconds: float) -> Lease:
+    """Waits for the lease of a worker that is gone, which a backup may have brought back too."""
+    ends = time.monotonic() + seconds + 1
+    while True:
+        try:
+            return await store.acquire(name, create)
+        except Absent:
+            raise Unable(f"there is no history {name}") from None
+        except Elsewhere:
+            if time.monotonic() > ends:
+                raise
+            await asyncio.sleep(0.2)
+
+
+@contextlib.asynccontextmanager
+async def _held(store: Store, config: Config, name: str, create: bool = False) -> AsyncIterator[Lease]:
+    lease = await _taken(store, name, create, config.store.lease_seconds)
+    try:
+        yield lease
+    finally:
+        await store.release(lease)
+
+
+async def raise_generation(config: Config, names: list[str], is_all: bool) -> None:
+    """Says of histories that they were restored: devices that began before are refused from now on."""
+    async with _started(config) as store:
+        for name in await store.names() if is_all else names:
+            async with _held(store, config, name) as lease:
+                await store.raise_generation(lease)
+                print(f"{name}: generation {lease.generation}")
+
+
+async def move(config: Config, target: Config, names: list[str]) -> None:
+    """Moves histories to another store: each is copied, opened there, and then removed here."""
+    async with _started(config) as here, _started(target) as there:
+        for name in names:
+            if name in await there.names():
+                raise Unable(f"{name} is there already")
+            async with _held(here, config, name) as lease, _held(there, target, name, create=True) as copy:
+                await _moved(here, there, lease, copy)
+            print(f"{name}: moved, {copy.length} bytes")
+
+
+async def _moved(here: Store, there: Store, lease: Lease, copy: Lease) -> None:
+    journal, devices = await here.read(lease)
+    whole = journal[: journal_end(journal)] + b"\0" if journal else b""
+    _is_sound(whole)
+    users = {uuid: it.user for uuid, it in devices.items() if it.generation == lease.generation}
+    old = [(uuid, it) for uuid, it in devices.items() if it.generation != lease.generation]
+    for generation in range(1, lease.generation + 1):
+        claims = [(uuid, it.user) for uuid, it in old if it.generation == generation]
+        await there.append(copy, 0, b"", claims)
+        if generation < lease.generation:
+            await there.raise_generation(copy)
+    await there.append(copy, 0, whole, list(users.items()))
+    try:
+        await here.remove(lease)
+    except Fenced:
+        await there.remove(copy)
+        raise Unable(f"{lease.name} was changed meanwhile: nothing was moved") from None
+
+
+def _is_sound(journal: bytes) -> None:
+    node = Node()
+    try:
+        node.open(journal)
+    finally:
+        node.close()
+
+
+def token(config: Config, user: str, grants: list[str], seconds: float, device: str | None) -> str:
+    """A token by the configuration's secret."""
+    realm: dict[str, typing.Any] = {}
+    for it in grants:
+        pattern, _, level = it.rpartition("=")
+        level, _, tables = level.partition(":")
+        if not pattern or level not in LEVELS:
+            raise Unable(f"{it}: a grant is PATTERN=LEVEL or PATTERN=LEVEL:TABLE,TABLE with one of the levels {', '.join(LEVELS)}")
+        realm[pattern] = {"level": level, "tables": tables.split(",")} if tables else level
+    tokens = tokens_of(config)
+    if tokens.secret is None:
+        raise BadConfig("tokens come from whoever has the private keys of jwks_file")
+    try:
+        return tokens.made(user, realm, seconds, device)
+    except ValueError as error:
+        raise Unable(str(error)) from error

@@ -1,0 +1,145 @@
+"""WebSockets. Binary frames are messages and replies, one at a time: the next one is read when the reply is sent. Text frames are
+{"news": LENGTH} to the client, and {"token": TOKEN} from it."""
+
+import asyncio
+import json
+import time
+import typing
+
+from aiohttp import WSMsgType, web
+
+from . import metrics
+from .devices import Caller, Forbidden
+from .history import History
+from .messages import BadMessage
+from .refusals import RESTART, Refused, refusal_of, response_of
+from .stores import Fenced
+from .tokens import BadToken
+from .visits import Visit, Visits
+
+HEARTBEAT = 20.0  # seconds
+LONGEST_TIMER = 86400.0  # seconds
+
+
+class News:
+    """Tells a client once that the history has grown, until it sends a message."""
+
+    def __init__(self, socket: web.WebSocketResponse):
+        self.socket, self.is_told = socket, False
+        self.sending: set[asyncio.Task[None]] = set()
+
+    def __call__(self, length: int | None) -> None:
+        if length is not None and self.is_told:
+            return
+        self.is_told = True
+        task = asyncio.ensure_future(self._tell(length))
+        self.sending.add(task)
+        task.add_done_callback(self.sending.discard)
+
+    async def _tell(self, length: int | None) -> None:
+        try:
+            if length is None:
+                await self.socket.close(code=RESTART, message=b"moved")
+            else:
+                await self.socket.send_str(f'{{"news":{length}}}')
+        except (ConnectionError, RuntimeError):
+            pass  # it is gone, and whoever reads from it hears so
+
+
+class _End:
+    """Closes a socket when its token ends."""
+
+    def __init__(self, socket: web.WebSocketResponse, visit: Visit):
+        self.socket, self.visit = socket, visit
+        self.closing: asyncio.Future[bool] | None = None
+        self.timer = self._timer()
+
+    def renew(self) -> None:
+        """A newer token came."""
+        self.timer.cancel()
+        self.timer = self._timer()
+
+    def _timer(self) -> asyncio.TimerHandle:
+        left = min(self.visit.until - time.time(), LONGEST_TIMER)
+        return asyncio.get_running_loop().call_later(max(0.0, left), self._ended)
+
+    def _ended(self) -> None:
+        if self.visit.until > time.time():
+            self.timer = self._timer()
+        else:
+            self.closing = asyncio.ensure_future(self.socket.close(code=4401, message=b"the token has expired"))
+
+
+class Sockets:
+    def __init__(self, visits: Visits):
+        self.visits, self.limits = visits, visits.limits
+        self.open: set[web.WebSocketResponse] = set()
+
+    async def handle(self, request: web.Request) -> web.StreamResponse:
+        try:
+            visit = await self.visits.visit(request, is_device=True)
+            with self.limits.socket(visit.caller.user):
+                return await self._opened(request, visit)
+        except Exception as error:
+            return response_of(error)
+
+    async def _opened(self, request: web.Request, visit: Visit) -> web.StreamResponse:
+        owners = self.visits.owners
+        other = None if visit.history else await owners.connected(visit.address, request, visit.token)
+        most = self.limits.config.message_bytes
+        socket = web.WebSocketResponse(max_msg_size=most, heartbeat=HEARTBEAT, timeout=2, compress=False, protocols=("realm",))
+        await socket.prepare(request)
+        self.open.add(socket)
+        try:
+            if other is not None:
+                await owners.relay(socket, other, visit.name, visit.caller)
+            else:
+                await self._serve(socket, visit)
+        except Exception as error:
+            refusal = refusal_of(error)
+            metrics.REFUSED.labels(str(refusal.code)).inc()
+            await socket.close(code=refusal.code, message=str(refusal).encode()[:100])
+        finally:
+            self.open.discard(socket)
+        return socket
+
+    async def _serve(self, socket: web.WebSocketResponse, visit: Visit) -> None:
+        history = typing.cast(History, visit.history)
+        news, end = News(socket), _End(socket, visit)
+        history.listeners.add(news)
+        try:
+            while True:
+                message = await socket.receive()
+                if visit.until <= time.time():
+                    raise BadToken("the token has expired")
+                if message.type == WSMsgType.BINARY:
+                    news.is_told = False
+                    if history.gone:
+                        raise Fenced(visit.name)
+                    await socket.send_bytes(await self.visits.answer(history, visit.caller, message.data, news))
+                elif message.type == WSMsgType.TEXT:
+                    visit.caller, visit.until = self._renewed(message.data, visit)
+                    end.renew()
+                elif history.gone or not self.visits.is_open:
+                    raise Refused(503, "the worker stops, or has the history no more", RESTART)
+                else:
+                    return
+        except ConnectionError:
+            return
+        finally:
+            history.listeners.discard(news)
+            end.timer.cancel()
+
+    def _renewed(self, text: str, visit: Visit) -> tuple[Caller, float]:
+        try:
+            token = json.loads(text)["token"]
+        except (ValueError, KeyError, TypeError):
+            raise BadMessage("a text frame is {\"token\": TOKEN}") from None
+        renewed, until = self.visits.caller(str(token), visit.name)
+        if (renewed.user, renewed.device) != (visit.caller.user, visit.caller.device):
+            raise Forbidden("the token is another one's")
+        return renewed, until
+
+    async def close(self) -> None:
+        """Each socket is told to come back elsewhere, once its message is answered."""
+        await asyncio.gather(*(it.close(code=RESTART, message=b"restart") for it in list(self.open)), return_exceptions=True)

@@ -1,0 +1,149 @@
+#!/usr/bin/python3
+"""How many messages a second workers answer that it starts itself, what of the processor that takes, and the same by a bare loop.
+
+usage: bench.py [STORE:WORKERS ..] [--clients N] [--histories N] [--seconds S] [--commits N] [--processes N] [--think S]
+
+STORE:WORKERS is files:1, sqlite:1, postgres:1, postgres:2 and so on. bare:1 hands the messages of one client to a node without a service
+and a store, one after the other, as each change of a client sends them: an Upload and two questions. echo:1 is a server over the same
+library of sockets that sends back what it gets, and nothing else."""
+
+import argparse
+import asyncio
+import os
+import subprocess
+import sys
+import time
+import uuid
+
+import aiohttp
+from aiohttp import web
+from devices import new_client
+from link import ended
+from support import Service, free_port, processor, stores
+
+from realm_service.node import TAKE, Node
+
+HERE = os.path.dirname(os.path.abspath(__file__))
+LIMITS = {"requests_per_second": 1e9, "user_connections": 100_000}
+
+
+def bare(seconds):
+    """What the library takes for such messages, the outbox gathered behind each."""
+    node, client = Node(), new_client()
+    node.open(b"")
+    messages = spent = 0
+    began = time.monotonic()
+    while time.monotonic() - began < seconds:
+        with client.transaction() as edits:
+            edits.add("notes", "all", "count", 1)
+            edits.update("notes", "all", "text", str(uuid.uuid4()))
+        is_new = True
+        while is_new:
+            message, before = client.next_message(), client.standing().cursor
+            at = time.thread_time()
+            status, reply = node.ask(TAKE + message)
+            node.written()
+            node.emptied()
+            spent += time.thread_time() - at
+            assert status == 0
+            client.take(reply)
+            messages += 1
+            is_new = not ended(client, message, before)
+    print(f"bare: {1e6 * spent / messages:.0f} us of processor a message", flush=True)
+    node.close()
+
+
+async def echo(request):
+    socket = web.WebSocketResponse(compress=False)
+    await socket.prepare(request)
+    async for message in socket:
+        await socket.send_bytes(message.data)
+    return socket
+
+
+def echo_server(port):
+    import uvloop
+
+    uvloop.install()
+    app = web.Application()
+    app.router.add_get("/", echo)
+    web.run_app(app, host="127.0.0.1", port=int(port), print=None, access_log=None)
+
+
+async def echoed(url, seconds, clients):
+    """How many messages came back."""
+    count, ends = 0, time.monotonic() + seconds
+
+    async def ask(session):
+        nonlocal count
+        async with session.ws_connect(url) as socket:
+            while time.monotonic() < ends:
+                await socket.send_bytes(b"a message of some forty bytes, as of a question")
+                await socket.receive()
+                count += 1
+
+    async with aiohttp.ClientSession(connector=aiohttp.TCPConnector(limit=0)) as session:
+        await asyncio.gather(*(ask(session) for _ in range(clients)))
+    return count
+
+
+def echoing(seconds, clients):
+    port = free_port()
+    process = subprocess.Popen([sys.executable, os.path.abspath(__file__), "--echo-server", str(port)])
+    try:
+        time.sleep(2)
+        before = processor(process.pid)
+        count = asyncio.run(echoed(f"http://127.0.0.1:{port}/", seconds, clients))
+        print(f"echo: {1e6 * (processor(process.pid) - before) / count:.0f} us of processor a message", flush=True)
+    finally:
+        process.kill()
+        process.wait()
+
+
+def served(store, count, words):
+    given = stores(store)
+    workers = [Service(given, limits=LIMITS, histories={"idle_seconds": 30.0}).start() for _ in range(count)]
+    for it in workers:
+        it.ready()
+    before = [processor(it.process.pid) for it in workers]
+    bases = ",".join(it.base for it in workers)
+    done = subprocess.run([sys.executable, os.path.join(HERE, "load.py"), bases, *words], stdout=subprocess.PIPE, text=True, check=False)
+    spent = sum(processor(it.process.pid) - then for it, then in zip(workers, before))
+
+    def metric(name):
+        return sum(it.metric(name) for it in workers)
+
+    messages = metric("realm_messages_total")
+    print(f"{store}:{count}: " + done.stdout.removeprefix("begun\n").rstrip())
+    print(f"    {1e6 * spent / messages:.0f} us of processor a message; {messages:.0f} messages in"
+          f" {metric('realm_turns_seconds_count'):.0f} batches, {metric('realm_store_seconds_count'):.0f} appends of"
+          f" {1e3 * metric('realm_store_seconds_sum') / metric('realm_store_seconds_count'):.1f} ms, {metric('realm_relayed_total'):.0f} sockets passed on")
+    for it in workers:
+        it.stop()
+    return done.returncode
+
+
+def main():
+    words = argparse.ArgumentParser(description=__doc__, formatter_class=argparse.RawDescriptionHelpFormatter)
+    words.add_argument("stores", nargs="*", default=["bare:1", "echo:1", "files:1", "sqlite:1", "postgres:1", "postgres:2"])
+    words.add_argument("--echo-server", help=argparse.SUPPRESS)
+    for name, value in (("clients", 200), ("histories", 100), ("seconds", 10), ("commits", 1), ("processes", 2), ("think", 0)):
+        words.add_argument(f"--{name}", default=str(value))
+    given = words.parse_args()
+    if given.echo_server:
+        return echo_server(given.echo_server)
+    passed = [word for name in ("clients", "histories", "seconds", "commits", "processes", "think") for word in (f"--{name}", getattr(given, name))]
+    failed = 0
+    for it in given.stores:
+        store, _, count = it.partition(":")
+        if store == "bare":
+            bare(float(given.seconds))
+        elif store == "echo":
+            echoing(float(given.seconds), int(given.clients))
+        else:
+            failed |= served(store, int(count or 1), passed)
+    return failed
+
+
+if __name__ == "__main__":
+    sys.exit(main())
