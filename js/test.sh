@@ -1,9 +1,9 @@
 #!/bin/sh
 # Tests the npm package: its types, its tests in Node, and without --quick also those in a browser, and the module against the native library.
 #
-#     js/test.sh [--quick] [--quiet] [--trial]
+#     js/test.sh [--quick] [--trial]
 #
-# --quiet tells problems alone; --trial is for work on the package: the library is built without its proof.
+# --trial is for work on the package: the library is built without its proof.
 #
 # It takes node 20 or later, Debian's node-typescript, and for all tests chromium and python3. What is missing is installed by root, and
 # named else.
@@ -11,21 +11,14 @@ set -eu
 here=$(cd "$(dirname "$(readlink -f "$0")")" && pwd)
 top=$(dirname "$here")
 . "$top/building/need.sh"
-quick='' trial='' quiet=''
+quick='' trial=''
 for word in "$@"; do
     case $word in
         --quick) quick=yes ;;
-        --quiet) quiet=yes ;;
         --trial) trial=--trial ;;
-        *) echo "usage: js/test.sh [--quick] [--quiet] [--trial]" >&2; exit 2 ;;
+        *) echo "usage: js/test.sh [--quick] [--trial]" >&2; exit 2 ;;
     esac
 done
-# With --quiet what is printed is kept, and told where something fails.
-if [ -n "$quiet" ]; then
-    said=$(mktemp)
-    trap 'status=$?; [ "$status" -eq 0 ] || cat "$said" >&3; rm -f "$said"' EXIT
-    exec 3>&2 >"$said" 2>&1
-fi
 need node nodejs
 [ -d /usr/share/nodejs/ws ] || need_package node-ws
 "$here/build.sh" $trial >/dev/null

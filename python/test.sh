@@ -1,9 +1,9 @@
 #!/bin/sh
 # Tests the Python package: its types by mypy, its tests, the wheel in an empty environment, and without --quick its examples.
 #
-#     python/test.sh [--quick] [--quiet] [--trial]
+#     python/test.sh [--quick] [--trial]
 #
-# --quiet tells problems alone; --trial is for work on the package: the library is built without its proof.
+# --trial is for work on the package: the library is built without its proof.
 #
 # It takes Python 3.10 or later, and Debian's python3-mypy, python3-cryptography, python3-websocket and python3-aiohttp. What is missing is
 # installed by root, and named else.
@@ -11,21 +11,14 @@ set -eu
 here=$(cd "$(dirname "$(readlink -f "$0")")" && pwd)
 top=$(dirname "$here")
 . "$top/building/need.sh"
-quick='' trial='' quiet=''
+quick='' trial=''
 for word in "$@"; do
     case $word in
         --quick) quick=yes ;;
-        --quiet) quiet=yes ;;
         --trial) trial=--trial ;;
-        *) echo "usage: python/test.sh [--quick] [--quiet] [--trial]" >&2; exit 2 ;;
+        *) echo "usage: python/test.sh [--quick] [--trial]" >&2; exit 2 ;;
     esac
 done
-# With --quiet what is printed is kept, and told where something fails.
-if [ -n "$quiet" ]; then
-    said=$(mktemp)
-    trap 'status=$?; [ "$status" -eq 0 ] || cat "$said" >&3; rm -f "$said"' EXIT
-    exec 3>&2 >"$said" 2>&1
-fi
 python=${PYTHON:-/usr/bin/python3}
 need mypy python3-mypy
 for module in cryptography websocket aiohttp wheel; do

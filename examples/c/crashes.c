@@ -352,10 +352,13 @@ static void drawn_outbox(const char *path) {
     ask_sync();
     writes++;
     for (uint32_t left = draw(GROUPS); left > 0; left--) {
-        uint32_t otherwise = draw(3) ? 0 : 1 + draw(6);
-        ask_record(&gate, otherwise);
+        uint32_t otherwise = draw(3) ? 0 : 1 + draw(7);
+        /* One at the first gate again, which doesn't stand behind the one before it. */
+        bool is_elsewhere = otherwise == 7;
+        if (is_elsewhere) gate = 8;
+        ask_record(&gate, is_elsewhere ? 0 : otherwise);
         if (otherwise || !is_after) writes += 2;
-        is_after = !otherwise;
+        is_after = !otherwise || is_elsewhere;
     }
     unlink(path);
     realm_file file;

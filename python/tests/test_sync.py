@@ -155,7 +155,8 @@ class Agreement(unittest.TestCase):
             one.start_sync(net.transport(), options=FAST)
             self.assertTrue(one.synced(5) and one.synced(5))
         said = sorted(("bread" if it.key == bread else "gone", str(it.column), it.why, it.mine) for it in told)
-        self.assertEqual(said, [("bread", "prices", "overwritten", 2), ("bread", "title", "overwritten", "white bread"), ("gone", "None", "erased", None)])
+        title_lost, price_lost = ("bread", "title", "overwritten", "white bread"), ("bread", "prices", "overwritten", 2)
+        self.assertEqual(said, [price_lost, title_lost, ("gone", "None", "erased", None)])
         title = next(it for it in told if it.column == "title")
         assert isinstance(title.object, Item)
         self.assertEqual((title.object.title, title.object.quantity), ("rye bread", 7))
@@ -256,7 +257,8 @@ class Recovering(unittest.TestCase):
                 db.stop_sync()
                 with db.write() as tx:
                     tx.create(Day, day=2, note="unsent")
-            net.answer = lambda message, ident=ident: bytes([REFUSED, ident, 2, 68, 1]) if message[:2] == bytes([UPLOAD, ident]) else None  # type: ignore[misc]
+            refusal, refused = bytes([REFUSED, ident, 2, 68, 1]), bytes([UPLOAD, ident])
+            net.answer = lambda message, refusal=refusal, refused=refused: refusal if message[:2] == refused else None  # type: ignore[misc]
             count = 0
 
             def cutting(message: bytes) -> bytes:

@@ -1,6 +1,6 @@
 #!/bin/sh
 # Both packages with the service of this repository: devices of each on one history, over HTTP and over WebSockets; and files that one package
-# encrypted and the other reads. It takes js/dist (js/build.sh), the shared library (python/build.sh --library) and what ./realm_service takes.
+# encrypted and the other reads; and, where there is Chromium and the page (examples/shopping/web/build.sh), two browsers. It takes js/dist (js/build.sh), the shared library (python/build.sh --library) and what ./realm_service takes.
 set -eu
 here=$(cd "$(dirname "$(readlink -f "$0")")" && pwd)
 top=$(cd "$here/../../.." && pwd)
@@ -27,6 +27,9 @@ for scheme in http ws; do
     wait "$device"
     echo "two packages agree over $scheme: $(cat "$room/python-$scheme.out")"
 done
+if command -v "${CHROMIUM:-chromium}" >/dev/null && [ -d "$top/examples/shopping/web/dist" ]; then
+    node "$here/page.mjs" "ws://127.0.0.1:$port/v1/histories/page"
+fi
 node "$here/sealed.mjs" write "$room/from_node"
 "$python" "$here/sealed.py" read "$room/from_node/client-1"
 mkdir "$room/from_python"
