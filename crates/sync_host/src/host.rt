@@ -1,5 +1,5 @@
-ghost use Rattle.std.specs.Prelude.{◌≡◌, ℕ, List, IfSome, IfNone};
-ghost use Rattle.sync_host.specs.Verbs.{Asks, AsksNothingNew};
+ghost use Rattle.std.specs.Prelude.{◌≡◌, ℕ, List, IfSome, IfNone, true};
+ghost use Rattle.sync_host.specs.Verbs.{Asks, AsksNothingNew, is_new};
 ghost use Rattle.sync_host.specs.declared.node.Node.TheVariants as nodes;
 ghost use Rattle.sync_host.specs.declared.reply.Reply.TheVariants as replies;
 
@@ -40,7 +40,7 @@ fn asked(request: &[u8]) -> Option<(Verb, &[u8])>
 
 impl Host {
     ghost use Rattle.sync_host.specs.Nodes.{Answered};
-    ghost use Rattle.sync_host.specs.Hosts.{Turned, node_of};
+    ghost use Rattle.sync_host.specs.Hosts.{Turned, again, node_of, reply_of};
 
     /// A place where no node is open.
     pub fn new(alloc: Global) -> Host
@@ -64,16 +64,29 @@ impl Host {
         }
     }
 
+    /// Does what a request asks for, and keeps its reply. One for the last reply leaves all as it is.
+    fn renew(&mut self, request: &[u8])
+        ensures answered { (verb : Verb) (body : List ℕ) → Asks verb body request.now → is_new verb ≡ true → Answered verb body (node_of self.old) (reply_of self.new) (node_of self.new) }
+        ensures no_request { AsksNothingNew request.now → (request.now ≡ again → ⊥) → (reply_of self.new ≡ replies.BadRequest) × (node_of self.new ≡ node_of self.old) }
+        ensures same { request.now ≡ again → self.new ≡ self.old }
+    {
+        match request {
+            [AGAIN] => {}
+            _ => self.reply = self.reply_to(request),
+        }
+    }
+
     /// Answers a request by bytes, of which as many are written as there is room for, and tells how many they are. The reply is
     /// kept, and `Again` asks for it; `Outbox` asks for what stands in the outbox, and its answer isn't kept.
     pub fn turn(&mut self, request: &[u8], into: &mut [u8]) -> usize
         ensures { Turned self.old request.now into.old result into.new self.new }
     {
         match request {
-            [OUTBOX] => return self.node.copy_outbox(into),
-            [AGAIN] => {}
-            _ => self.reply = self.reply_to(request),
+            [OUTBOX] => self.node.copy_outbox(into),
+            _ => {
+                self.renew(request);
+                self.reply.write_to(into)
+            }
         }
-        self.reply.write_to(into)
     }
 }

@@ -12,8 +12,8 @@ returns-in-Some-clause-answered c = λ verb body asks.
     (subst (λ (b : List ℕ). Answered c.in-Some.verb b (node_of c.args.self.now) c.answer.result c.answer.new.self) found.1 c.answer.ensures)
 
 where_not : {P : Type 0} (b : Bool) → (b ≡ true → ⊥) → (b ≡ false → P) → P
-where_not true no yes = absurd (no refl)
-where_not false no yes = yes refl
+where_not true never then = absurd (never refl)
+where_not false never then = then refl
 
 pub returns-in-Some-clause-no_request : goal.returns-in-Some-clause-no_request
 returns-in-Some-clause-no_request c = λ nothing. where_not (is_new c.in-Some.verb) (nothing c.in-Some.verb c.in-Some.body.now c.in-Some.ensures.asks) c.answer.ensures.no_request
