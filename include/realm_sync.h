@@ -179,10 +179,12 @@ REALM_SYNC_API int realm_turn(realm_node *node, const uint8_t *request, size_t l
     if (!realm_room(&node->reply, &node->reply_room, 64)) return REALM_NO_MEMORY;
     size_t told = realm_node_turn(node->host, request, len, node->reply, node->reply_room);
     if (told > node->reply_room) {
-        if (realm_room(&node->reply, &node->reply_room, told))
+        if (realm_room(&node->reply, &node->reply_room, told)) {
             told = realm_node_turn(node->host, &again, 1, node->reply, node->reply_room);
-        else
-            node->reply[0] = REALM_NO_MEMORY, told = 1;
+        } else {
+            node->reply[0] = REALM_NO_MEMORY;
+            told = 1;
+        }
     }
     int why = realm_settle(node);
     if (why) return realm_fail(node, why);
