@@ -55,13 +55,13 @@ class Attacks:
     def url(self, history=None):
         return f"{self.base}/v1/histories/{history or self.history}"
 
-    async def post(self, message, token, history=None, query=""):
+    async def post(self, message, token, history=None):
         headers = {"Authorization": "Bearer " + token} if token else {}
-        async with self.session.post(self.url(history) + query, data=message, headers=headers) as answer:
+        async with self.session.post(self.url(history), data=message, headers=headers) as answer:
             return answer.status, await answer.read()
 
-    async def status(self, message, token, history=None, query=""):
-        return (await self.post(message, token, history, query))[0]
+    async def status(self, message, token, history=None):
+        return (await self.post(message, token, history))[0]
 
     async def get(self, path, token):
         async with self.session.get(self.url() + path, headers={"Authorization": "Bearer " + token} if token else {}) as answer:
@@ -167,8 +167,10 @@ class Attacks:
         self.check("a name that begins with a dot", await self.status(ask, everything, ".secret"), 404)
         self.check("a name of 129 letters", await self.status(ask, everything, "n" * 129), 404)
         self.check("a reader makes no history", await self.status(ask, self.token("ron", "read", history="*"), "new" + self.history), 404)
-        self.check("a generation to come", await self.status(ask, self.ann, query="?generation=2"), 410)
-        self.check("a generation that is none", await self.status(ask, self.ann, query="?generation=x"), 400)
+        self.check("its own generation", await self.status(ask, self.ann, self.history + "@1"), 200)
+        self.check("a generation to come", await self.status(ask, self.ann, self.history + "@2"), 410)
+        for given in ("@x", "@", "@-1", "@1@1", "@\u0661"):
+            self.check(f"a generation {given}", await self.status(ask, self.ann, self.history + given), 404)
 
     async def open_sockets(self):
         """Tokens that end, or are renewed, while a socket is open."""

@@ -18,6 +18,7 @@ import uuid
 import aiohttp
 from aiohttp import web
 from devices import new_client
+from link import ended
 from support import Service, free_port, processor, stores
 
 from realm_service.node import TAKE, Node
@@ -47,7 +48,7 @@ def bare(seconds):
             assert status == 0
             client.take(reply)
             messages += 1
-            is_new = message[0] not in (4, 8) or client.standing().cursor != before
+            is_new = not ended(client, message, before)
     print(f"bare: {1e6 * spent / messages:.0f} us of processor a message", flush=True)
     node.close()
 

@@ -5,7 +5,7 @@ import uuid
 import support  # noqa: F401  (where the packages are)
 from realm_sync import Client
 
-from realm_service.client import Link
+from link import Link
 
 
 def new_client(path=None):

@@ -14,6 +14,7 @@ import time
 import uuid
 
 import aiohttp
+from link import ended
 from support import Service, authorized, stores  # (which says where the packages are)
 
 from realm_sync import Client  # noqa: E402
@@ -55,14 +56,14 @@ class Heavy:
             return answer.status, reply
 
     async def sync(self, client, history):
-        is_question = False
-        while not is_question:
-            message = client.next_message()
-            is_question = message[0] in (4, 8)
+        is_ended = False
+        while not is_ended:
+            message, before = client.next_message(), client.standing().cursor
             status, reply = await self.post(history, message)
             if status != 200:
                 return status, reply
             await asyncio.to_thread(client.take, reply)  # (which merges too, and would hold up the questions below)
+            is_ended = ended(client, message, before)
         return 200, b""
 
     async def questions(self, history, client, ended):

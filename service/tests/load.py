@@ -24,8 +24,8 @@ import time
 import aiohttp
 import support
 from devices import Device
+from link import LOST, Link
 
-from realm_service.client import LOST, Link
 
 KINDS = {1: "bind", 3: "upload", 4: "ask", 8: "ask"}
 GAP = 0.25  # seconds without a reply in a history, from which on they are told

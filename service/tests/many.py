@@ -14,6 +14,7 @@ import time
 import uuid
 
 import aiohttp
+from link import ended
 from support import Service, authorized, stores  # (which says where the packages are)
 
 from realm_sync import Client  # noqa: E402
@@ -50,10 +51,12 @@ class Many:
                 with client.transaction() as edits:
                     edits.create("notes", key)
                     edits.update("notes", key, "text", f"note {key} of history {number}, with some words more")
-            for _ in range(4):  # Bind, Upload, and questions until nothing is new
-                message = client.next_message()
+            is_ended = False
+            while not is_ended:
+                message, before = client.next_message(), client.standing().cursor
                 client.take(await self.post(number, message))
-            return client.next_message()
+                is_ended = ended(client, message, before)
+            return message
 
     async def all(self, what, action, numbers):
         """An action for each history, some at once; tells the time and the memory."""

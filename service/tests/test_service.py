@@ -10,9 +10,8 @@ import unittest
 
 import aiohttp
 from devices import Device, new_client
+from link import Turned
 from support import LOCAL, TOP, Service, authorized, cluster, folder, free_port, get, stores, token
-
-from realm_service.client import Turned
 
 HISTORY = "family-7"
 

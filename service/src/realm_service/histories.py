@@ -27,6 +27,12 @@ def weight(journal_bytes: int) -> int:
     return NODE_BYTES + NODE_FACTOR * journal_bytes
 
 
+def _looked_at(task: asyncio.Task[History]) -> None:
+    """Nobody may wait for it any more, and then its failure isn't of interest."""
+    if not task.cancelled():
+        task.exception()
+
+
 class Histories:
     def __init__(self, store: Store, config: HistoriesConfig, message_seconds: float, trimmer: Trimmer):
         self.store, self.message_seconds, self.trimmer = store, message_seconds, trimmer
@@ -92,7 +98,7 @@ class Histories:
                 return history
             if name not in self.coming:
                 self.coming[name] = asyncio.create_task(self._take(name, create, suspect)), create
-                self.coming[name][0].add_done_callback(lambda task: self._came(name, task))
+                self.coming[name][0].add_done_callback(_looked_at)
             task, makes = self.coming[name]
             try:
                 return await asyncio.shield(task)
@@ -100,19 +106,17 @@ class Histories:
                 if makes or not create:  # else somebody who may only read asked at the same time
                     raise
 
-    def _came(self, name: str, task: asyncio.Task[History]) -> None:
-        del self.coming[name]
-        if not task.cancelled():
-            task.exception()  # which nobody may wait for any more
-
     async def _take(self, name: str, create: bool, suspect: object) -> History:
-        old = self.owned.get(name)
-        if old is not None:
-            await old.close()
-        lease = await self.store.acquire(name, create, suspect)
-        history = self.owned[name] = History(self, lease)
-        metrics.TAKEN.inc()
-        return history
+        try:
+            old = self.owned.get(name)
+            if old is not None:
+                await old.close()
+            lease = await self.store.acquire(name, create, suspect)
+            history = self.owned[name] = History(self, lease)
+            metrics.TAKEN.inc()
+            return history
+        finally:
+            del self.coming[name]  # here, so that nobody finds one that has ended
 
     def lapsed(self, ours: set[tuple[int, int]]) -> None:
         """This worker's lease had ended: what others took meanwhile is forgotten, and who listens there is told to come back."""

@@ -71,7 +71,7 @@ class Owners:
 
     @staticmethod
     def _headers(request: web.Request, token: str) -> dict[str, str]:
-        kept = {name: request.headers[name] for name in ("Accept", "Last-Event-ID", GENERATION) if name in request.headers}
+        kept = {name: request.headers[name] for name in ("Accept", "Last-Event-ID") if name in request.headers}
         return {"Authorization": "Bearer " + token, HOP: "1", **kept}
 
     async def pass_on(self, address: str, request: web.Request, token: str, body: bytes | None = None) -> web.StreamResponse:

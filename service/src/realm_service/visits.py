@@ -11,7 +11,7 @@ from .devices import Caller, Forbidden, Outdated
 from .history import History, Listener
 from .limits import Limits
 from .owners import HOP, Owners
-from .refusals import GENERATION, Refused
+from .refusals import Refused
 from .stores import StoreDown
 from .tokens import BadToken, Tokens
 
@@ -29,14 +29,14 @@ def token_of(request: web.Request) -> str:
     raise BadToken("no token")
 
 
-def generation_of(request: web.Request) -> int | None:
-    """The generation in which the caller's file began, as it says."""
-    given = request.query.get("generation") or request.headers.get(GENERATION)
-    if given is None:
-        return None
-    if not given.isdigit():
-        raise Refused(400, "generation is a number")
-    return int(given)
+def address_of(request: web.Request) -> tuple[str, int | None]:
+    """The history's name, and the generation in which the caller's file began where it says one: NAME or NAME@GENERATION."""
+    name, at, generation = request.match_info["history"].partition("@")
+    if not NAME.fullmatch(name):
+        raise Refused(404, "no such name: a history's has at most 128 letters, digits, dots, dashes and underscores")
+    if at and not (generation.isdecimal() and generation.isascii()):
+        raise Refused(404, "no such generation: behind @ stands a number")
+    return name, int(generation) if at else None
 
 
 @dataclasses.dataclass
@@ -58,8 +58,6 @@ class Visits:
 
     def caller(self, token: str, name: str) -> tuple[Caller, float]:
         """Who asks, and until when the token lasts."""
-        if not NAME.fullmatch(name):
-            raise Refused(404, "no such name: a history's has at most 128 letters, digits, dots, dashes and underscores")
         caller, until = self.tokens.caller(token, name)
         if caller is None:
             raise Forbidden("the token isn't for this history")
@@ -67,7 +65,7 @@ class Visits:
 
     def admitted(self, request: web.Request) -> tuple[str, str, Caller, float]:
         """The name, the token, and whose it is."""
-        name, token = request.match_info["history"], token_of(request)
+        (name, _), token = address_of(request), token_of(request)
         return (name, token, *self.caller(token, name))
 
     async def visit(self, request: web.Request, is_device: bool = False) -> Visit:
@@ -78,7 +76,7 @@ class Visits:
         found = await self.owners.find(name, caller, HOP in request.headers)
         if isinstance(found, str):
             return Visit(name, token, caller, until, None, found)
-        given = generation_of(request)
+        _, given = address_of(request)
         if given is None and is_device:
             given = 1
         if given is not None and given != found.lease.generation:

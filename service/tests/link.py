@@ -1,13 +1,5 @@
-"""A device's side: a client of the library kept in step with a history of the service.
-
-    async with Link(client, "https://sync.example", "family-7", token) as link:
-        await link.sync()                 # sends what the server lacks, takes what the client lacks
-        async for places in link.live():  # and again whenever there is news, or `link.changed()` was called
-            redraw(places)
-
-The client is one of the package `realm_sync`, or whatever has its `next_message`, `take`, `changed` and `standing`. A lost connection
-is made again, with growing pauses; a message that is repeated does no harm. An application keeps `link.generation` beside the client's file
-and hands it to the next Link."""
+"""The devices' side of the tests: a client of the library kept in step with a history of a service over one WebSocket, with nothing hidden.
+Applications use the package `realm_sync`, which does this by itself."""
 
 import asyncio
 import contextlib
@@ -19,8 +11,8 @@ from collections.abc import AsyncIterator
 
 import aiohttp
 
-from .messages import ASK, ASK2, ASK_TABLES
-from .refusals import GENERATION, TOO_BIG
+from realm_service.messages import ASK, ASK2, ASK_TABLES
+from realm_service.refusals import GENERATION, TOO_BIG
 
 HEARTBEAT = 20.0  # seconds
 LARGEST = 1 << 26  # bytes of a reply
@@ -35,6 +27,13 @@ class Turned(Exception):
     def __init__(self, status: int, words: str = ""):
         super().__init__(f"refused: {status} {words}")
         self.status = status
+
+
+def ended(client: "Client", message: bytes, before: int) -> bool:
+    """Whether a client that stood at `before` is in step by the reply to its message: that was a question which brought nothing, and nothing is
+    unsent. A long history comes in parts, and a client may ask before it uploads."""
+    standing = client.standing()
+    return message[0] in QUESTIONS and standing.cursor == before and not standing.unsent
 
 
 class Client(typing.Protocol):
@@ -106,14 +105,12 @@ class Link:
             yield await self.sync()
 
     async def _exchange(self, places: list[typing.Any]) -> bool:
-        """One message and its reply. True where it was a question that brought nothing, and the next message would be another: a long
-        history comes in parts, and a client may ask once before it sends anything."""
+        """One message and its reply. True where that was the last one."""
         message = self.client.next_message()
         before = self.client.standing().cursor
         self.client.take(await self.send(message))
         places += self.client.changed()
-        is_end = message[0] in QUESTIONS and self.client.standing().cursor == before
-        return is_end and self.client.next_message()[0] in QUESTIONS
+        return ended(self.client, message, before)
 
     async def send(self, message: bytes) -> bytes:
         """The reply to a message; raises Turned, or one of LOST."""
@@ -126,7 +123,7 @@ class Link:
     async def _connected(self) -> aiohttp.ClientWebSocketResponse:
         assert self.session is not None
         while self.socket is None or self.socket.closed:
-            url = f"{self.base}/v1/histories/{self.history}?generation={self.generation}"
+            url = f"{self.base}/v1/histories/{self.history}@{self.generation}"
             try:
                 headers = {"Authorization": "Bearer " + self.token}
                 self.socket = await self.session.ws_connect(url, headers=headers, max_msg_size=LARGEST, heartbeat=HEARTBEAT)
