@@ -41,7 +41,7 @@ def bare(seconds):
         while is_new:
             message, before = client.next_message(), client.standing().cursor
             at = time.thread_time()
-            status, reply = node.ask(TAKE + message)
+            status, reply = node.ask_all([TAKE + message])[0]
             node.written()
             node.emptied()
             spent += time.thread_time() - at
