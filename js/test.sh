@@ -3,6 +3,8 @@
 #
 #     js/test.sh [--quick] [--trial]
 #
+# --trial is for work on the package: the library is built without its proof.
+#
 # It takes node 20 or later, Debian's node-typescript, and for all tests chromium and python3. What is missing is installed by root, and
 # named else.
 set -eu
@@ -18,11 +20,14 @@ for word in "$@"; do
     esac
 done
 need node nodejs
+[ -d /usr/share/nodejs/ws ] || need_package node-ws
 "$here/build.sh" $trial >/dev/null
 tsc -p "$here/test/types"
+tsc -p "$top/examples/shopping/web" --noEmit
 node --test "$here"/test/*.test.mjs
 "$here/test/empty_project.sh"
 [ -z "$quick" ] || exit 0
 need chromium chromium
+"$top/examples/shopping/web/build.sh" >/dev/null
 node "$here/test/browser/run.mjs"
 "$here/test/native/compare.sh" $trial

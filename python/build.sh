@@ -31,6 +31,11 @@ fi
 python=${PYTHON:-/usr/bin/python3}
 "$python" -c 'import pip, wheel' 2>/dev/null || need_package "python3-pip python3-wheel"
 rm -rf "$here/dist" "$here/build"
+# The library asks the C library for nothing newer than version 2.17, which the tag says; else the tag says Linux alone.
+newest=$(readelf -V "$library" | grep -o 'GLIBC_2\.[0-9]*' | cut -d. -f2 | sort -n | tail -n 1)
+WHEEL_PLATFORM=linux_$(uname -m)
+[ "$newest" -gt 17 ] || WHEEL_PLATFORM=manylinux_2_17_$(uname -m)
+export WHEEL_PLATFORM
 "$python" -m pip wheel --quiet --disable-pip-version-check --no-deps --no-build-isolation --wheel-dir "$here/dist" "$here" >&2
 rm -rf "$here/build" "$here"/src/*.egg-info
 ls "$here"/dist/*.whl

@@ -3,6 +3,8 @@
 #
 #     python/test.sh [--quick] [--trial]
 #
+# --trial is for work on the package: the library is built without its proof.
+#
 # It takes Python 3.10 or later, and Debian's python3-mypy, python3-cryptography, python3-websocket and python3-aiohttp. What is missing is
 # installed by root, and named else.
 set -eu
@@ -31,3 +33,4 @@ PYTHONPATH=src "$python" -m unittest discover -t . -s tests
 for name in two_phones serve_sockets; do
     PYTHONPATH=src "$python" "examples/$name.py" | diff - "examples/$name.out"
 done
+"$here/tests/together/test.sh"

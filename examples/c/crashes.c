@@ -6,7 +6,10 @@
  *   (docs/FORMATS.md, "The disk").
  *
  * Opened again, the file has to be that from before the step or from after it, and that of each step which was answered. With the argument
- * `unsynced` no sync counts, which has to be found. */
+ * `unsynced` no sync counts, which has to be found.
+ *
+ * Before that, outboxes that are drawn: each leaves the bytes that its writes make, in two writes for records that stand one behind the other,
+ * and stroke by stroke where anything in one isn't exactly so. */
 #define _DEFAULT_SOURCE
 #include <fcntl.h>
 #include <signal.h>
@@ -303,8 +306,82 @@ static void crash_everywhere(void (*body)(const char *), const char *path, char 
     printf("%s: %d steps, %d writes and syncs, %d images, %d processes killed: as before the step or after it\n", name, steps, all, images, 3 * all);
 }
 
+/* ---- outboxes that are drawn */
+
+enum { OUTBOXES = 400, GROUPS = 8, OUTBOX_ROOM = 4096 };
+
+static uint8_t outbox[OUTBOX_ROOM], content[OUTBOX_ROOM];
+static size_t outbox_len, content_len;
+
+static void ask_sync(void) { outbox[outbox_len++] = 'S'; }
+
+static void ask_write(uint64_t place, const uint8_t *bytes, size_t count) {
+    outbox[outbox_len] = 'W';
+    for (int i = 0; i < 8; i++) {
+        outbox[outbox_len + 1 + (size_t)i] = (uint8_t)(place >> (8 * i));
+        outbox[outbox_len + 9 + (size_t)i] = (uint8_t)((uint64_t)count >> (8 * i));
+    }
+    memcpy(outbox + outbox_len + REALM_WRITE_HEAD, bytes, count);
+    outbox_len += REALM_WRITE_HEAD + count;
+    memcpy(content + place, bytes, count);
+    if (place + count > content_len) content_len = (size_t)place + count;
+}
+
+/* A record behind the gate, and the gate: as a journal asks for them, or otherwise in one thing. */
+static void ask_record(uint64_t *gate, uint32_t otherwise) {
+    uint8_t bytes[32], opened[2] = {REALM_GATE_OPEN, 7};
+    size_t count = 5 + draw(24);
+    for (size_t i = 0; i < count; i++) bytes[i] = (uint8_t)draw(256);
+    bytes[count - 1] = otherwise == 1;
+    if (otherwise == 2) opened[0] = 2;
+    ask_write(*gate + 1, bytes, count);
+    if (otherwise != 3) ask_sync();
+    ask_write(otherwise == 4 ? 0 : *gate, opened, otherwise == 5 ? 2 : 1);
+    if (otherwise != 6) ask_sync();
+    *gate += count;
+}
+
+static void drawn_outbox(const char *path) {
+    static const uint8_t head[] = "RSYNCJ01";
+    uint64_t gate = 8;
+    int writes = 0, found = 0;
+    bool is_after = false;
+    outbox_len = content_len = 0;
+    if (draw(2)) ask_sync();
+    ask_write(0, head, sizeof head);
+    ask_sync();
+    writes++;
+    for (uint32_t left = draw(GROUPS); left > 0; left--) {
+        uint32_t otherwise = draw(3) ? 0 : 1 + draw(7);
+        /* One at the first gate again, which doesn't stand behind the one before it. */
+        bool is_elsewhere = otherwise == 7;
+        if (is_elsewhere) gate = 8;
+        ask_record(&gate, is_elsewhere ? 0 : otherwise);
+        if (otherwise || !is_after) writes += 2;
+        is_after = !otherwise || is_elsewhere;
+    }
+    unlink(path);
+    realm_file file;
+    uint8_t *read = NULL;
+    size_t len = 0;
+    check(realm_file_open(path, &file) == REALM_NO_REASON, "a file");
+    made = 0;
+    is_traced = true;
+    check(realm_do_strokes(file, outbox, outbox_len) == REALM_NO_REASON, "an outbox is done");
+    is_traced = false;
+    for (int i = 0; i < made; i++) found += calls[i].count > 0;
+    check(found == writes, "records that stand one behind the other are written together, and no others");
+    check(calls[made - 1].count == 0, "the last of it is a sync");
+    check(realm_file_request(file, 'c', &read, &len) == REALM_NO_REASON, "the file is read");
+    check(len == content_len + 1 && memcmp(read + 1, content, content_len) == 0, "the file has what was asked");
+    free(read);
+    realm_file_close(file);
+}
+
 int main(int count, char **words) {
     if (count < 2) return 2;
+    for (int i = 0; i < OUTBOXES; i++) drawn_outbox(words[1]);
+    printf("%d outboxes: each leaves what it asks for, and is synced\n", OUTBOXES);
     is_unsynced = count > 2 && strcmp(words[2], "unsynced") == 0;
     crash_everywhere(run_client, words[1], 'c', "client");
     crash_everywhere(run_server, words[1], 's', "server");

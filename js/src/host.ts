@@ -411,6 +411,7 @@ export class Host {
   }
 
   private async takeOver(problem: Problem): Promise<boolean> {
+    const before = this.state;
     this.setState({ status: 'recovering', problem });
     if (this.heir === null) {
       const { kind, text, generation } = problem;
@@ -436,6 +437,7 @@ export class Host {
     } catch (error) {
       if (this.engine !== heir) await heir.close();
       if (transport) transport.generation = this.serverGeneration;
+      this.setState(before);
       throw error;
     }
   }

@@ -2,7 +2,7 @@
 // what the core says of an object before the message and after it. Nothing is merged here.
 
 import type { Engine } from './engine.js';
-import { editsOf, entriesOf } from './messages.js';
+import { editsOf, entriesOf, readOf } from './messages.js';
 import { unsentOf } from './recovery.js';
 import { Status, textOf } from './door.js';
 import { parseLine, textOfKey } from './values.js';
@@ -99,15 +99,18 @@ function byObject(edits: Iterable<Edit>): Map<string, Edit[]> {
 
 const editsAt = (body: Uint8Array, ms: bigint): Edit[] => editsOf(body).map((text) => ({ ...(parseLine(text) as Edit), ms: Number(ms) }));
 
+/** What others did to objects in the entries of a Download. */
+const editsOfOthers = (message: Uint8Array, ident: number): Map<string, Edit[]> =>
+  byObject((entriesOf(message) ?? []).filter((it) => it.origin !== ident).flatMap(({ body, ms }) => editsAt(body, ms)));
+
 /** Looks at a Download before it is taken, and at the objects that it and this client's unsent changes both touch. */
 export class LostEdits {
   private readonly seen: { name: string; mine: Edit[]; others: Edit[]; before: Cells }[] = [];
 
   constructor(private readonly engine: Engine, message: Uint8Array) {
     const { ident, unsent } = engine.standing();
-    const entries = unsent > 0 ? (entriesOf(message) ?? []).filter((it) => it.origin !== ident) : [];
-    if (entries.length === 0) return;
-    const others = byObject(entries.flatMap(({ body, ms }) => editsAt(body, ms)));
+    const others = unsent > 0 ? readOf(() => editsOfOthers(message, ident)) : null;
+    if (!others) return;
     for (const [name, mine] of byObject([...unsentOf(engine)].flatMap(({ body, ms }) => editsAt(body, ms)))) {
       const theirs = others.get(name);
       const before = theirs && this.cells(mine[0]!);

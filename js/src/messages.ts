@@ -14,6 +14,8 @@ const OPS = [
   'SetErase', 'DictUpdate', 'Clear',
 ];
 
+const MOST_IN_A_LIST = 4096;
+
 class Bytes {
   at = 0;
   constructor(readonly bytes: Uint8Array) {}
@@ -46,8 +48,16 @@ class Bytes {
   }
 
   run(length: number): Uint8Array {
+    if (length > this.bytes.length - this.at) throw new RangeError('a message ends early');
     this.at += length;
     return this.bytes.subarray(this.at - length, this.at);
+  }
+
+  /** The length of a list in a message. */
+  count(): number {
+    const count = this.number();
+    if (count > MOST_IN_A_LIST) throw new RangeError('a list is too long');
+    return count;
   }
 
   hex(length: number): string {
@@ -63,11 +73,21 @@ class Bytes {
 
 export interface Change { readonly number: number; readonly ms: bigint; readonly body: Uint8Array }
 
+/** What is read of bytes of somebody else: null where they are no such message, which the core then refuses. */
+export function readOf<T>(read: () => T): T | null {
+  try {
+    return read();
+  } catch (error) {
+    if (error instanceof RangeError) return null;
+    throw error;
+  }
+}
+
 /** The changes of an Upload. */
 export function changesOfUpload(message: Uint8Array): Change[] {
   const from = new Bytes(message.subarray(1));
   from.number();
-  return Array.from({ length: from.number() }, () => {
+  return Array.from({ length: from.count() }, () => {
     const number = from.number();
     from.number();
     const ms = from.big();
@@ -100,7 +120,7 @@ export function entriesOf(message: Uint8Array): Entry[] | null {
   const from = new Bytes(message.subarray(1));
   from.number();
   const first = from.number();
-  return Array.from({ length: from.number() }, (_, place) => {
+  return Array.from({ length: from.count() }, (_, place) => {
     const origin = from.number(), number = from.number(), ms = from.big();
     return { version: first + place, origin, number, ms, body: from.run(from.number()) };
   });
@@ -110,15 +130,17 @@ export function entriesOf(message: Uint8Array): Entry[] | null {
 export function endOf(message: Uint8Array): { ident: number; cursor: number } | null {
   if (message[0] !== Tag.Download) return null;
   const from = new Bytes(message.subarray(1));
-  const ident = from.number(), cursor = from.number();
-  return from.number() === 0 ? { ident, cursor } : null;
+  return readOf(() => {
+    const ident = from.number(), cursor = from.number();
+    return from.number() === 0 ? { ident, cursor } : null;
+  });
 }
 
 /** Of a Stored: up to which number the history has the changes of that ident. */
 export function storedOf(message: Uint8Array): { ident: number; number: number } | null {
   if (message[0] !== Tag.Stored) return null;
   const from = new Bytes(message.subarray(1));
-  return { ident: from.number(), number: from.number() };
+  return readOf(() => ({ ident: from.number(), number: from.number() }));
 }
 
 /** The number of a Retired: how many changes of the ident are in the history; and whose it is. */
@@ -137,9 +159,11 @@ export function refusedOf(message: Uint8Array): { ident: number; number: number;
 export function editsOf(body: Uint8Array): string[] {
   const from = new Bytes(body);
   from.byte();
-  const strings = Array.from({ length: from.number() }, () => JSON.stringify(textOf(from.run(from.number()))));
-  const reader = new Edits(from, strings);
-  return Array.from({ length: from.number() }, () => reader.edit());
+  const strings: string[] = [];
+  for (let count = from.number(); count > 0; count--) strings.push(JSON.stringify(textOf(from.run(from.number()))));
+  const reader = new Edits(from, strings), edits: string[] = [];
+  for (let count = from.number(); count > 0; count--) edits.push(reader.edit());
+  return edits;
 }
 
 /** Reads the instructions of a changeset, whose strings are known. */

@@ -125,6 +125,33 @@ test('a server that never comes to the end is an error, and is tried again', asy
   assert.equal(new Endless('x').name, 'Endless');
 });
 
+test('a server that answers what is no message, or a broken one: it is tried again, and nothing is lost', async () => {
+  const net = await server();
+  const other = await online(net);
+  await other.write((tx) => tx.days.create({ day: 1, note: 'other' }));
+  await other.synced();
+  const db = await openDatabase({ schema });
+  await db.write((tx) => tx.days.create({ day: 2 }));
+  const draw = draws(5);
+  let broken = 0;
+  net.onMessage = () => null;
+  const transport = net.transport();
+  const breaking = { exchange: async (message) => {
+    const reply = (await transport.exchange(message)).slice();
+    if (broken >= 60) return reply;
+    broken += 1;
+    if (broken % 3 === 0) return reply.subarray(0, draw(reply.length));
+    return broken % 3 === 1 ? Uint8Array.of(Tag.Download, message[1], 0, 255, 255, 255, 127) : Uint8Array.of(...reply, draw(256));
+  } };
+  await db.startSync({ transport: breaking, ...fast, retryMost: 5, onProblem: 'ask' });
+  while (broken < 60 && db.syncState.status !== 'attention') await new Promise((done) => setTimeout(done, 5));
+  broken = 60;
+  if (db.syncState.status === 'attention') await db.startSync({ transport, ...fast });
+  await db.synced();
+  assert.deepEqual(db.days.toArray().map((it) => it.day), [1, 2]);
+  await db.close(); await other.close();
+});
+
 test('a new device takes a history that is longer than one reply', async () => {
   const net = await server();
   const one = await online(net);

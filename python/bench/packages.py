@@ -1,6 +1,6 @@
 #!/usr/bin/env python3
-"""What the package takes in Python, beside SQLite with its journal ahead of it (WAL) and synced at each commit. Times are those on the clock, and those on
-the processor in brackets, in milliseconds.
+"""What the package takes in Python, beside SQLite with its journal ahead of it (WAL) and synced at each commit. Times are those on the clock, and
+those on the processor in brackets, in milliseconds.
 
 usage: PYTHONPATH=python/src python/bench/packages.py
 """
@@ -43,7 +43,8 @@ def add(db: Database, first: int, count: int) -> None:
 
 def sqlite(path: str) -> sqlite3.Connection:
     found = sqlite3.connect(path, isolation_level=None)
-    found.executescript("PRAGMA journal_mode=WAL; PRAGMA synchronous=FULL; CREATE TABLE notes (id INTEGER PRIMARY KEY, text TEXT, done INTEGER, read INTEGER)")
+    found.executescript("PRAGMA journal_mode=WAL; PRAGMA synchronous=FULL")
+    found.execute("CREATE TABLE notes (id INTEGER PRIMARY KEY, text TEXT, done INTEGER, read INTEGER)")
     return found
 
 
@@ -89,12 +90,14 @@ def opening(folder: str, count: int) -> None:
     path = f"{folder}/opened{count}"
     with Client() as made:
         made.born("00000000-0000-4000-8000-000000000001")
-        made.commit(
-            [{"op": "AddTable", "table": "notes", "key": "Int"}]
-            + [{"op": "AddColumn", "table": "notes", "column": name, "kind": kind, "nullable": False, "shape": "One"} for name, kind in (("text", "Text"), ("done", "Bool"), ("read", "Int"))]
-        )
+        with made.transaction() as edits:
+            edits.add_table("notes", "Int")
+            for name, kind in (("text", "Text"), ("done", "Bool"), ("read", "Int")):
+                edits.add_column("notes", name, kind)
         for number in range(count):
-            made.commit([{"op": "CreateObject", "table": "notes", "key": number}, {"op": "Update", "table": "notes", "key": number, "column": "text", "value": f"note {number}"}])
+            with made.transaction() as edits:
+                edits.create("notes", number)
+                edits.update("notes", number, "text", f"note {number}")
         with open(path, "wb") as it:
             it.write(made._engine.data())
     timed(f"opening {count:,} own transactions, all unsent", 1, lambda: Database(path, [Note]).close())

@@ -19,7 +19,8 @@ class Tests(unittest.TestCase):
         with Database(None, TYPES) as db:
             with db.write() as tx:
                 shelf = tx.create(List, name="a")
-                given: dict[str, Any] = dict(title='x"\\ü😀\n', done=True, quantity=-3, price=None, blob=b"\0\xff", when=datetime(1969, 1, 1, 0, 0, 0, 250, timezone.utc), shelf=shelf)
+                when = datetime(1969, 1, 1, 0, 0, 0, 250, timezone.utc)
+                given: dict[str, Any] = dict(title='x"\\ü😀\n', done=True, quantity=-3, price=None, blob=b"\0\xff", when=when, shelf=shelf)
                 key = tx.create(Item, **given, tags=["b", "a"], steps=["x", "y"], prices={"k": 2**63 - 1})
             item = db[Item].get(key)
             assert item is not None

@@ -10,7 +10,7 @@ import time
 import unittest
 
 from realm_sync import CallTransport, Client, Database, LostEdit, NeedsAttention, Recovery, SchemaConflict, Server, SyncState, table
-from realm_sync.messages import ASK2, BIND, REFUSED, STORED, UPLOAD
+from realm_sync.messages import ASK2, BIND, DOWNLOAD, REFUSED, STORED, UPLOAD
 
 from .common import FAST, TYPES, Day, Item, Net, edit, keys, until
 
@@ -89,6 +89,36 @@ class Agreement(unittest.TestCase):
             self.assertTrue(db.synced(5))
             self.assertEqual(db.unsent, 0)
 
+    def test_a_server_that_answers_what_is_no_message_is_asked_again(self) -> None:
+        net, draw, count = Net(), random.Random(3), 0
+        with net.database() as other:
+            with other.write() as tx:
+                tx.create(Day, day=1)
+            self.assertTrue(other.synced(5))
+
+        def breaking(message: bytes) -> bytes:
+            nonlocal count
+            count += 1
+            reply = net.exchange(message)
+            if count > 40:
+                return reply
+            match count % 3:
+                case 0:
+                    return reply[: draw.randrange(len(reply))]
+                case 1:
+                    return bytes([DOWNLOAD, message[1], 0, 255, 255, 255, 127])
+                case _:
+                    return reply + draw.randbytes(1)
+
+        with Database(None, TYPES) as db:
+            with db.write() as tx:
+                tx.create(Day, day=2)
+            db.start_sync(CallTransport(breaking), options=FAST)
+            until(lambda: count > 40 or db.sync_state.status == "needs attention")
+            db.start_sync(net.transport(), options=FAST)
+            self.assertTrue(db.synced(5))
+            self.assertEqual([it.day for it in db[Day]], [1, 2])
+
     def test_a_new_device_takes_a_history_that_is_longer_than_one_reply(self) -> None:
         with Server() as server, Client() as one, Client() as other:
             one.born("00000000-0000-4000-8000-000000000001")
@@ -125,7 +155,8 @@ class Agreement(unittest.TestCase):
             one.start_sync(net.transport(), options=FAST)
             self.assertTrue(one.synced(5) and one.synced(5))
         said = sorted(("bread" if it.key == bread else "gone", str(it.column), it.why, it.mine) for it in told)
-        self.assertEqual(said, [("bread", "prices", "overwritten", 2), ("bread", "title", "overwritten", "white bread"), ("gone", "None", "erased", None)])
+        title_lost, price_lost = ("bread", "title", "overwritten", "white bread"), ("bread", "prices", "overwritten", 2)
+        self.assertEqual(said, [price_lost, title_lost, ("gone", "None", "erased", None)])
         title = next(it for it in told if it.column == "title")
         assert isinstance(title.object, Item)
         self.assertEqual((title.object.title, title.object.quantity), ("rye bread", 7))
@@ -226,7 +257,8 @@ class Recovering(unittest.TestCase):
                 db.stop_sync()
                 with db.write() as tx:
                     tx.create(Day, day=2, note="unsent")
-            net.answer = lambda message, ident=ident: bytes([REFUSED, ident, 2, 68, 1]) if message[:2] == bytes([UPLOAD, ident]) else None  # type: ignore[misc]
+            refusal, refused = bytes([REFUSED, ident, 2, 68, 1]), bytes([UPLOAD, ident])
+            net.answer = lambda message, refusal=refusal, refused=refused: refusal if message[:2] == refused else None  # type: ignore[misc]
             count = 0
 
             def cutting(message: bytes) -> bytes:

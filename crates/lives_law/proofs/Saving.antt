@@ -1,6 +1,7 @@
 -- Worlds of heirs over files that keep lives are worlds of heirs.
 use Rattle.std.proofs.Common.{◌≡◌, ◌⊎◌, inl, inr, ⊎_elim, ℕ, zero, suc, ◌+◌, ◌-◌, ◌≤◌, Bool, true, false, ◌&&◌, not, List, [], ◌∷◌, ◌++◌, Option, Some, None, refl, sym, ap, ap₂, ◌∙◌, subst, arith, append-nil, length, take, drop, length-append, if◌then◌else◌, ◌==◌, eqb-true}
 use Rattle.sync_theory.specs.World.{put_at}
+use Rattle.sync_model.specs.Bytes.{Uuid}
 use Rattle.sync_model.specs.Profile.{Profile}
 use Rattle.sync_model.specs.Each.{Each, no_more}
 use Rattle.sync_model.specs.Messages.{Change, Sent, Download}
@@ -12,9 +13,9 @@ use Rattle.sync_model.proofs.Lists.{take_all}
 use Rattle.sync_model.proofs.Opening.{changes_open, ids_after}
 use Rattle.lives_law.specs.Lives.{Written, Files, Open, Among, here, there, Mark, tally}
 use Rattle.lives_law.specs.Instances.{plain, is_made}
-use Rattle.lives_law.specs.Roaming.{NoEntry, AllFollow, written_all}
+use Rattle.lives_law.specs.Roaming.{NoEntry, NoneIs, AllFollow, written_all}
 use Rattle.lives_law.specs.Heirs.{Act, is_act, World, Comes, by, Happens, reopens, from_nothing, at_first, Entry as Told}
-use Rattle.lives_law.specs.Stored.{Noted, it, note, Kept, entry_by, took_by, is_by, bare, bare_file, keeps, keeps_all, kept_of, with_notes, Passage, passes, Stores, no_stores, upload_records, download_records, IsUploadOf, IsDownloadOf, Occurs, server_opens, client_opens, server_writes, client_writes, server_takes, client_takes, Stands, SameBy}
+use Rattle.lives_law.specs.Stored.{Noted, it, note, Kept, entry_by, took_by, is_by, bare, bare_file, keeps, keeps_all, kept_of, with_notes, Passage, passes, Stores, no_stores, upload_records, download_records, IsUploadOf, IsDownloadOf, Occurs, server_opens, client_opens, server_writes, client_writes, server_takes, server_takes_old, client_takes, Stands, SameBy}
 use Rattle.lives_law.specs.Saving.{IsLabel, act_of, acts_from, acts, told_from, noted_by, nothing_noted, history, AllNew, IsDone, Saving, HeirsBeneath, token_of, one_told}
 use Rattle.lives_law.proofs.Lists.{take_nil, at_long}
 use Rattle.lives_law.proofs.Taking.{at_dropped}
@@ -22,13 +23,13 @@ use Rattle.lives_law.proofs.Uploads.{long_drop}
 use Rattle.lives_law.proofs.Heirs.{among_right}
 use Rattle.lives_law.proofs.Notes.{plain_bare, same_opened, count_by, count_is, cut_bare}
 use Rattle.lives_law.proofs.Passages.{Passed, passed}
-use Rattle.lives_law.proofs.Roaming.{all_new, only_empty, all_follow}
+use Rattle.lives_law.proofs.Roaming.{given_not_zero, all_new, only_empty, all_follow}
 use Rattle.lives_law.proofs.Stored.{LineKept, server_on, taken}
 use Rattle.lives_law.proofs.Standing.{Knows, all_know, one_bare}
 use Rattle.lives_law.proofs.Acting.{act_mark, act_one, acts_written, honest_more, takes_none, each_take}
 use Rattle.lives_law.proofs.Telling.{entries_in, told_both, told_none, noted_same, log_long, all_own, Ran, none_ran, run}
 
-module _ {I S : Type 0} (p : Profile I S) (label : ℕ → ℕ → Act) (is : IsLabel label) where
+module _ {I S : Type 0} (p : Profile I S) (is_old : Uuid → Bool) (label : ℕ → ℕ → Act) (is : IsLabel label) where
   -- ---- the last entry of an ident in a history
 
   record LastTold (c : ℕ) (s : Server I) (k : Kept) (noted : ℕ → Option ℕ) (xs : List (Noted ServerRecord)) (life : ℕ) : Type 0 where
@@ -103,7 +104,7 @@ module _ {I S : Type 0} (p : Profile I S) (label : ℕ → ℕ → Act) (is : Is
 
   -- ---- an Upload
 
-  module _ (v : Files ClientRecord) (reached : Rattle.lives_law.specs.Lives.Reached v) (xs : List (Noted ServerRecord)) (lines : (d : ℕ) → LineKept p v xs d) (opens : server_opens_by p no_server (bare xs) ≡ true) (c : ℕ) (given : is_given (server_of p (bare xs)) c ≡ true) (m : Passage Change) (f : List (Written ClientRecord)) (kept : Among f v.kept) (u : IsUploadOf p f m) (w : World) (comes : Comes w) (known : Among (history label xs) w.hists) (begun : Among (acts_from label 0 f) w.files.kept) where
+  module _ (v : Files ClientRecord) (reached : Rattle.lives_law.specs.Lives.Reached v) (xs : List (Noted ServerRecord)) (opens : server_opens_by p no_server (bare xs) ≡ true) (c : ℕ) (kept_line : LineKept p v xs c) (given : is_given (server_of p (bare xs)) c ≡ true) (m : Passage Change) (f : List (Written ClientRecord)) (kept : Among f v.kept) (u : IsUploadOf p f m) (w : World) (comes : Comes w) (known : Among (history label xs) w.hists) (begun : Among (acts_from label 0 f) w.files.kept) where
     abbrev s : Server I
     s = server_of p (bare xs)
 
@@ -128,7 +129,7 @@ module _ {I S : Type 0} (p : Profile I S) (label : ℕ → ℕ → Act) (is : Is
       enough = on (count_by entry_by c rs) refl
         where
           q : Rattle.lives_law.proofs.Passages.Taken p v reached (bare xs) c (kept_of entry_by c xs).last m f kept u (passed (kept_of entry_by c xs).last (count (server_of p (bare xs)) c) m pass)
-          q = taken p v reached xs lines c m f kept u pass
+          q = taken p v reached xs c kept_line m f kept u pass
 
           all : after_all p (server_of p (bare xs)) (take (length rs) (serve_changes p (server_of p (bare xs)) c q.hs).records) ≡ after_all p (server_of p (bare xs)) rs
           all = ap (λ l. after_all p (server_of p (bare xs)) (take (length rs) l.records)) (sym q.same) ∙ ap (after_all p (server_of p (bare xs))) (take_all rs)
@@ -150,7 +151,7 @@ module _ {I S : Type 0} (p : Profile I S) (label : ℕ → ℕ → Act) (is : Is
               (q.after (length rs))
 
       line : (count (server_of p (bare xs)) c ≡ 0) ⊎ ((e : Told) × Among e (history label xs) × (suc e.number ≡ count (server_of p (bare xs)) c) × Mark is_act (acts_from label 0 f) e.number e.life)
-      line = ⊎_elim (λ z. inl z) (λ h. inr (on h.0 h.1 (h.2.counted))) (lines c)
+      line = ⊎_elim (λ z. inl z) (λ h. inr (on h.0 h.1 (h.2.counted))) kept_line
         where
           on : (life : ℕ) → (kept_of entry_by c xs).last ≡ Some life → {number : ℕ} → count (server_of p (bare xs)) c ≡ suc number → (e : Told) × Among e (history label xs) × (suc e.number ≡ count (server_of p (bare xs)) c) × Mark is_act (acts_from label 0 f) e.number e.life
           on life last {number = number} counted = ⊎_elim
@@ -196,7 +197,7 @@ module _ {I S : Type 0} (p : Profile I S) (label : ℕ → ℕ → Act) (is : Is
   All xs = length (history label xs) ≡ length (server_of p (bare xs)).log
 
   pub record Saves (b : Stores) : Type 0 where
-    stands : Stands p b
+    stands : Stands p is_old b
     world : World
     comes : Comes world
     same : SameBy (acts label) b.clients world.files
@@ -245,11 +246,11 @@ module _ {I S : Type 0} (p : Profile I S) (label : ℕ → ℕ → Act) (is : Is
       one (Past c v m body) h = refl
 
   module _ (a : Stores) (k : Saves a) where
-    knows : Knows p a
-    knows = all_know p a k.stands
+    knows : Knows p is_old a
+    knows = all_know p is_old a k.stands
 
-    follows : AllFollow p knows.beneath
-    follows = all_follow p knows.beneath knows.roams
+    follows : AllFollow p is_old knows.beneath
+    follows = all_follow p is_old knows.beneath knows.roams
 
     server_kept : (n : ℕ) (o : Open (Noted ServerRecord)) → a.servers.nodes n ≡ Some o → Among o.file a.servers.kept
     server_kept n o e = knows.servers_open n o e
@@ -270,13 +271,13 @@ module _ {I S : Type 0} (p : Profile I S) (label : ℕ → ℕ → Act) (is : Is
         (λ late. subst All (sym late.1) (all_both (plain o.file) (take late.0 ns) (k.all o.file (server_kept n o e)) (whole late.0)))
         (all_new ns a.servers n o g q)
 
-    module _ (n c j : ℕ) (m : Passage Change) (f : List (Written (Noted ClientRecord))) (o : Open (Noted ServerRecord)) (e : a.servers.nodes n ≡ Some o) (given : is_given (server_of p (bare (plain o.file))) c ≡ true) (kept : Among f a.clients.kept) (u : IsUploadOf p (bare_file f) m) (done : AllNew label (history label (plain o.file)) (told_from label (noted_by nothing_noted (plain o.file)) (take j (upload_records p (plain o.file) c m)))) where
+    module _ (n c j : ℕ) (m : Passage Change) (f : List (Written (Noted ClientRecord))) (o : Open (Noted ServerRecord)) (e : a.servers.nodes n ≡ Some o) (given : is_given (server_of p (bare (plain o.file))) c ≡ true) (unmarked : NoneIs p is_old (server_of p (bare (plain o.file))) c) (kept : Among f a.clients.kept) (u : IsUploadOf p (bare_file f) m) (done : AllNew label (history label (plain o.file)) (told_from label (noted_by nothing_noted (plain o.file)) (take j (upload_records p (plain o.file) c m)))) where
       went : Ran p label is c (bare_file f) k.world (history label (plain o.file)) (noted_by nothing_noted (plain o.file)) (take j (upload_records p (plain o.file) c m))
-      went = ran knows.beneath.clients follows.clients (plain o.file) (λ d. knows.lines o.file (server_kept n o e) d) (opened_file n o e) c given m (bare_file f) (knows.same.clients.kept f kept) u k.world k.comes (k.histories o.file (server_kept n o e)) (k.same.kept f kept) j done
+      went = ran knows.beneath.clients follows.clients (plain o.file) (opened_file n o e) c (knows.lines o.file (server_kept n o e) c (given_not_zero p (server_of p (bare (plain o.file))) c given) unmarked) given m (bare_file f) (knows.same.clients.kept f kept) u k.world k.comes (k.histories o.file (server_kept n o e)) (k.same.kept f kept) j done
 
       server_saves : Saves (record a { servers = written_all a.servers n o (take j (upload_records p (plain o.file) c m)) })
       server_saves = record {
-        stands = Rattle.lives_law.specs.Stored.Stands.by_step k.stands (server_takes n c j m f o e given kept u);
+        stands = Rattle.lives_law.specs.Stored.Stands.by_step k.stands (server_takes n c j m f o e given unmarked kept u);
         world = went.world;
         comes = went.comes;
         same = subst (λ v. SameBy (acts label) a.clients v) (sym went.files) k.same;
@@ -294,7 +295,7 @@ module _ {I S : Type 0} (p : Profile I S) (label : ℕ → ℕ → Act) (is : Is
             subst (λ l. Each (λ r. is_made r ≡ false) l) (sym cut.1) (each_take cut.0 (take_message p (client_of p (bare (plain o.file))) (Download ident m.from m.tells)).records (takes_none p (client_of p (bare (plain o.file))) ident m.from m.tells))
         on false = subst (λ l. Each (λ r. is_made r ≡ false) (bare l)) (sym (take_nil j)) no_more
 
-    step_saves : (d : Stores) (o : Occurs p a d) → IsDone label p o → Saves d
+    step_saves : (d : Stores) (o : Occurs p is_old a d) → IsDone label p is_old o → Saves d
     step_saves d (server_opens n l f q fresh) done = record {
       stands = Rattle.lives_law.specs.Stored.Stands.by_step k.stands (server_opens n l f q fresh);
       world = k.world;
@@ -319,7 +320,7 @@ module _ {I S : Type 0} (p : Profile I S) (label : ℕ → ℕ → Act) (is : Is
           comes = k.comes;
           same = k.same;
           histories = gone_on (it r ∷ []) n o k.world e (λ g q. q) (λ i. subst (λ z. Among z k.world.hists) (sym (ap (λ x. history label (plain o.file) ++ x) (told i) ∙ append-nil (history label (plain o.file)))) (k.histories o.file (server_kept n o e)));
-          all = all_gone_on (it r ∷ []) n o e (λ i. ap length (told i) ∙ sym (none_in r may i) ∙ ap entries_in (sym (one_bare p r i)));
+          all = all_gone_on (it r ∷ []) n o e (λ i. ap length (told i) ∙ sym (none_in r may i) ∙ ap entries_in (sym (one_bare p is_old r i)));
         }
     step_saves d (client_writes n o r e may ok) done =
         let one = act_one label is a.clients k.world n o r k.comes k.same e (honest_more label is a.clients k.world.files k.same (act_of label o.life (tally is_made (bare_file o.file)) r) done) in
@@ -331,7 +332,8 @@ module _ {I S : Type 0} (p : Profile I S) (label : ℕ → ℕ → Act) (is : Is
           histories = λ g q. subst (λ h. Among (history label (plain g)) h) (sym one.1.hists) (k.histories g q);
           all = k.all;
         }
-    step_saves d (server_takes n c j m f o e given kept u) done = server_saves n c j m f o e given kept u done
+    step_saves d (server_takes n c j m f o e given unmarked kept u) done = server_saves n c j m f o e given unmarked kept u done
+    step_saves d (server_takes_old n c j id hs o e given is_id aged) done = absurd done
     step_saves d (client_takes n ident j m f o e ok kept u) done =
         let some = acts_written label is (take j (download_records p (plain o.file) ident m)) a.clients k.world n o k.comes k.same e (knows.clients_open n o e) (none_made o ident j m) in
         record {
@@ -343,13 +345,13 @@ module _ {I S : Type 0} (p : Profile I S) (label : ℕ → ℕ → Act) (is : Is
           all = k.all;
         }
 
-  all_save : (b : Stores) → Saving label p b → Saves b
+  all_save : (b : Stores) → Saving label p is_old b → Saves b
   all_save b Rattle.lives_law.specs.Saving.Saving.at_first = first_saves
   all_save b (Rattle.lives_law.specs.Saving.Saving.by_step {a = a} s o done) = step_saves a (all_save a s) b o done
 
-  pub heirs_beneath : (b : Stores) → Saving label p b → HeirsBeneath label p b
+  pub heirs_beneath : (b : Stores) → Saving label p is_old b → HeirsBeneath label p is_old b
   heirs_beneath b s = let k = all_save b s in record { world = k.world; comes = k.comes; files = k.same.kept; histories = k.histories; all = k.all }
 
   -- and these are worlds as in `Stored`
-  pub all_stand : (b : Stores) → Saving label p b → Stands p b
+  pub all_stand : (b : Stores) → Saving label p is_old b → Stands p is_old b
   all_stand b s = (all_save b s).stands

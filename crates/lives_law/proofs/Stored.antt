@@ -1,5 +1,5 @@
 -- Worlds in which each node tests by what stands in its own file are worlds of roaming files.
-use Rattle.std.proofs.Common.{◌≡◌, ◌⊎◌, inl, inr, ⊎_elim, ℕ, zero, suc, ◌+◌, ◌-◌, ◌≤◌, Bool, true, false, List, [], ◌++◌, Some, None, refl, sym, ap, ◌∙◌, subst, arith, append-nil, length, take, drop, length-append, if◌then◌else◌}
+use Rattle.std.proofs.Common.{◌≡◌, ◌≢◌, ◌⊎◌, inl, inr, ⊎_elim, ℕ, zero, suc, ◌+◌, ◌-◌, ◌≤◌, Bool, true, false, List, [], ◌++◌, Some, None, refl, sym, ap, ◌∙◌, subst, arith, append-nil, length, take, drop, length-append, if◌then◌else◌}
 use Rattle.sync_theory.specs.Logs.{of_origin}
 use Rattle.sync_theory.proofs.World.{same_or_not}
 use Rattle.sync_model.specs.Profile.{Profile}
@@ -66,7 +66,7 @@ module _ {I S : Type 0} (p : Profile I S) where
       let last : (kept_of entry_by d (xs ++ ys)).last ≡ (kept_of entry_by d xs).last = ap (λ (k : Kept). k.last) (keeps_both entry_by d xs ys (record { noted = None; last = None })) ∙ quiet entry_by d ys (kept_of entry_by d xs) none in
       ⊎_elim (λ z. inl (ap length log ∙ z)) (λ l. let q = l.2 in inr (l.0, last ∙ l.1, record { has = q.has; number = q.number; log = log ∙ q.log; counted = ap length log ∙ q.counted; line = q.line })) h
 
-  module _ (v : Files ClientRecord) (reached : Reached v) (xs : List (Noted ServerRecord)) (lines : (d : ℕ) → LineKept v xs d) (c : ℕ) (m : Passage Change) (f : List (Written ClientRecord)) (kept : Among f v.kept) (u : IsUploadOf p f m) where
+  module _ (v : Files ClientRecord) (reached : Reached v) (xs : List (Noted ServerRecord)) (c : ℕ) (line : LineKept v xs c) (m : Passage Change) (f : List (Written ClientRecord)) (kept : Among f v.kept) (u : IsUploadOf p f m) where
     abbrev s : Server I
     s = server_of p (bare xs)
 
@@ -84,7 +84,7 @@ module _ {I S : Type 0} (p : Profile I S) where
 
     module _ (pass : passes (kept_of entry_by c xs).last (count (server_of p (bare xs)) c) m ≡ true) where
       pub taken : Taken p v reached (bare xs) c (kept_of entry_by c xs).last m f kept u (passed (kept_of entry_by c xs).last (count (server_of p (bare xs)) c) m pass)
-      taken = upload_taken p v reached (bare xs) c (kept_of entry_by c xs).last m f kept u (passed (kept_of entry_by c xs).last (count (server_of p (bare xs)) c) m pass) (lines c)
+      taken = upload_taken p v reached (bare xs) c (kept_of entry_by c xs).last m f kept u (passed (kept_of entry_by c xs).last (count (server_of p (bare xs)) c) m pass) line
 
       line_now : (j : ℕ) → LineKept v (xs ++ take j new) c
       line_now j =
@@ -104,16 +104,16 @@ module _ {I S : Type 0} (p : Profile I S) where
           last le tested (suc i) is l number c1 c2 e = ends entry_by c rs told j (kept_of entry_by c xs) i l is (at_to_drop (suc (count (server_of p (bare xs)) c - m.from)) m.lives i l (let k : suc (count (server_of p (bare xs)) c - m.from) + i ≡ suc number - m.from = omega arith in ap (at m.lives) k ∙ e))
 
     -- of each ident, whatever is appended
-    pub lines_now : (j d : ℕ) → LineKept v (xs ++ take j (upload_records p xs c m)) d
-    lines_now j d = on (passes (kept_of entry_by c xs).last (count (server_of p (bare xs)) c) m) refl
+    pub lines_now : (j d : ℕ) → (d ≢ c → LineKept v xs d) → LineKept v (xs ++ take j (upload_records p xs c m)) d
+    lines_now j d beside = on (passes (kept_of entry_by c xs).last (count (server_of p (bare xs)) c) m) refl
       where
         on : (b : Bool) → passes (kept_of entry_by c xs).last (count (server_of p (bare xs)) c) m ≡ b → LineKept v (xs ++ take j (if b then new else [])) d
-        on false is = subst (λ l. LineKept v l d) (sym (ap (λ l. xs ++ l) (take_nil j) ∙ append-nil xs)) (lines d)
+        on false is = subst (λ l. LineKept v l d) (sym (ap (λ l. xs ++ l) (take_nil j) ∙ append-nil xs)) (⊎_elim (λ same. subst (λ x. LineKept v xs x) (sym same) line) beside (same_or_not d c))
         on true is = ⊎_elim
             (λ same. subst (λ x. LineKept v (xs ++ take j new) x) (sym same) (line_now is j))
             (λ ne.
             let cut = cut_bare entry_by c rs told now.noted j in
-            line_beside v xs (take j new) d (ap (λ l. of_origin d (after_all p (server_of p (bare xs)) l).log) cut.1 ∙ beside_cut p m.tells (server_of p (bare xs)) c d cut.0 ne) (lines d))
+            line_beside v xs (take j new) d (ap (λ l. of_origin d (after_all p (server_of p (bare xs)) l).log) cut.1 ∙ beside_cut p m.tells (server_of p (bare xs)) c d cut.0 ne) (beside ne))
             (same_or_not d c)
 
   -- ---- a client's

@@ -1,15 +1,16 @@
 -- Heirs in worlds whose files keep the lives of what they took: whose worlds those of `Heirs` are. A client's transaction is one of
 -- its own, or one that its file saves of another; its file says which, and a number and a life tell the record, so `label` says it
 -- of these. A server does its step of `Stored`, and appends nothing but what passes the two tests of heirs.
-use Rattle.std.specs.Prelude.{◌≡◌, ◌<◌, ℕ, suc, true, List, [], ◌∷◌, ◌++◌, Option, Some, None, map, length, take, if◌then◌else◌}
+use Rattle.std.specs.Prelude.{◌≡◌, ◌<◌, ℕ, suc, Bool, true, List, [], ◌∷◌, ◌++◌, Option, Some, None, map, length, take, if◌then◌else◌}
 use Rattle.sync_theory.specs.World.{put_at}
+use Rattle.sync_model.specs.Bytes.{Uuid}
 use Rattle.sync_model.specs.Profile.{Profile}
 use Rattle.sync_model.specs.Clients.{ClientRecord, Made}
 use Rattle.sync_model.specs.Servers.{ServerRecord, Entry, server_of}
 use Rattle.lives_law.specs.Lives.{Written, Files, Among, tally}
 use Rattle.lives_law.specs.Instances.{plain, is_made}
 use Rattle.lives_law.specs.Heirs.{Token, Act, saves, other, is_act, Honest, Clock, reached, Comes, World, Entry as Told}
-use Rattle.lives_law.specs.Stored.{Noted, it, note, bare, bare_file, open_by, Stores, no_stores, upload_records, Occurs, server_opens, client_opens, server_writes, client_writes, server_takes, client_takes}
+use Rattle.lives_law.specs.Stored.{Noted, it, note, bare, bare_file, open_by, Stores, no_stores, upload_records, Occurs, server_opens, client_opens, server_writes, client_writes, server_takes, server_takes_old, client_takes}
 
 -- the lives that a server's file notes of idents
 abbrev pub noted_by : (ℕ → Option ℕ) → List (Noted ServerRecord) → ℕ → Option ℕ
@@ -76,19 +77,21 @@ module _ (label : ℕ → ℕ → Act) where
 
   -- ---- worlds
 
-  module _ {I S : Type 0} (p : Profile I S) where
+  -- an old client has no heir
+  module _ {I S : Type 0} (p : Profile I S) (is_old : Uuid → Bool) where
     -- a client makes and saves as in `Heirs`, and a server appends what is new
-    abbrev pub IsDone : {a b : Stores} → Occurs p a b → Type 0
+    abbrev pub IsDone : {a b : Stores} → Occurs p is_old a b → Type 0
     IsDone (server_opens n l f k fresh) = Unit {0}
     IsDone (client_opens n l f k fresh) = Unit {0}
     IsDone (server_writes n o r e may ok) = Unit {0}
     IsDone {a = a} (client_writes n o r e may ok) = Honest (acted a.clients) (act_of o.life (tally is_made (bare_file o.file)) r)
-    IsDone (server_takes n c j m f o e given k u) = AllNew (history (plain o.file)) (told_from (noted_by nothing_noted (plain o.file)) (take j (upload_records p (plain o.file) c m)))
+    IsDone (server_takes n c j m f o e given none k u) = AllNew (history (plain o.file)) (told_from (noted_by nothing_noted (plain o.file)) (take j (upload_records p (plain o.file) c m)))
+    IsDone (server_takes_old n c j id hs o e given is aged) = ⊥
     IsDone (client_takes n ident j m f o e ok k u) = Unit {0}
 
     pub data Saving : Stores → Type 0 where
       at_first : Saving no_stores
-      by_step : {a b : Stores} → Saving a → (o : Occurs p a b) → IsDone o → Saving b
+      by_step : {a b : Stores} → Saving a → (o : Occurs p is_old a b) → IsDone o → Saving b
 
     -- a world of heirs that has all their files, and all their histories, none of which leaves an entry out
     pub record HeirsBeneath (b : Stores) : Type 0 where

@@ -1,11 +1,11 @@
 -- Files that keep the lives of what they took: a server of each ident's numbers, a client of the history's. The same worlds as
 -- `Roaming`, where each node tests by what stands in its own file and in the message alone.
-use Rattle.std.specs.Prelude.{◌≡◌, ◌⊎◌, ◌≤◌, ◌+◌, ◌-◌, ℕ, suc, Bool, true, false, ◌&&◌, ◌||◌, nat_le, ◌==◌, if◌then◌else◌, List, [], ◌∷◌, ◌++◌, Option, Some, None, length, take, drop}
+use Rattle.std.specs.Prelude.{◌≡◌, ◌≢◌, ◌⊎◌, ◌≤◌, ◌+◌, ◌-◌, ℕ, suc, Bool, true, false, ◌&&◌, ◌||◌, nat_le, ◌==◌, if◌then◌else◌, List, [], ◌∷◌, ◌++◌, Option, Some, None, map, length, take, drop}
 use Rattle.sync_model.specs.Bytes.{Uuid}
 use Rattle.sync_model.specs.Profile.{Profile}
 use Rattle.sync_model.specs.Messages.{Change, Sent, Download}
 use Rattle.sync_model.specs.Clients.{ClientRecord, Took, client_of, tooks_of, take as take_message}
-use Rattle.sync_model.specs.Servers.{ServerRecord, Entry, server_of, count, is_given, serve_changes}
+use Rattle.sync_model.specs.Servers.{ServerRecord, Entry, server_of, place_of, count, is_given, serve_changes}
 use Rattle.sync_model.specs.Worlds.{at}
 use Rattle.sync_model.specs.Limits.{IsMessage}
 use Rattle.sync_model.specs.Files.{client_admits, server_admits}
@@ -14,7 +14,7 @@ use Rattle.lives_law.specs.Instances.{plain, is_entry, is_made}
 use Rattle.lives_law.specs.Uploads.{InOrder, changes_of}
 use Rattle.lives_law.specs.Passing.{history_told, AreOf}
 use Rattle.lives_law.specs.Pair.{ident_at}
-use Rattle.lives_law.specs.Roaming.{Both, written_all, NoEntry, NoTook}
+use Rattle.lives_law.specs.Roaming.{Both, written_all, NoEntry, NoTook, NoneIs}
 
 -- ---- notes in files
 
@@ -47,7 +47,11 @@ bare [] = []
 bare (it r ∷ xs) = r ∷ bare xs
 bare (note c l ∷ xs) = bare xs
 
--- and with their lives
+-- records without notes
+abbrev pub unnoted : {R : Type 0} → List R → List (Noted R)
+unnoted rs = map (λ r. it r) rs
+
+-- the records of a file, with their lives
 abbrev pub bare_on : {R : Type 0} → ℕ → Noted R → List (Written R) → List (Written R)
 bare_on l (it r) f = record { life = l; what = r } ∷ f
 bare_on l (note c k) f = f
@@ -142,17 +146,22 @@ module _ {I S : Type 0} (p : Profile I S) where
     pub lives : HasLives is_entry f m
     pub tells : AreOf p g m.tells (take (length m.tells) (drop m.from (history_told p f)))
 
+-- where some clients may be old: their files have no lives, and their Uploads aren't tested
+module _ {I S : Type 0} (p : Profile I S) (is_old : Uuid → Bool) where
   -- what may happen, in any order and as often as it may: files are opened as they are or once were, here or elsewhere; nodes
-  -- write by themselves, and do their step for any message of any file, as that is or once was, stopped anywhere
+  -- write by themselves, and do their step for any message of any file, as that is or once was, and servers today's for whatever
+  -- comes of old clients, stopped anywhere
   pub data Occurs : Stores → Stores → Type 0 where
     server_opens : {b : Stores} (n l : ℕ) (f : List (Written (Noted ServerRecord))) → Among f b.servers.kept → (Among l b.servers.used → ⊥) → Occurs b (record b { servers = opened b.servers n l f })
     client_opens : {b : Stores} (n l : ℕ) (f : List (Written (Noted ClientRecord))) → Among f b.clients.kept → (Among l b.clients.used → ⊥) → Occurs b (record b { clients = opened b.clients n l f })
     server_writes : {b : Stores} (n : ℕ) (o : Open (Noted ServerRecord)) (r : ServerRecord) → b.servers.nodes n ≡ Some o → NoEntry r → server_admits p (server_of p (bare (plain o.file))) r ≡ true → Occurs b (record b { servers = written_all b.servers n o (it r ∷ []) })
     client_writes : {b : Stores} (n : ℕ) (o : Open (Noted ClientRecord)) (r : ClientRecord) → b.clients.nodes n ≡ Some o → NoTook (bare (plain o.file)) r → client_admits p (client_of p (bare (plain o.file))) [] r ≡ true → Occurs b (record b { clients = written_all b.clients n o (it r ∷ []) })
-    server_takes : {b : Stores} (n c j : ℕ) (m : Passage Change) (f : List (Written (Noted ClientRecord))) (o : Open (Noted ServerRecord)) → b.servers.nodes n ≡ Some o → is_given (server_of p (bare (plain o.file))) c ≡ true → Among f b.clients.kept → IsUploadOf (bare_file f) m
-        → Occurs b (record b { servers = written_all b.servers n o (take j (upload_records (plain o.file) c m)) })
-    client_takes : {b : Stores} (n ident j : ℕ) (m : Passage Sent) (f : List (Written (Noted ServerRecord))) (o : Open (Noted ClientRecord)) → b.clients.nodes n ≡ Some o → IsMessage p (Download ident m.from m.tells) → Among f b.servers.kept → IsDownloadOf (bare_file f) (bare (plain o.file)) m
-        → Occurs b (record b { clients = written_all b.clients n o (take j (download_records (plain o.file) ident m)) })
+    server_takes : {b : Stores} (n c j : ℕ) (m : Passage Change) (f : List (Written (Noted ClientRecord))) (o : Open (Noted ServerRecord)) → b.servers.nodes n ≡ Some o → is_given (server_of p (bare (plain o.file))) c ≡ true → NoneIs p is_old (server_of p (bare (plain o.file))) c → Among f b.clients.kept → IsUploadOf p (bare_file f) m
+        → Occurs b (record b { servers = written_all b.servers n o (take j (upload_records p (plain o.file) c m)) })
+    server_takes_old : {b : Stores} (n c j : ℕ) (id : Uuid) (hs : List Change) (o : Open (Noted ServerRecord)) → b.servers.nodes n ≡ Some o → is_given (server_of p (bare (plain o.file))) c ≡ true → place_of id (server_of p (bare (plain o.file))).ids ≡ c → is_old id ≡ true
+        → Occurs b (record b { servers = written_all b.servers n o (take j (unnoted (serve_changes p (server_of p (bare (plain o.file))) c hs).records)) })
+    client_takes : {b : Stores} (n ident j : ℕ) (m : Passage Sent) (f : List (Written (Noted ServerRecord))) (o : Open (Noted ClientRecord)) → b.clients.nodes n ≡ Some o → IsMessage p (Download ident m.from m.tells) → Among f b.servers.kept → IsDownloadOf p (bare_file f) (bare (plain o.file)) m
+        → Occurs b (record b { clients = written_all b.clients n o (take j (download_records p (plain o.file) ident m)) })
 
   pub data Stands : Stores → Type 0 where
     at_first : Stands no_stores
@@ -160,17 +169,19 @@ module _ {I S : Type 0} (p : Profile I S) where
 
   -- ---- the laws
 
-  -- two files of those that ever were, by what stands in them: the server doesn't know the client by another ident; the client
-  -- took nothing, or the life that it keeps of its last entry is that of the server's entry of this number; and the server has
-  -- nothing of its ident, or the life that it keeps of its last number is that of the client's transaction of this number
+  -- two files of those that ever were, by what stands in them: the client isn't an old one, and the server doesn't know it by
+  -- another ident; the client took nothing, or the life that it keeps of its last entry is that of the server's entry of this
+  -- number; and the server has nothing of its ident, or the life that it keeps of its last number is that of the client's
+  -- transaction of this number
   pub record Agree (b : Stores) (f : List (Written (Noted ServerRecord))) (g : List (Written (Noted ClientRecord))) : Type 0 where
     pub server_kept : Among f b.servers.kept
     pub client_kept : Among g b.clients.kept
     pub id : Uuid
     pub born : (client_of p (bare (plain g))).id ≡ Some id
+    pub new : is_old id ≡ true → ⊥
     pub ident : ((client_of p (bare (plain g))).ident ≡ 0) ⊎ ((client_of p (bare (plain g))).ident ≡ ident_at p (bare (plain f)) id)
     pub reads : (tooks_of (bare (plain g)) ≡ []) ⊎ ((number life : ℕ) × (length (tooks_of (bare (plain g))) ≡ suc number) × ((kept_of took_by 0 (plain g)).last ≡ Some life) × Mark is_entry (bare_file f) number life)
-    pub is_read : (count (server_of p (bare (plain f))) (ident_at p (bare (plain f)) id) ≡ 0) ⊎ ((number life : ℕ) × (count (server_of p (bare (plain f))) (ident_at p (bare (plain f)) id) ≡ suc number) × ((kept_of entry_by (ident_at p (bare (plain f)) id) (plain f)).last ≡ Some life) × Mark is_made (bare_file g) number life)
+    pub is_read : (count (server_of p (bare (plain f))) (ident_at p (bare (plain f)) id) ≡ 0) ⊎ ((number life : ℕ) × (ident_at p (bare (plain f)) id ≢ 0) × (count (server_of p (bare (plain f))) (ident_at p (bare (plain f)) id) ≡ suc number) × ((kept_of entry_by (ident_at p (bare (plain f)) id) (plain f)).last ≡ Some life) × Mark is_made (bare_file g) number life)
 
 -- what a node has open, read so
 abbrev pub open_by : {R Q : Type 0} → (List (Written R) → List (Written Q)) → Option (Open R) → Option (Open Q)

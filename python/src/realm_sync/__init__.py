@@ -32,8 +32,9 @@ from .transaction import Transaction
 from .transports import CallTransport, HttpTransport, TokenSource, Transport, WebSocketTransport
 
 __all__ = [
-    "BadEdit", "BadFile", "BadRequest", "BrokenEdit", "Busy", "CallTransport", "Client", "Closed", "Conflict", "Counter", "Database", "Dropped", "Edits", "Endless",
-    "Error", "HttpTransport", "InvalidValue", "LostEdit", "NeedsAttention", "OtherProcess", "OutOfMemory", "Outdated", "Problem", "Query", "Reason", "Recovery", "Refused",
-    "RowChange", "SchemaConflict", "SchemaError", "Server", "Standing", "StorageFailed", "StorageFull", "SyncOptions", "SyncState", "Table", "TokenSource",
-    "Transaction", "Transport", "Unauthorized", "WebSocketTransport", "WrongKey", "kept_ends", "link", "table",
+    "BadEdit", "BadFile", "BadRequest", "BrokenEdit", "Busy", "CallTransport", "Client", "Closed", "Conflict", "Counter", "Database", "Dropped",
+    "Edits", "Endless", "Error", "HttpTransport", "InvalidValue", "LostEdit", "NeedsAttention", "OtherProcess", "OutOfMemory", "Outdated",
+    "Problem", "Query", "Reason", "Recovery", "Refused", "RowChange", "SchemaConflict", "SchemaError", "Server", "Standing",
+    "StorageFailed", "StorageFull", "SyncOptions", "SyncState", "Table", "TokenSource", "Transaction", "Transport", "Unauthorized",
+    "WebSocketTransport", "WrongKey", "kept_ends", "link", "table",
 ]  # fmt: skip

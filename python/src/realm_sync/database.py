@@ -36,10 +36,14 @@ _log = logging.getLogger("realm_sync")
 
 @dataclasses.dataclass(frozen=True)
 class LostEdit:
-    """An edit of this device that isn't seen any more, since a change of another device that it hadn't seen came. It is told of edits that this device
-    hadn't got back from the history: where its own change came into the history first, and the other one's then won, the device that lost isn't told. It
-    may also be that somebody who had seen this edit wrote over it later, before this device knew that it was in the history. `column` is
-    None where the whole object is gone; `mine` is what this device had written, a value or an element; `before` is the object as this device had it, `object` what is there now."""
+    """An edit of this device that isn't seen any more, since a change of another device that it hadn't seen came.
+
+    It is told of edits that this device hadn't got back from the history: where its own change came into the history first, and the other
+    one's then won, the device that lost isn't told. It may also be that somebody who had seen this edit wrote over it later, before this
+    device knew that it was in the history.
+
+    `column` is None where the whole object is gone; `mine` is what this device had written, a value or an element; `before` is the object as
+    this device had it, `object` what is there now."""
 
     table: str
     key: Any
@@ -279,8 +283,8 @@ class Database:
         return _listen(self._sync_listeners, callback)
 
     def synced(self, timeout: float | None = None) -> bool:
-        """Waits until all that was committed is in the history, and all that the history had is here; False after `timeout` seconds. Raises where sync
-        needs attention."""
+        """Waits until all that was committed is in the history, and all that the history had is here; False after `timeout` seconds. Raises
+        where sync needs attention."""
         if not self._loop:
             raise Error("this database has no sync")
         return self._loop.synced(timeout)
@@ -362,7 +366,11 @@ class Database:
         problem = problem or self.sync_state.problem or Problem("damaged", "asked for", True)
         with self._recovering:
             self._tell_sync(SyncState("recovering", problem.text, problem=problem))
-            recovery = self._take_over(self._transport, problem)
+            try:
+                recovery = self._take_over(self._transport, problem)
+            except BaseException:
+                self._tell_sync(self.sync_state)
+                raise
         self._events.append(lambda: _tell_each(self._recovery_listeners, recovery))
         self._tell()
         if self._loop:

@@ -9,7 +9,7 @@ from typing import Any, Literal, NamedTuple
 
 from .door import to_json
 from .engine import Engine
-from .messages import Edit, edits_of, entries_of
+from .messages import Edit, edits_of, entries_of, read_of
 from .talk import unsent_of
 
 
@@ -78,6 +78,12 @@ def _by_object(edits: Iterable[tuple[Edit, int]]) -> dict[str, list[tuple[Edit, 
     return found
 
 
+def _edits_of_others(message: bytes, ident: int) -> dict[str, list[tuple[Edit, int]]]:
+    """What others did to objects in the entries of a Download."""
+    entries = [it for it in entries_of(message) if it.origin != ident]
+    return _by_object((edit, it.ms) for it in entries for edit in edits_of(it.body))
+
+
 class LostEdits:
     """Looks at a Download before it is taken, and at the objects that it and this client's unsent changes both touch."""
 
@@ -85,8 +91,7 @@ class LostEdits:
         self._engine = engine
         self._seen: list[tuple[list[tuple[Edit, int]], list[Edit], Cells]] = []
         standing = engine.standing()
-        entries = [it for it in entries_of(message) if it.origin != standing.ident] if standing.unsent else []
-        others = _by_object((edit, it.ms) for it in entries for edit in edits_of(it.body))
+        others = read_of(lambda: _edits_of_others(message, standing.ident)) if standing.unsent else None
         if not others:
             return
         mine = _by_object((edit, it.ms) for it in unsent_of(engine) for edit in edits_of(it.body))

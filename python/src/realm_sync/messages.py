@@ -3,8 +3,8 @@
 from __future__ import annotations
 
 import uuid
-from collections.abc import Iterator
-from typing import Any, NamedTuple
+from collections.abc import Callable, Iterator
+from typing import Any, NamedTuple, TypeVar
 
 BIND, IDENT, UPLOAD, ASK, DOWNLOAD, REFUSED, STORED, ASK2, RETIRE, RETIRED, ASK_TABLES = range(1, 12)
 QUESTIONS = (ASK, ASK2, ASK_TABLES)
@@ -17,6 +17,16 @@ _OPS = (
     "SetErase", "DictUpdate", "Clear",
 )  # fmt: skip
 Edit = dict[str, Any]
+T = TypeVar("T")
+_MOST_IN_A_LIST = 4096
+
+
+def read_of(read: Callable[[], T]) -> T | None:
+    """What is read of bytes of somebody else: None where they are no such message, which the core then refuses."""
+    try:
+        return read()
+    except (IndexError, UnicodeDecodeError):
+        return None
 
 
 class Change(NamedTuple):
@@ -61,8 +71,17 @@ class _Bytes:
         return -(value >> 1) - 1 if value & 1 else value >> 1
 
     def run(self, length: int) -> bytes:
+        if length > len(self.data) - self.at:
+            raise IndexError("a message ends early")
         self.at += length
         return self.data[self.at - length : self.at]
+
+    def count(self) -> int:
+        """The length of a list in a message."""
+        count = self.number()
+        if count > _MOST_IN_A_LIST:
+            raise IndexError("a list is too long")
+        return count
 
     def text(self) -> str:
         return self.run(self.number()).decode()
@@ -76,7 +95,7 @@ def changes_of(upload: bytes) -> list[Change]:
     it = _Bytes(upload[1:])
     it.number()
     changes = []
-    for _ in range(it.number()):
+    for _ in range(it.count()):
         number = it.number()
         it.number()
         ms = it.number()
@@ -92,7 +111,7 @@ def entries_of(message: bytes) -> list[Entry]:
     it.number()
     first = it.number()
     entries = []
-    for place in range(it.number()):
+    for place in range(it.count()):
         origin, number, ms = it.number(), it.number(), it.number()
         entries.append(Entry(first + place, origin, number, ms, it.run(it.number())))
     return entries
@@ -103,8 +122,12 @@ def end_of(message: bytes) -> tuple[int, int] | None:
     if message[:1] != bytes([DOWNLOAD]):
         return None
     it = _Bytes(message[1:])
-    ident, cursor = it.number(), it.number()
-    return None if it.number() else (ident, cursor)
+
+    def read() -> tuple[int, int] | None:
+        ident, cursor = it.number(), it.number()
+        return None if it.number() else (ident, cursor)
+
+    return read_of(read)
 
 
 def stored_of(message: bytes) -> tuple[int, int] | None:
@@ -112,7 +135,7 @@ def stored_of(message: bytes) -> tuple[int, int] | None:
     if message[:1] != bytes([STORED]):
         return None
     it = _Bytes(message[1:])
-    return it.number(), it.number()
+    return read_of(lambda: (it.number(), it.number()))
 
 
 def retired_of(message: bytes) -> int | None:

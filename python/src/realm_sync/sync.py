@@ -128,8 +128,8 @@ class SyncLoop:
         self.poke()
 
     def synced(self, timeout: float | None = None) -> bool:
-        """Waits until all that was committed is in the history, and all that the history had is here; False after `timeout` seconds. Raises where sync
-        needs attention."""
+        """Waits until all that was committed is in the history, and all that the history had is here; False after `timeout` seconds. Raises
+        where sync needs attention."""
         want = self.poke()
         with self._wake:
             self._wake.wait_for(lambda: self._done >= want or self._stopped or self._held, timeout)

@@ -166,8 +166,8 @@ class HttpTransport:
 
 
 class WebSocketTransport:
-    """A server over a WebSocket: a binary frame is a message or its reply, in turn; a text frame `{"news":LENGTH}` says that the history grew. It takes
-    the package websocket-client: `pip install 'realm-sync[websocket]'`."""
+    """A server over a WebSocket: a binary frame is a message or its reply, in turn; a text frame `{"news":LENGTH}` says that the history grew.
+    It takes the package websocket-client: `pip install 'realm-sync[websocket]'`."""
 
     def __init__(self, url: str, token: TokenSource = "", timeout: float = 60) -> None:
         self._url, self._token, self._timeout, self.generation = url, _Token(token), timeout, 1
