@@ -22,7 +22,7 @@ use std::alloc::Global;
 use std::marker::Model;
 use sync_base::{Changeset, Entry, Ident, Instr, NoMemory, Stamp};
 use sync_index::Index;
-use sync_transform::{ListAction, Moves, Shifted};
+use sync_transform::{ListAction, Moves, Shifted, same_first_cell};
 
 /// Entries as one client's changes crossed them, and their versions. Of a stretch of them what they do now is kept in a lane,
 /// and written once one of them is looked at.
@@ -243,11 +243,8 @@ impl Items {
         if from > across.start || place < across.start || place - across.start >= across.count {
             return None;
         }
-        if !takes(stretch, &across) {
-            return None;
-        }
-        let one = &self.kept[across.start];
-        if !one.item.is_in_cell_of(changes.written()) {
+        let sample = stretch.sample.entry();
+        if !takes(stretch, &across) || !same_first_cell(&sample.changes, changes.written()) {
             return None;
         }
         let left = left_by(stretch, &across);
