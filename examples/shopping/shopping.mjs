@@ -27,7 +27,7 @@ const draw = (all) => all.forEach(({ done, quantity, title, tags }, at) =>
 function edit(tx, verb, words) {
   if (verb === 'add') return tx.items.create({ title: words.join(' '), quantity: 1, created: new Date() });
   const all = items.toArray();
-  for (const { id, done } of verb === 'clear' ? all.filter((it) => it.done) : [all[Number(words[0]) - 1] ?? {}]) {
+  for (const { id, done } of verb === 'clear' ? all.filter((it) => it.done) : all.slice(words[0] - 1, words[0])) {
     if (!tx.items.has(id)) continue;
     switch (verb) {
       case 'done': tx.items.update(id, { done: !done }); break;

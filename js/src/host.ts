@@ -90,6 +90,8 @@ async function noteOf<T>(files: Files, name: string): Promise<T> {
 /** What ends a recovery: any other error, as of the network, is tried again. */
 const FINAL = [Refused, StorageFailed, NeedsAttention, Unauthorized, Outdated];
 const DEFAULTS = { retryFrom: 500, retryMost: 60_000, timeout: 60_000, mostMessages: 100_000 };
+/** How long a page may take to hand a token over, in ms. */
+const TOKEN_TIME = 30_000;
 const wait = (ms: number): Promise<void> => new Promise((done) => setTimeout(done, ms));
 
 export class Host {
@@ -115,7 +117,7 @@ export class Host {
     private generation: number,
     /** A client that has begun to take this one's place, and why. */
     private heir: number | null,
-    private readonly reason: Problem | null,
+    private reason: Problem | null,
   ) {
     this.talk = new Talk(engine);
   }
@@ -327,7 +329,8 @@ export class Host {
       progress: () => this.talk.progress(),
     };
     this.loop = new SyncLoop(node, whole, (state) => this.setState(state), (problem) => this.onProblem(problem));
-    if (this.heir !== null && this.reason) void this.recover(this.reason).catch(() => {});
+    // A takeover that was cut off goes on, but at another server, which this one may not be any more.
+    if (this.heir !== null && this.reason && this.reason.kind !== 'otherServer') void this.recover(this.reason).catch(() => {});
   }
 
   stopSync(): void {
@@ -354,8 +357,9 @@ export class Host {
 
   /** A token of a tab's source. */
   askToken(wasRefused: boolean): Promise<string> {
-    return new Promise((done) => {
+    return new Promise((done, fail) => {
       this.waitingForToken.push(done);
+      setTimeout(() => fail(new RealmError('no page handed a token over')), TOKEN_TIME);
       this.tell({ event: 'token', wasRefused });
     });
   }
@@ -411,14 +415,12 @@ export class Host {
   }
 
   private async takeOver(problem: Problem): Promise<boolean> {
+    const { ident, unsent } = this.engine.standing();
+    // The core hands over the unsent changes of a client with an ident alone: a new one would begin without them.
+    if (ident === 0 && unsent > 0) throw new NeedsAttention({ ...problem, text: `${problem.text}; this client has no ident yet`, isRecoverable: false });
     const before = this.state;
     this.setState({ status: 'recovering', problem });
-    if (this.heir === null) {
-      const { kind, text, generation } = problem;
-      await keepNote(this.files, reasonName(this.generation + 1), { kind, text, isRecoverable: true, generation });
-    }
-    this.heir ??= this.generation + 1;
-    const heir = await Engine.open(this.module, await this.files.open(nameOf(this.heir)));
+    const heir = await this.openHeir(problem);
     const takeover = new Takeover(heir, (message) => this.exchange(message), problem);
     const { transport } = this.syncOptions ?? {};
     try {
@@ -436,10 +438,32 @@ export class Host {
       return true;
     } catch (error) {
       if (this.engine !== heir) await heir.close();
+      if (error instanceof Refused) await this.discardHeir();
       if (transport) transport.generation = this.serverGeneration;
       this.setState(before);
       throw error;
     }
+  }
+
+  /** The new client that had begun to take over, or another one: one of another server is never gone on with. */
+  private async openHeir(problem: Problem): Promise<Engine> {
+    if (problem.kind === 'otherServer' || this.reason?.kind === 'otherServer') await this.discardHeir();
+    if (this.heir === null) {
+      const { kind, text, generation } = problem;
+      this.reason = { kind, text, isRecoverable: true, ...(generation && { generation }) };
+      await keepNote(this.files, reasonName(this.generation + 1), this.reason);
+      this.heir = this.generation + 1;
+    }
+    return Engine.open(this.module, await this.files.open(nameOf(this.heir)));
+  }
+
+  /** What a new client saved before it took the place is in no history: it may be begun anew. */
+  private async discardHeir(): Promise<void> {
+    const { heir } = this;
+    this.heir = this.reason = null;
+    if (heir === null) return;
+    await this.files.remove(nameOf(heir));
+    await this.files.remove(reasonName(heir));
   }
 
   /** The new client is the database's from now on. Where the old one may have what no history has, its file is kept beside. */
@@ -453,7 +477,7 @@ export class Host {
     await this.engine.close();
     this.use(heir);
     this.generation = this.heir!;
-    this.heir = null;
+    this.heir = this.reason = null;
     await this.files.remove(nameOf(before));
     await this.files.remove(reasonName(this.generation));
     this.version += 1;

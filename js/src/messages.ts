@@ -53,6 +53,10 @@ class Bytes {
     return this.bytes.subarray(this.at - length, this.at);
   }
 
+  rest(): Uint8Array {
+    return this.bytes.subarray(this.at);
+  }
+
   /** The length of a list in a message. */
   count(): number {
     const count = this.number();
@@ -105,10 +109,12 @@ function* recordsOf(journal: Uint8Array): IterableIterator<Bytes> {
   }
 }
 
-/** The times of the changes of that ident in the history, by their numbers: the file has all entries that its client took. */
-export function changesOf(ident: number, journal: Uint8Array): Map<number, bigint> {
-  const found = new Map<number, bigint>();
-  for (const record of recordsOf(journal)) if (record.byte() === 4 && record.number() === ident) found.set(record.number(), record.big());
+/** The changes of that ident in the history, in order: the file has all entries that its client took. */
+export function changesOf(ident: number, journal: Uint8Array): Change[] {
+  const found: Change[] = [];
+  for (const record of recordsOf(journal)) {
+    if (record.byte() === 4 && record.number() === ident) found.push({ number: record.number(), ms: record.big(), body: record.rest() });
+  }
   return found;
 }
 

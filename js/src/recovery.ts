@@ -44,8 +44,10 @@ export async function born(engine: Engine): Promise<void> {
 
 export class Takeover {
   private readonly talk: Talk;
-  /** The times of the old client's changes in the history, by their numbers. */
+  /** The old client's changes in the history: their times, by their numbers. */
   private own: ReadonlyMap<number, bigint> = new Map();
+  /** What another new client saved that had taken the old one's place before: that of a copy of this file. */
+  private savedByOther: readonly Change[] = [];
 
   constructor(
     private readonly heir: Engine,
@@ -61,14 +63,17 @@ export class Takeover {
     await this.takeAll();
     // At another server the old ident may be somebody else's: it is left alone, and nothing of the old client is in that history.
     if (this.problem.kind === 'otherServer') return;
-    await this.retire(old.ident);
+    const other = await this.retire(old.ident);
     await this.takeAll();
-    this.own = changesOf(old.ident, await this.heir.bytes());
+    const journal = await this.heir.bytes();
+    this.own = new Map(changesOf(old.ident, journal).map(({ number, ms }) => [number, ms]));
+    if (other !== null) this.savedByOther = changesOf(other, journal);
   }
 
+  /** It sends no change: one that it saved in a try that was cut off is in no history before it has taken the old client's place. */
   private async takeAll(): Promise<void> {
     for (let isEnd = false; !isEnd;) {
-      const reply = await this.exchange(this.talk.next());
+      const reply = await this.exchange(this.talk.question());
       const taken = this.talk.take(reply);
       await this.heir.settled(null);
       if (taken.refused) throw taken.refused;
@@ -76,14 +81,16 @@ export class Takeover {
     }
   }
 
-  private async retire(ident: number): Promise<void> {
-    if (ident === 0) return;
+  /** From then on the server takes no change under the old ident. Answers the ident for which it was retired before, where it was. */
+  private async retire(ident: number): Promise<number | null> {
+    if (ident === 0) return null;
     const reply = await this.exchange(this.heir.ask('G', four(ident)));
-    if (reply[0] === Tag.Retired && retiredOf(reply).ident === ident) return;
-    const { code } = refusedOf(reply);
+    if (reply[0] === Tag.Retired && retiredOf(reply).ident === ident) return null;
+    const { code, place } = refusedOf(reply);
+    if (code === 70) return place;
     // Not an ident of this server, or the new client's own: there is nothing to retire.
-    if (code === 60 || code === 69) return;
-    throw new NeedsAttention(problemFor('retired', 'another device has taken this one\'s place', false));
+    if (code === 60 || code === 69) return null;
+    throw new NeedsAttention(problemFor('retired', `the server refuses to give the old client up: code ${code}`, false));
   }
 
   /**
@@ -93,16 +100,19 @@ export class Takeover {
    */
   async inherit(old: Engine): Promise<Recovery> {
     const dropped: Dropped[] = [];
-    let integrated = 0, saved = 0, isBeginning = true;
+    let integrated = 0, saved = 0, isBeginning = true, byOther = 0;
     if (this.problem.kind === 'otherServer' && this.heir.standing().last === 0) await this.save(0, 0n, definitionsOf(old.dump()), []);
     let known = this.heir.standing().last; // saved by an earlier try that was cut off
     if (this.problem.kind === 'otherServer') known -= 1;
     for (const change of unsentOf(old)) {
       isBeginning &&= this.own.get(change.number) === change.ms;
-      if (isBeginning) {
+      const other = this.savedByOther[byOther];
+      if (isBeginning || (other && isSavedAs(change, other))) {
         integrated += 1;
+        byOther += isBeginning ? 0 : 1;
         continue;
       }
+      byOther = Infinity; // from here on the copies were apart
       saved += 1;
       if (known > 0) known -= 1;
       else await this.save(change.number, change.ms, editsOf(change.body), dropped);
@@ -124,6 +134,20 @@ export class Takeover {
     }
     await this.heir.settled(null);
   }
+}
+
+const withoutPlaces = (edit: string): string => JSON.stringify({ ...JSON.parse(edit), place: 0, prior: 0 });
+
+/** Whether a change that another new client saved is this one: of the same time, and each of its edits, in order, is one of this. Places in
+ * lists may be others by then, and what couldn't be kept isn't there. */
+function isSavedAs(change: Change, other: Change): boolean {
+  if (change.ms !== other.ms) return false;
+  const rest = editsOf(change.body).map(withoutPlaces);
+  return editsOf(other.body).map(withoutPlaces).every((edit) => {
+    const at = rest.indexOf(edit);
+    rest.splice(0, at + 1);
+    return at >= 0;
+  });
 }
 
 /** The edits that make the tables and columns of a dump: what the old client has unsent rests on them, and another server may lack them. */

@@ -19,8 +19,12 @@ export class Talk {
 
   /** The message to send next. */
   next(): Uint8Array {
-    const isAsking = !this.isCurrent && this.engine.standing().ident !== 0;
-    return this.engine.ask(isAsking ? 'A' : 'N');
+    return this.isCurrent ? this.engine.ask('N') : this.question();
+  }
+
+  /** Bind, or the question for the history: what a client says that sends no change. */
+  question(): Uint8Array {
+    return this.engine.ask(this.engine.standing().ident === 0 ? 'N' : 'A');
   }
 
   /** A text that changes with each step forward. */

@@ -13,3 +13,9 @@ awk '/^```text start.mjs$/ { on = 1; next } /^```$/ { on = 0 } on' "$here/README
 [ -s start.mjs ] && [ -s start.out ]
 node start.mjs | diff - start.out
 echo "the ten-minute start runs in an empty folder"
+
+# The shopping list of the terminal, there as well.
+cp "$here/../examples/shopping/shopping.mjs" .
+printf 'add Milk\nadd Rye bread\nmore 1\ntag 2 bakery\ndone 2\nmore 9\nquit\n' | node shopping.mjs list | tail -n 2 >shopping.out
+printf '  1 [ ] 2 Milk\n  2 [x] 1 Rye bread #bakery\n' | diff shopping.out -
+echo "the shopping list runs in the terminal"

@@ -161,15 +161,14 @@ test('another server is never taken for this one: a person decides, and the old 
   await db.close();
 });
 
-test('a takeover that was cut off goes on for the same reason after the next opening', async () => {
-  const net = await server();
+test('a takeover that was cut off at another server is begun anew, and not gone on with by itself', async () => {
+  const [net, other] = [await server(), await server()];
   const files = new MemoryFiles();
   let db = await online(net, files);
   await db.write((tx) => tx.days.create({ day: 1 }));
   await db.synced();
   await db.stopSync();
   await db.write((tx) => tx.days.create({ day: 2 }));
-  const other = await server();
   let count = 0;
   const transport = other.transport();
   const cutting = { exchange: async (message) => { if (++count > 2) throw new Error('cut'); return transport.exchange(message); } };
@@ -178,13 +177,102 @@ test('a takeover that was cut off goes on for the same reason after the next ope
   await db.recover().catch(() => {});
   await db.close();
   assert.deepEqual((await files.names()).sort(), ['client-1', 'client-2', 'reason-2']);
-  db = await memory(files);
-  const told = new Promise((done) => db.onRecovered(done));
-  await db.startSync({ transport: other.transport(), ...fast });
-  assert.equal((await told).problem.kind, 'otherServer');
+  // At home again all is well, and nothing takes over.
+  db = await online(net, files);
   await db.synced();
-  assert.deepEqual(db.days.toArray().map((it) => it.day), [2]);
+  assert.deepEqual(db.days.toArray().map((it) => it.day), [1, 2]);
+  await db.stopSync();
+  await db.startSync({ transport: other.transport(), ...fast });
+  await assert.rejects(db.synced(), /attention/);
+  await db.recover();
+  await db.synced();
+  assert.deepEqual((await files.names()).sort(), ['client-2', 'kept-1']);
   await db.close();
+});
+
+test('a takeover that was cut off goes on after the next opening, and a new client that is refused is given up', async () => {
+  for (let cut = 2; cut < 6; cut++) {
+    const net = await server();
+    const files = new MemoryFiles();
+    let db = await online(net, files);
+    await db.write((tx) => tx.days.create({ day: 1 }));
+    await db.synced();
+    const { ident } = await db.stats();
+    await db.stopSync();
+    await db.write((tx) => tx.days.create({ day: 2, note: 'unsent' }));
+    net.onMessage = (message) => (message[0] === Tag.Upload && message[1] === ident ? Uint8Array.of(Tag.Refused, ident, 2, 68, 1) : null);
+    let count = 0;
+    const transport = net.transport();
+    const cutting = { exchange: async (message) => { if (++count > cut) throw new Error('cut'); return transport.exchange(message); } };
+    await db.startSync({ transport: cutting, ...fast });
+    while (count <= cut) await new Promise((done) => setTimeout(done, 2));
+    await db.close();
+    db = await memory(files);
+    const told = new Promise((done) => db.onRecovered(done));
+    await db.startSync({ transport, ...fast });
+    assert.equal((await told).saved, 1, `cut ${cut}`);
+    await db.synced();
+    assert.deepEqual(db.days.toArray().map((it) => it.note), ['', 'unsent']);
+    await db.close();
+  }
+  const net = await server();
+  const files = new MemoryFiles();
+  const db = await online(net, files);
+  await db.write((tx) => tx.days.create({ day: 1 }));
+  await db.synced();
+  net.onMessage = (message) => (message[0] === Tag.Ask2 && message[1] !== 1 ? Uint8Array.of(Tag.Refused, message[1], 0, 71, 9) : null);
+  await assert.rejects(db.recover(), /gave up the history/);
+  assert.deepEqual(await files.names(), ['client-1']);
+  await db.close();
+});
+
+test('a client that never got an ident is not given up, since its changes could not be handed over', async () => {
+  const net = await server();
+  net.isDown = true;
+  const files = new MemoryFiles();
+  const db = await online(net, files);
+  await db.write((tx) => tx.days.create({ day: 1 }));
+  await assert.rejects(db.recover(), /has no ident yet/);
+  assert.deepEqual(await files.names(), ['client-1']);
+  net.isDown = false;
+  await db.synced();
+  assert.equal(db.days.count(), 1);
+  await db.close();
+});
+
+test('two copies of a restored file: each keeps its own work, and what both have is saved once', async () => {
+  const net = await server();
+  const files = new MemoryFiles();
+  let db = await online(net, files);
+  await db.write((tx) => { tx.items.create({ id: '00000000-0000-4000-8000-000000000001', quantity: 1 }); tx.days.create({ day: 1 }); });
+  await db.synced();
+  const backup = files.files.get('client-1').bytes();
+  await db.write((tx) => tx.days.create({ day: 2, note: 'lost file' }));
+  await db.synced();
+  await db.close();
+  // Restored: one change is made, and then the file is copied.
+  files.files.set('client-1', new FileImage(backup));
+  db = await memory(files);
+  await db.write((tx) => tx.items.at('00000000-0000-4000-8000-000000000001').quantity.add(10));
+  await db.close();
+  const copies = [0, 1].map(() => { const it = new MemoryFiles(); it.files.set('client-1', new FileImage(files.files.get('client-1').bytes())); return it; });
+  const dbs = [];
+  for (const [place, copy] of copies.entries()) {
+    const it = await memory(copy);
+    await it.write((tx) => tx.days.create({ day: 10 + place, note: `copy ${place}` }));
+    const told = new Promise((done) => it.onRecovered(done));
+    await it.startSync({ transport: net.transport(), ...fast });
+    const { saved, integrated } = await told;
+    assert.deepEqual([saved, integrated], place === 0 ? [2, 0] : [1, 1]);
+    await it.synced();
+    dbs.push(it);
+  }
+  for (const it of [...dbs, ...dbs]) await it.synced();
+  for (const it of dbs) {
+    assert.deepEqual(it.days.toArray().map(({ day }) => day), [1, 2, 10, 11]);
+    assert.equal(it.items.get('00000000-0000-4000-8000-000000000001').quantity, 11);
+    await it.close();
+  }
 });
 
 test('a takeover that settles nothing is not tried again and again', async () => {

@@ -86,7 +86,7 @@ class FailingImage(FileImage):
             super().apply([it])
 
 
-def until(test: Callable[[], bool], seconds: float = 10) -> None:
+def until(test: Callable[[], bool], seconds: float = 30) -> None:
     end = time.monotonic() + seconds
     while not test():
         if time.monotonic() > end:

@@ -13,3 +13,8 @@ awk '/^```text start.py$/ { on = 1; next } /^```$/ { on = 0 } on' "$here/README.
 cd "$room"
 venv/bin/python start.py | diff - start.out
 echo "the ten-minute start runs in an empty environment"
+
+# The shopping list of the terminal, there as well.
+printf 'add Milk\nadd Rye bread\nmore 1\ntag 2 bakery\ndone 2\nquit\n' | venv/bin/python "$here/../examples/shopping/shopping.py" list | tail -n 2 >shopping.out
+printf '  1 [ ] 2 Milk\n  2 [x] 1 Rye bread #bakery\n' | diff shopping.out -
+echo "the shopping list runs in the terminal"

@@ -36,13 +36,13 @@ class Tests(unittest.TestCase):
     def test_what_does_not_fit_is_refused_by_its_name_and_nothing_is_done(self) -> None:
         with Database(None, TYPES) as db:
             for values, words in (
-                (dict(title=3), "title: 3 is no Text"),
-                (dict(title=None), "title is not nullable"),
+                (dict(title=3), r"items\.title: 3 is no Text"),
+                (dict(title=None), r"items\.title is not nullable"),
                 (dict(price=1.5), "price: 1.5 is no Int"),
                 (dict(price=True), "price: True is no Int"),
                 (dict(price=2**63), "more than 64 bits"),
                 (dict(nope=1), "no column nope"),
-                (dict(id="x"), "no uuid"),
+                (dict(id="x"), r"items\.id: 'x' is no uuid"),
                 (dict(title="\ud800"), "half a character"),
                 (dict(prices={"x" * 256: 1}), "255 bytes"),
             ):

@@ -4,12 +4,13 @@ from __future__ import annotations
 
 import os
 import random
+import shutil
 import tempfile
 import threading
 import time
 import unittest
 
-from realm_sync import CallTransport, Client, Database, LostEdit, NeedsAttention, Recovery, SchemaConflict, Server, SyncState, table
+from realm_sync import CallTransport, Client, Database, LostEdit, NeedsAttention, Recovery, Refused, SchemaConflict, Server, SyncState, table
 from realm_sync.messages import ASK2, BIND, DOWNLOAD, REFUSED, STORED, UPLOAD
 
 from .common import FAST, TYPES, Day, Item, Net, edit, keys, until
@@ -32,7 +33,7 @@ class Agreement(unittest.TestCase):
                         tx.create(Day, day=1)
         net.is_down = False
         for db in dbs + dbs:
-            self.assertTrue(db.synced(20))
+            self.assertTrue(db.synced(30))
         self.assertEqual(dbs[0][Item].all(), dbs[1][Item].all())
         self.assertEqual(dbs[0][Item].all(), dbs[2][Item].all())
         for db in dbs:
@@ -45,13 +46,13 @@ class Agreement(unittest.TestCase):
             other[Day].where(note="new").observe(lambda days: heard.set() if days else None)
             with one.write() as tx:
                 tx.create(Day, day=1, note="new")
-            self.assertTrue(heard.wait(5))
+            self.assertTrue(heard.wait(30))
             net.is_down = True
             with one.write() as tx:
                 tx.create(Day, day=2)
             until(lambda: one.sync_state.status == "offline" and one.sync_state.unsent == 1)
             net.is_down = False
-            self.assertTrue(one.synced(5))
+            self.assertTrue(one.synced(30))
             until(lambda: states[-1] == "up to date")
             self.assertLessEqual({"offline", "syncing", "up to date"}, set(states))
 
@@ -60,7 +61,7 @@ class Agreement(unittest.TestCase):
         with tempfile.TemporaryDirectory() as folder:
             path = os.path.join(folder, "db")
             with net.database(path) as db:
-                self.assertTrue(db.synced(5))
+                self.assertTrue(db.synced(30))
                 self.assertEqual([net.sent[0], net.sent[1]], [BIND, ASK2])
                 self.assertGreater(net.sent.index(UPLOAD), 1)
                 db.stop_sync()
@@ -68,7 +69,7 @@ class Agreement(unittest.TestCase):
                     tx.create(Day, day=1)
             net.sent.clear()
             with net.database(path) as db:
-                self.assertTrue(db.synced(5))
+                self.assertTrue(db.synced(30))
                 self.assertEqual(net.sent[0], ASK2)
                 self.assertIn(UPLOAD, net.sent)
                 # A refusal to an Upload: the next message is a question.
@@ -77,7 +78,7 @@ class Agreement(unittest.TestCase):
                 net.sent.clear()
                 with db.write() as tx:
                     tx.create(Day, day=2)
-                self.assertTrue(db.synced(5))
+                self.assertTrue(db.synced(30))
                 self.assertEqual(list(net.sent[net.sent.index(UPLOAD) :][:3]), [UPLOAD, ASK2, UPLOAD])
 
     def test_a_server_that_never_comes_to_the_end_is_an_error(self) -> None:
@@ -86,7 +87,7 @@ class Agreement(unittest.TestCase):
         with net.database() as db:
             until(lambda: "didn't reach the end of the history" in db.sync_state.text)
             net.answer = lambda message: None
-            self.assertTrue(db.synced(5))
+            self.assertTrue(db.synced(30))
             self.assertEqual(db.unsent, 0)
 
     def test_a_server_that_answers_what_is_no_message_is_asked_again(self) -> None:
@@ -94,7 +95,7 @@ class Agreement(unittest.TestCase):
         with net.database() as other:
             with other.write() as tx:
                 tx.create(Day, day=1)
-            self.assertTrue(other.synced(5))
+            self.assertTrue(other.synced(30))
 
         def breaking(message: bytes) -> bytes:
             nonlocal count
@@ -116,7 +117,7 @@ class Agreement(unittest.TestCase):
             db.start_sync(CallTransport(breaking), options=FAST)
             until(lambda: count > 40 or db.sync_state.status == "needs attention")
             db.start_sync(net.transport(), options=FAST)
-            self.assertTrue(db.synced(5))
+            self.assertTrue(db.synced(30))
             self.assertEqual([it.day for it in db[Day]], [1, 2])
 
     def test_a_new_device_takes_a_history_that_is_longer_than_one_reply(self) -> None:
@@ -136,7 +137,7 @@ class Agreement(unittest.TestCase):
             with one.write() as tx:
                 bread = tx.create(Item, title="bread", tags=["a"], steps=["x"], prices={"k": 1}, quantity=1)
                 gone, mine = tx.create(Item, title="gone"), tx.create(Item, title="mine")
-            self.assertTrue(one.synced(5) and other.synced(5))
+            self.assertTrue(one.synced(30) and other.synced(30))
             one.on_lost(told.extend)
             one.stop_sync()
             with one.write() as tx:
@@ -151,9 +152,9 @@ class Agreement(unittest.TestCase):
                 tx.at(Item, bread, "prices")["k"] = 3
                 tx.add(Item, bread, "quantity", 5)
                 tx.erase(Item, gone)
-            self.assertTrue(other.synced(5))  # the other device's changes come first in the history
+            self.assertTrue(other.synced(30))  # the other device's changes come first in the history
             one.start_sync(net.transport(), options=FAST)
-            self.assertTrue(one.synced(5) and one.synced(5))
+            self.assertTrue(one.synced(30) and one.synced(30))
         said = sorted(("bread" if it.key == bread else "gone", str(it.column), it.why, it.mine) for it in told)
         title_lost, price_lost = ("bread", "title", "overwritten", "white bread"), ("bread", "prices", "overwritten", 2)
         self.assertEqual(said, [price_lost, title_lost, ("gone", "None", "erased", None)])
@@ -175,13 +176,13 @@ class Recovering(unittest.TestCase):
         with self.net.database(self.path) as db:
             with db.write() as tx:
                 tx.create(Day, day=1, note="first")
-            self.assertTrue(db.synced(5))
+            self.assertTrue(db.synced(30))
             with open(self.path, "rb") as it:
                 backup = it.read()
             for day in (2, 3):
                 with db.write() as tx:
                     tx.create(Day, day=day, note="lost file")
-            self.assertTrue(db.synced(5))
+            self.assertTrue(db.synced(30))
         with open(self.path, "wb") as it:
             it.write(backup)
         with Database(self.path, TYPES) as db:
@@ -196,7 +197,7 @@ class Recovering(unittest.TestCase):
             db.on_recovered(told.append)
             db.start_sync(self.net.transport(), options=FAST)
             until(lambda: bool(told))
-            self.assertTrue(db.synced(10))
+            self.assertTrue(db.synced(30))
             self.assertEqual((told[0].problem.cause, told[0].saved, told[0].integrated, told[0].dropped), ("restored", 3, 0, ()))
             self.assertEqual([it.day for it in db[Day]], [1, 2, 3, 4, 5, 6])
         self.assertEqual(os.listdir(os.path.dirname(self.path)), ["db"])
@@ -206,42 +207,75 @@ class Recovering(unittest.TestCase):
         self.net.sent.clear()
         with self.net.database(self.path, on_problem="ask") as db:
             with self.assertRaisesRegex(NeedsAttention, "the history has a change 3 of this device"):
-                db.synced(5)
+                db.synced(30)
             with db.write() as tx:
                 tx.create(Day, day=7)
             with self.assertRaises(NeedsAttention):
-                db.synced(5)
+                db.synced(30)
             self.assertNotIn(UPLOAD, self.net.sent)
             db.recover()
-            self.assertTrue(db.synced(5))
+            self.assertTrue(db.synced(30))
             self.assertEqual(len(db[Day]), 7)
 
     def test_a_stored_that_the_file_does_not_have_is_a_restored_file(self) -> None:
         with self.net.database(self.path, on_problem="ask") as db:
-            self.assertTrue(db.synced(5))
+            self.assertTrue(db.synced(30))
             self.net.answer = lambda message: bytes([STORED, message[1], 9]) if message[0] == UPLOAD else None
             with db.write() as tx:
                 tx.create(Day, day=1)
             with self.assertRaises(NeedsAttention) as told:
-                db.synced(5)
+                db.synced(30)
             self.assertEqual(told.exception.problem.cause, "restored")
+
+    def test_a_client_that_never_got_an_ident_is_not_given_up(self) -> None:
+        self.net.is_down = True
+        with self.net.database(self.path) as db:
+            with db.write() as tx:
+                tx.create(Day, day=1)
+            self.assertRaisesRegex(NeedsAttention, "has no ident yet", db.recover)
+            self.assertEqual(os.listdir(os.path.dirname(self.path)), ["db"])
+            self.net.is_down = False
+            self.assertTrue(db.synced(30))
+            self.assertEqual(len(db[Day]), 1)
+
+    def test_two_copies_of_a_restored_file_keep_their_own_work_and_save_once_what_both_have(self) -> None:
+        self.restored()
+        shutil.copy(self.path, f"{self.path}.copy")
+        dbs = []
+        for place, path in enumerate((self.path, f"{self.path}.copy")):
+            told: list[Recovery] = []
+            db = Database(path, TYPES)
+            self.addCleanup(db.close)
+            with db.write() as tx:
+                tx.create(Day, day=10 + place)
+            db.on_recovered(told.append)
+            db.start_sync(self.net.transport(), options=FAST)
+            until(lambda told=told: bool(told))  # type: ignore[misc]
+            self.assertEqual((told[0].saved, told[0].integrated), ((4, 0), (1, 3))[place])
+            self.assertTrue(db.synced(30))
+            dbs.append(db)
+        for db in dbs + dbs:
+            self.assertTrue(db.synced(30))
+        for db in dbs:
+            self.assertEqual([it.day for it in db[Day]], [1, 2, 3, 4, 5, 6, 10, 11])
+        self.assertEqual(self.net.server.standing().cursor, 4 + 3 + 1 + 1)
 
     def test_another_server_is_never_taken_for_this_one(self) -> None:
         work = Net()
         with self.net.database(self.path) as db:
             with db.write() as tx:
                 tx.create(Day, day=1, note="home")
-            self.assertTrue(db.synced(5))
+            self.assertTrue(db.synced(30))
             db.stop_sync()
             with db.write() as tx:
                 tx.create(Day, day=2, note="home, unsent")
             db.start_sync(work.transport(), options=FAST)
             with self.assertRaises(NeedsAttention) as told:
-                db.synced(5)
+                db.synced(30)
             self.assertEqual(told.exception.problem.cause, "other server")
             self.assertEqual(work.server.standing().cursor, 0)
             db.recover()
-            self.assertTrue(db.synced(5))
+            self.assertTrue(db.synced(30))
             self.assertEqual([it.note for it in db[Day]], ["home, unsent"])
         self.assertEqual(sorted(os.listdir(os.path.dirname(self.path))), ["db", "db.kept-1"])
 
@@ -252,7 +286,7 @@ class Recovering(unittest.TestCase):
             with net.database(path) as db:
                 with db.write() as tx:
                     tx.create(Day, day=1)
-                self.assertTrue(db.synced(5))
+                self.assertTrue(db.synced(30))
                 ident = db._client.standing().ident
                 db.stop_sync()
                 with db.write() as tx:
@@ -274,40 +308,45 @@ class Recovering(unittest.TestCase):
                 db.start_sync(CallTransport(cutting), options=FAST)
                 until(lambda: bool(told))
                 self.assertEqual((told[0].problem.cause, told[0].saved), ("retired", 1), f"cut {cut}")
-                self.assertTrue(db.synced(10))
+                self.assertTrue(db.synced(30))
                 self.assertEqual([it.note for it in db[Day]], ["", "unsent"])
 
-    def test_a_takeover_that_was_cut_off_goes_on_for_the_same_reason(self) -> None:
-        other = Net()
+    def test_a_takeover_that_was_cut_off_at_another_server_is_begun_anew(self) -> None:
+        other, allowed = Net(), 0
         with self.net.database(self.path) as db:
-            self.assertTrue(db.synced(5))
+            self.assertTrue(db.synced(30))
             db.stop_sync()
             with db.write() as tx:
                 tx.create(Day, day=2)
-            replies = iter(range(3))
 
-            def cutting(message: bytes) -> bytes | None:
-                if next(replies, None) is None:
+            def cutting(message: bytes) -> bytes:
+                nonlocal allowed
+                allowed -= 1
+                if allowed < 0:
                     raise OSError("cut")
-                return None
+                return other.exchange(message)
 
-            other.answer = cutting
-            db.start_sync(other.transport(), options=FAST)
-            with self.assertRaises(NeedsAttention):
-                db.synced(5)
-            replies = iter(range(1))
-            with self.assertRaises(OSError):
-                db.recover()
+            allowed = 3
+            db.start_sync(CallTransport(cutting), options=FAST)
+            self.assertRaises(NeedsAttention, db.synced, 30)
+            allowed = 1
+            self.assertRaises(OSError, db.recover)
         self.assertEqual(sorted(os.listdir(os.path.dirname(self.path))), ["db", "db.heir", "db.reason"])
-        other.answer = lambda message: None
-        told: list[Recovery] = []
-        with Database(self.path, TYPES) as db:
-            db.on_recovered(told.append)
+        # At home again all is well, and nothing takes over.
+        with self.net.database(self.path) as db:
+            self.assertTrue(db.synced(30))
             db.start_sync(other.transport(), options=FAST)
-            until(lambda: bool(told))
-            self.assertEqual(told[0].problem.cause, "other server")
-            self.assertTrue(db.synced(5))
-            self.assertEqual([it.day for it in db[Day]], [2])
+            self.assertRaises(NeedsAttention, db.synced, 30)
+            db.recover()
+            self.assertTrue(db.synced(30))
+        self.assertEqual(sorted(os.listdir(os.path.dirname(self.path))), ["db", "db.kept-1"])
+
+    def test_a_new_client_that_is_refused_is_given_up(self) -> None:
+        with self.net.database(self.path) as db:
+            self.assertTrue(db.synced(30))
+            self.net.answer = lambda message: bytes([REFUSED, message[1], 0, 71, 9]) if message[0] == ASK2 and message[1] != 1 else None
+            self.assertRaisesRegex(Refused, "gave up the history", db.recover)
+        self.assertEqual(os.listdir(os.path.dirname(self.path)), ["db"])
 
     def test_schemas_that_differ_are_told_before_anything_is_sent(self) -> None:
         @table("days")
@@ -318,7 +357,7 @@ class Recovering(unittest.TestCase):
         with self.net.database() as db:
             with db.write() as tx:
                 tx.create(Day, day=1, note="phone")
-            self.assertTrue(db.synced(5))
+            self.assertTrue(db.synced(30))
         states: list[SyncState] = []
         with Database(self.path, [Other]) as laptop:
             with laptop.write() as tx:
@@ -327,7 +366,7 @@ class Recovering(unittest.TestCase):
             laptop.observe_sync(states.append)
             laptop.start_sync(self.net.transport(), options=FAST)
             with self.assertRaisesRegex(SchemaConflict, "days.note is declared as Int One, and is Text One in the data"):
-                laptop.synced(5)
+                laptop.synced(30)
             self.assertNotIn(UPLOAD, self.net.sent)
             recovery = laptop.recover()
             self.assertEqual(recovery.saved, 2)
@@ -335,7 +374,7 @@ class Recovering(unittest.TestCase):
             with self.assertRaises(SchemaConflict), laptop.write():
                 pass
         with self.net.database(self.path) as again:
-            self.assertTrue(again.synced(5))
+            self.assertTrue(again.synced(30))
             self.assertEqual([(it.day, it.note) for it in again[Day]], [(1, "phone"), (2, "")])
 
 

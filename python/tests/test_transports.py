@@ -26,23 +26,23 @@ class Tests(unittest.TestCase):
     def test_two_devices_agree_and_hear_of_each_other(self) -> None:
         http, socket = self.transports()
         with Database(None, TYPES, http, options=FAST) as one, Database(None, TYPES, socket, options=FAST) as other:
-            self.assertTrue(one.synced(10) and other.synced(10))
+            self.assertTrue(one.synced(30) and other.synced(30))
             for day, (writer, reader) in enumerate([(one, other), (other, one)]):
                 heard = threading.Event()
                 stop = reader[Day].where(day=day).observe(lambda rows, heard=heard: heard.set() if rows else None)  # type: ignore[misc]
                 with writer.write() as tx:
                     tx.create(Day, day=day, note="new")
-                self.assertTrue(heard.wait(10))
+                self.assertTrue(heard.wait(30))
                 stop()
 
     def test_a_wrong_token_needs_attention_until_it_is_renewed(self) -> None:
         for transport in self.transports("bad"):
             with Database(None, TYPES, transport, options=FAST) as db:
                 with self.assertRaises(NeedsAttention) as told:
-                    db.synced(10)
+                    db.synced(30)
                 self.assertEqual(told.exception.problem.cause, "unauthorized")
                 db.renew_token("good")
-                self.assertTrue(db.synced(10))
+                self.assertTrue(db.synced(30))
 
     def test_a_source_of_tokens_is_asked_for_another_one_once(self) -> None:
         kinds: list[tuple[Callable[[str, TokenSource], Transport], str]] = [(HttpTransport, self.service.http), (WebSocketTransport, self.service.ws)]
@@ -54,24 +54,24 @@ class Tests(unittest.TestCase):
                 return "good" if was_refused else "old"
 
             with Database(None, TYPES, kind(url, source), options=FAST) as db:
-                self.assertTrue(db.synced(10))
+                self.assertTrue(db.synced(30))
             self.assertIn(True, asked)
             with Database(None, TYPES, kind(url, lambda was_refused: "bad"), options=FAST) as db:
                 self.assertRaises(NeedsAttention, db.synced, 10)
 
     def test_a_token_is_renewed_on_an_open_socket(self) -> None:
         with Database(None, TYPES, WebSocketTransport(self.service.ws, "good"), options=FAST) as db:
-            self.assertTrue(db.synced(10))
+            self.assertTrue(db.synced(30))
             db.renew_token("next")
             until(lambda: self.service.renewed == ["next"])
 
     def test_a_connection_that_is_lost_is_made_again(self) -> None:
         with Database(None, TYPES, WebSocketTransport(self.service.ws, "good"), options=FAST) as db:
-            self.assertTrue(db.synced(10))
+            self.assertTrue(db.synced(30))
             self.service.drop()
             with db.write() as tx:
                 tx.create(Day, day=1)
-            self.assertTrue(db.synced(10))
+            self.assertTrue(db.synced(30))
             self.assertEqual(db.unsent, 0)
 
     def test_a_reply_that_comes_too_late_is_given_up(self) -> None:
@@ -79,7 +79,7 @@ class Tests(unittest.TestCase):
         with Database(None, TYPES, WebSocketTransport(self.service.ws, "good", timeout=0.1), options=FAST) as db:
             until(lambda: "no reply came in time" in db.sync_state.text)
             self.service.is_silent = False
-            self.assertTrue(db.synced(10))
+            self.assertTrue(db.synced(30))
 
     def test_a_history_that_was_restored_on_the_server(self) -> None:
         with tempfile.TemporaryDirectory() as folder:
@@ -88,21 +88,21 @@ class Tests(unittest.TestCase):
                 with Database(path, TYPES, self.transports()[way], options=FAST) as db:
                     with db.write() as tx:
                         tx.create(Day, day=1)
-                    self.assertTrue(db.synced(10))
+                    self.assertTrue(db.synced(30))
                     db.stop_sync()
                     with db.write() as tx:
                         tx.create(Day, day=2)
                 self.service.generation = 3
                 with Database(None, TYPES, self.transports()[way], options=FAST) as fresh:
-                    self.assertTrue(fresh.synced(10))
+                    self.assertTrue(fresh.synced(30))
                 with Database(path, TYPES, self.transports()[way], options=FAST) as db:
                     with self.assertRaisesRegex(NeedsAttention, "restored on the server and is of generation 3") as told:
-                        db.synced(10)
+                        db.synced(30)
                     self.assertEqual(told.exception.problem.cause, "other server")
                     db.recover()
-                    self.assertTrue(db.synced(10))
+                    self.assertTrue(db.synced(30))
                 with Database(path, TYPES, self.transports()[way], options=FAST) as db:
-                    self.assertTrue(db.synced(10))
+                    self.assertTrue(db.synced(30))
                     self.assertEqual([it.day for it in db[Day]], [1, 2])
                 self.assertEqual(sorted(it for it in os.listdir(folder) if it.startswith(name)), [name, f"{name}.generation", f"{name}.kept-1"])
 
@@ -126,7 +126,7 @@ class Tests(unittest.TestCase):
                 await db.write(lambda tx: tx.update(Day, 1, note="b"))
                 await asyncio.wait_for(watching, 10)
                 self.assertEqual((seen[0], seen[-1]), (["a"], ["b"]))
-                self.assertTrue(await db.synced(10))
+                self.assertTrue(await db.synced(30))
 
         asyncio.run(work())
 

@@ -133,11 +133,19 @@ class DatabaseClient:
 
     def takeover(self, exchange: Callable[[bytes], bytes], problem: Problem) -> Replacement:
         """A new client that takes this one's place."""
+        pending = self.pending_reason()
+        if pending and "other server" in (pending.cause, problem.cause):
+            self.discard_heir()  # one of another server is never gone on with
         # Written down before the new client has a file: where it is cut off, it goes on for the same reason.
         if not self._files.has(HEIR):
             reason = {"cause": problem.cause, "text": problem.text, "is_recoverable": True, "generation": problem.generation}
             self._keep(REASON, reason)
         return Replacement(self, Engine(self._files.open(HEIR)), exchange, problem)
+
+    def discard_heir(self) -> None:
+        """What a new client saved before it took the place is in no history: it may be begun anew."""
+        self._files.remove(HEIR)
+        self._files.remove(REASON)
 
     def _kept_name(self) -> str:
         return next(name for name in _kept_names() if not self._files.has(name))

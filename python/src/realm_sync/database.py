@@ -251,7 +251,8 @@ class Database:
         self._loop = SyncLoop(_Syncing(self), self._transport, options, self._tell_sync, self._recovered)
         self._loop.start()
         reason = self._client.pending_reason()
-        if reason:
+        # A takeover that was cut off goes on, but at another server, which this one may not be any more.
+        if reason and reason.cause != "other server":
             threading.Thread(target=self._go_on, args=(reason,), name="realm_sync recovery", daemon=True).start()
 
     def _go_on(self, reason: Problem) -> None:
@@ -364,6 +365,11 @@ class Database:
         if not self._transport or not self._loop:
             raise Error("this database has no sync")
         problem = problem or self.sync_state.problem or Problem("damaged", "asked for", True)
+        with self._lock:
+            standing = self._client.standing()
+        # The core hands over the unsent changes of a client with an ident alone: a new one would begin without them.
+        if standing.ident == 0 and standing.unsent:
+            raise NeedsAttention(Problem(problem.cause, f"{problem.text}; this client has no ident yet", False))
         with self._recovering:
             self._tell_sync(SyncState("recovering", problem.text, problem=problem))
             try:
@@ -388,8 +394,10 @@ class Database:
                 self._recoveries += 1
                 self._refresh()
                 return recovery
-        except BaseException:
+        except BaseException as why:
             takeover.close()
+            if isinstance(why, Refused):
+                self._client.discard_heir()
             transport.generation = self._client.generation
             raise
 

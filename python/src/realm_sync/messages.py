@@ -143,26 +143,25 @@ def retired_of(message: bytes) -> int | None:
     return _Bytes(message[1:]).number() if message[:1] == bytes([RETIRED]) else None
 
 
-def code_of(message: bytes) -> int:
-    """The code of a Refused; 0 of any other message."""
+def refusal_in(message: bytes) -> tuple[int, int]:
+    """The code of a Refused, and its place; 0 of any other message."""
     if message[:1] != bytes([REFUSED]):
-        return 0
+        return 0, 0
     it = _Bytes(message[1:])
     it.number()
     it.number()
-    return it.number()
+    return it.number(), it.number()
 
 
-def times_of(ident: int, journal: bytes) -> dict[int, int]:
-    """The times of the changes of that ident in the history, by their numbers: the file has all entries that its client took."""
-    found: dict[int, int] = {}
+def history_of(ident: int, journal: bytes) -> list[Change]:
+    """The changes of that ident in the history, in order: the file has all entries that its client took."""
+    found: list[Change] = []
     at = 8
     while journal[at : at + 1] == b"\1":
         length = int.from_bytes(journal[at + 1 : at + 5], "big")
         it = _Bytes(journal[at + 5 : at + 5 + length])
         if length and it.byte() == 4 and it.number() == ident:
-            number = it.number()
-            found[number] = it.number()
+            found.append(Change(it.number(), it.number(), it.data[it.at :]))
         at += 5 + length
     return found
 

@@ -10,7 +10,7 @@ from typing import Any
 from .door import REFUSED, Standing, expect_done, refusal_of, to_json
 from .engine import Engine
 from .errors import NeedsAttention, Reason, Refused
-from .messages import code_of, edits_of, retired_of, times_of
+from .messages import Change, edits_of, history_of, refusal_in, retired_of
 from .problems import Problem
 from .talk import Talk, definitions_of, unsent_of
 
@@ -47,14 +47,26 @@ def born(engine: Engine) -> None:
     engine.line('{"upgrade":2}')
 
 
+def _is_saved_as(change: Change, other: Change) -> bool:
+    """Whether a change that another new client saved is this one: of the same time, and each of its edits, in order, is one of this. Places in
+    lists may be others by then, and what couldn't be kept isn't there."""
+    if change.ms != other.ms:
+        return False
+    mine, theirs = ([{**edit, "place": 0, "prior": 0} for edit in edits_of(it.body)] for it in (change, other))
+    rest = iter(mine)
+    return all(edit in rest for edit in theirs)
+
+
 class Takeover:
     """The steps of a new client, the heir, that takes an old one's place."""
 
     def __init__(self, heir: Engine, exchange: Callable[[bytes], bytes], problem: Problem) -> None:
         self._heir, self._exchange, self._problem = heir, exchange, problem
         self._talk = Talk(heir)
-        # The times of the old client's changes in the history, by their numbers.
+        # The old client's changes in the history: their times, by their numbers.
         self._own: dict[int, int] = {}
+        # What another new client saved that had taken the old one's place before: that of a copy of this file.
+        self._saved_by_other: list[Change] = []
 
     def join(self, old: Standing) -> None:
         """The heir takes the history, retires the old client, and takes what that had sent before."""
@@ -63,25 +75,33 @@ class Takeover:
         # At another server the old ident may be somebody else's: it is left alone, and nothing of the old client is in that history.
         if self._problem.cause == "other server":
             return
-        self._retire(old.ident)
+        other = self._retire(old.ident)
         self._take_all()
-        self._own = times_of(old.ident, self._heir.data())
+        journal = self._heir.data()
+        self._own = {it.number: it.ms for it in history_of(old.ident, journal)}
+        self._saved_by_other = history_of(other, journal) if other else []
 
     def _take_all(self) -> None:
+        """It sends no change: one that it saved in a try that was cut off is in no history before it has taken the old client's place."""
         is_end = False
         while not is_end:
-            refused, _, is_end = self._talk.take(self._exchange(self._talk.next()))
+            refused, _, is_end = self._talk.take(self._exchange(self._talk.question()))
             self._heir.settle()
             if refused:
                 raise refused
 
-    def _retire(self, ident: int) -> None:
+    def _retire(self, ident: int) -> int:
+        """From then on the server takes no change under the old ident. Answers the ident for which it was retired before, else 0."""
         if ident == 0:
-            return
+            return 0
         reply = self._exchange(self._heir.ask(b"G", ident.to_bytes(4, "little")))
+        code, place = refusal_in(reply)
+        if code == 70:
+            return place
         # Codes 60 and 69: not an ident of this server, or the heir's own; there is nothing to retire.
-        if retired_of(reply) != ident and code_of(reply) not in (60, 69):
-            raise NeedsAttention(Problem("retired", "another device has taken this one's place", False))
+        if retired_of(reply) != ident and code not in (60, 69):
+            raise NeedsAttention(Problem("retired", f"the server refuses to give the old client up: code {code}", False))
+        return 0
 
     def inherit(self, old: Engine) -> Recovery:
         """Commits in the heir what the old client has unsent, in order. A change is in the history where it belongs to the longest beginning
@@ -93,12 +113,14 @@ class Takeover:
         if is_other and self._heir.standing().last == 0:
             self._save(0, 0, definitions_of(old.dump()), [])
         known = self._heir.standing().last - is_other  # saved by an earlier try that was cut off
-        is_beginning = True
+        is_beginning, by_other = True, list(self._saved_by_other)
         for change in unsent_of(old):
             is_beginning = is_beginning and self._own.get(change.number) == change.ms
-            if is_beginning:
+            if is_beginning or (by_other and _is_saved_as(change, by_other[0])):
                 integrated += 1
+                by_other = by_other if is_beginning else by_other[1:]
                 continue
+            by_other = []  # from here on the copies were apart
             saved += 1
             if saved > known:
                 self._save(change.number, change.ms, edits_of(change.body), dropped)

@@ -42,12 +42,18 @@ class link:
 
 @dataclasses.dataclass(frozen=True)
 class Column:
+    table: str
     name: str
     kind: str
     shape: str
     nullable: bool
     target: str | None
     is_counter: bool
+
+    @property
+    def where(self) -> str:
+        """Its name for errors."""
+        return f"{self.table}.{self.name}"
 
     def definition(self) -> dict[str, Any]:
         return {"kind": self.kind, "nullable": self.nullable, "shape": self.shape, **({"target": self.target} if self.target else {})}
@@ -82,7 +88,7 @@ def _parts(annotation: Any) -> tuple[Any, bool, str | None]:
     return plain[0], len(plain) < len(options), target
 
 
-def _column(name: str, annotation: Any) -> Column:
+def _column(table_: str, name: str, annotation: Any) -> Column:
     kind, nullable, target = _parts(annotation)
     shape, origin, inner = "One", typing.get_origin(kind), typing.get_args(kind)
     if origin is tuple and len(inner) == 2 and inner[1] is ...:
@@ -100,7 +106,7 @@ def _column(name: str, annotation: Any) -> Column:
         raise SchemaError(f"{name}: {annotation} is no type of a column")
     if target:
         nullable = shape == "One"
-    return Column(name, found, shape, nullable, target, is_counter)
+    return Column(table_, name, found, shape, nullable, target, is_counter)
 
 
 def form_of(type_: type[Any]) -> TableForm:
@@ -130,7 +136,7 @@ def table(name: str) -> Callable[[type[T]], type[T]]:
         key_kind = KINDS.get(hints[names[0]])
         if key_kind not in ("Int", "Text", "Uuid"):
             raise SchemaError(f"{name}: the key {names[0]} is an int, a str or a UUID")
-        columns = {it: _column(it, hints[it]) for it in names[1:]}
+        columns = {it: _column(name, it, hints[it]) for it in names[1:]}
         for it in (name, *columns):
             if not 1 <= len(it.encode()) <= 63:
                 raise SchemaError(f"the name {it!r} has not 1 to 63 bytes")
@@ -143,18 +149,18 @@ def table(name: str) -> Callable[[type[T]], type[T]]:
 # ---- values between code and the core's JSON
 
 
-def key_json(kind: str, value: Any) -> Any:
+def key_json(where: str, kind: str, value: Any) -> Any:
     if kind == "Uuid":
         try:
             return {"uuid": str(value if isinstance(value, uuid.UUID) else uuid.UUID(value))}
         except (TypeError, ValueError, AttributeError):
-            raise InvalidValue(f"{value!r} is no uuid") from None
+            raise InvalidValue(f"{where}: {value!r} is no uuid") from None
     if kind == "Int" and (not isinstance(value, int) or isinstance(value, bool)) or kind == "Text" and not isinstance(value, str):
-        raise InvalidValue(f"{value!r} is no key of {kind}")
+        raise InvalidValue(f"{where}: {value!r} is no key of {kind}")
     if kind == "Int" and not -(2**63) <= value < 2**63:
-        raise InvalidValue(f"the key {value} has more than 64 bits")
-    if kind == "Text" and len(whole_text("a key", value).encode()) > 255:
-        raise InvalidValue("a text key has at most 255 bytes")
+        raise InvalidValue(f"{where}: {value} has more than 64 bits")
+    if kind == "Text" and len(whole_text(where, value).encode()) > 255:
+        raise InvalidValue(f"{where}: a text key has at most 255 bytes")
     return value
 
 
@@ -175,18 +181,18 @@ def value_json(column: Column, key_kinds: Mapping[str, str], it: Any) -> Any:
     value: Any = it
     if value is None:
         if not column.nullable:
-            raise InvalidValue(f"{column.name} is not nullable")
+            raise InvalidValue(f"{column.where} is not nullable")
         return None
     kind: str = column.kind
     if kind == "Link":
-        return {"link": column.target, "key": key_json(key_kinds[column.target or ""], value)}
+        return {"link": column.target, "key": key_json(column.where, key_kinds[column.target or ""], value)}
     want: type[Any] = {"Int": int, "Bool": bool, "Text": str, "Bytes": bytes, "Time": datetime.datetime, "Uuid": uuid.UUID}[kind]
     if not isinstance(value, want) or kind == "Int" and isinstance(value, bool):
-        raise InvalidValue(f"{column.name}: {value!r} is no {kind}")
+        raise InvalidValue(f"{column.where}: {value!r} is no {kind}")
     if kind == "Int" and not -(2**63) <= value < 2**63:
-        raise InvalidValue(f"{column.name}: {value} has more than 64 bits")
+        raise InvalidValue(f"{column.where}: {value} has more than 64 bits")
     if kind == "Text":
-        return whole_text(column.name, value)
+        return whole_text(column.where, value)
     if kind == "Bytes":
         return {"bytes": value.hex()}
     if kind == "Uuid":

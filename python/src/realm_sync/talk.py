@@ -34,8 +34,11 @@ class Talk:
 
     def next(self) -> bytes:
         """The message to send next."""
-        is_asking = not self._is_current and self._engine.standing().ident != 0
-        return self._engine.ask(b"A" if is_asking else b"N")
+        return self._engine.ask(b"N") if self._is_current else self.question()
+
+    def question(self) -> bytes:
+        """Bind, or the question for the history: what a client says that sends no change."""
+        return self._engine.ask(b"A" if self._engine.standing().ident else b"N")
 
     def progress(self) -> tuple[int, ...]:
         """It changes with each step forward."""

@@ -108,7 +108,7 @@ class Transaction:
     def _edit(self, op: str, form: TableForm, key: Key, **more: Any) -> None:
         if not self._is_open:
             raise Closed("the transaction has ended: its verbs are called inside its `with`")
-        self.edits.append({"op": op, "table": form.name, "key": key_json(form.key_kind, key), **more})
+        self.edits.append({"op": op, "table": form.name, "key": key_json(f"{form.name}.{form.key}", form.key_kind, key), **more})
 
     def _put(self, form: TableForm, key: Key, row: Any) -> None:
         self._changed.setdefault(form.name, {})[key] = row
@@ -132,9 +132,9 @@ def _default(column: Column) -> Any:
             return None if column.nullable else _ZERO[column.kind]
 
 
-def _dict_key(at: Any) -> str:
-    if not isinstance(at, str) or len(whole_text("a key", at).encode()) > 255:
-        raise InvalidValue("a key of a dictionary is a text of at most 255 bytes")
+def _dict_key(column: Column, at: Any) -> str:
+    if not isinstance(at, str) or len(whole_text(column.where, at).encode()) > 255:
+        raise InvalidValue(f"{column.where}: a key of a dictionary is a text of at most 255 bytes")
     return at
 
 
@@ -186,7 +186,7 @@ class Collection:
     def __setitem__(self, at: Any, value: Any) -> None:
         now = self._now()
         if self._column.shape == "Dict":
-            self._edit("DictUpdate", at=_dict_key(at), value=self._json(value))
+            self._edit("DictUpdate", at=_dict_key(self._column, at), value=self._json(value))
             return self._to(types.MappingProxyType({**now, at: value}))
         at = range(len(now))[at]
         self._edit("ListUpdate", place=at, prior=len(now), value=self._json(value))
@@ -195,7 +195,7 @@ class Collection:
     def __delitem__(self, at: Any) -> None:
         now = self._now()
         if self._column.shape == "Dict":
-            self._edit("DictErase", at=_dict_key(at))
+            self._edit("DictErase", at=_dict_key(self._column, at))
             return self._to(types.MappingProxyType({it: value for it, value in now.items() if it != at}))
         at = range(len(now))[at]
         self._edit("ListErase", place=at, prior=len(now))

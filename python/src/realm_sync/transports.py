@@ -147,6 +147,9 @@ class HttpTransport:
                 if length >= 0 and found > length:
                     callback()
                 length, wait = max(length, found, 0), 25
+            except urllib.error.HTTPError as why:
+                why.close()
+                self._stopped.wait(30)
             except (OSError, ValueError, Error):
                 self._stopped.wait(30)
 
