@@ -112,15 +112,17 @@ def standing(file):
 
 
 def sync(file, url, token):
-    """Uploads and asks until nothing is unsent and nothing new comes; tells what was refused."""
-    before = None
-    while before != standing(file) or before[2]:
-        before = standing(file)
-        for call in ("send", "ask"):
-            frames = run(call, file)
-            said = run("take", file, post(url, token, frames)).decode() if frames else ""
-            if " refused " in said:
-                return f"stops: {said.split(' ', 1)[1].strip()}"
+    """Asks until nothing new comes, so that a file which was restored from a backup is told before it sends; then uploads and asks until nothing is
+    unsent and nothing new comes. Tells what was refused."""
+    for calls in (["ask"], ["send", "ask"]):
+        before = None
+        while before != standing(file) or (before[2] and "send" in calls):
+            before = standing(file)
+            for call in calls:
+                frames = run(call, file)
+                said = run("take", file, post(url, token, frames)).decode() if frames else ""
+                if " refused " in said:
+                    return f"stops: {said.split(' ', 1)[1].strip()}"
     return f"is up to date with {before[1]} entries"
 
 

@@ -179,10 +179,12 @@ REALM_SYNC_API int realm_turn(realm_node *node, const uint8_t *request, size_t l
     if (!realm_room(&node->reply, &node->reply_room, 64)) return REALM_NO_MEMORY;
     size_t told = realm_node_turn(node->host, request, len, node->reply, node->reply_room);
     if (told > node->reply_room) {
-        if (realm_room(&node->reply, &node->reply_room, told))
+        if (realm_room(&node->reply, &node->reply_room, told)) {
             told = realm_node_turn(node->host, &again, 1, node->reply, node->reply_room);
-        else
-            node->reply[0] = REALM_NO_MEMORY, told = 1;
+        } else {
+            node->reply[0] = REALM_NO_MEMORY;
+            told = 1;
+        }
     }
     int why = realm_settle(node);
     if (why) return realm_fail(node, why);
@@ -673,9 +675,9 @@ REALM_SYNC_API uint8_t realm_stale_by(realm_refused why) {
     }
 }
 
-/* Whether a Download has all that the server had behind the client's cursor. One that was cut has 4,096 entries, or more than 4 MiB, since a
- * changeset has less than 12 MiB of the 16 MiB that there is room for (docs/LIMITS.md, "Sizes"); or its client is of form 1, and an entry of
- * form 2 follows. */
+/* Whether a Download has all that the server had behind the client's cursor. One that was cut has 4,096 entries; or more than 4 MiB, since
+ * there is room for 16 MiB and a changeset has less than 12 MiB (65,536 instructions of at most 67 bytes beside the 4,194,304 that they carry:
+ * docs/FORMATS.md, "Changesets"); or its client is of form 1, and an entry of form 2 follows. */
 REALM_SYNC_API bool realm_is_end(uint8_t question, realm_head head, size_t len, uint32_t cursor) {
     uint32_t from = head.numbers[1], count = head.numbers[2];
     if (question == 0 || question == REALM_PROBE || head.tag != REALM_TAG_DOWNLOAD || (uint64_t)from + count != cursor) return false;

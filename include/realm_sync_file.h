@@ -172,7 +172,7 @@ REALM_SYNC_API int realm_file_sync(realm_file file) { return FlushFileBuffers((H
 
 #else
 
-#ifdef __linux__
+#if defined __linux__ && !defined _POSIX_C_SOURCE
 /* unistd.h hides it where a header of the system was included before this one, and C alone was asked for. */
 int fsync(int file);
 #endif

@@ -37,7 +37,7 @@ fi
 
 out=$(mktemp -d) || exit 1
 trap 'rm -rf "$out"' EXIT
-suites="test_parts test_stores test_attacks test_faults test_service.OfFiles test_service.OfSqlite test_service.OfPostgres test_service.WithoutConfiguration"
+suites="test_parts test_stores test_attacks test_faults test_service.OfFiles test_service.OfSqlite test_service.OfPostgres test_service.Workers test_service.WithoutConfiguration"
 for suite in $suites; do
     { "$python" -W ignore::ResourceWarning -m unittest "$suite" >"$out/$suite" 2>&1; echo $? >"$out/$suite.status"; } &
 done

@@ -135,8 +135,10 @@ c++ -std=c++17 $warnings -I"$top/include" "$out/header.cc" $library -o "$out/hea
 # Two phones, over memory and over files, with sanitizers and under valgrind.
 built two_phones two_phones -O2
 built two_phones two_phones_sanitized $sanitizers
+built two_phones two_phones_other_locks -O2 -DREALM_SYNC_NO_FLOCK
 ran c/two_phones "two_phones in C, over memory" "$out/two_phones"
 ran c/two_phones "two_phones in C, over files" "$out/two_phones" $(files)
+ran c/two_phones "with the locks of systems without flock" "$out/two_phones_other_locks" $(files)
 ran c/two_phones "with AddressSanitizer and UndefinedBehaviorSanitizer" "$out/two_phones_sanitized" $(files)
 if command -v valgrind >/dev/null; then
     ran c/two_phones "under valgrind" valgrind -q --leak-check=full --show-leak-kinds=all --error-exitcode=1 "$out/two_phones" $(files)

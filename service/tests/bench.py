@@ -1,7 +1,7 @@
 #!/usr/bin/python3
 """How many messages a second workers answer that it starts itself, what of the processor that takes, and the same by a bare loop.
 
-usage: bench.py [STORE:WORKERS ..] [--clients N] [--histories N] [--seconds S] [--commits N] [--processes N] [--think S]
+usage: bench.py [STORE:WORKERS ..] [--clients N] [--histories N] [--seconds S] [--commits N] [--processes N] [--think S] [--light]
 
 STORE:WORKERS is files:1, sqlite:1, postgres:1, postgres:2 and so on. bare:1 hands the messages of one client to a node without a service
 and a store, one after the other, as each change of a client sends them: an Upload and two questions. echo:1 is a server over the same
@@ -41,7 +41,7 @@ def bare(seconds):
         while is_new:
             message, before = client.next_message(), client.standing().cursor
             at = time.thread_time()
-            status, reply = node.ask(TAKE + message)
+            status, reply = node.ask_all([TAKE + message])[0]
             node.written()
             node.emptied()
             spent += time.thread_time() - at
@@ -127,12 +127,14 @@ def main():
     words = argparse.ArgumentParser(description=__doc__, formatter_class=argparse.RawDescriptionHelpFormatter)
     words.add_argument("stores", nargs="*", default=["bare:1", "echo:1", "files:1", "sqlite:1", "postgres:1", "postgres:2"])
     words.add_argument("--echo-server", help=argparse.SUPPRESS)
+    words.add_argument("--light", action="store_true", help="clients that only speak: light.py")
     for name, value in (("clients", 200), ("histories", 100), ("seconds", 10), ("commits", 1), ("processes", 2), ("think", 0)):
         words.add_argument(f"--{name}", default=str(value))
     given = words.parse_args()
     if given.echo_server:
         return echo_server(given.echo_server)
     passed = [word for name in ("clients", "histories", "seconds", "commits", "processes", "think") for word in (f"--{name}", getattr(given, name))]
+    passed += ["--light"] if given.light else []
     failed = 0
     for it in given.stores:
         store, _, count = it.partition(":")

@@ -86,10 +86,11 @@ class Faults:
         kinds = self.given.kinds or KINDS[self.given.store]
         for number in range(self.given.rounds):
             kind = kinds[number % len(kinds)]
+            began = time.monotonic()
             getattr(self, kind)(self.drawn.choice(self.workers))
             if load.poll() is not None:
                 raise RuntimeError(f"the load ended in round {number} ({kind})")
-            print(f"round {number + 1}: {kind}", flush=True)
+            print(f"round {number + 1}: {kind}, {time.monotonic() - began:.1f} s", flush=True)
             time.sleep(self.drawn.uniform(0.2, 0.6))
 
     def run(self):

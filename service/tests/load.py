@@ -2,9 +2,9 @@
 """Clients that work, lose their connections, settle, and compare: load for a service at one or several URLs.
 
 usage: load.py BASE[,BASE..] [--clients N] [--histories N] [--seconds S | --until-eof] [--commits N] [--think S] [--processes N]
-               [--patience S] [--secret FILE]
+               [--patience S] [--secret FILE] [--light]
 
-Each client commits (an addition to one counter of all, a text of its own, an element of one list of all), syncs, thinks, and begins again.
+With --light the clients only speak (light.py), and of the end the counter and the entries are checked. Each client commits (an addition to one counter of all, a text of its own, an element of one list of all), syncs, thinks, and begins again.
 In the end each history is checked: every client has all transactions that anybody made, nothing unsent and the exact counter; all dumps are
 equal, and equal to the server's; and its entries have each client's numbers once and in order. Prints what was seen; status 1 where it
 isn't so."""
@@ -99,12 +99,19 @@ class Process:
         await self.all(devices, lambda it: self.work(it, ended), len(devices))
         seconds = time.monotonic() - began
         for _ in range(2):
-            await self.all(devices, lambda it: it.sync())
+            await self.settle(devices)
             await self.told()
         seen = (dict(self.seen.replies), self.seen.gaps, dict(self.seen.counts), seconds)
         self.pipe.send((seen, [self.result(it) for it in devices]))
         for it in devices:
             await it.__aexit__(None, None, None)
+
+    async def settle(self, devices):
+        await self.all(devices, lambda it: it.sync())
+
+    async def think(self):
+        if self.given.think:
+            await asyncio.sleep(random.uniform(0.5, 1.5) * self.given.think)
 
     async def told(self):
         """Tells the parent that this process is ready, and waits for its word."""
@@ -137,7 +144,7 @@ class Process:
     async def work(self, device, ended):
         turn = 0
         while not ended.done():
-            await asyncio.sleep(random.uniform(0.5, 1.5) * self.given.think)
+            await self.think()
             for _ in range(self.given.commits):
                 turn += 1
                 with device.client.transaction() as edits:
@@ -165,7 +172,11 @@ def child(given, numbers, pipe):
         import uvloop
 
         uvloop.install()
-    asyncio.run(Process(given, numbers, pipe).run())
+    if given.light:
+        from light import LightProcess as kind
+    else:
+        kind = Process
+    asyncio.run(kind(given, numbers, pipe).run())
 
 
 class Load:
@@ -218,10 +229,13 @@ def faults_of(history, results, dump, entries):
     """What isn't as it should be in one history."""
     made, length = sum(it["made"] for it in results), sum(it["last"] for it in results)
     bad = []
-    if len({it["dump"] for it in results} | {dump}) != 1:
+    counted = [it["cells"]["count"] for it in dump if it.get("key") == "all"]
+    if counted != [made]:
+        bad.append(f"the server's counter is {counted} in place of {made}")
+    if any(it["dump"] not in (None, digest(dump)) for it in results):
         bad.append("dumps differ")
     for what, want in (("cursor", length), ("unsent", 0), ("count", made)):
-        if any(it[what] != want for it in results):
+        if any(it[what] not in (None, want) for it in results):
             bad.append(f"{what} {sorted({it[what] for it in results})} in place of {want}")
     by_ident = collections.defaultdict(list)
     for it in entries:
@@ -244,7 +258,7 @@ async def compared(given, results):
                 async with session.get(f"{given.bases[-1]}/v1/histories/{history}/{path}", headers=headers) as answer:
                     text = await answer.text()
                     told.append([json.loads(line) for line in text.splitlines()] if answer.status == 200 else [])
-            bad += faults_of(history, its, digest(told[0]), told[1])
+            bad += faults_of(history, its, *told)
     return bad
 
 
@@ -271,6 +285,8 @@ def tell(given, seen, results, bad):
     print(f"    {changes} changes; {', '.join(f'{kind} {count}' for kind, count in sorted(counts.items())) or 'no connection lost'}")
     if bad:
         print(f"    BAD: {len(bad)} faults", *bad[:10], sep="\n        ")
+    elif given.light:
+        print("    the server has all: counters exact, entries once and in order", flush=True)
     else:
         print("    all agree: dumps equal to the server's, counters exact, entries once and in order, nothing unsent", flush=True)
 
@@ -287,6 +303,7 @@ def words():
     it.add_argument("--processes", type=int, default=2)
     it.add_argument("--patience", type=float, default=10)
     it.add_argument("--secret")
+    it.add_argument("--light", action="store_true", help="clients that only speak")
     return it
 
 

@@ -330,13 +330,22 @@ class OfPostgres(Suite, unittest.IsolatedAsyncioTestCase):
         cluster().sql(f"CREATE DATABASE {name}")
         cluster().run("pg_restore", "-d", name, kept)
 
+
+class Workers(unittest.IsolatedAsyncioTestCase):
+    """Two workers over one PostgreSQL."""
+
     async def asyncSetUp(self):
-        await super().asyncSetUp()
-        self.other = Service(self.store, histories={"idle_seconds": 1.0}).start().ready()
+        store = stores("postgres")
+        self.service, self.other = (Service(store, histories={"idle_seconds": 1.0}).start() for _ in range(2))
+        for it in (self.service, self.other):
+            it.ready()
+        self.url = f"{self.service.base}/v1/histories/{HISTORY}"
+        self.session = aiohttp.ClientSession()
 
     async def asyncTearDown(self):
+        await self.session.close()
+        self.service.kill()
         self.other.kill()
-        await super().asyncTearDown()
 
     async def test_any_worker_takes_any_history(self):
         """One worker owns it, the other one passes on sockets, messages, news, objects and entries."""
@@ -384,17 +393,6 @@ class OfPostgres(Suite, unittest.IsolatedAsyncioTestCase):
             phone.note("milk", "buy milk")
             await phone.sync()
             self.assertEqual(self.other.metric("realm_histories_taken_total"), 1)
-
-    def _stop_all(self):
-        self.other.stop()
-
-    async def test_a_backup_is_put_back_and_older_devices_are_refused_by_name(self):
-        self._stop_all()
-        await super().test_a_backup_is_put_back_and_older_devices_are_refused_by_name()
-
-    async def test_a_history_moves_to_another_store_and_back(self):
-        self._stop_all()
-        await super().test_a_history_moves_to_another_store_and_back()
 
 
 class WithoutConfiguration(unittest.TestCase):

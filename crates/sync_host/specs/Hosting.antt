@@ -7,12 +7,13 @@ use Rattle.sync_model.specs.Clients.{ClientRecord, client_of}
 use Rattle.sync_model.specs.Parts.{serve_by}
 use Rattle.sync_model.specs.Servers.{ServerRecord}
 use Rattle.sync_exchange.specs.Profile.{the_profile}
+use Rattle.sync_messages.specs.Reading.{message_in}
 use Rattle.server_memory.specs.Kept.{parts}
 use Rattle.sync_server.specs.Serving.{kept_of}
 use Rattle.sync_host.specs.Objects.{ObjectTold, object_form_of_line}
 use Rattle.sync_host.specs.Places.{place_lines}
 use Rattle.sync_host.specs.Replies.{reply_bytes}
-use Rattle.sync_host.specs.Steps.{Answers, ClientStands, IfTold, SentSo, Serves, ServerStands, Spares, Tells, errand, line_answer, message_read, server_standing, standing_of, take_answer}
+use Rattle.sync_host.specs.Steps.{Answers, ClientStands, IfTold, SentSo, Serves, ServerStands, Spares, Tells, errand, line_answer, message_read, server_standing, standing_of, stored_after, take_answer}
 use Rattle.sync_host.specs.Verbs.{is_call}
 use Rattle.sync_host.specs.declared.hosted.HostedClient.{HostedClient}
 use Rattle.sync_host.specs.declared.hosted.HostedServer.{HostedServer}
@@ -34,6 +35,9 @@ pub record ClientAnswers (verb : Verb) (body : List ℕ) (old : HostedClient) (r
   pub ends_by_take : verb ≡ verbs.Take → (records : List ClientRecord) → ClientStands records old.client → IfTold reply (Spares new.changed.items records (option_map (take_answer records) (message_read body)))
   -- nothing else changes it
   pub unchanged : is_call verb ≡ false → new ≡ old
+  -- up to which number the server said that it has this client's changes: by the last Stored that was taken since the opening
+  pub stored : verb ≡ verbs.Take → new.stored ≡ stored_after reply (message_in body) old.stored
+  pub stored_stays : verb ≡ verbs.Line → new.stored ≡ old.stored
   -- a message to send
   pub sends : (records : List ClientRecord) → ClientStands records old.client → IfSome (errand verb body old.stored (client_of the_profile records)) (λ did. IfTold reply (SentSo did.answer reply))
   -- what is read

@@ -4,10 +4,11 @@ use Rattle.outbox_disk.specs.Outbox.{outbox_bytes}
 use Rattle.sync_host.specs.Nodes.{Answered}
 use Rattle.sync_host.specs.Outboxes.{strokes_in}
 use Rattle.sync_host.specs.Replies.{over, reply_bytes}
-use Rattle.sync_host.specs.Verbs.{Asks, is_new}
+use Rattle.sync_host.specs.Verbs.{Asks, AsksNothingNew, is_new}
 use Rattle.sync_host.specs.declared.host.Host.{Host}
 use Rattle.sync_host.specs.declared.node.Node.{Node}
 use Rattle.sync_host.specs.declared.reply.Reply.{Reply}
+use Rattle.sync_host.specs.declared.reply.Reply.TheVariants as replies
 use Rattle.sync_host.specs.declared.verb.Verb.{Verb}
 
 abbrev pub node_of : Host → Node
@@ -28,6 +29,8 @@ outbox = 87 ∷ []
 pub record Turned (old : Host) (request before : List ℕ) (count : ℕ) (after : List ℕ) (new : Host) : Type 0 where
   -- what it asks for is done, and its reply is kept
   pub answered : (verb : Verb) (body : List ℕ) → Asks verb body request → is_new verb ≡ true → Answered verb body (node_of old) (reply_of new) (node_of new)
+  -- what is no request is told so, and changes nothing
+  pub no_request : AsksNothingNew request → (request ≡ again → ⊥) → (request ≡ outbox → ⊥) → (reply_of new ≡ replies.BadRequest) × (node_of new ≡ node_of old)
   pub same : (request ≡ again) ⊎ (request ≡ outbox) → new ≡ old
   -- the reply that is kept is written over the buffer, as far as there is room, and its whole length is told
   pub told : (request ≡ outbox → ⊥) → count ≡ length (reply_bytes (reply_of new))

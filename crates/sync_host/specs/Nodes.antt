@@ -1,11 +1,11 @@
 -- What a host's place answers, and what stands there afterwards.
-use Rattle.std.specs.Prelude.{◌≡◌, ℕ, List, true}
+use Rattle.std.specs.Prelude.{◌≡◌, ℕ, List, [], true, false}
 use Rattle.sync_client.specs.Files as client_files
 use Rattle.sync_server.specs.Files as server_files
 use Rattle.sync_host.specs.Hosting.{ClientAnswers, ServerAnswers}
 use Rattle.sync_host.specs.Outboxes.{Emptied}
 use Rattle.sync_host.specs.Opening.{ClientOpens, ServerOpens}
-use Rattle.sync_host.specs.Verbs.{is_to_node}
+use Rattle.sync_host.specs.Verbs.{is_new, is_to_node}
 use Rattle.sync_host.specs.declared.hosted.HostedClient.{HostedClient}
 use Rattle.sync_host.specs.declared.hosted.HostedServer.{HostedServer}
 use Rattle.sync_host.specs.declared.node.Node.{Node}
@@ -21,12 +21,18 @@ pub record NodeAnswers (verb : Verb) (body : List ℕ) (old : Node) (reply : Rep
   pub server : (h : HostedServer) → old ≡ nodes.Server h → (h' : HostedServer) × (new ≡ nodes.Server h') × ServerAnswers verb body h reply h'
   pub none : old ≡ nodes.None → (reply ≡ replies.Closed) × (new ≡ nodes.None)
 
--- the client of the records for which the bytes stand
+-- the client of the records for which the bytes stand, of which the server said nothing yet, and nothing has changed
 abbrev pub OpensClient : List ℕ → Node → Type 0
-OpensClient bytes node = (h : HostedClient) × (node ≡ nodes.Client h) × ClientOpens bytes h.client
+OpensClient bytes node = (h : HostedClient) × (node ≡ nodes.Client h) × (h.stored ≡ 0) × (h.changed.items ≡ []) × ClientOpens bytes h.client
 
 abbrev pub OpensServer : List ℕ → Node → Type 0
 OpensServer bytes node = (h : HostedServer) × (node ≡ nodes.Server h) × ServerOpens bytes h.server
+
+-- an outbox can be emptied where a node is open
+abbrev pub emptied_reply : Node → Reply
+emptied_reply nodes.None = replies.Closed
+emptied_reply (nodes.Client h) = replies.Done
+emptied_reply (nodes.Server h) = replies.Done
 
 -- a request goes to the node that is open, or changes which is
 pub record Answered (verb : Verb) (body : List ℕ) (old : Node) (reply : Reply) (new : Node) : Type 0 where
@@ -35,5 +41,7 @@ pub record Answered (verb : Verb) (body : List ℕ) (old : Node) (reply : Reply)
   pub bad_client : verb ≡ verbs.OpenClient → (place : ℕ) → reply ≡ replies.BadFile place → client_files.BadPlace body place
   pub opens_server : verb ≡ verbs.OpenServer → reply ≡ replies.Done → OpensServer body new
   pub bad_server : verb ≡ verbs.OpenServer → (place : ℕ) → reply ≡ replies.BadFile place → server_files.BadPlace body place
-  pub closes : verb ≡ verbs.Close → new ≡ nodes.None
-  pub empties : verb ≡ verbs.Done → Emptied old new
+  pub closes : verb ≡ verbs.Close → (reply ≡ replies.Done) × (new ≡ nodes.None)
+  pub empties : verb ≡ verbs.Done → (reply ≡ emptied_reply old) × Emptied old new
+  -- what asks for the last reply or the outbox with bytes behind it is no request
+  pub no_request : is_new verb ≡ false → (reply ≡ replies.BadRequest) × (new ≡ old)

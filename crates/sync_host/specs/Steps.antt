@@ -77,6 +77,11 @@ abbrev pub stored_in : CodeMessage → Option ℕ
 stored_in (messages.Stored stored) = Some stored.number
 stored_in message = None
 
+-- up to which number the server said that it has this client's changes, where a message was taken that says it
+abbrev pub stored_after : Reply → Option CodeMessage → ℕ → ℕ
+stored_after (replies.Number cursor) (Some (messages.Stored stored)) old = stored.number
+stored_after reply message old = old
+
 abbrev pub take_answer : List ClientRecord → Message → Answer
 take_answer records message = said word (clients.take the_profile (client_of the_profile records) message)
 

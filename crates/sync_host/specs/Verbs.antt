@@ -73,3 +73,7 @@ abbrev pub is_call : Verb → Bool
 is_call verbs.Line = true
 is_call verbs.Take = true
 is_call verb = false
+
+-- it asks for nothing new: for nothing at all, or for the last reply or the outbox
+abbrev pub AsksNothingNew : List ℕ → Type 0
+AsksNothingNew request = (verb : Verb) (body : List ℕ) → Asks verb body request → is_new verb ≡ true → ⊥

@@ -4,7 +4,8 @@ ghost use Rattle.std.specs.Option.{option_map};
 ghost use Rattle.sync_model.specs.Clients as clients;
 ghost use Rattle.sync_exchange.specs.Profile.{the_profile};
 ghost use Rattle.sync_edits.specs.Lines.{node_form_of_line};
-ghost use Rattle.sync_host.specs.Steps.{Answers, ClientStands, IfTold, SentSo, Spares, Tells, errand, line_answer, message_read, number_in, retire_in, stored_in, take_answer};
+ghost use Rattle.sync_messages.specs.Reading.{message_in};
+ghost use Rattle.sync_host.specs.Steps.{Answers, ClientStands, IfTold, SentSo, Spares, Tells, errand, line_answer, message_read, number_in, retire_in, stored_after, stored_in, take_answer};
 
 use crate::answers::{dump, send};
 use crate::object::object;
@@ -63,6 +64,7 @@ impl HostedClient {
     fn line(&mut self, alloc: Global, bytes: &[u8]) -> Reply
         ensures step { (records : List clients.ClientRecord) → ClientStands records self.old.client
             → IfTold result (Answers (option_map (line_answer records) (node_form_of_line bytes.now)) records result self.old.client self.new.client) }
+        ensures stored { self.new.stored ≡ self.old.stored }
         ensures told { (records : List clients.ClientRecord) → IfTold result (Tells self.new.changed.items records (option_map (line_answer records) (node_form_of_line bytes.now))) }
         ensures ends { (records : List clients.ClientRecord) → IfTold result (Spares self.new.changed.items records (option_map (line_answer records) (node_form_of_line bytes.now))) }
     {
@@ -83,6 +85,7 @@ impl HostedClient {
     fn take(&mut self, alloc: Global, bytes: &[u8]) -> Reply
         ensures step { (records : List clients.ClientRecord) → ClientStands records self.old.client
             → IfTold result (Answers (option_map (take_answer records) (message_read bytes.now)) records result self.old.client self.new.client) }
+        ensures stored { self.new.stored ≡ stored_after result (message_in bytes.now) self.old.stored }
         ensures told { (records : List clients.ClientRecord) → IfTold result (Tells self.new.changed.items records (option_map (take_answer records) (message_read bytes.now))) }
         ensures ends { (records : List clients.ClientRecord) → ClientStands records self.old.client → IfTold result (Spares self.new.changed.items records (option_map (take_answer records) (message_read bytes.now))) }
     {

@@ -28,7 +28,7 @@ fn put(place: &mut Node, node: Node)
 }
 
 impl Node {
-    ghost use Rattle.sync_host.specs.Nodes.{Answered, NodeAnswers, OpensClient, OpensServer};
+    ghost use Rattle.sync_host.specs.Nodes.{Answered, NodeAnswers, OpensClient, OpensServer, emptied_reply};
     ghost use Rattle.sync_host.specs.Outboxes.{Emptied, strokes_in};
 
     /// Opens the client of these bytes of a file, in place of what stood there.
@@ -97,7 +97,8 @@ impl Node {
 
     /// Empties the outbox.
     fn empty_outbox(&mut self) -> Reply
-        ensures { Emptied self.old self.new }
+        ensures told { result ≡ emptied_reply self.old }
+        ensures emptied { Emptied self.old self.new }
     {
         match self {
             Node::None => Reply::Closed,

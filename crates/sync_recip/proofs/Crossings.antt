@@ -1,5 +1,5 @@
 -- A stretch of entries, and an action that crosses its lane.
-use Rattle.std.proofs.Common.{◌≡◌, ℕ, zero, suc, ◌+◌, ◌<◌, ◌≤◌, Bool, false, List, [], ◌∷◌, Option, Some, None, Ok, IfSome, refl, sym, ap, ◌∙◌, subst, length, take, drop, get_or, map, arith}
+use Rattle.std.proofs.Common.{◌≡◌, ℕ, zero, suc, ◌+◌, ◌<◌, ◌≤◌, Bool, false, List, [], ◌∷◌, Option, Some, None, Ok, IfSome, refl, sym, ap, ◌∙◌, subst, take, drop, map, arith}
 use Rattle.std.proofs.lemmas.List.{drop-map}
 use Rattle.sync_data.specs.declared.instr.Instr.{Instr}
 use Rattle.sync_data.specs.declared.entry.Stamp.{Stamp}
@@ -22,7 +22,7 @@ use Rattle.list_lane.specs.Laws.{CrossesRight}
 use Rattle.sync_recip.specs.Acrossing.{op_across, put_across, LeavesAction, TakesAcross, CrossesStretch}
 use Rattle.list_lane.specs.Actions.{instrs_left}
 use Rattle.sync_recip.specs.Passing.{passed, CanPass}
-use Rattle.sync_recip.specs.Stretches.{from_place, instrs_in, overlaid, laid, Holds, AllHold, Stands}
+use Rattle.sync_recip.specs.Stretches.{from_place, overlaid, laid, Holds, AllHold, Stands}
 use Rattle.sync_recip.specs.declared.across.Across.{Across}
 use Rattle.sync_recip.specs.declared.items.Passing.{Passing}
 use Rattle.list_lane.specs.declared.op.Op.{Op}
@@ -34,7 +34,7 @@ use Rattle.sync_recip.proofs.Laid.{bare_of, drop_from, laid_bare, length_laid}
 
 -- ---- the lane still tells them
 moved_holds : (cell : Option CellPath) (a : Op) (x : Option ℕ) (u : Kept) → Holds cell (Some a) u → Holds cell (moved a x) u
-moved_holds cell a None u h = record { cell_is = h.cell_is; stamp = tt; kind = tt }
+moved_holds cell a None u h = record { cell_is = tt; stamp = tt; kind = tt }
 moved_holds cell a (Some p) u h = record { cell_is = h.cell_is; stamp = h.stamp; kind = h.kind }
 
 holds_crossed : (cell : Option CellPath) (l : Stamp → Stamp → Bool) (ss : List (Option Op)) (b : Option Op) (us : List Kept) → AllHold cell ss us → AllHold cell (crossed l ss b).slots us
@@ -48,7 +48,7 @@ pub stands_crossed : (us : List Kept) (s : Stretch) (b : Op) → Stands us s →
 stands_crossed us s b st =
     let size = length_crossed (lane_later false) s.lane.slots (Some b) in
     let within = st.within in
-    record { within = omega (arith, size, within); cell = st.cell; held = holds_crossed st.cell (lane_later false) s.lane.slots (Some b) (drop s.start us) st.held }
+    record { within = omega (arith, size, within); held = holds_crossed (first_cell s.sample.changes.instrs) (lane_later false) s.lane.slots (Some b) (drop s.start us) st.held }
 
 -- ---- the lane as crossed shows what they become
 own_action : (s : Stretch) (a : Across) → TakesAcross s a → action (kind_of a.action) (place_in a.action) s.lane.first ≡ a.action
@@ -69,7 +69,7 @@ cross_shown us s a st t chains w =
     let within : Within (kind_of a.action) (place_in a.action) n = subst (Within (kind_of a.action) (place_in a.action)) (sym t.sizes) w in
     let after : LaneOf = lane_after (lane_later false) s.lane (op_across a) in
     laid_crossed s.start (overlaid after.first after.slots) (overlaid n ss) (passed a.stamp a.count (Some a.action)) us
-    (lane_passes st.cell ss a.count n (op_across a) part (sym t.count) st.held chains within ∙ (λ i. passed a.stamp a.count (Some (own_action s a t i)) (map kept_entry (overlaid n ss part))))
+    (lane_passes (first_cell s.sample.changes.instrs) ss a.count n (op_across a) part (sym t.count) st.held chains within ∙ (λ i. passed a.stamp a.count (Some (own_action s a t i)) (map kept_entry (overlaid n ss part))))
     ∙ (λ i. from_place (t.start i) (passed a.stamp a.count (Some a.action)) (map kept_entry (laid s.start s.lane us)))
 
 versions_bare : (us : List Kept) → versions (bare_of us) ≡ versions us
@@ -80,24 +80,17 @@ pub versions_laid : (i : ℕ) (a : LaneOf) (us : List Kept) → versions (laid i
 versions_laid i a us = sym (versions_bare (laid i a us)) ∙ ap versions (laid_bare i a us) ∙ versions_bare us
 
 -- ---- a change crosses it
-pub first_holds : (cell : Option CellPath) (i : ℕ) (ss : List (Option Op)) (us : List Kept) (r : Kept) → 0 < length ss → AllHold cell ss (drop i us) → r ≡ get_or us i r → first_cell (instrs_in r) ≡ cell
-first_holds cell i [] us r m h e = absurd (omega (arith, m))
-first_holds cell zero (s ∷ ss) [] r m h e = absurd h
-first_holds cell zero (s ∷ ss) (u ∷ us) r m h e = ap (λ (w : Kept). first_cell (instrs_in w)) e ∙ h.0.cell_is
-first_holds cell (suc i) (s ∷ ss) [] r m h e = absurd h
-first_holds cell (suc i) (s ∷ ss) (u ∷ us) r m h e = first_holds cell i (s ∷ ss) us r m h e
-
 left_kind : (left : Option ListAction) (a : ListAction) (is : List Instr) → action_in is ≡ Some a → IfSome left (λ b. kind_of b ≡ kind_of a) → IfSome left (λ b. kind_in is ≡ Some (kind_of b))
 left_kind None a is h k = tt
 left_kind (Some b) a is h k = kind_known is a h ∙ ap Some (sym k)
 
-pub crosses_stretch : (from place own : ℕ) (us : List Kept) (s : Stretch) (c : Changes) (p : Passing) (r : Kept)
+pub crosses_stretch : (from place own : ℕ) (us : List Kept) (s : Stretch) (c : Changes) (p : Passing)
     → Stands us s → TakesAcross s p.across → LeavesAction s p.across p.left
     → from ≤ p.across.start → p.across.start ≤ place → place < p.across.start + p.across.count
     → p.across.stamp ≡ record { ms = c.ms; ident = own } → action_in c.instrs ≡ Some p.across.action
-    → r ≡ get_or us s.start r → first_cell (instrs_in r) ≡ first_cell c.instrs
+    → first_cell s.sample.changes.instrs ≡ first_cell c.instrs
     → CrossesStretch from place own (laid s.start s.lane us) c p
-crosses_stretch from place own us s c p r st t leaves reached before behind stamp_is acts here cells =
+crosses_stretch from place own us s c p st t leaves reached before behind stamp_is acts cells =
     let a : Across = p.across in
     let k : ℕ = a.count in
     let n : ℕ = s.lane.first in
@@ -109,9 +102,8 @@ crosses_stretch from place own us s c p r st t leaves reached before behind stam
     let inside = st.within in
     let start = t.start in
     let room = t.room in
-    let more : 0 < length ss = omega (arith, before, behind, size) in
     let known = in_cell c.instrs a.action acts in
-    let cell : st.cell ≡ Some (path_of known.cell) = sym (first_holds st.cell s.start ss us r more st.held here) ∙ cells ∙ known.first in
+    let cell : first_cell s.sample.changes.instrs ≡ Some (path_of known.cell) = cells ∙ known.first in
     let held : AllHold (Some (path_of known.cell)) ss part = subst (λ x. AllHold x ss part) cell st.held in
     let same = own_action s a t in
     let shown : drop a.start (map kept_entry V) ≡ map kept_entry (overlaid n ss part) =

@@ -11,7 +11,7 @@ use Rattle.sync_recip.specs.Lists.{kept_entry, lists_in, versions}
 use Rattle.sync_rivals.specs.Lists.{StandsAt, StaysListed}
 use Rattle.sync_theory.specs.Changesets.{cross_sets}
 use Rattle.sync_law.specs.Instrs.{meet}
-use Rattle.list_places.specs.Moves.{kind_in, kind_of, moved_changes, moved_first}
+use Rattle.list_places.specs.Moves.{first_cell, kind_in, kind_of, moved_changes, moved_first}
 use Rattle.sync_transform.specs.Sets.{made_by}
 use Rattle.list_places.specs.declared.moves.Moves.{Moves}
 use Rattle.sync_recip.specs.Acrossing.{BothMove}
@@ -60,7 +60,7 @@ stands_set None us k v h st = tt
 stands_set (Some s) us k v h st =
     let size = length-set us k v in
     let within = st.within in
-    record { within = omega (arith, size, within); cell = st.cell; held = held_set st.cell s us k v h st.held }
+    record { within = omega (arith, size, within); held = held_set (first_cell s.sample.changes.instrs) s us k v h st.held }
 
 -- ---- one more at the end
 pushed_stands : (s : Stretch) (us vs : List Kept) → Stands us s → Stands (us ++ vs) s
@@ -70,8 +70,7 @@ pushed_stands s us vs st =
     let start : s.start ≤ length us = omega (arith, within) in
     record {
       within = omega (arith, within, size);
-      cell = st.cell;
-      held = subst (AllHold st.cell s.lane.slots) (sym (drop_push s.start us vs start)) (holds_push st.cell s.lane.slots (drop s.start us) vs st.held);
+      held = subst (AllHold (first_cell s.sample.changes.instrs) s.lane.slots) (sym (drop_push s.start us vs start)) (holds_push (first_cell s.sample.changes.instrs) s.lane.slots (drop s.start us) vs st.held);
     }
 
 pub stands_push : (o : Option Stretch) (us vs : List Kept) (u : Kept) → vs ≡ us ++ u ∷ [] → IfSome o (Stands us) → IfSome o (Stands vs)
@@ -80,7 +79,7 @@ stands_push (Some s) us vs u e h = subst (λ l. Stands l s) (sym e) (pushed_stan
 
 pushed_shown : (o : Option Stretch) (us vs : List Kept) → IfSome o (Stands us) → shown_by o (us ++ vs) ≡ shown_by o us ++ vs
 pushed_shown None us vs h = refl
-pushed_shown (Some s) us vs h = let within = h.within in laid_push h.cell s.start s.lane us vs (omega (arith, within)) h.held
+pushed_shown (Some s) us vs h = let within = h.within in laid_push (first_cell s.sample.changes.instrs) s.start s.lane us vs (omega (arith, within)) h.held
 
 pub shown_push : (o : Option Stretch) (us vs : List Kept) (u : Kept) → vs ≡ us ++ u ∷ [] → IfSome o (Stands us) → shown_by o vs ≡ shown_by o us ++ u ∷ []
 shown_push o us vs u e h = ap (shown_by o) e ∙ pushed_shown o us (u ∷ []) h
@@ -118,7 +117,7 @@ pub told_kind : (o : Option Stretch) (us : List Kept) (k : ℕ) (r : Kept) (p : 
 told_kind None us k r p t st e = let bad : ◌≡◌ {A = Option (Option Op × ℕ)} (Some p) None = t in cc
 told_kind (Some s) us k r p t st e =
     let here : r ≡ get_or (drop s.start us) t.0 r = e ∙ ap (λ n. get_or us n r) t.1 ∙ sym (get_or-drop s.start us t.0 r) in
-    subst (λ x. IfSome x (λ a. kind_in (instrs_in r) ≡ Some a.does)) (sym t.3) (holds_at st.cell s.lane.slots (drop s.start us) t.0 r st.held t.2 here).kind
+    subst (λ x. IfSome x (λ a. kind_in (instrs_in r) ≡ Some a.does)) (sym t.3) (holds_at (first_cell s.sample.changes.instrs) s.lane.slots (drop s.start us) t.0 r st.held t.2 here).kind
 
 pub told_out : (o : Option Stretch) (k : ℕ) → IsToldAt k o None → IfSome o (Outside k)
 told_out None k t = tt
@@ -147,7 +146,7 @@ module _ (P : List Instr → Type 0) (cell : Option CellPath) (u r : Kept) (none
 pub shown_case : (P : List Instr → Type 0) (o : Option Stretch) (us : List Kept) (k : ℕ) (u r : Kept) → IfSome o (Stands us) → k < length us → u ≡ get_or (shown_by o us) k u → r ≡ get_or us k r
     → P [] → P (instrs_in r) → ((a : ListAction) → kind_in (instrs_in r) ≡ Some (kind_of a) → P (moved_first a (instrs_in r))) → P (instrs_in u)
 shown_case P None us k u r st l at e none same elsewhere = subst (λ (w : Kept). P (instrs_in w)) (sym (at ∙ get_or_default us k u r l ∙ sym e)) same
-shown_case P (Some s) us k u r st l at e none same elsewhere = laid_case P st.cell u r none same elsewhere s.start s.lane.first s.lane.slots k us st.held l at e
+shown_case P (Some s) us k u r st l at e none same elsewhere = laid_case P (first_cell s.sample.changes.instrs) u r none same elsewhere s.start s.lane.first s.lane.slots k us st.held l at e
 
 -- ---- the index
 stands_listed : (us : List Kept) (k : ℕ) (l : List Instr) (r : Kept) → StandsAt k l (currents us) → r ≡ get_or us k r → StaysListed (instrs_in r) l

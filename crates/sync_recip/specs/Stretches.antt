@@ -1,13 +1,13 @@
 -- A stretch of entries, whose one list instruction each stands as a lane tells it.
-use Rattle.std.specs.Prelude.{◌≡◌, ◌<◌, ◌≤◌, ◌+◌, ◌⊎◌, ℕ, zero, suc, List, [], ◌∷◌, Option, None, Some, IfSome, drop, length, slice_index_or}
+use Rattle.std.specs.Prelude.{◌≡◌, ◌<◌, ◌≤◌, ◌+◌, ◌⊎◌, ℕ, zero, suc, List, [], ◌∷◌, ◌++◌, Option, None, Some, IfSome, drop, length, slice_index_or}
 use Rattle.sync_data.specs.declared.instr.Instr.{Instr}
 use Rattle.sync_data.specs.declared.entry.Entry.{Entry}
 use Rattle.sync_data.specs.declared.entry.Stamp.{Stamp}
 use Rattle.sync_base.specs.Effects.{CellPath}
-use Rattle.list_places.specs.Places.{Within}
-use Rattle.list_places.specs.Moves.{action_in, kind_in, first_cell}
-use Rattle.list_lane.specs.Lanes.{LaneOf, length_after, length_before, slot_at}
-use Rattle.list_lane.specs.Told.{action, told}
+use Rattle.sync_base.specs.Rules.{top}
+use Rattle.list_places.specs.Moves.{kind_in, first_cell}
+use Rattle.list_lane.specs.Lanes.{LaneOf, length_after, length_at_end, length_before, slot_at, Fits}
+use Rattle.list_lane.specs.Told.{told}
 use Rattle.list_lane.specs.declared.op.Op.{Op}
 use Rattle.sync_recip.specs.declared.kept.Kept.{Kept}
 use Rattle.sync_recip.specs.declared.stretch.Stretch.{Stretch}
@@ -52,7 +52,7 @@ stamp_in k = record { ms = k.item.changes.ms; ident = k.item.origin }
 
 -- an entry's instruction as it was kept is of this cell, and does what the slot tells at whatever place
 pub record Holds (cell : Option CellPath) (s : Option Op) (k : Kept) : Type 0 where
-  pub cell_is : first_cell (instrs_in k) ≡ cell
+  pub cell_is : IfSome s (λ a. first_cell (instrs_in k) ≡ cell)
   pub stamp : IfSome s (λ a. a.stamp ≡ stamp_in k)
   pub kind : IfSome s (λ a. kind_in (instrs_in k) ≡ Some a.does)
 
@@ -64,8 +64,7 @@ AllHold cell (s ∷ ss) (k ∷ ks) = Holds cell s k × AllHold cell ss ks
 
 pub record Stands (ks : List Kept) (s : Stretch) : Type 0 where
   pub within : s.start + length s.lane.slots ≤ length ks
-  pub cell : Option CellPath
-  pub held : AllHold cell s.lane.slots (drop s.start ks)
+  pub held : AllHold (first_cell s.sample.changes.instrs) s.lane.slots (drop s.start ks)
 
 -- a place lies outside of it
 abbrev pub Outside : ℕ → Stretch → Type 0
@@ -84,9 +83,23 @@ IsToldAt n (Some s) o = IsSlotAt n s o
 abbrev pub IsAt : ℕ → List Kept → Kept → Type 0
 IsAt n ks k = k ≡ slice_index_or ks n k
 
--- what an entry is in a lane, where it is one list instruction that acts on a list of that length
-pub record IsOpOn (n : ℕ) (e : Entry) (b : Op) : Type 0 where
-  pub acts : action_in e.changes.instrs ≡ Some (action b.does b.place n)
-  pub kind : kind_in e.changes.instrs ≡ Some b.does
-  pub stamp : b.stamp ≡ record { ms = e.changes.ms; ident = e.origin }
-  pub within : Within b.does b.place n
+-- ---- how a stretch grows
+-- an entry is so in a lane of that cell, where it acts on a list of that length
+pub record IsSlotOf (e : Entry) (cell : Option CellPath) (n : ℕ) (s : Option Op) : Type 0 where
+  pub told : told n s e.changes.instrs ≡ e.changes.instrs
+  pub cell_is : IfSome s (λ a. first_cell e.changes.instrs ≡ cell)
+  pub stamp : IfSome s (λ a. a.stamp ≡ record { ms = e.changes.ms; ident = e.origin })
+  pub kind : IfSome s (λ a. kind_in e.changes.instrs ≡ Some a.does)
+  pub fits : Fits n s
+
+-- a lane with one slot more
+abbrev pub lane_with : Option Op → LaneOf → LaneOf
+lane_with s a = record { first = a.first; slots = a.slots ++ s ∷ [] }
+
+-- the entry behind a stretch can follow on in its lane
+pub record Follows (ks : List Kept) (s : Stretch) (slot : Option Op) : Type 0 where
+  pub next : Kept
+  pub at : IsAt (s.start + length s.lane.slots) ks next
+  pub within : s.start + length s.lane.slots < length ks
+  pub is_slot : IsSlotOf next.item (first_cell s.sample.changes.instrs) (length_at_end s.lane.first s.lane.slots) slot
+  pub room : s.lane.first + length s.lane.slots + 1 < top

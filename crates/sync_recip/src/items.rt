@@ -18,7 +18,7 @@ use super::stretch::{
     Stretch, cross_at_once, cross_each, extend_last, first_stretch, left_by, takes, told_at,
     write_around, write_before, write_whole,
 };
-use list_places::{ListAction, Moves};
+use list_places::{ListAction, Moves, same_first_cell};
 use std::alloc::Global;
 use std::marker::Model;
 use sync_base::{Changeset, Entry, Ident, Instr, NoMemory, Stamp};
@@ -244,11 +244,8 @@ impl Items {
         if from > across.start || place < across.start || place - across.start >= across.count {
             return None;
         }
-        if !takes(stretch, &across) {
-            return None;
-        }
-        let one = &self.kept[across.start];
-        if !one.item.is_in_cell_of(changes.written()) {
+        let sample = stretch.sample.entry();
+        if !takes(stretch, &across) || !same_first_cell(&sample.changes, changes.written()) {
             return None;
         }
         let left = left_by(stretch, &across);

@@ -14,7 +14,7 @@ ghost use Rattle.sync_recip.specs.Lists.{entry_of};
 ghost use Rattle.sync_recip.specs.Carrying.{became_of, moved_entry, Suits};
 ghost use Rattle.list_lane.specs.Actions.{own_left, other_left};
 ghost use Rattle.sync_recip.specs.Passing.{change_later, Meets};
-ghost use Rattle.sync_recip.specs.Stretches.{holding, IsOpOn};
+ghost use Rattle.sync_recip.specs.Stretches.{holding, IsSlotOf};
 
 use super::carried::Became;
 use super::shared::SharedEntry;
@@ -114,23 +114,43 @@ impl ShiftedEntry {
         same_first_cell(changes, &self.shared.entry().changes)
     }
 
-    /// Whether it and another are known to be of one cell.
-    pub(crate) fn is_in_cell_with(&self, other: &ShiftedEntry) -> bool
-        ensures { IsTrue result → first_cell self.now.changes.instrs ≡ first_cell other.now.changes.instrs }
+    /// What it holds with others, by which the cell of a lane that it is in is known.
+    pub(crate) fn sample(&self) -> Result<SharedEntry, NoMemory>
+        ensures { IfOk result (λ sample. StaysListed sample.changes.instrs self.now.changes.instrs) }
     {
-        if other.fell {
-            return false;
-        }
-        self.is_in_cell_of(&other.shared.entry().changes)
+        self.shared.share()
     }
 
-    /// What it is in a lane, where it is one list instruction that acts on a list of that length.
-    pub(crate) fn op_on(&self, length: u32) -> Option<Op>
-        ensures { IfSome result (IsOpOn length self.now) }
+    /// Whether nothing of its changes is left.
+    fn is_nothing(&self) -> bool
+        ensures { IsTrue result → self.now.changes.instrs ≡ [] }
+    {
+        if self.fell {
+            return true;
+        }
+        self.shared.entry().changes.instrs().is_empty()
+    }
+
+    /// What it is in a lane, where it is one list instruction of the cell of a changeset, and acts on a list of that length, or
+    /// where nothing of it is left.
+    pub(crate) fn slot_in(&self, cell: &Changeset, length: u32) -> Option<Option<Op>>
+        ensures { IfSome result (IsSlotOf self.now (first_cell cell.now.instrs) length) }
+    {
+        if self.is_nothing() {
+            return Some(None);
+        }
+        match self.op_in(cell, length) {
+            None => None,
+            slot => Some(slot),
+        }
+    }
+
+    fn op_in(&self, cell: &Changeset, length: u32) -> Option<Op>
+        ensures { IfSome result (λ op. IsSlotOf self.now (first_cell cell.now.instrs) length (Some op)) }
     {
         let action = self.action()?;
         let (does, place, prior) = parts_of(&action);
-        if prior != length {
+        if prior != length || !self.is_in_cell_of(cell) {
             return None;
         }
         let stamp = self.stamp();

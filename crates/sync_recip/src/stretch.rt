@@ -1,28 +1,29 @@
-ghost use Rattle.std.specs.Prelude.{◌≡◌, ◌<◌, ◌+◌, None, Some, IfSome, IsFalse, IsTrue, OnOk, OnErr, false, drop, length, map};
+ghost use Rattle.std.specs.Prelude.{◌≡◌, ◌<◌, ◌+◌, None, Some, IfSome, IsFalse, IsTrue, OnOk, OnErr, false, length, map};
 ghost use Rattle.sync_base.specs.Rules.{top};
 ghost use Rattle.list_places.specs.Places.{Within};
 ghost use Rattle.list_places.specs.Moves.{kind_of};
-ghost use Rattle.list_lane.specs.Lanes.{lane_after, Chains, Fits};
+ghost use Rattle.list_lane.specs.Lanes.{lane_after, length_at_end, Chains, Fits};
 ghost use Rattle.list_lane.specs.Ops.{lane_later};
 ghost use Rattle.list_lane.specs.Told.{place_in, prior_in};
 ghost use Rattle.sync_recip.specs.Acrossing.{op_across, put_across, CanCross, CrossedAt, LeavesAction, TakesAcross};
 ghost use Rattle.sync_recip.specs.Lists.{kept_entry, versions};
-ghost use Rattle.sync_recip.specs.Stretches.{laid, shown_by, Stands, Outside, IsSlotAt, IsToldAt};
+ghost use Rattle.sync_recip.specs.Stretches.{laid, lane_with, shown_by, Follows, Stands, Outside, IsSlotAt, IsToldAt};
 
 use super::across::Across;
 use super::kept::Kept;
-use super::shifted::ShiftedEntry;
+use super::shared::SharedEntry;
 use list_lane::{Op, action_of, op_of, prior_of};
 use list_places::ListAction;
 use list_regions::Regions;
 use std::alloc::Global;
 use sync_base::NoMemory;
 
-/// Entries next to each other, each of one list instruction of one cell, or of none any more: the place of the first, and what
-/// the instructions do now, as a lane in regions.
+/// Entries next to each other, each of one list instruction of one cell, or of none any more: the place of the first, an entry of
+/// that cell, and what the instructions do now, as a lane in regions.
 #[derive(Drop)]
 pub(crate) struct Stretch {
     pub(crate) start: usize,
+    pub(crate) sample: SharedEntry,
     pub(crate) lane: Regions,
 }
 
@@ -74,33 +75,44 @@ fn cross_lane(stretch: &mut Stretch, across: &Across) -> Result<(), NoMemory>
     Ok(())
 }
 
-/// The entry behind a stretch joins it, where it is one list instruction of that cell, and acts on the list behind the lane.
-/// Whether it did. It doesn't where memory runs out.
+/// What the entry behind a stretch is in its lane, where it can follow on in that.
+fn next_slot(kept: &[Kept], stretch: &Stretch) -> Option<Option<Op>>
+    requires { Stands kept.now stretch.now }
+    ensures { IfSome result (Follows kept.now stretch.now) }
+{
+    let count = stretch.lane.len();
+    let place = stretch.start + count;
+    if place >= kept.len() || !has_room(stretch.lane.first(), count) {
+        return None;
+    }
+    let next = &kept[place];
+    let sample = stretch.sample.entry();
+    next.item.slot_in(&sample.changes, stretch.lane.last())
+}
+
+fn push_slot(lane: &mut Regions, slot: Option<Op>) -> Result<(), NoMemory>
+    requires fits { Fits (length_at_end lane.old.first lane.old.slots) slot }
+    requires room { lane.old.first + length lane.old.slots + 1 < top }
+    ensures ok { OnOk result (lane.new ≡ lane_with slot lane.old) }
+    ensures unchanged { OnErr result (lane.new ≡ lane.old) }
+{
+    match slot {
+        Some(op) => lane.push(op),
+        None => lane.push_empty(),
+    }
+}
+
+/// The entry behind a stretch joins it, where it can follow on in its lane. Whether it does.
 fn extend(kept: &[Kept], stretch: &mut Stretch) -> bool
     requires { Stands kept.now stretch.old }
     ensures shown { laid stretch.new.start stretch.new.lane kept.now ≡ laid stretch.old.start stretch.old.lane kept.now }
     ensures stands { Stands kept.now stretch.new }
     ensures start { stretch.new.start ≡ stretch.old.start }
+    ensures more { IsTrue result → length stretch.new.lane.slots ≡ length stretch.old.lane.slots + 1 }
 {
-    let (start, count) = (stretch.start, stretch.lane.len());
-    let end = start + count;
-    if end >= kept.len() {
-        return false;
-    }
-    let first = &kept[start];
-    let next = &kept[end];
-    if !first.item.is_in_cell_with(&next.item) {
-        return false;
-    }
-    let Some(op) = next.item.op_on(stretch.lane.last()) else {
-        return false;
-    };
-    if !has_room(stretch.lane.first(), count) {
-        return false;
-    }
-    match stretch.lane.push(op) {
-        Ok(()) => true,
-        Err(NoMemory) => false,
+    match next_slot(kept, stretch) {
+        Some(slot) => push_slot(&mut stretch.lane, slot).is_ok(),
+        None => false,
     }
 }
 
@@ -117,32 +129,28 @@ pub(crate) fn extend_last(kept: &[Kept], stretch: &mut Option<Stretch>)
     }
 }
 
-/// The length of the list on which an entry acts, where it is one list instruction.
-fn length_before(item: &ShiftedEntry) -> u32
-    ensures { result < top }
-{
-    match item.action() {
-        Some(action) => prior_of(action).min(u32::MAX - 1),
-        None => 0,
-    }
-}
-
-/// The longest stretch from a place on.
-fn stretch_from(alloc: Global, kept: &[Kept], start: usize) -> Stretch
+/// The longest stretch of entries that begins with the one at a place, or a shorter one where memory runs out; none where that
+/// one isn't one list instruction.
+fn stretch_from(alloc: Global, kept: &[Kept], start: usize) -> Option<Stretch>
     requires { start < length kept.now }
-    ensures shown { laid result.start result.lane kept.now ≡ kept.now }
-    ensures stands { Stands kept.now result }
-    ensures start { result.start ≡ start }
+    ensures shown { IfSome result (λ s. laid s.start s.lane kept.now ≡ kept.now) }
+    ensures stands { IfSome result (Stands kept.now) }
 {
     let one = &kept[start];
-    let lane = Regions::new(alloc, length_before(&one.item));
-    let mut stretch = Stretch { start, lane };
-    for _ in start..kept.len() {
-        if !extend(kept, &mut stretch) {
-            break;
-        }
+    let first = prior_of(one.item.action()?);
+    if first == u32::MAX {
+        return None;
     }
-    stretch
+    let Ok(sample) = one.item.sample() else {
+        return None;
+    };
+    let mut stretch = Stretch {
+        start,
+        sample,
+        lane: Regions::new(alloc, first),
+    };
+    while extend(kept, &mut stretch) {}
+    Some(stretch)
 }
 
 /// The first stretch from a place on that has so many entries.
@@ -157,12 +165,14 @@ pub(crate) fn first_stretch(
 {
     let mut start = from;
     while start < kept.len() {
-        let stretch = stretch_from(alloc, kept, start);
-        let count = stretch.lane.len();
-        if count >= least {
-            return Some(stretch);
+        let mut count = 1;
+        if let Some(stretch) = stretch_from(alloc, kept, start) {
+            count = stretch.lane.len().max(1);
+            if count >= least {
+                return Some(stretch);
+            }
         }
-        start += count.max(1);
+        start = start.saturating_add(count);
     }
     None
 }

@@ -167,11 +167,12 @@ class History:
         if not admitted:
             return
         requests = [work.request or b"" if work.caller is None else TAKE + (work.request or b"") for work in admitted]
-        with metrics.TURNS.time():
-            if all(self._is_light(work) for work in admitted):
-                replies, written, length = self._turns(requests)
-            else:
-                replies, written, length = await self.histories.work(self._turns, requests)
+        began = time.perf_counter()
+        if all(self._is_light(work) for work in admitted):
+            replies, written, length = self._turns(requests)
+        else:
+            replies, written, length = await self.histories.work(self._turns, requests)
+        metrics.TURNS.observe(time.perf_counter() - began)
         await self._store(written, list(claims.items()), length)
         self._reply(admitted, replies)
 
@@ -214,8 +215,9 @@ class History:
         if not written.tail and not claims:
             await self.histories.store.check(self.lease)
             return
-        with metrics.STORING.time():
-            await self.histories.store.append(self.lease, written.gate, written.tail, claims)
+        began = time.perf_counter()
+        await self.histories.store.append(self.lease, written.gate, written.tail, claims)
+        metrics.STORING.observe(time.perf_counter() - began)
         metrics.STORED_BYTES.inc(len(written.tail))
         self.node.emptied()
         self.sizes.grew(length, len(written.tail))
@@ -229,7 +231,7 @@ class History:
                 self.devices.named(told)
             if tag == UPLOAD:
                 uploaders.add(work.listener)
-            metrics.MESSAGES.labels(NAMES[tag] if tag else "read").inc()
+            metrics.ANSWERED[NAMES[tag] if tag else "read"].inc()
             if work.future.done():
                 continue
             if tag is None:

@@ -5,6 +5,7 @@ from prometheus_client import Counter, Gauge, Histogram
 _BOUNDS = (0.0005, 0.001, 0.002, 0.005, 0.01, 0.02, 0.05, 0.1, 0.2, 0.5, 1, 2, 5, 10, 30)
 
 MESSAGES = Counter("realm_messages", "Messages that a node answered", ["kind"])
+ANSWERED = {kind: MESSAGES.labels(kind) for kind in ("bind", "upload", "ask", "retire", "read")}
 DECLINED = Counter("realm_messages_declined", "Messages that weren't handed to a node", ["why"])
 REFUSED = Counter("realm_requests_refused", "Requests and sockets that ended with a refusal", ["status"])
 ENTRIES = Counter("realm_entries", "Entries that came to histories")

@@ -1,14 +1,15 @@
 """A server node of the C library: requests in, replies and what is to be stored out. docs/FORMATS.md, "Requests of a host"."""
 
-import contextlib
 import ctypes
 import functools
+import threading
 import typing
-from collections.abc import Iterator, Sequence
+from collections.abc import Sequence
 
 from .library import Buffer, Library
 
 DONE, BAD_REQUEST, ABSENT, CLOSED, BAD_FILE, NO_MEMORY = 0, 2, 3, 5, 6, 7
+KEPT_ROOM = 1 << 18  # bytes of a buffer that is kept
 OPEN_SERVER, TAKE, STANDING, EMPTIED, DUMP, OBJECT = b"s", b"T", b"I", b"V", b"D", b"O"
 
 
@@ -37,12 +38,29 @@ def library() -> Library:
     return Library()
 
 
+class _Scratch(threading.local):
+    """The buffers of a thread's calls: what they hold is copied out at once."""
+
+    def __init__(self) -> None:
+        self.replies, self.outbox, self.tail = Buffer(), Buffer(), Buffer()
+
+    def give_back(self) -> None:
+        """A large one isn't kept."""
+        for buffer in (self.replies, self.outbox, self.tail):
+            if buffer.room > KEPT_ROOM:
+                library().free_buffer(ctypes.byref(buffer))
+
+
+_scratch = _Scratch()
+
+
 class Node:
     """One node. One thread calls it at a time."""
 
     def __init__(self) -> None:
         self._library = library()
         self._at: ctypes.c_void_p | None = ctypes.c_void_p()
+        self._is_emptied = False  # which the node is told with the next requests
         if not self._library.new(ctypes.byref(self._at)):
             raise NodeFailed("no memory")
 
@@ -53,7 +71,7 @@ class Node:
 
     def open(self, journal: bytes) -> None:
         """Opens the server of a journal; b"" for a new one."""
-        status, told = self.ask(OPEN_SERVER + journal)
+        status, told = self.ask_all([OPEN_SERVER + journal])[0]
         if status == BAD_FILE:
             raise Damaged(f"no journal of a server, from byte {int.from_bytes(told, 'little')} on")
         if status != DONE:
@@ -61,36 +79,30 @@ class Node:
 
     def ask_all(self, requests: Sequence[bytes]) -> list[Reply]:
         """Hands requests over, one after the other."""
-        packed = b"".join(part for request in requests for part in (len(request).to_bytes(4, "little"), request))
-        with self._buffer() as replies:
-            answered = self._library.turns(self._library.turn, self._at, packed, len(packed), ctypes.byref(replies))
-            told = replies.content()
-        if answered < len(requests):
+        first, self._is_emptied = int(self._is_emptied), False
+        given = [EMPTIED, *requests] if first else requests
+        packed = b"".join([part for request in given for part in (len(request).to_bytes(4, "little"), request)])
+        replies = _scratch.replies
+        answered = self._library.turns(self._library.turn, self._at, packed, len(packed), ctypes.byref(replies))
+        told = replies.content()
+        _scratch.give_back()
+        if answered < len(given):
             raise NodeFailed("the node closed, or memory ran out")
-        return _unpacked(told)
-
-    def ask(self, request: bytes) -> Reply:
-        return self.ask_all([request])[0]
+        return _unpacked(told)[first:]
 
     def written(self) -> Written:
         gate = ctypes.c_uint64()
-        with self._buffer() as outbox, self._buffer() as tail:
-            given = ctypes.byref(outbox), ctypes.byref(tail), ctypes.byref(gate)
-            if not self._library.gather(self._library.turn, self._at, *given):
-                raise NodeFailed("no appends, or no memory")
-            return Written(gate.value, tail.content())
+        outbox, tail = _scratch.outbox, _scratch.tail
+        is_known = self._library.gather(self._library.turn, self._at, ctypes.byref(outbox), ctypes.byref(tail), ctypes.byref(gate))
+        written = Written(gate.value, tail.content())
+        _scratch.give_back()
+        if not is_known:
+            raise NodeFailed("no appends, or no memory")
+        return written
 
     def emptied(self) -> None:
-        """All that was written is stored."""
-        self.ask(EMPTIED)
-
-    @contextlib.contextmanager
-    def _buffer(self) -> Iterator[Buffer]:
-        buffer = Buffer()
-        try:
-            yield buffer
-        finally:
-            self._library.free_buffer(ctypes.byref(buffer))
+        """All that was written is stored. Until then `written` tells it again."""
+        self._is_emptied = True
 
 
 def length_of(standing: Reply) -> int:

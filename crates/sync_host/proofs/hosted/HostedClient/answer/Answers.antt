@@ -15,6 +15,8 @@ returns-in-Line c = let call : is_call c.args.verb ≡ true = ap is_call c.in-Li
   ends_by_line = λ is records stands. c.line.ensures.ends records;
   ends_by_take = λ is. absurd (cc);
   unchanged = λ is. absurd (cc);
+  stored = λ is. absurd (cc);
+  stored_stays = λ is. c.line.ensures.stored;
   sends = λ records is. subst (λ (verb : Verb). IfSome (errand verb c.args.body.now c.args.self.now.stored (client_of the_profile records)) (λ did. IfTold c.line.result (SentSo did.answer c.line.result))) (sym c.in-Line.is) tt;
   dumps = λ is. absurd (cc);
   changes = λ is. absurd (cc);
@@ -31,6 +33,8 @@ returns-in-Take c = let call : is_call c.args.verb ≡ true = ap is_call c.in-Ta
   ends_by_line = λ is. absurd (cc);
   ends_by_take = λ is. c.take.ensures.ends;
   unchanged = λ is. absurd (cc);
+  stored = λ is. c.take.ensures.stored;
+  stored_stays = λ is. absurd (cc);
   sends = λ records is. subst (λ (verb : Verb). IfSome (errand verb c.args.body.now c.args.self.now.stored (client_of the_profile records)) (λ did. IfTold c.take.result (SentSo did.answer c.take.result))) (sym c.in-Take.is) tt;
   dumps = λ is. absurd (cc);
   changes = λ is. absurd (cc);

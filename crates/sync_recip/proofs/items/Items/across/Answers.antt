@@ -1,4 +1,5 @@
 use Rattle.std.proofs.Common.{◌≡◌, ◌≤◌, ◌<◌, ◌+◌, ◌∙◌, Option, IfSome, refl, sym, ap, subst, arith}
+use Rattle.sync_data.specs.declared.entry.Entry.{Entry}
 use Rattle.list_places.specs.Moves.{first_cell}
 use Rattle.list_places.proofs.Stands.{shown_cell}
 use Rattle.sync_recip.specs.Acrossing.{CrossesStretch}
@@ -22,7 +23,7 @@ returns c =
     let reached : c.args.from ≤ s.start = omega (arith, c.if-from-across.false) in
     let before : s.start ≤ c.args.place = omega (arith, c.if-place-across.false) in
     let behind : c.args.place < s.start + c.len.result = omega (arith, c.if-place-across.false, c.if-place-across-2.false) in
-    let cells = sym (c.if-not-is_in_cell_of.ensures refl) ∙ sym (shown_cell c.written.ensures.action c.written.result.now.instrs) ∙ ap first_cell c.written.ensures.stands in
+    let cells = ap (λ (e : Entry). first_cell e.changes.instrs) (sym c.entry-sample.ensures) ∙ c.if-not-same_first_cell.ensures refl ∙ sym (shown_cell c.written.ensures.action c.written.result.now.instrs) ∙ ap first_cell c.written.ensures.stands in
     subst (λ l. CrossesStretch c.args.from c.args.place c.args.own l c.args.changes.now p) shown
-    (crosses_stretch c.args.from c.args.place c.args.own us s c.args.changes.now p c.index-one.result.now st (c.if-not-takes.ensures.takes refl) c.left_by-left.ensures
-    reached before behind (λ i. record { ms = c.ms.ensures i; ident = c.args.own }) (sym c.in_ok-action.ensures) c.index-one.ensures cells)
+    (crosses_stretch c.args.from c.args.place c.args.own us s c.args.changes.now p st (c.if-not-takes.ensures.takes refl) c.left_by-left.ensures
+    reached before behind (λ i. record { ms = c.ms.ensures i; ident = c.args.own }) (sym c.in_ok-action.ensures) cells)
