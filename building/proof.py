@@ -118,11 +118,11 @@ def compiled(name, main, kind, saved, log):
     with proved([name], log) as room:
         toolchain = keeping(f"{room}/toolchain", kit, "clang", KEEPS_MODULE, f"{room}/module.bc")
         words = [*build_words(kit, crates, room, name, main, f"{room}/made"), *kind, "--toolchain", toolchain]
-        words_of_run = {"cwd": f"{room}/crates/{name}", "stdin": subprocess.DEVNULL, "capture_output": True, "text": True}
-        ran = subprocess.run(words, **words_of_run)
+        how = {"cwd": f"{room}/crates/{name}", "stdin": subprocess.DEVNULL, "stdout": subprocess.PIPE, "stderr": subprocess.STDOUT, "text": True}
+        ran = subprocess.run(words, **how)
         verdict = next((it for it in reversed(ran.stdout.splitlines()) if it.startswith("logic=proved ")), None)
         if ran.returncode or not verdict:
-            stop(f"{name} was not built:\n{(ran.stdout + ran.stderr)[-2000:]}")
+            stop(f"{name} was not built:\n{ran.stdout[-2000:]}")
         for part, out in saved.items():
             put(f"{room}/{part}", out)
     return verdict
