@@ -7,6 +7,7 @@ pub mod Downloads
 pub mod Growing
 pub mod Servers
 pub mod Histories
+pub mod Starting
 pub mod Pair
 pub mod Passing
 pub mod Arriving
