@@ -1,5 +1,5 @@
 -- A client's file that begins with the objects of a server, in whatever form.
-use Rattle.std.proofs.Common.{◌≡◌, ℕ, Bool, List, [], Some, None, refl, sym, ap, ◌∙◌, subst, arith, length}
+use Rattle.std.proofs.Common.{◌≡◌, Bool, List, [], Some, refl, sym, ap, ◌∙◌, subst, arith, length}
 use Rattle.sync_theory.specs.Changesets.{Changeset}
 use Rattle.sync_theory.specs.Lists.{run}
 use Rattle.sync_theory.specs.Logs.{Nodes}

@@ -1,7 +1,5 @@
 -- Two files that pass the test by marks go together, also where the client's began with a state.
-use Rattle.std.proofs.Common.{◌≡◌, ◌≢◌, ◌⊎◌, inl, inr, ⊎_elim, ℕ, zero, suc, ◌+◌, List, [], ◌∷◌, ◌++◌, Option, Some, refl, sym, ap, ◌∙◌, subst, arith, append_assoc, append-nil, length, length-append}
-use Rattle.sync_theory.specs.Changesets.{Changeset}
-use Rattle.sync_theory.specs.Logs.{Entry as LogEntry}
+use Rattle.std.proofs.Common.{◌≡◌, inr, ⊎_elim, ℕ, suc, ◌+◌, List, [], ◌∷◌, ◌++◌, Some, sym, ap, ◌∙◌, arith, append_assoc, append-nil, length, length-append}
 use Rattle.sync_theory.proofs.World.{same_or_not}
 use Rattle.sync_model.specs.Bytes.{Uuid}
 use Rattle.sync_model.specs.Profile.{Profile, Lawful}
@@ -14,7 +12,7 @@ use Rattle.sync_model.proofs.Lists.{place_old}
 use Rattle.lives_law.specs.Lives.{Written, Files, Reached, Mark, up_to}
 use Rattle.lives_law.specs.Instances.{plain, is_entry, log_of}
 use Rattle.lives_law.specs.Pair.{IsEntry, Begun, Fit, ident_at}
-use Rattle.lives_law.specs.Starts.{BeganWith, StartPasses}
+use Rattle.lives_law.specs.Starts.{StartPasses}
 use Rattle.lives_law.proofs.Instances.{plain_on, all_on, server_tells}
 use Rattle.lives_law.proofs.Lives.{tally_on, tally_one, marks_tell_all}
 use Rattle.lives_law.proofs.Growing.{server_grows}

@@ -1,22 +1,21 @@
 -- A server that gave up its history before a floor, beside a client's file that goes together with the whole one.
-use Rattle.std.proofs.Common.{◌≡◌, ◌≢◌, ◌⊎◌, inl, inr, ⊎_elim, ℕ, zero, suc, ◌+◌, ◌<◌, ◌≤◌, Bool, true, false, not, List, [], ◌∷◌, ◌++◌, Option, Some, None, Result, Err, refl, sym, ap, ◌∙◌, subst, arith, length, map, if◌then◌else◌}
+use Rattle.std.proofs.Common.{◌≡◌, ◌≢◌, ◌⊎◌, inl, inr, ⊎_elim, ℕ, zero, suc, ◌+◌, ◌<◌, ◌≤◌, Bool, true, false, not, List, [], ◌∷◌, ◌++◌, Option, Some, None, refl, sym, ap, ◌∙◌, subst, arith, length, map, if◌then◌else◌}
 use Rattle.std.specs.Prelude.{nat_le}
 use Rattle.std.proofs.lemmas.Bool.{leb-true}
 use Rattle.sync_theory.specs.Changesets.{Changeset}
-use Rattle.sync_theory.specs.Logs.{Made as LogMade, of_origin, Nodes}
-use Rattle.sync_theory.proofs.Logs.{Rising, one_rises, AtLeast, and_more, AtMost, none_over, one_within}
-use Rattle.sync_model.specs.Bytes.{Name, Tables}
+use Rattle.sync_theory.specs.Logs.{Made as LogMade, of_origin}
+use Rattle.sync_theory.proofs.Logs.{Rising, one_rises, AtLeast, and_more, AtMost, one_within}
+use Rattle.sync_model.specs.Bytes.{Tables}
 use Rattle.sync_model.specs.Profile.{Profile, Lawful, needs, restricted}
 use Rattle.sync_model.specs.Snapshots.{Buildable}
-use Rattle.sync_model.specs.Each.{Each}
-use Rattle.sync_model.specs.Messages.{Change, Message, Upload, Ask, Ask2, AskTables, Refused}
+use Rattle.sync_model.specs.Messages.{Change, Message, Upload, Ask, Ask2, Refused}
 use Rattle.sync_model.specs.Clients.{ClientRecord, Original, no_client, client_of, question, settled_from, change_of}
 use Rattle.sync_model.specs.Servers.{ServerStep, ServerRecord, ServerRefusal, Trimmed, no_server, server_of, place_of, heir_of, is_retired, last_base, count, refuses, serve, download, download_first, download_tables}
-use Rattle.sync_model.specs.Parts.{Given, Parts, Merged, Served, at_ident, as_before, after_merged, merged_by, given_of, idents_of, parts_of, ask_by, merge_by, upload_by, serve_by}
-use Rattle.sync_model.specs.Trims.{is_live, is_trimmed, SameGiven, SameIdents, no_idents, an_ident, KeptLess, BelowFloor, trimmed}
+use Rattle.sync_model.specs.Parts.{Given, Parts, Served, at_ident, merged_by, given_of, idents_of, parts_of, ask_by, merge_by, upload_by, serve_by}
+use Rattle.sync_model.specs.Trims.{is_trimmed, SameGiven, SameIdents, no_idents, an_ident, KeptLess, BelowFloor, trimmed}
 use Rattle.sync_model.specs.Files.{client_opens, server_opens}
 use Rattle.sync_model.specs.Worlds.{Node, at}
-use Rattle.sync_model.specs.Later.{Later, LaterEvent, all_later, LaterFacts}
+use Rattle.sync_model.specs.Later.{Later, all_later, LaterFacts}
 use Rattle.sync_model.specs.Log.{as_log, IsFair}
 use Rattle.sync_model.proofs.Lists.{place_within, at_map}
 use Rattle.sync_model.proofs.Alone.{opened_first, opened_more}
@@ -32,7 +31,7 @@ use Rattle.sync_model.proofs.Sim.{Given as GivenAt, Tells}
 use Rattle.sync_model.proofs.Trims.{less_then, span_less, trims_less, ask_refused, ask_answered, refused_below, below_refused}
 use Rattle.lives_law.specs.Pair.{Fit, IsActive, ident_at}
 use Rattle.lives_law.specs.Trimmed.{IsTrimmed, trimmed_pair, TrimmedHolds, AnswersAlike, AsksAtFloor, UploadsAtFloor}
-use Rattle.lives_law.proofs.Pair.{At, together, given_of as named_of, active_id}
+use Rattle.lives_law.proofs.Pair.{together, given_of as named_of, active_id}
 use Rattle.lives_law.proofs.Arriving.{answers_hold}
 use Rattle.lives_law.proofs.Converging.{files_converge}
 
@@ -137,11 +136,11 @@ module _ {I S : Type 0} (p : Profile I S) {Fits Bounded Old : S → Type 0} (law
         let whole = at_given p (server_of p f) (client_of p g).ident named (omega arith) in
         on (at_ident (client_of p g).ident kept.idents) refl whole.0 (subst (λ o. SameSome kept.floor o (at_ident (client_of p g).ident kept.idents)) whole.1 (same_ident kept.floor less.idents (client_of p g).ident))
       where
-      on : (o : Option (Given I)) → at_ident (client_of p g).ident kept.idents ≡ o → (u : List ℕ) → SameSome kept.floor (Some (given_of p (server_of p f) (client_of p g).ident u)) (at_ident (client_of p g).ident kept.idents) → It
-      on None is u s = absurd (subst (λ o. SameSome kept.floor (Some (given_of p (server_of p f) (client_of p g).ident u)) o) is s)
-      on (Some b) is u s =
-          let t : SameGiven kept.floor (given_of p (server_of p f) (client_of p g).ident u) b = subst (λ o. SameSome kept.floor (Some (given_of p (server_of p f) (client_of p g).ident u)) o) is s in
-          record { it = b; there = is; heir = t.heir; counted = t.count; last = t.last }
+        on : (o : Option (Given I)) → at_ident (client_of p g).ident kept.idents ≡ o → (u : List ℕ) → SameSome kept.floor (Some (given_of p (server_of p f) (client_of p g).ident u)) (at_ident (client_of p g).ident kept.idents) → It
+        on None is u s = absurd (subst (λ o. SameSome kept.floor (Some (given_of p (server_of p f) (client_of p g).ident u)) o) is s)
+        on (Some b) is u s =
+            let t : SameGiven kept.floor (given_of p (server_of p f) (client_of p g).ident u) b = subst (λ o. SameSome kept.floor (Some (given_of p (server_of p f) (client_of p g).ident u)) o) is s in
+            record { it = b; there = is; heir = t.heir; counted = t.count; last = t.last }
 
     within : (client_of p g).cursor ≤ kept.len
     within = let c = (files_converge p law built f g fit).within in let l = less.len in omega arith
