@@ -1,5 +1,5 @@
 -- Two files that pass the test by marks go together, also where the client's began with a state.
-use Rattle.std.proofs.Common.{◌≡◌, inr, ⊎_elim, ℕ, suc, ◌+◌, List, [], ◌∷◌, ◌++◌, Some, sym, ap, ◌∙◌, arith, append_assoc, append-nil, length, length-append}
+use Rattle.std.proofs.Common.{refl, ◌≡◌, inr, ⊎_elim, ℕ, suc, ◌+◌, List, [], ◌∷◌, ◌++◌, Some, sym, ap, ◌∙◌, arith, append_assoc, append-nil, length, length-append}
 use Rattle.sync_theory.proofs.World.{same_or_not}
 use Rattle.sync_model.specs.Bytes.{Uuid}
 use Rattle.sync_model.specs.Profile.{Profile, Lawful}
@@ -12,7 +12,7 @@ use Rattle.sync_model.proofs.Lists.{place_old}
 use Rattle.lives_law.specs.Lives.{Written, Files, Reached, Mark, up_to}
 use Rattle.lives_law.specs.Instances.{plain, is_entry, log_of}
 use Rattle.lives_law.specs.Pair.{IsEntry, Begun, Fit, ident_at}
-use Rattle.lives_law.specs.Starts.{StartPasses}
+use Rattle.lives_law.specs.Starts.{BeganFirst, BeganWith, StartPasses}
 use Rattle.lives_law.proofs.Instances.{plain_on, all_on, server_tells}
 use Rattle.lives_law.proofs.Lives.{tally_on, tally_one, marks_tell_all}
 use Rattle.lives_law.proofs.Growing.{server_grows}
@@ -47,17 +47,18 @@ module _ {I S : Type 0} (p : Profile I S) where
       ids = ap (λ x. (server_of p (plain x)).ids) (split_at f v l m) ∙ ap (λ x. (server_of p x).ids) (plain_on (up_to m) m.more) ∙ ap (λ s. s.ids) (all_on p no_server (plain (up_to m)) (plain m.more)) ∙ grown.ids
 
   module _ {Fits : S → Type 0} (law : Lawful p Fits) (w : Files ServerRecord) (v : Files ClientRecord) (rw : Reached w) (rv : Reached v) (f : List (Written ServerRecord)) (g : List (Written ClientRecord)) (t : StartPasses p w v f g) where
-    begun : Begun p (plain f) (plain g) t.id
-    begun =
-        let b = t.began in
-        let m = t.there in
-        let same : up_to b.mark ≡ up_to m = marks_tell_all is_entry w rw b.file f t.number t.life b.kept t.server_kept b.mark m in
-        let log : (server_of p (plain (up_to m))).log ≡ (server_of p (plain b.file)).log = ap (λ x. log_of p x) (sym same) ∙ sym (log_up b.file t.number t.life b.mark b.long) in
+    begun_first : BeganFirst p (plain g) t.id → Begun p (plain f) (plain g) t.id
+    begun_first b = record { before = []; after = plain f; is = refl; unknown = refl; second = b.second; more = b.more; starts = b.starts; whole = b.whole }
+
+    begun_later : (number life : ℕ) → BeganWith p w (plain g) t.id number life → Mark is_entry f number life → Begun p (plain f) (plain g) t.id
+    begun_later number life b m =
+        let same : up_to b.mark ≡ up_to m = marks_tell_all is_entry w rw b.file f number life b.kept t.server_kept b.mark m in
+        let log : (server_of p (plain (up_to m))).log ≡ (server_of p (plain b.file)).log = ap (λ x. log_of p x) (sym same) ∙ sym (log_up b.file number life b.mark b.long) in
         record {
           before = plain (up_to m);
           after = plain m.more;
-          is = sym (plain_on (up_to m) m.more) ∙ ap plain (sym (split_at f t.number t.life m));
-          unknown = ap (λ x. ident_at p (plain x) t.id) (sym same) ∙ unknown_up t.id b.file t.number t.life b.mark b.unknown;
+          is = sym (plain_on (up_to m) m.more) ∙ ap plain (sym (split_at f number life m));
+          unknown = ap (λ x. ident_at p (plain x) t.id) (sym same) ∙ unknown_up t.id b.file number life b.mark b.unknown;
           second = b.second;
           more = b.more;
           starts = ap (λ x. started p t.id b.second (length x) (state_or p.empty (state_of p x (length x))) ++ b.more) log ∙ ap (λ n. started p t.id b.second n (server_objects p (server_of p (plain b.file))) ++ b.more) b.long ∙ b.starts;
@@ -79,7 +80,7 @@ module _ {I S : Type 0} (p : Profile I S) where
           id = t.id;
           born = t.born;
           ident = t.ident;
-          begins = inr begun;
+          begins = inr (⊎_elim begun_first (λ h. begun_later h.0 h.1 h.2 h.3) t.began);
           took = took_it;
           rest = line.0;
           made = line.1;

@@ -1,5 +1,5 @@
 -- A server that gave up its history before a floor, beside a client's file that goes together with the whole one.
-use Rattle.std.proofs.Common.{◌≡◌, ◌≢◌, ◌⊎◌, inl, inr, ⊎_elim, ℕ, zero, suc, ◌+◌, ◌<◌, ◌≤◌, Bool, true, false, not, List, [], ◌∷◌, ◌++◌, Option, Some, None, refl, sym, ap, ◌∙◌, subst, arith, length, map, if◌then◌else◌}
+use Rattle.std.proofs.Common.{◌≡◌, ◌≢◌, ◌⊎◌, inl, inr, ⊎_elim, ℕ, zero, suc, ◌+◌, ◌<◌, ◌≤◌, Bool, true, false, not, List, [], ◌∷◌, ◌++◌, Option, Some, None, refl, sym, ap, ◌∙◌, subst, arith, length, map, if◌then◌else◌, min, max}
 use Rattle.std.specs.Prelude.{nat_le}
 use Rattle.std.proofs.lemmas.Bool.{leb-true}
 use Rattle.sync_theory.specs.Changesets.{Changeset}
@@ -12,7 +12,7 @@ use Rattle.sync_model.specs.Messages.{Change, Message, Upload, Ask, Ask2, Refuse
 use Rattle.sync_model.specs.Clients.{ClientRecord, Original, no_client, client_of, question, settled_from, change_of}
 use Rattle.sync_model.specs.Servers.{ServerStep, ServerRecord, ServerRefusal, Trimmed, no_server, server_of, place_of, heir_of, is_retired, last_base, count, refuses, serve, download, download_first, download_tables}
 use Rattle.sync_model.specs.Parts.{Given, Parts, Served, at_ident, merged_by, given_of, idents_of, parts_of, ask_by, merge_by, upload_by, serve_by}
-use Rattle.sync_model.specs.Trims.{is_trimmed, SameGiven, SameIdents, no_idents, an_ident, KeptLess, BelowFloor, trimmed}
+use Rattle.sync_model.specs.Trims.{is_live, least_settled, next_floor, is_trimmed, SameGiven, SameIdents, no_idents, an_ident, KeptLess, BelowFloor, trimmed}
 use Rattle.sync_model.specs.Files.{client_opens, server_opens}
 use Rattle.sync_model.specs.Worlds.{Node, at}
 use Rattle.sync_model.specs.Later.{Later, all_later, LaterFacts}
@@ -110,6 +110,27 @@ module _ {I S : Type 0} (p : Profile I S) {Fits Bounded Old : S → Type 0} (law
   trims_again f kept e less =
       let spans = parts_span p law (server_of p f) (opened_more p law f no_server e (opened_first p)) (server_records p f no_server e (server_first p)) in
       less_then (parts_of p (server_of p f)) kept (trimmed p kept) less (trims_less p kept (span_less (parts_of p (server_of p f)) kept spans less))
+
+  -- ---- how far a trim goes
+
+  pub least_is : (floor len : ℕ) (gs : List (Given I)) (k : ℕ) (it : Given I) → at gs k ≡ Some it → is_live it ≡ true → least_settled floor len gs ≤ max it.mark floor
+  least_is floor len [] k it e live = cc
+  least_is floor len (g ∷ gs) zero it e live =
+      let same : g ≡ it = cc in
+      subst (λ (x : Given I). least_settled floor len (g ∷ gs) ≤ max x.mark floor) same (on (is_live g) (ap is_live same ∙ live))
+    where
+      on : (t : Bool) → t ≡ true → (if t then min (max g.mark floor) (least_settled floor len gs) else least_settled floor len gs) ≤ max g.mark floor
+      on true h = omega arith
+      on false h = cc
+  least_is floor len (g ∷ gs) (suc k) it e live = on (is_live g) (least_is floor len gs k it e live)
+    where
+      on : (t : Bool) → least_settled floor len gs ≤ max it.mark floor → (if t then min (max g.mark floor) (least_settled floor len gs) else least_settled floor len gs) ≤ max it.mark floor
+      on true h = omega arith
+      on false h = h
+
+  pub no_further : (kept : Parts I S) (c : ℕ) (it : Given I) → at_ident c kept.idents ≡ Some it → is_live it ≡ true → next_floor kept ≤ max it.mark kept.floor
+  no_further kept zero it e live = cc
+  no_further kept (suc k) it e live = least_is kept.floor kept.len kept.idents k it e live
 
   -- ---- code 71
 

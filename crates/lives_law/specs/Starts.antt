@@ -31,6 +31,13 @@ module _ {I S : Type 0} (p : Profile I S) where
     pub starts : started p id second (suc number) (server_objects p (server_of p (plain file))) ++ more ≡ g
     pub whole : Each IsWhole more
 
+  -- a client's file that begins with what a server has before its first entry
+  pub record BeganFirst (g : List ClientRecord) (id : Uuid) : Type 0 where
+    pub second : Bool
+    pub more : List ClientRecord
+    pub starts : started p id second 0 p.empty ++ more ≡ g
+    pub whole : Each IsWhole more
+
   -- what a client took is the history of a server's file, as it is or once was, from the version at which the client began up to
   -- an entry of this number and life
   pub record HasSince (w : Files ServerRecord) (g : List ClientRecord) (number life : ℕ) : Type 0 where
@@ -47,11 +54,8 @@ module _ {I S : Type 0} (p : Profile I S) where
     pub id : Uuid
     pub born : (client_of p (plain g)).id ≡ Some id
     pub ident : ((client_of p (plain g)).ident ≡ 0) ⊎ ((client_of p (plain g)).ident ≡ ident_at p (plain f) id)
-    -- the last entry before the version at which the client began has the same life in the server's file
-    pub number : ℕ
-    pub life : ℕ
-    pub began : BeganWith w (plain g) id number life
-    pub there : Mark is_entry f number life
+    -- the client began at version 0, or the last entry before the version at which it began has the same life in the server's file
+    pub began : BeganFirst (plain g) id ⊎ ((number life : ℕ) × BeganWith w (plain g) id number life × Mark is_entry f number life)
     -- and it took nothing, or the entry of its last number has the same life there
     pub reads : (tooks_of (plain g) ≡ []) ⊎ ((last life2 : ℕ) × HasSince w (plain g) last life2 × Mark is_entry f last life2)
     -- the server has nothing of its ident, or the last number that it has is of the same life in the client's file

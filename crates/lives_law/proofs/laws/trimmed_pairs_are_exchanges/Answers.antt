@@ -1,4 +1,4 @@
-use Rattle.lives_law.proofs.Trimmed.{asks_at_floor, trimmed_alike, trimmed_hold, trims_again, uploads_at_floor, whole_is}
+use Rattle.lives_law.proofs.Trimmed.{asks_at_floor, no_further, trimmed_alike, trimmed_hold, trims_again, uploads_at_floor, whole_is}
 use Rattle.lives_law.proofs.laws.trimmed_pairs_are_exchanges.Goals as goal
 
 pub returns-clause-alike : goal.returns-clause-alike
@@ -18,3 +18,6 @@ returns-clause-uploads g c = λ f h kept fit less named active. uploads_at_floor
 
 pub returns-clause-whole : goal.returns-clause-whole
 returns-clause-whole g c = λ f. whole_is g.E.Exchange.profile g.E.Exchange.lawful g.E.Exchange.buildable f
+
+pub returns-clause-settled : goal.returns-clause-settled
+returns-clause-settled g c = λ kept d it there live. no_further g.E.Exchange.profile g.E.Exchange.lawful g.E.Exchange.buildable kept d it there live
