@@ -13,6 +13,7 @@ pub mod Passing
 pub mod Starts
 pub mod Arriving
 pub mod Converse
+pub mod Begins
 pub mod Taking
 pub mod Roaming
 pub mod Converging
