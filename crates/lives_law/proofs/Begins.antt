@@ -1,5 +1,5 @@
 -- The file of a client that began with the server's objects goes together with the server's, whatever came since.
-use Rattle.std.proofs.Common.{◌≡◌, ◌≢◌, ◌⊎◌, inl, inr, ⊎_elim, ℕ, zero, suc, Bool, true, false, ◌&&◌, ◌||◌, not, List, [], ◌∷◌, ◌++◌, Option, Some, None, refl, sym, ap, ◌∙◌, subst, append_assoc, append-nil, if◌then◌else◌, length, map}
+use Rattle.std.proofs.Common.{◌≡◌, ◌⊎◌, inr, ⊎_elim, ℕ, Bool, true, false, ◌&&◌, ◌||◌, not, List, [], ◌∷◌, ◌++◌, Option, Some, None, refl, sym, ap, ◌∙◌, subst, append_assoc, append-nil, if◌then◌else◌, length, map}
 use Rattle.std.specs.Prelude.{bytes_eq}
 use Rattle.sync_theory.proofs.World.{same_or_not}
 use Rattle.sync_model.specs.Bytes.{Name, Uuid}
