@@ -1,24 +1,28 @@
 -- The headline of a server's file and a client's file that go together, whether the client's ident is given up or not.
-use Rattle.std.proofs.Common.{◌≡◌, ◌⊎◌, inl, inr, ⊎_elim, ℕ, zero, suc, ◌≤◌, ◌<◌, Bool, true, false, ◌&&◌, ◌==◌, not, List, [], ◌∷◌, ◌++◌, Option, Some, None, Result, Err, refl, sym, ap, ap₂, ◌∙◌, subst, arith, length, map, drop, take, if◌then◌else◌, eqb-true, nat_le}
+use Rattle.std.proofs.Common.{◌≡◌, ◌⊎◌, inl, inr, ⊎_elim, ℕ, zero, suc, ◌+◌, ◌≤◌, ◌<◌, Bool, true, false, ◌&&◌, ◌==◌, not, List, [], ◌∷◌, ◌++◌, Option, Some, None, Result, Err, refl, sym, ap, ap₂, ◌∙◌, subst, arith, length, map, drop, take, if◌then◌else◌, eqb-true, nat_le}
 use Rattle.std.specs.Prelude.{nat_lt}
 use Rattle.std.proofs.lemmas.Bool.Decides.{nat_tests}
 use Rattle.sync_theory.specs.Lists.{run, and_then}
 use Rattle.sync_theory.specs.Changesets.{Changeset}
 use Rattle.sync_theory.specs.Logs.{of_origin}
+use Rattle.sync_theory.proofs.Logs.{origin_append}
+use Rattle.sync_theory.proofs.World.{left_nil}
 use Rattle.sync_model.specs.Profile.{Profile, Lawful, act_changeset, only_by}
 use Rattle.sync_model.specs.Snapshots.{Buildable}
 use Rattle.sync_model.specs.Messages.{Sent, Change, Stored, Refused}
-use Rattle.sync_model.specs.Clients.{Client as ClientState, ClientRecord, Original, Unsent, as_made, changeset_of, no_client, client_of, floor_of}
+use Rattle.sync_model.specs.Clients.{Client as ClientState, ClientRecord, Original, Unsent, as_made, changeset_of, client_of, start_of}
 use Rattle.sync_model.specs.Servers.{ServerStep, NumberGap, BaseBack, AheadOfHistory, HistoryFull, last_base, merge_read, merged, serve_changes, Server, ServerRecord, Client, Entry, Form, Retired, Settled, Part, Floor, Count, Carried, Past, ServerRefusal, IdentRetired, no_server, place_of, server_of, after_server, after_all, server_objects, history_of, state_of, heir_of, is_retired, is_given, count, merge}
 use Rattle.sync_model.specs.Files.{is_fine, is_second, server_admits, server_opens}
 use Rattle.sync_model.specs.Bytes.{Uuid}
+use Rattle.sync_model.specs.Starts.{started}
 use Rattle.sync_model.specs.Worlds.{Node, World, is_there}
 use Rattle.sync_model.specs.Log.{WorldFacts, NamedFacts, UnnamedFacts, as_log, ident_by, state_in}
 use Rattle.sync_model.proofs.Alone.{both_true}
 use Rattle.sync_model.proofs.Sim.{Agrees, Given, no_change}
 use Rattle.sync_model.proofs.Serving.{objects_of}
-use Rattle.lives_law.specs.Pair.{IsEntry, Fit, IsActive, PairHolds, RefusesUploads, OneExchange, Converge, ident_for, pair_world, without_retired}
-use Rattle.lives_law.proofs.Pair.{floors_stay, pairs_hold, together, given_of}
+use Rattle.lives_law.specs.Pair.{IsEntry, Begun, Fit, IsActive, PairHolds, RefusesUploads, OneExchange, Converge, ident_for, pair_world, without_retired}
+use Rattle.lives_law.proofs.Pair.{pairs_hold, together, given_of}
+use Rattle.lives_law.proofs.Passing.{take_drop}
 
 some_is : {A : Type 0} {x y : A} → Some x ≡ Some y → x ≡ y
 some_is e = cc
@@ -57,7 +61,7 @@ module _ {I S : Type 0} (p : Profile I S) {Fits Bounded Old : S → Type 0} (law
     -- the exchange of the theory beneath
     active_exchange : OneExchange p (server_of p f) (client_of p g)
     active_exchange =
-        let a = together p law f g fit active [] in
+        let a = together p law f g fit active [] built in
         record {
           any = no_change;
           nodes = a.n;
@@ -104,11 +108,18 @@ module _ {I S : Type 0} (p : Profile I S) {Fits Bounded Old : S → Type 0} (law
     originals [] = refl
     originals (o ∷ os) = ap (λ l. o ∷ l) (originals os)
 
+    -- nothing in the history is of ident 0
+    none_of_nobody : (i : ℕ) → i ≡ 0 → (k : ℕ) → of_origin i (take k (server_of p f).log) ≡ []
+    none_of_nobody i z k =
+        let a = together p law f g fit active [] built in
+        let h = a.sim.ahead i in
+        let none : of_origin i (server_of p f).log ≡ [] = ap (of_origin i) (sym a.sim.log_is) ∙ left_nil (of_origin i a.n.log) h.0 (sym h.1 ∙ a.sim.blank_mades i (inl z)) in
+        left_nil (of_origin i (take k (server_of p f).log)) (of_origin i (drop k (server_of p f).log)) (sym (origin_append i (take k (server_of p f).log) (drop k (server_of p f).log)) ∙ ap (of_origin i) (sym (take_drop k (server_of p f).log)) ∙ none)
+
     unnamed : ident_for p (server_of p f) (client_of p g) ≡ 0 → UnnamedFacts p (pair_world p f [] g) (record { name = []; records = g }) → Converge p (server_of p f) (client_of p g)
     unnamed z n =
-        let start : (client_of p g).cursor ≡ 0 = n.cursor ∙ ap floor_of (floors_stay p g (no_client p) fit.whole refl) in
         from_base n.base n.within
-        (ap (map (λ (u : Unsent I). u.original)) n.unsent ∙ originals (client_of p g).made ∙ ap (λ k. drop (length (of_origin (ident_for p (server_of p f) (client_of p g)) (take k (server_of p f).log))) (client_of p g).made) (sym start))
+        (ap (map (λ (u : Unsent I). u.original)) n.unsent ∙ originals (client_of p g).made ∙ ap (λ l. drop (length l) (client_of p g).made) (sym (none_of_nobody (ident_for p (server_of p f) (client_of p g)) z (client_of p g).cursor)))
         n.state
         (ap (λ k. run (act_changeset p) (map (changeset_of k) (client_of p g).unsent) (only_by p (client_of p g).subset n.base)) z ∙ n.objects)
 
@@ -152,6 +163,19 @@ module _ {I S : Type 0} (p : Profile I S) {Fits Bounded Old : S → Type 0} (law
   without_is (Count c n b m ∷ f) s = without_is f s
   without_is (Carried o n b m body ∷ f) s = without_is f s
   without_is (Past c v m body ∷ f) s = without_is f s
+
+  without_both : (f g : List ServerRecord) → without_retired (f ++ g) ≡ without_retired f ++ without_retired g
+  without_both [] g = refl
+  without_both (Client id ∷ f) g = ap (λ l. Client id ∷ l) (without_both f g)
+  without_both (Entry origin number base ms body ∷ f) g = ap (λ l. Entry origin number base ms body ∷ l) (without_both f g)
+  without_both (Form ∷ f) g = ap (λ l. Form ∷ l) (without_both f g)
+  without_both (Retired c by ∷ f) g = without_both f g
+  without_both (Settled c n ∷ f) g = ap (λ l. Settled c n ∷ l) (without_both f g)
+  without_both (Part body ∷ f) g = ap (λ l. Part body ∷ l) (without_both f g)
+  without_both (Floor version ∷ f) g = ap (λ l. Floor version ∷ l) (without_both f g)
+  without_both (Count c n b m ∷ f) g = ap (λ l. Count c n b m ∷ l) (without_both f g)
+  without_both (Carried o n b m body ∷ f) g = ap (λ l. Carried o n b m body ∷ l) (without_both f g)
+  without_both (Past c v m body ∷ f) g = ap (λ l. Past c v m body ∷ l) (without_both f g)
 
   join : (a b : Bool) → a ≡ true → b ≡ true → (a && b) ≡ true
   join true b e h = h
@@ -203,15 +227,29 @@ module _ {I S : Type 0} (p : Profile I S) {Fits Bounded Old : S → Type 0} (law
       sent = t.sent;
     }
 
+    begun_without : Begun p f g fit.id → Begun p (without_retired f) g fit.id
+    begun_without b =
+        let here : server_of p (without_retired b.before) ≡ forget (server_of p b.before) = without_is b.before no_server in
+        record {
+          before = without_retired b.before;
+          after = without_retired b.after;
+          is = sym (without_both b.before b.after) ∙ ap without_retired b.is;
+          unknown = ap (λ s. place_of fit.id s.ids) here ∙ b.unknown;
+          second = b.second;
+          more = b.more;
+          starts = ap (λ s. started p fit.id b.second (length s.log) (server_objects p s) ++ b.more) here ∙ b.starts;
+          whole = b.whole;
+        }
+
     fit_without : Fit p (without_retired f) g
     fit_without = record {
       server = still_opens f no_server fit.server;
       client = fit.client;
-      whole = fit.whole;
       id = fit.id;
       born = fit.born;
       ident = subst (λ s. ((client_of p g).ident ≡ 0) ⊎ ((client_of p g).ident ≡ place_of fit.id s.ids)) (sym same) fit.ident;
-      took = λ k e h. entry_without k e (fit.took k e h);
+      begins = ⊎_elim (λ w. inl w) (λ b. inr (begun_without b)) fit.begins;
+      took = λ k e h. entry_without (start_of (client_of p g) + k) e (fit.took k e h);
       rest = fit.rest;
       made = subst (λ s. map (as_log (place_of fit.id s.ids)) (client_of p g).made ≡ of_origin (place_of fit.id s.ids) s.log ++ fit.rest) (sym same) fit.made;
     }

@@ -7,13 +7,17 @@ pub mod Downloads
 pub mod Growing
 pub mod Servers
 pub mod Histories
+pub mod Starting
 pub mod Pair
 pub mod Passing
+pub mod Starts
 pub mod Arriving
 pub mod Converse
+pub mod Begins
 pub mod Taking
 pub mod Roaming
 pub mod Converging
+pub mod Trimmed
 pub mod Notes
 pub mod Passages
 pub mod Stored

@@ -4,7 +4,9 @@ pub mod Instances
 pub mod Uploads
 pub mod Pair
 pub mod Passing
+pub mod Starts
 pub mod Arriving
+pub mod Trimmed
 pub mod Roaming
 pub mod Stored
 pub mod Sending

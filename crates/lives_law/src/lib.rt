@@ -14,6 +14,6 @@ pub use laws::{
     clients_keep_history, clients_read_servers, downloads_go_on, files_converge,
     marked_pairs_are_exchanges, marks_tell_files, nodes_tell_their_files, pairs_are_exchanges,
     readers_follow, roaming_files_are_exchanges, servers_keep_lines, servers_read_clients,
-    stored_marks_suffice, uploads_go_on,
+    stored_marks_suffice, trimmed_pairs_are_exchanges, uploads_go_on,
 };
 pub use told::Told;
