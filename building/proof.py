@@ -17,7 +17,7 @@ TOLD = re.compile(r"^rt: (\w+) (?:proved$|is kept)")
 TIMES = re.compile(r"^\| `(\w+)` \| (\d+) ")
 # Processor seconds of a crate that the table of check times doesn't have.
 UNKNOWN = 30
-KEEPS_MODULE = """#!/bin/sh
+KEEPS_MODULE_TOO = """#!/bin/sh
 for word in "$@"; do
     case $word in *.bc) cp "$word" '{saved}' ;; esac
 done
@@ -116,7 +116,7 @@ def compiled(name, main, kind, saved, log):
     """Compiles a crate over its proved libraries with a clang that keeps the module: the archive or object file, and the last line of its proof."""
     kit, crates = toolkit(), Crates()
     with proved([name], log) as room:
-        toolchain = keeping(f"{room}/toolchain", kit, "clang", KEEPS_MODULE, f"{room}/module.bc")
+        toolchain = keeping(f"{room}/toolchain", kit, "clang", KEEPS_MODULE_TOO, f"{room}/module.bc")
         words = [*build_words(kit, crates, room, name, main, f"{room}/made"), *kind, "--toolchain", toolchain]
         how = {"cwd": f"{room}/crates/{name}", "stdin": subprocess.DEVNULL, "stdout": subprocess.PIPE, "stderr": subprocess.STDOUT, "text": True}
         ran = subprocess.run(words, **how)
