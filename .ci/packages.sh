@@ -5,7 +5,7 @@
 #
 # Where it may not install (it takes root and apt-get), it says what to install, and ends with status 1. So it does where apt-get fails, behind
 # what that said.
-service="python3-aiohttp python3-jwt python3-cryptography python3-prometheus-client python3-asyncpg postgresql gcc libc6-dev"
+service="python3-aiohttp python3-jwt python3-cryptography python3-prometheus-client python3-asyncpg python3-uvloop postgresql gcc libc6-dev"
 js="nodejs node-typescript node-ws binaryen"
 python="python3-aiohttp python3-cryptography python3-mypy python3-pip python3-setuptools python3-venv python3-websocket python3-wheel gcc libc6-dev"
 

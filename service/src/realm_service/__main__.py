@@ -12,6 +12,7 @@ from .config import BadConfig, Config
 from .library import NoLibrary
 from .operating import Unable
 from .server import run
+from .stores import StoreDown
 
 WORDS = """Serves histories of realm_sync over WebSocket and HTTP. Without any words: histories of the folder realm_histories, on
 127.0.0.1:8480, with a token that is printed. docs/SERVICE.md says more."""
@@ -42,7 +43,7 @@ def _config(given: argparse.Namespace) -> Config:
     config = configs.read(getattr(given, "config", None))
     config.service.listen = given.listen or config.service.listen
     config.store.folder = getattr(given, "folder", config.store.folder)
-    return config
+    return configs.checked(config)
 
 
 def _do(given: argparse.Namespace) -> None:
@@ -63,9 +64,10 @@ def _do(given: argparse.Namespace) -> None:
 
 def main() -> None:
     logging.basicConfig(level=logging.INFO, format="%(asctime)s %(levelname)s %(message)s")
+    logging.getLogger("aiohttp.websocket").setLevel(logging.ERROR)  # below that it tells subprotocols, of which one is the token
     try:
         _do(_words().parse_args())
-    except (BadConfig, NoLibrary, Unable, OSError) as error:
+    except (BadConfig, NoLibrary, StoreDown, Unable, OSError) as error:
         sys.exit(f"realm_service: {error}")
 
 

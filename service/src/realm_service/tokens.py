@@ -93,7 +93,6 @@ class Tokens:
 
 def _user(given: object) -> str:
     """A user is a text of one line, since a store keeps it in one."""
-    user = str(given)
-    if not user or len(user) > 200 or not user.isprintable():
+    if not isinstance(given, str) or not given or len(given) > 200 or not given.isprintable():
         raise ValueError("sub is a text of 1 to 200 printable characters")
-    return user
+    return given
