@@ -4,8 +4,8 @@
 #     service/test.sh --quick [--quiet]       all suites, one round of each fault, hostile callers: under three minutes
 #     service/test.sh PROGRAM [WORD..]        a program of service/tests: faults.py, attacks.py, load.py, many.py, heavy.py, bench.py
 #
-# As root it installs by apt-get what it lacks (.ci/packages.sh); else it says what to install. REALM_SYNC_LIBRARY names another library than the one that
-# examples/c/library.sh builds, REALM_SYNC the program that trims.
+# As root it installs by apt-get what it lacks (.ci/packages.sh); else it says what to install. REALM_SYNC_LIBRARY names another library than
+# the one that examples/c/library.sh builds, REALM_SYNC the program that trims.
 top=$(cd "$(dirname "$(readlink -f "$0")")/.." && pwd) || exit 1
 packages="python3-aiohttp python3-jwt python3-cryptography python3-prometheus-client python3-asyncpg python3-uvloop postgresql gcc libc6-dev"
 
@@ -21,18 +21,21 @@ if [ -z "$REALM_SYNC" ] && [ -x "$top/crates/realm_sync/out/realm_sync" ]; then
     REALM_SYNC=$top/crates/realm_sync/out/realm_sync
 fi
 export REALM_SYNC
-cd "$top/service/tests" || exit 1
-
 if [ "$1" != --quick ]; then
     [ $# -gt 0 ] || { sed -n '2,9s/^# \{0,1\}//p' "$top/service/test.sh"; exit 1; }
-    exec "$python" "$@"
+    program=$top/service/tests/$1
+    shift
+    exec "$python" "$program" "$@"
 fi
+
+cd "$top/service/tests" || exit 1
 
 out=$(mktemp -d) || exit 1
 trap 'rm -rf "$out"' EXIT
-suites="test_parts test_stores test_limits test_attacks test_faults test_service.OfFiles test_service.OfSqlite test_service.OfPostgres test_service.Workers test_service.WithoutConfiguration"
+suites="test_parts test_stores test_limits test_attacks test_faults test_service.OfFiles test_service.OfSqlite test_service.OfPostgres
+    test_service.Workers test_service.WithoutConfiguration"
 for suite in $suites; do
-    { "$python" -W ignore::ResourceWarning -m unittest "$suite" >"$out/$suite" 2>&1; echo $? >"$out/$suite.status"; } &
+    { timeout -k 30 600 "$python" -W ignore::ResourceWarning -m unittest "$suite" >"$out/$suite" 2>&1; echo $? >"$out/$suite.status"; } &
 done
 wait
 failed=0

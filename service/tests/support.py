@@ -21,6 +21,7 @@ sys.path[:0] = [os.path.join(TOP, "service", "src"), os.path.join(TOP, "python",
 
 from realm_service.tokens import Tokens  # noqa: E402
 
+signal.signal(signal.SIGTERM, lambda *_: sys.exit("terminated"))  # so that what is to be done at the end is done
 logging.getLogger("asyncio").setLevel(logging.ERROR)  # (it tells each step of a test that takes its time)
 SECRET = "a secret of the tests alone, which nobody else has"
 START_SECONDS = 20

@@ -96,7 +96,8 @@ class Doors:
 
     def _connection(self) -> Guarded:
         assert self.runner is not None and self.runner.server is not None
-        made = Guarded(self.runner.server, loop=asyncio.get_running_loop(), keepalive_timeout=75, **NO_LOG)
+        # (a body is taken as it comes: unpacked it may be a thousand times as large)
+        made = Guarded(self.runner.server, loop=asyncio.get_running_loop(), keepalive_timeout=75, auto_decompress=False, **NO_LOG)
         made.guards = self.guards
         return made
 
@@ -241,7 +242,7 @@ async def _has_grown(history: History, wait: float) -> bool:
 def _named(table: str | None, key: str) -> bytes:
     try:
         return json.dumps({"table": table, "key": json.loads(key)}).encode()
-    except ValueError:
+    except (ValueError, RecursionError):
         raise Refused(400, "key is a key in JSON") from None
 
 

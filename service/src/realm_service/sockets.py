@@ -149,7 +149,7 @@ class Sockets:
     def _renewed(self, text: str, visit: Visit) -> tuple[Caller, float]:
         try:
             token = json.loads(text)["token"]
-        except (ValueError, KeyError, TypeError):
+        except (ValueError, KeyError, TypeError, RecursionError):
             raise BadMessage("a text frame is {\"token\": TOKEN}") from None
         renewed, until = self.visits.caller(str(token), visit.name)
         if (renewed.user, renewed.device) != (visit.caller.user, visit.caller.device):

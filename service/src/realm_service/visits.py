@@ -1,5 +1,6 @@
 """A request to a history: whose it is, what it may do there, and where the history is."""
 
+import asyncio
 import dataclasses
 import re
 import time
@@ -76,7 +77,11 @@ class Visits:
             raise StoreDown("the worker starts or stops")
         if not is_device:
             await self.limits.admit(caller.user, 0)
-        found = await self.owners.find(name, caller, HOP in request.headers)
+        try:
+            async with asyncio.timeout(self.limits.config.message_seconds):
+                found = await self.owners.find(name, caller, HOP in request.headers)
+        except asyncio.TimeoutError:
+            raise StoreDown("nobody says in time who has the history") from None
         if isinstance(found, str):
             return Visit(name, token, caller, until, None, found)
         _, given = address_of(request)
