@@ -228,9 +228,9 @@ class Attacks:
         self.check("and takes no memory", self.memory() - before < 20, True)
 
     async def _swollen(self, token):
-        """A body that is short as it is sent, and of 256 MiB when it is unpacked."""
+        """A body that is short as it is sent, and of 128 MiB when it is unpacked."""
         headers = {"Content-Encoding": "gzip", **({"Authorization": "Bearer " + token} if token else {})}
-        async with self.session.post(self.url(), data=gzip.compress(b"\0" * (1 << 28), 1), headers=headers) as answer:
+        async with self.session.post(self.url(), data=gzip.compress(b"\0" * (1 << 27), 1), headers=headers) as answer:
             await answer.read()
             return answer.status
 

@@ -82,13 +82,14 @@ class Service:
             for name, keys in sections.items():
                 file.write(f"[{name}]\n" + "".join(f"{key} = {json.dumps(value)}\n" for key, value in keys.items()))
         self.log = os.path.join(self.at, f"{self.port}.log")
+        self.profile = os.path.join(self.at, f"{self.port}.profile")
         self.process = None
         path = [os.path.join(TOP, "service", "src"), *([PLAIN] if store["kind"] == "files" else [])]
         self.env = {**os.environ, "PYTHONPATH": os.pathsep.join(path)}
 
-    def start(self):
+    def start(self, under=()):
         with open(self.log, "ab") as log:
-            words = [sys.executable, "-m", "realm_service", "--config", self.config]
+            words = [sys.executable, *under, "-m", "realm_service", "--config", self.config]
             self.process = subprocess.Popen(words, stdout=log, stderr=log, stdin=subprocess.DEVNULL, env=self.env)
         atexit.register(self.kill)
         return self

@@ -48,6 +48,7 @@ class OfOneWorker(unittest.IsolatedAsyncioTestCase):
             said = log.read()
         for part in given.split("."):
             self.assertNotIn(part[:40], said)
+        self.assertNotIn("Traceback", said)
 
     async def test_each_door_counts_for_the_rate(self):
         slow = Service(stores("files"), limits={"requests_per_second": 2.0}).start().ready()

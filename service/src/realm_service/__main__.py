@@ -6,6 +6,8 @@ import contextlib
 import logging
 import sys
 
+from aiohttp.http_exceptions import HttpProcessingError
+
 from . import config as configs
 from . import operating
 from .config import BadConfig, Config
@@ -62,9 +64,15 @@ def _do(given: argparse.Namespace) -> None:
         asyncio.run(operating.move(config, configs.read(given.to), given.names))
 
 
-def main() -> None:
+def _begin_log() -> None:
+    """What callers do is no fault of the service, and what they send isn't told: it may be a token."""
     logging.basicConfig(level=logging.INFO, format="%(asctime)s %(levelname)s %(message)s")
-    logging.getLogger("aiohttp.websocket").setLevel(logging.ERROR)  # below that it tells subprotocols, of which one is the token
+    logging.getLogger("aiohttp.websocket").setLevel(logging.ERROR)  # below that it tells subprotocols
+    logging.getLogger("aiohttp.server").addFilter(lambda record: not (record.exc_info and isinstance(record.exc_info[1], HttpProcessingError)))
+
+
+def main() -> None:
+    _begin_log()
     try:
         _do(_words().parse_args())
     except (BadConfig, NoLibrary, StoreDown, Unable, OSError) as error:
