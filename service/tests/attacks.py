@@ -224,6 +224,9 @@ class Attacks:
             self.check("a body that swells" + what, await self._swollen(token), {400, 401, 413})
         self.check("and takes no memory", self.memory() - before < 20, True)
         before = self.memory()
+        self.check("requests that don't wait for answers are cut", await asyncio.to_thread(self._ahead), True)
+        self.check("and take no memory", self.memory() - before < 20, True)
+        before = self.memory()
         self.check("a frame of 2^40 bytes is cut", await asyncio.to_thread(self._huge), True)
         self.check("and takes no memory", self.memory() - before < 20, True)
 
@@ -248,6 +251,17 @@ class Attacks:
         made.recv(1000)
         made.settimeout(0.2)
         return made
+
+    def _ahead(self):
+        """Requests without end, none of whose answers is read. True where they are cut."""
+        made = self._raw(b"")
+        made.settimeout(5)
+        try:
+            for _ in range(1000):
+                made.sendall(b"GET / HTTP/1.1\r\nHost: x\r\n\r\n" * 1000)
+        except OSError as error:
+            return not isinstance(error, TimeoutError)
+        return False
 
     def _huge(self):
         made = self._upgraded()

@@ -104,8 +104,11 @@ class Doors:
     async def _sweep(self) -> None:
         while True:
             await asyncio.sleep(1)
-            self.guards.sweep()
-            self.limits.sweep()
+            try:
+                self.guards.sweep()
+                self.limits.sweep()
+            except Exception:  # a sweeper that ends would cut nobody any more
+                log.exception("a sweep failed")
 
     async def stop(self) -> None:
         """Nothing new is taken, and what is under way is answered."""

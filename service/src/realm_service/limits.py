@@ -19,6 +19,7 @@ from .refusals import Refused
 
 log = logging.getLogger("realm_service")
 PATIENCE = 5.0  # seconds that a message waits for its user's rate before it is refused
+REQUESTS_AHEAD = 100  # on one connection, that came before the one is answered that came first
 CONNECTIONS_EACH = 2  # connections of any kind, for each socket that may be open
 
 
@@ -112,6 +113,8 @@ class Guarded(RequestHandler):
         super().data_received(data)
         try:
             is_cut = self._is_cut()
+            if len(self._messages) > REQUESTS_AHEAD and self.transport is not None:
+                self.transport.abort()
         except AttributeError:
             is_cut = False
         self.began = (self.began or time.monotonic()) if is_cut else None
