@@ -40,7 +40,7 @@ class OfOneWorker(unittest.IsolatedAsyncioTestCase):
         for bad in (b"Bad Header: x", b"Content-Length: x", b"\xff\xfe: x"):
             reader, writer = await asyncio.open_connection("127.0.0.1", service.port)
             writer.write(f"GET /v1/histories/{HISTORY}/objects HTTP/1.1\r\nAuthorization: Bearer {given}\r\n".encode() + bad + b"\r\n\r\n")
-            await asyncio.wait_for(reader.read(), 10)
+            await asyncio.wait_for(reader.read(100), 10)
             writer.close()
         self.assertEqual((await fetched(self.session, "GET", url + "/objects?" + "x" * 9000, {"Authorization": "Bearer " + given}))[0], 400)
         self.assertEqual(service.stop(), 0)

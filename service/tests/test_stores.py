@@ -209,13 +209,13 @@ class OfFiles(Suite, unittest.IsolatedAsyncioTestCase):
             self.assertEqual(journal[: journal_end(journal)], b"RSYNCJ01" + record(b"one")[:-1] + added)
             self.assertEqual(devices, {ANN: Device("ann", 1), BOB: Device("bob", 1)})
             anew = self._files(lease)
-            self.assertTrue(held.isdisjoint(anew))
+            self.assertNotIn(True, [it == then for it, then in zip(anew, held)])
             await self.store.read(lease)
             self.assertEqual(self._files(lease), anew)
 
     def _files(self, lease):
         """Which files have the names now."""
-        return {os.stat(os.path.join(self.at, lease.name + end)).st_ino for end in (".realm", ".devices")}
+        return [os.stat(os.path.join(self.at, lease.name + end)).st_ino for end in (".realm", ".devices")]
 
     async def test_a_file_that_somebody_cut_isnt_appended_to(self):
         lease = await self.new()

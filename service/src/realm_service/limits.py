@@ -113,11 +113,19 @@ class Guarded(RequestHandler):
         super().data_received(data)
         try:
             is_cut = self._is_cut()
-            if len(self._messages) > REQUESTS_AHEAD and self.transport is not None:
-                self.transport.abort()
+            if len(self._messages) > REQUESTS_AHEAD:
+                self._answer_one()
         except AttributeError:
             is_cut = False
         self.began = (self.began or time.monotonic()) if is_cut else None
+
+    def _answer_one(self) -> None:
+        """Answers the first request that waits, and closes the connection."""
+        first = self._messages.popleft()
+        self._messages.clear()
+        self._messages.append(first)
+        self.pause_reading()
+        self.close()
 
     def _is_cut(self) -> bool:
         parser: typing.Any = self._payload_parser
