@@ -2,44 +2,40 @@
 # The service's tests, over files, SQLite and a private PostgreSQL that they start and stop: docs/SERVICE.md, "Tests".
 #
 #     service/test.sh --quick [--quiet]       all suites, one round of each fault, hostile callers: under three minutes
-#     service/test.sh PROGRAM [WORD..]        a program of service/tests: faults.py, attacks.py, load.py, many.py, heavy.py, bare.py
+#     service/test.sh PROGRAM [WORD..]        a program of service/tests: faults.py, attacks.py, load.py, many.py, heavy.py, bench.py
 #
-# As root it installs by apt-get what it lacks; else it says what to install. REALM_SYNC_LIBRARY names another library than the one that
-# examples/c/library.sh builds, REALM_SYNC the program that trims.
+# As root it installs by apt-get what it lacks (.ci/packages.sh); else it says what to install. REALM_SYNC_LIBRARY names another library than
+# the one that examples/c/library.sh builds, REALM_SYNC the program that trims.
 top=$(cd "$(dirname "$(readlink -f "$0")")/.." && pwd) || exit 1
-packages="python3-aiohttp python3-jwt python3-cryptography python3-prometheus-client python3-asyncpg postgresql gcc libc6-dev"
+packages="python3-aiohttp python3-jwt python3-cryptography python3-prometheus-client python3-asyncpg python3-uvloop postgresql gcc libc6-dev"
 
 has_all() {
-    /usr/bin/python3 -c "import aiohttp, jwt, cryptography, prometheus_client, asyncpg" 2>/dev/null && command -v cc >/dev/null &&
-        { command -v initdb >/dev/null || ls /usr/lib/postgresql/*/bin/initdb >/dev/null 2>&1; }
+    "${PYTHON:-/usr/bin/python3}" -c "import aiohttp, jwt, cryptography, prometheus_client, asyncpg, uvloop" 2>/dev/null &&
+        command -v cc >/dev/null && { command -v initdb >/dev/null || ls /usr/lib/postgresql/*/bin/initdb >/dev/null 2>&1; }
 }
 
-if ! has_all; then
-    if [ "$(id -u)" -ne 0 ]; then
-        echo "test.sh: the tests take these packages: apt-get install $packages" >&2
-        exit 1
-    fi
-    # shellcheck disable=SC2086
-    { apt-get update && DEBIAN_FRONTEND=noninteractive apt-get install -y --no-install-recommends $packages; } >&2 || exit
-fi
+has_all || "$top/.ci/packages.sh" service || exit
 PYTHON=${PYTHON:-/usr/bin/python3}
 . "$top/service/environment.sh"
 if [ -z "$REALM_SYNC" ] && [ -x "$top/crates/realm_sync/out/realm_sync" ]; then
     REALM_SYNC=$top/crates/realm_sync/out/realm_sync
 fi
 export REALM_SYNC
-cd "$top/service/tests" || exit 1
-
 if [ "$1" != --quick ]; then
     [ $# -gt 0 ] || { sed -n '2,9s/^# \{0,1\}//p' "$top/service/test.sh"; exit 1; }
-    exec "$python" "$@"
+    program=$top/service/tests/$1
+    shift
+    exec "$python" "$program" "$@"
 fi
+
+cd "$top/service/tests" || exit 1
 
 out=$(mktemp -d) || exit 1
 trap 'rm -rf "$out"' EXIT
-suites="test_parts test_stores test_attacks test_faults test_service.OfFiles test_service.OfSqlite test_service.OfPostgres test_service.Workers test_service.WithoutConfiguration"
+suites="test_parts test_stores test_limits test_attacks test_faults test_service.OfFiles test_service.OfSqlite test_service.OfPostgres
+    test_service.Workers test_service.WithoutConfiguration"
 for suite in $suites; do
-    { "$python" -W ignore::ResourceWarning -m unittest "$suite" >"$out/$suite" 2>&1; echo $? >"$out/$suite.status"; } &
+    { timeout -k 30 600 "$python" -W ignore::ResourceWarning -m unittest "$suite" >"$out/$suite" 2>&1; echo $? >"$out/$suite.status"; } &
 done
 wait
 failed=0

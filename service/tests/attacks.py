@@ -1,15 +1,18 @@
 #!/usr/bin/python3
-"""What hostile callers get of a service at a URL.
+"""What hostile callers get of a service: of one that it starts itself, or of one at a URL.
 
-usage: attacks.py BASE [--owner BASE] [--pid PID] [--secret FILE]
+usage: attacks.py [--store files|sqlite|postgres]
+       attacks.py BASE [--owner BASE] [--pid PID] [--secret FILE]
 
-The service has a limit of 1 MiB for a message, 3 seconds in which it must be whole, 500 requests a second and 100 sockets of a user, and
-HS256 tokens by the secret (that of support.py). With --owner another worker owns the history first, so that all of it goes through BASE to
-that one. With --pid the memory of that process is looked at."""
+Over PostgreSQL it starts two workers, and all of it goes through the one that doesn't own the history. A service at a URL has the limits
+LIMITS below, and HS256 tokens by the secret (that of support.py). With --owner another worker owns the history first. With --pid the memory
+of that process is looked at."""
 
 import argparse
 import asyncio
+import base64
 import collections
+import gzip
 import json
 import os
 import random
@@ -23,7 +26,8 @@ import aiohttp
 import jwt
 import support
 
-HELD = 3.0  # the limit in seconds
+LIMITS = {"message_bytes": 1 << 20, "message_seconds": 3.0, "requests_per_second": 500.0, "user_connections": 100}
+HELD = LIMITS["message_seconds"]
 WAIT = 14.0  # after which a slow caller is taken for one that wasn't cut
 BINARY, CLOSED = aiohttp.WSMsgType.BINARY, (aiohttp.WSMsgType.CLOSE, aiohttp.WSMsgType.CLOSED, aiohttp.WSMsgType.CLOSING)
 GARBAGE = {"nothing": b"", "an unknown tag": b"\x63abc", "an Ident": b"\2" + b"u" * 16 + b"\1", "a cut Bind": b"\1abc", "a long Bind": b"\1" + b"u" * 17,
@@ -157,6 +161,7 @@ class Attacks:
         lasting = jwt.encode(claims, self.secret, "HS256")
         for what, token in (("no token", None), ("a token that has expired", self.token("ann", seconds=-1)), ("without a signature", none),
                             ("without an end", lasting), ("no token at all", "abc"), ("an empty one", " "),
+                            ("a head without end", base64.urlsafe_b64encode(b"[" * 4000).decode() + ".e30.e30"),
                             ("of another secret", jwt.encode({**claims, "exp": time.time() + 60}, "y" * 40, "HS256"))):
             self.check(what, await self.status(ask, token), 401)
         cut = self.ann.rpartition(".")[0]
@@ -188,6 +193,7 @@ class Attacks:
         await opened.close()
         self.check("renewed by bob's token", await self.closed(self.ann, json.dumps({"token": self.bob}), True), 4403)
         self.check("renewed by none", await self.closed(self.ann, "[]", True), 4400)
+        self.check("renewed by brackets", await self.closed(self.ann, "[" * 100_000, True), 4400)
 
     async def other_doors(self):
         reader, other = self.token("ron", "read"), self.token("ann", history="other")
@@ -195,8 +201,9 @@ class Attacks:
             self.check(f"{path} without a token", await self.get(path, None), 401)
             self.check(f"{path} with another history's token", await self.get(path, other), 403)
             self.check(f"{path} by a reader", await self.get(path, reader), {200, 204})
-        for path in ("/objects?key={", "/entries?from=-1", "/entries?from=99999999999", "/news?after=x", "/objects?table=q&key=1e9999"):
-            self.check(path, await self.get(path, reader), {400, 404})
+        for path in ("/objects?key={", "/entries?from=-1", "/entries?from=99999999999", "/news?after=x", "/objects?table=q&key=1e9999",
+                     "/objects?table=q&key=" + "[" * 4000):
+            self.check(path[:40], await self.get(path, reader), {400, 404})
         async with self.session.post(self.url() + "/trim", headers={"Authorization": "Bearer " + self.ann}) as answer:
             self.check("a writer trims", answer.status, 403)
 
@@ -213,8 +220,22 @@ class Attacks:
             got = type(error).__name__
         self.check("3 MiB by socket", got, {1009, 1006, 4413, "ConnectionResetError", "ClientConnectionResetError"})
         before = self.memory()
+        for what, token in (("", self.ann), (" without a token", None)):
+            self.check("a body that swells" + what, await self._swollen(token), {400, 401, 413})
+        self.check("and takes no memory", self.memory() - before < 20, True)
+        before = self.memory()
+        self.check("requests that don't wait for answers are cut", await asyncio.to_thread(self._ahead), True)
+        self.check("and take no memory", self.memory() - before < 20, True)
+        before = self.memory()
         self.check("a frame of 2^40 bytes is cut", await asyncio.to_thread(self._huge), True)
         self.check("and takes no memory", self.memory() - before < 20, True)
+
+    async def _swollen(self, token):
+        """A body that is short as it is sent, and of 128 MiB when it is unpacked."""
+        headers = {"Content-Encoding": "gzip", **({"Authorization": "Bearer " + token} if token else {})}
+        async with self.session.post(self.url(), data=gzip.compress(b"\0" * (1 << 27), 1), headers=headers) as answer:
+            await answer.read()
+            return answer.status
 
     def _raw(self, request):
         made = socket.create_connection((self.at.hostname, self.at.port))
@@ -230,6 +251,17 @@ class Attacks:
         made.recv(1000)
         made.settimeout(0.2)
         return made
+
+    def _ahead(self):
+        """Requests without end, none of whose answers is read. True where they are cut."""
+        made = self._raw(b"")
+        made.settimeout(5)
+        try:
+            for _ in range(1000):
+                made.sendall(b"GET / HTTP/1.1\r\nHost: x\r\n\r\n" * 1000)
+        except OSError as error:
+            return not isinstance(error, TimeoutError)
+        return False
 
     def _huge(self):
         made = self._upgraded()
@@ -308,13 +340,27 @@ class Attacks:
         opened._response.close()
 
 
+def attacked(store):
+    """Attacks workers of its own. True where each answer is as it should be, and none of the workers failed."""
+    given = support.stores(store)
+    workers = [support.Service(given, limits=LIMITS).start().ready() for _ in range(2 if store == "postgres" else 1)]
+    owner = workers[1].base if len(workers) > 1 else None
+    is_well = asyncio.run(Attacks(workers[0].base, owner=owner, pid=workers[0].process.pid).run())
+    for it in workers:
+        is_well = it.stop() == 0 and "Traceback" not in it.said() and is_well
+    return is_well
+
+
 def main():
     words = argparse.ArgumentParser(description=__doc__, formatter_class=argparse.RawDescriptionHelpFormatter)
-    words.add_argument("base")
+    words.add_argument("base", nargs="?")
+    words.add_argument("--store", choices=("files", "sqlite", "postgres"), default="files")
     words.add_argument("--owner")
     words.add_argument("--pid", type=int)
     words.add_argument("--secret")
     given = words.parse_args()
+    if given.base is None:
+        sys.exit(0 if attacked(given.store) else 1)
     secret = support.SECRET
     if given.secret:
         with open(given.secret, encoding="utf-8") as file:

@@ -1,15 +1,18 @@
 #!/usr/bin/python3
 """How many messages a second workers answer that it starts itself, what of the processor that takes, and the same by a bare loop.
 
-usage: bench.py [STORE:WORKERS ..] [--clients N] [--histories N] [--seconds S] [--commits N] [--processes N] [--think S] [--light]
+usage: bench.py [STORE:WORKERS ..] [--clients N] [--histories N] [--seconds S] [--commits N] [--processes N] [--think S] [--light] [--profile]
 
 STORE:WORKERS is files:1, sqlite:1, postgres:1, postgres:2 and so on. bare:1 hands the messages of one client to a node without a service
 and a store, one after the other, as each change of a client sends them: an Upload and two questions. echo:1 is a server over the same
-library of sockets that sends back what it gets, and nothing else."""
+library of sockets that sends back what it gets, and nothing else. --profile tells what part of the workers' own time each library took: it
+makes them slower, and Python's part greater than it is."""
 
 import argparse
 import asyncio
+import collections
 import os
+import pstats
 import subprocess
 import sys
 import time
@@ -100,9 +103,26 @@ def echoing(seconds, clients):
         process.wait()
 
 
-def served(store, count, words):
+PARTS = (("realm_turns", "the node"), ("uvloop", "the loop and sockets"), ("aiohttp", "aiohttp"), ("asyncpg", "asyncpg"), ("prometheus", "metrics"),
+         ("sqlite3", "SQLite"), ("realm_service", "the service"), ("asyncio", "asyncio"), ("selectors", "asyncio"))
+
+
+def parts_of(paths):
+    """Of the time in the processor that profiles saw, what was in code of each part."""
+    taken = collections.Counter()
+    for path in paths:
+        for (file, _, function), (_, _, own, _, _) in pstats.Stats(path).stats.items():
+            if "select.epoll" not in function:
+                taken[next((part for name, part in PARTS if name in file + function), "Python's own")] += own
+    whole = sum(taken.values())
+    return ", ".join(f"{part} {100 * own / whole:.0f} %" for part, own in taken.most_common())
+
+
+def served(store, count, words, is_profiled):
     given = stores(store)
-    workers = [Service(given, limits=LIMITS, histories={"idle_seconds": 30.0}).start() for _ in range(count)]
+    workers = [Service(given, limits=LIMITS, histories={"idle_seconds": 30.0}) for _ in range(count)]
+    for it in workers:
+        it.start(["-m", "cProfile", "-o", it.profile] if is_profiled else [])
     for it in workers:
         it.ready()
     before = [processor(it.process.pid) for it in workers]
@@ -120,6 +140,8 @@ def served(store, count, words):
           f" {1e3 * metric('realm_store_seconds_sum') / metric('realm_store_seconds_count'):.1f} ms, {metric('realm_relayed_total'):.0f} sockets passed on")
     for it in workers:
         it.stop()
+    if is_profiled:
+        print("    " + parts_of(it.profile for it in workers), flush=True)
     return done.returncode
 
 
@@ -128,6 +150,7 @@ def main():
     words.add_argument("stores", nargs="*", default=["bare:1", "echo:1", "files:1", "sqlite:1", "postgres:1", "postgres:2"])
     words.add_argument("--echo-server", help=argparse.SUPPRESS)
     words.add_argument("--light", action="store_true", help="clients that only speak: light.py")
+    words.add_argument("--profile", action="store_true")
     for name, value in (("clients", 200), ("histories", 100), ("seconds", 10), ("commits", 1), ("processes", 2), ("think", 0)):
         words.add_argument(f"--{name}", default=str(value))
     given = words.parse_args()
@@ -143,7 +166,7 @@ def main():
         elif store == "echo":
             echoing(float(given.seconds), int(given.clients))
         else:
-            failed |= served(store, int(count or 1), passed)
+            failed |= served(store, int(count or 1), passed, given.profile)
     return failed
 
 

@@ -21,9 +21,11 @@ sys.path[:0] = [os.path.join(TOP, "service", "src"), os.path.join(TOP, "python",
 
 from realm_service.tokens import Tokens  # noqa: E402
 
+signal.signal(signal.SIGTERM, lambda *_: sys.exit("terminated"))  # so that what is to be done at the end is done
 logging.getLogger("asyncio").setLevel(logging.ERROR)  # (it tells each step of a test that takes its time)
 SECRET = "a secret of the tests alone, which nobody else has"
 START_SECONDS = 20
+PLAIN = os.path.join(os.path.dirname(os.path.abspath(__file__)), "plain")  # has no uvloop, whatever the system has
 LOCAL = urllib.request.build_opener(urllib.request.ProxyHandler({}))  # whatever the environment says
 
 
@@ -65,7 +67,7 @@ def processor(pid):
 
 
 class Service:
-    """One worker, with its configuration as sections of keys."""
+    """One worker, with its configuration as sections of keys. Over files it runs without uvloop, over the other stores with it."""
 
     def __init__(self, store, at=None, **sections):
         self.at = at or folder()
@@ -80,13 +82,15 @@ class Service:
             for name, keys in sections.items():
                 file.write(f"[{name}]\n" + "".join(f"{key} = {json.dumps(value)}\n" for key, value in keys.items()))
         self.log = os.path.join(self.at, f"{self.port}.log")
+        self.profile = os.path.join(self.at, f"{self.port}.profile")
         self.process = None
+        path = [os.path.join(TOP, "service", "src"), *([PLAIN] if store["kind"] == "files" else [])]
+        self.env = {**os.environ, "PYTHONPATH": os.pathsep.join(path)}
 
-    def start(self):
+    def start(self, under=()):
         with open(self.log, "ab") as log:
-            words = [sys.executable, "-m", "realm_service", "--config", self.config]
-            env = {**os.environ, "PYTHONPATH": os.path.join(TOP, "service", "src")}
-            self.process = subprocess.Popen(words, stdout=log, stderr=log, stdin=subprocess.DEVNULL, env=env)
+            words = [sys.executable, *under, "-m", "realm_service", "--config", self.config]
+            self.process = subprocess.Popen(words, stdout=log, stderr=log, stdin=subprocess.DEVNULL, env=self.env)
         atexit.register(self.kill)
         return self
 
@@ -119,9 +123,8 @@ class Service:
 
     def command(self, *words):
         """An operator's command with this configuration: its status and what it says."""
-        env = {**os.environ, "PYTHONPATH": os.path.join(TOP, "service", "src")}
         given = [sys.executable, "-m", "realm_service", "--config", self.config, *words]
-        done = subprocess.run(given, env=env, stdout=subprocess.PIPE, stderr=subprocess.STDOUT, text=True, check=False)
+        done = subprocess.run(given, env=self.env, stdout=subprocess.PIPE, stderr=subprocess.STDOUT, text=True, check=False)
         return done.returncode, done.stdout
 
     def metric(self, name):

@@ -34,12 +34,16 @@ class Messages(unittest.TestCase):
         self.assertEqual(head(bytes.fromhex("0805ac02ac02")), Head(8, ident=5, version=300))
         self.assertEqual(head(bytes.fromhex("090201")), Head(9, ident=1, retired=2))
         self.assertEqual(head(bytes.fromhex("0b020000010101") + b"q"), Head(11, ident=2, tables=frozenset({"q"})))
-        self.assertEqual(head(bytes.fromhex("03ac0202" + "01ac02" + "0003010000")), Head(3, ident=300, version=300, changes=2))
+        self.assertEqual(head(bytes.fromhex("03ac0201" + "01ac020003010000")), Head(3, ident=300, version=300, changes=1))
         self.assertEqual(head(bytes.fromhex("030100")), Head(3, ident=1))
+
+    def test_the_lowest_base_counts(self):
+        """The server skips changes that it has, whatever their bases are."""
+        self.assertEqual(head(bytes.fromhex("030103" + "09ffffffff0f0000" + "0a0700026162" + "0b080000")), Head(3, ident=1, version=7, changes=3))
 
     def test_what_is_none(self):
         for given in ("", "63616263", "02" + "00" * 16 + "01", "01616263", "01" + "00" * 17, "03", "04" + "ff" * 20, "05010000", "09", "0901",
-                      "0b02000001", "0b020000010161", "0b0200000101ff"):
+                      "0b02000001", "0b020000010161", "0b0200000101ff", "03ac020201ac020003010000", "03010101000002ff"):
             with self.assertRaises(BadMessage, msg=given):
                 head(bytes.fromhex(given))
 
@@ -152,7 +156,7 @@ class TokensOfKeys(unittest.TestCase):
         self.refused(jwt.encode(self.claims, self.curve, "ES256", headers={"kid": "unknown"}))
         self.refused(jwt.encode(self.claims, self.curve, "ES256"))
         for claims in ({"aud": "other"}, {"realm": ["fam-1"]}, {"realm": {"fam-1": "all"}}, {"realm": {"fam-1": {"level": "read", "tables": []}}},
-                       {"device": "x"}, {"sub": "two\nlines"}, {"exp": time.time() - 1}):
+                       {"device": "x"}, {"sub": "two\nlines"}, {"sub": 5}, {"exp": time.time() - 1}):
             self.refused(jwt.encode({**self.claims, **claims}, self.curve, "ES256", headers={"kid": "e1"}))
 
     def test_a_public_key_is_no_secret(self):
@@ -186,7 +190,11 @@ class Configuration(unittest.TestCase):
         self.refused({"store": {"kind": "postgres"}}, "needs dsn")
         self.refused({"limits": {"connections": "many"}}, "connections is of type int")
         self.refused({"limits": {"connections": True}}, "connections is of type int")
-        self.refused({"service": {"listen": "here"}}, "HOST:PORT")
+        self.refused({"limits": {"connections": 0}}, "connections is above 0")
+        self.refused({"store": {"lease_seconds": -1.0}}, "lease_seconds is above 0")
+        for listen in ("here", ":8480", "here:x", "here:0", "here:65536"):
+            self.refused({"service": {"listen": listen}}, "HOST:PORT")
+        self.refused({"service": {"listen": "0.0.0.0:8480"}, "store": {"kind": "postgres", "dsn": "postgresql://"}}, "address is missing")
         self.refused({"tokens": {"secret_file": "a", "jwks_file": "b"}}, "not both")
 
     def test_a_secret_is_made_once(self):
@@ -215,6 +223,7 @@ class Configuration(unittest.TestCase):
             caller, _ = Tokens(file.read().strip()).caller(printed.strip(), "news")
         self.assertEqual((status, caller), (0, Caller("ann", False, tables=frozenset({"notes", "tags"}))))
         self.assertEqual(command("token", "ann", "fam")[0], 1)
+        self.assertEqual(command("--listen", "here"), (1, "realm_service: [service] listen is HOST:PORT\n"))
         self.assertEqual(command("raise-generation", "none"), (1, "realm_service: there is no history none\n"))
 
 

@@ -383,6 +383,32 @@ class Workers(unittest.IsolatedAsyncioTestCase):
             self.assertLess(took, 2.0)  # (a second where the machine isn't busy)
             self.assertEqual(tablet.count(), 2)
 
+    async def test_a_worker_passes_on_many_sockets(self):
+        """More than the hundred connections that a client of the library has by itself."""
+        store = stores("postgres")
+        here, there = (Service(store, limits={"user_connections": 1000}).start().ready() for _ in range(2))
+        headers = authorized("ann", {HISTORY: "write"})
+        bind, ask = b"\x01" + b"u" * 16, b"\x04\x01\x00\x00"
+        self.assertEqual((await fetched(self.session, "POST", f"{here.base}/v1/histories/{HISTORY}", headers, bind))[0], 200)
+        async with aiohttp.ClientSession(connector=aiohttp.TCPConnector(limit=0)) as session:
+            opened = await asyncio.gather(*(session.ws_connect(f"{there.base}/v1/histories/{HISTORY}", headers=headers) for _ in range(150)))
+            for it in opened:
+                await it.send_bytes(ask)
+            replies = [await it.receive(timeout=10) for it in opened]
+            self.assertEqual({it.data[:1] for it in replies}, {b"\x05"})
+        self.assertGreaterEqual(there.metric("realm_relayed_total"), 150)
+        for it in (here, there):
+            self.assertEqual(it.stop(), 0)
+
+    async def test_callers_hear_nothing_of_the_store(self):
+        cluster().stop()
+        try:
+            status, said = await fetched(self.session, "GET", self.url + "/objects", authorized("ann", {HISTORY: "write"}))
+        finally:
+            cluster().start()
+        self.assertEqual((status, said), (503, "the worker or its store doesn't answer as yet: try again\n"))
+        self.assertIn("callers are to try again: ", self.service.said())
+
     async def test_a_worker_that_stops_says_come_back(self):
         async with Device(self.service.base, HISTORY) as phone:
             await phone.sync()

@@ -1,14 +1,17 @@
 """One suite that every store passes: what it stores is there, once, in order; who lost a history changes nothing of it."""
 
 import asyncio
+import errno
 import os
 import random
 import unittest
+import unittest.mock
 import uuid
 
 from support import cluster, folder
 
-from realm_service.stores import Absent, Device, Elsewhere, Fenced
+from realm_service.messages import journal_end
+from realm_service.stores import Absent, Device, Elsewhere, Fenced, StoreDown
 from realm_service.stores.files import Files
 from realm_service.stores.postgres import Postgres
 from realm_service.stores.sqlite import Sqlite
@@ -140,6 +143,19 @@ class Suite:
         self.assertEqual(tuple(await store.read(taken)), (b"RSYNCJ01" + record(b"one")[:-1] + record(b"two"), {}))
 
 
+class Failing:
+    """A sync of which one call fails, counted from 1."""
+
+    def __init__(self, failing):
+        self.left, self.sync = failing, os.fsync
+
+    def __call__(self, file):
+        self.left -= 1
+        if self.left == 0:
+            raise OSError(errno.EIO, "a sync fails")
+        self.sync(file)
+
+
 class OfFiles(Suite, unittest.IsolatedAsyncioTestCase):
     def setUp(self):
         self.at = os.path.join(folder(), "histories")
@@ -174,6 +190,48 @@ class OfFiles(Suite, unittest.IsolatedAsyncioTestCase):
         await self.store.append(lease, 16, record(b"two"), [(BOB, "bob")])
         self.assertEqual((await self.store.read(lease)).devices, {ANN: Device("ann", 1), BOB: Device("bob", 1)})
 
+    async def test_a_letter_that_a_crash_cut_is_written_over(self):
+        lease = await self.new()
+        await self.store.append(lease, 8, record(b"one"), [(ANN, "ann")])
+        with open(os.path.join(self.at, "family.devices"), "ab") as file:
+            file.write(f"{BOB.hex()} 1 J\u00fcrg".encode()[:-3])
+        self.assertEqual((await self.store.read(lease)).devices, {ANN: Device("ann", 1)})
+
+    async def test_what_a_failed_sync_left_is_written_anew(self):
+        """The system counts it as written, and it may not be there after a loss of power."""
+        for failing, added in ((1, b""), (2, b""), (3, record(b"two")[:-1])):  # of the devices' line, of what is behind the gate, of the gate
+            lease = await self.new(f"family-{failing}")
+            await self.store.append(lease, 8, record(b"one"), [(ANN, "ann")])
+            held = self._files(lease)
+            with unittest.mock.patch("os.fsync", Failing(failing)), self.assertRaises(StoreDown):
+                await self.store.append(lease, 16, record(b"two"), [(BOB, "bob")])
+            journal, devices = await self.store.read(lease)
+            self.assertEqual(journal[: journal_end(journal)], b"RSYNCJ01" + record(b"one")[:-1] + added)
+            self.assertEqual(devices, {ANN: Device("ann", 1), BOB: Device("bob", 1)})
+            anew = self._files(lease)
+            self.assertNotIn(True, [it == then for it, then in zip(anew, held)])
+            await self.store.read(lease)
+            self.assertEqual(self._files(lease), anew)
+
+    def _files(self, lease):
+        """Which files have the names now."""
+        return [os.stat(os.path.join(self.at, lease.name + end)).st_ino for end in (".realm", ".devices")]
+
+    async def test_a_file_that_somebody_cut_isnt_appended_to(self):
+        lease = await self.new()
+        await self.store.append(lease, 8, record(b"one"), [])
+        os.truncate(os.path.join(self.at, "family.realm"), 9)
+        with self.assertRaises(Fenced):
+            await self.store.append(lease, 16, record(b"two"), [])
+
+    async def test_what_somebody_began_isnt_written_over(self):
+        lease = await self.store.acquire("family", True)
+        await self.store.read(lease)
+        with open(os.path.join(self.at, "family.realm"), "r+b") as file:
+            file.write(FIRST[:8] + record(b"by the program"))
+        with self.assertRaises(Fenced):
+            await self.store.append(lease, 0, FIRST, [])
+
     async def test_what_somebody_appended_isnt_written_over(self):
         lease = await self.new()
         with open(os.path.join(self.at, "family.realm"), "r+b") as file:
@@ -197,6 +255,20 @@ class OfSqlite(Suite, unittest.IsolatedAsyncioTestCase):
     async def test_one_process_has_the_file(self):
         with self.assertRaises(Elsewhere):
             await self.made().start("")
+
+    async def test_what_is_no_database(self):
+        self.at = os.path.join(folder(), "notes.txt")
+        with open(self.at, "w", encoding="ascii") as file:
+            file.write("buy milk " * 1000)
+        with self.assertRaises(StoreDown):
+            await self.made().start("")
+
+    async def test_a_fault_ends_one_job(self):
+        lease = await self.new()
+        with self.assertRaises(ZeroDivisionError):
+            await asyncio.wait_for(self.store._do(lambda link: 1 // 0), 5)
+        await self.store.append(lease, 8, record(b"one"), [])
+        self.assertEqual((await self.store.read(lease)).journal, b"RSYNCJ01" + record(b"one"))
 
 
 class OfPostgres(Suite, unittest.IsolatedAsyncioTestCase):
@@ -313,6 +385,33 @@ class OfPostgres(Suite, unittest.IsolatedAsyncioTestCase):
         with self.assertRaises(Fenced):
             await sleeper.check(taken)
         await sleeper.check(kept)
+
+    async def test_a_lapse_is_told_as_soon_as_it_can_be(self):
+        sleeper, heard = await self.other(0.6), []
+        sleeper.on_lapse(heard.append)
+        await sleeper.acquire("taken", True)
+        sleeper.tasks[0].cancel()
+        await asyncio.sleep(0.8)
+        await self.store.acquire("taken", True)
+        run = sleeper._run
+
+        async def failing(how, sql, *given, **more):
+            if "FROM history WHERE owner" in sql:
+                raise StoreDown("cut")
+            return await run(how, sql, *given, **more)
+
+        sleeper._run = failing
+        with self.assertRaises(StoreDown):
+            await sleeper.renew()
+        self.assertFalse(await sleeper.ready())
+        sleeper._run = run
+        await sleeper.renew()
+        self.assertEqual((heard, await sleeper.ready()), ([set()], True))
+
+    async def test_what_is_no_database(self):
+        for dsn in (cluster().dsn("none"), "postgresql://realm@127.0.0.1:1/none", "here"):
+            with self.assertRaises(StoreDown):
+                await Postgres(dsn).start("")
 
     async def test_declared_dead_while_it_lives(self):
         """It may answer what it knew until its next renewal, and never append."""

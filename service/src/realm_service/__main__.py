@@ -6,12 +6,15 @@ import contextlib
 import logging
 import sys
 
+from aiohttp.http_exceptions import HttpProcessingError
+
 from . import config as configs
 from . import operating
 from .config import BadConfig, Config
 from .library import NoLibrary
 from .operating import Unable
 from .server import run
+from .stores import StoreDown
 
 WORDS = """Serves histories of realm_sync over WebSocket and HTTP. Without any words: histories of the folder realm_histories, on
 127.0.0.1:8480, with a token that is printed. docs/SERVICE.md says more."""
@@ -42,7 +45,7 @@ def _config(given: argparse.Namespace) -> Config:
     config = configs.read(getattr(given, "config", None))
     config.service.listen = given.listen or config.service.listen
     config.store.folder = getattr(given, "folder", config.store.folder)
-    return config
+    return configs.checked(config)
 
 
 def _do(given: argparse.Namespace) -> None:
@@ -61,11 +64,18 @@ def _do(given: argparse.Namespace) -> None:
         asyncio.run(operating.move(config, configs.read(given.to), given.names))
 
 
-def main() -> None:
+def _begin_log() -> None:
+    """What callers do is no fault of the service, and what they send isn't told: it may be a token."""
     logging.basicConfig(level=logging.INFO, format="%(asctime)s %(levelname)s %(message)s")
+    logging.getLogger("aiohttp.websocket").setLevel(logging.ERROR)  # below that it tells subprotocols
+    logging.getLogger("aiohttp.server").addFilter(lambda record: not (record.exc_info and isinstance(record.exc_info[1], HttpProcessingError)))
+
+
+def main() -> None:
+    _begin_log()
     try:
         _do(_words().parse_args())
-    except (BadConfig, NoLibrary, Unable, OSError) as error:
+    except (BadConfig, NoLibrary, StoreDown, Unable, OSError) as error:
         sys.exit(f"realm_service: {error}")
 
 

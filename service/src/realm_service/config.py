@@ -6,6 +6,7 @@ import secrets
 import tomllib
 import typing
 
+EVERYWHERE = ("0.0.0.0", "[::]")  # nobody's address
 FOLDER = "realm_histories"  # of the caller's folder, where no configuration names another one
 
 
@@ -79,6 +80,8 @@ def _section(kind: type, name: str, given: object) -> typing.Any:
         wanted: tuple[type, ...] = (int, float) if fields[key] is float else (fields[key],)
         if not isinstance(value, wanted) or isinstance(value, bool) != (bool in wanted):
             raise BadConfig(f"[{name}] {key} is of type {fields[key].__name__}")
+        if fields[key] in (int, float) and not value > 0:
+            raise BadConfig(f"[{name}] {key} is above 0")
     return kind(**given)
 
 
@@ -88,13 +91,20 @@ def parsed(given: dict[str, object]) -> Config:
     for name in given:
         if name not in kinds:
             raise BadConfig(f"no section [{name}]; the sections are {', '.join(kinds)}")
-    config = Config(**{name: _section(kind, name, given.get(name, {})) for name, kind in kinds.items()})
+    return checked(Config(**{name: _section(kind, name, given.get(name, {})) for name, kind in kinds.items()}))
+
+
+def checked(config: Config) -> Config:
+    """The same; raises BadConfig where parts of it don't fit."""
     if config.store.kind not in ("files", "sqlite", "postgres"):
         raise BadConfig("[store] kind is files, sqlite or postgres")
     if {"sqlite": config.store.path, "postgres": config.store.dsn}.get(config.store.kind) == "":
         raise BadConfig(f"[store] of kind {config.store.kind} needs {'path' if config.store.kind == 'sqlite' else 'dsn'}")
-    if not config.service.listen.rpartition(":")[2].isdigit():
+    host, _, port = config.service.listen.rpartition(":")
+    if not host or not port.isdecimal() or not 0 < int(port) < 65536:
         raise BadConfig("[service] listen is HOST:PORT")
+    if config.store.kind == "postgres" and host in EVERYWHERE and not config.service.address:
+        raise BadConfig("[service] address is missing: where other workers reach this one, which listens everywhere")
     if config.tokens.secret_file and config.tokens.jwks_file:
         raise BadConfig("[tokens] has a secret_file or a jwks_file, and not both")
     return config

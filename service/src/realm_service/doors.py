@@ -1,6 +1,7 @@
 """The doors over HTTP, and the server that holds them all: docs/SERVICE.md, "Doors"."""
 
 import asyncio
+import contextlib
 import functools
 import json
 import logging
@@ -15,7 +16,7 @@ from .devices import Forbidden
 from .entries import Entries
 from .histories import Histories
 from .history import History
-from .limits import Guarded, Guards, Limits
+from .limits import Guarded, Guards, Limits, in_time
 from .messages import BadMessage
 from .node import ABSENT, DONE, DUMP, OBJECT
 from .openapi import PAGE, described
@@ -37,11 +38,16 @@ def _answered(handler: Handler) -> Handler:
     @functools.wraps(handler)
     async def answer(self: "Doors", request: web.Request) -> web.StreamResponse:
         try:
-            return await handler(self, request)
+            answered = await handler(self, request)
         except (web.HTTPException, asyncio.CancelledError):
             raise
         except Exception as error:
-            return response_of(error)
+            answered = response_of(error)
+        with contextlib.suppress(ConnectionError):
+            async with in_time(request, self.config.limits.message_seconds):
+                await answered.prepare(request)
+                await answered.write_eof()
+        return answered
 
     return answer
 
@@ -56,7 +62,7 @@ def _number(request: web.Request, name: str, default: float) -> float:
 class Doors:
     def __init__(self, histories: Histories, tokens: Tokens, address: str, config: Config):
         self.histories, self.config = histories, config
-        self.limits, self.guards = Limits(config.limits), Guards(config.limits.message_seconds)
+        self.limits, self.guards = Limits(config.limits), Guards(config.limits)
         self.owners = Owners(histories, address, self.limits, config.service.create)
         self.visits = Visits(tokens, self.owners, self.limits)
         self.sockets, self.entries = Sockets(self.visits), Entries(self.visits)
@@ -90,15 +96,19 @@ class Doors:
 
     def _connection(self) -> Guarded:
         assert self.runner is not None and self.runner.server is not None
-        made = Guarded(self.runner.server, loop=asyncio.get_running_loop(), keepalive_timeout=75, **NO_LOG)
-        self.guards.guarded.add(made)
+        # (a body is taken as it comes: unpacked it may be a thousand times as large)
+        made = Guarded(self.runner.server, loop=asyncio.get_running_loop(), keepalive_timeout=75, auto_decompress=False, **NO_LOG)
+        made.guards = self.guards
         return made
 
     async def _sweep(self) -> None:
         while True:
             await asyncio.sleep(1)
-            self.guards.sweep()
-            self.limits.sweep()
+            try:
+                self.guards.sweep()
+                self.limits.sweep()
+            except Exception:  # a sweeper that ends would cut nobody any more
+                log.exception("a sweep failed")
 
     async def stop(self) -> None:
         """Nothing new is taken, and what is under way is answered."""
@@ -142,20 +152,26 @@ class Doors:
     async def post(self, request: web.Request) -> web.StreamResponse:
         """A message and its reply."""
         self.visits.admitted(request)
+        most, size = self.config.limits.message_bytes, request.content_length
+        with self.limits.flight(most if size is None else min(size, most)):
+            message = await self._body(request)
+            for _ in range(2):
+                visit = await self.visits.visit(request, is_device=True)
+                if visit.history is None:
+                    await self.limits.admit(visit.caller.user, len(message))
+                    return await self.owners.pass_on(visit.address, request, visit.token, message)
+                try:
+                    reply = await self.visits.answer(visit.history, visit.caller, message)
+                    return web.Response(body=reply, headers={GENERATION: str(visit.history.lease.generation)})
+                except Fenced:
+                    continue  # nothing of it was stored by us: whoever has it now answers
+        raise Fenced(request.match_info["history"])
+
+    async def _body(self, request: web.Request) -> bytes:
         try:
-            message = await asyncio.wait_for(request.read(), self.config.limits.message_seconds)
+            return await asyncio.wait_for(request.read(), self.config.limits.message_seconds)
         except web.HTTPRequestEntityTooLarge:
             raise Refused(413, "a message has at most message_bytes of the configuration") from None
-        for _ in range(2):
-            visit = await self.visits.visit(request, is_device=True)
-            if visit.history is None:
-                return await self.owners.pass_on(visit.address, request, visit.token, message)
-            try:
-                reply = await self.visits.answer(visit.history, visit.caller, message)
-                return web.Response(body=reply, headers={GENERATION: str(visit.history.lease.generation)})
-            except Fenced:
-                continue  # nothing of it was stored by us: whoever has it now answers
-        raise Fenced(request.match_info["history"])
 
     @_answered
     async def news(self, request: web.Request) -> web.StreamResponse:
@@ -229,7 +245,7 @@ async def _has_grown(history: History, wait: float) -> bool:
 def _named(table: str | None, key: str) -> bytes:
     try:
         return json.dumps({"table": table, "key": json.loads(key)}).encode()
-    except ValueError:
+    except (ValueError, RecursionError):
         raise Refused(400, "key is a key in JSON") from None
 
 

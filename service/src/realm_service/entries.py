@@ -12,6 +12,7 @@ from collections.abc import Iterator
 from aiohttp import web
 
 from .history import History
+from .limits import in_time
 from .messages import AHEAD, GIVEN_UP, Entry, NoEntries, entries
 from .node import NodeFailed
 from .refusals import GENERATION, Refused
@@ -61,6 +62,23 @@ def _refused(refusal: NoEntries) -> Refused:
     return Refused(500, f"the server refuses with code {refusal.code}")
 
 
+class _Stream:
+    """An answer in parts: lines, or events."""
+
+    def __init__(self, request: web.Request, generation: int, seconds: float):
+        self.request, self.seconds = request, seconds
+        self.is_events = EVENTS in request.headers.get("Accept", "")
+        kind = EVENTS if self.is_events else LINES
+        self.response = web.StreamResponse(headers={GENERATION: str(generation), "Content-Type": kind, "Cache-Control": "no-store"})
+
+    async def write(self, data: bytes) -> None:
+        async with in_time(self.request, self.seconds):
+            await self.response.write(data)
+
+    async def keep_alive(self) -> None:
+        await self.write(b":\n\n" if self.is_events else b"\n")
+
+
 class Entries:
     def __init__(self, visits: Visits):
         self.visits = visits
@@ -75,31 +93,29 @@ class Entries:
 
     async def tell(self, request: web.Request, visit: Visit) -> web.StreamResponse:
         history, version = typing.cast(History, visit.history), _first(request)
-        is_events = EVENTS in request.headers.get("Accept", "")
-        is_followed = request.query.get("follow", "1" if is_events else "0") == "1"
+        stream = _Stream(request, history.lease.generation, self.visits.limits.config.message_seconds)
+        is_followed = request.query.get("follow", "1" if stream.is_events else "0") == "1"
         page = await self._page(history, version, visit)
-        headers = {GENERATION: str(history.lease.generation), "Content-Type": EVENTS if is_events else LINES, "Cache-Control": "no-store"}
-        stream = web.StreamResponse(headers=headers)
-        await stream.prepare(request)
+        await stream.response.prepare(request)
         try:
-            await self._told(stream, visit, page, version, is_events, is_followed)
-            await stream.write_eof()
+            await self._told(stream, visit, page, version, is_followed)
+            await stream.response.write_eof()
         except (Fenced, StoreDown, Refused, NodeFailed, OSError, asyncio.TimeoutError) as error:
             log.info("%s: a stream of entries is cut: %s", visit.name, error)
             if request.transport is not None:
                 request.transport.abort()  # so that the client sees that there is more
-        return stream
+        return stream.response
 
-    async def _told(self, stream: web.StreamResponse, visit: Visit, page: _Page, version: int, is_events: bool, is_followed: bool) -> None:
+    async def _told(self, stream: _Stream, visit: Visit, page: _Page, version: int, is_followed: bool) -> None:
         history = typing.cast(History, visit.history)
         with self._grown(history) as grown:
             while True:
                 grown.clear()
                 while page.lines:
-                    await stream.write(page.body(is_events))
+                    await stream.write(page.body(stream.is_events))
                     version = page.lines[-1][0] + 1
                     page = await self._page(history, version, visit)
-                if not is_followed or not await self._waited(grown, visit, stream, is_events):
+                if not is_followed or not await self._waited(grown, visit, stream):
                     return
                 page = await self._page(history, version, visit)
 
@@ -110,7 +126,7 @@ class Entries:
         except NoEntries as refusal:
             raise _refused(refusal) from refusal
 
-    async def _waited(self, grown: asyncio.Event, visit: Visit, stream: web.StreamResponse, is_events: bool) -> bool:
+    async def _waited(self, grown: asyncio.Event, visit: Visit, stream: _Stream) -> bool:
         """Waits until there may be more. False where the stream is to end: the client comes back, and goes on from where it is."""
         while not grown.is_set():
             left = visit.until - time.time()
@@ -119,7 +135,7 @@ class Entries:
             try:
                 await asyncio.wait_for(grown.wait(), min(KEEP_ALIVE, left))
             except asyncio.TimeoutError:
-                await stream.write(b":\n\n" if is_events else b"\n")
+                await stream.keep_alive()
         return not self.is_closing and visit.history is not None and not visit.history.gone
 
     @contextlib.contextmanager

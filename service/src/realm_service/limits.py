@@ -6,8 +6,9 @@ import contextlib
 import logging
 import time
 import typing
-from collections.abc import Iterator
+from collections.abc import AsyncIterator, Iterator
 
+from aiohttp import web
 from aiohttp.http_websocket import WSParserState
 from aiohttp.web_protocol import RequestHandler
 
@@ -18,6 +19,8 @@ from .refusals import Refused
 
 log = logging.getLogger("realm_service")
 PATIENCE = 5.0  # seconds that a message waits for its user's rate before it is refused
+REQUESTS_AHEAD = 100  # on one connection, that came before the one is answered that came first
+CONNECTIONS_EACH = 2  # connections of any kind, for each socket that may be open
 
 
 class Bucket:
@@ -90,22 +93,39 @@ class Limits:
 
 
 class Guarded(RequestHandler):
-    """A connection that knows since when a request or a message of it is cut. aiohttp 3.8 has no time limit for either, so this looks into
-    its private state; where a later one has another, nothing is cut, and a proxy in front does it."""
+    """A connection that knows since when a request or a message of it is cut, and how much it holds. aiohttp 3.8 has no limit for either, so
+    this looks into its private state; where a later one has another, nothing is cut, and a proxy in front does it."""
 
+    guards: "Guards"
     began: float | None = None
 
     def connection_made(self, transport: asyncio.BaseTransport) -> None:
         super().connection_made(transport)
         self.began = time.monotonic()
+        if not self.guards.admit(self) and self.transport is not None:
+            self.transport.abort()
+
+    def connection_lost(self, exc: BaseException | None) -> None:
+        super().connection_lost(exc)
+        self.guards.guarded.discard(self)
 
     def data_received(self, data: bytes) -> None:
         super().data_received(data)
         try:
             is_cut = self._is_cut()
+            if len(self._messages) > REQUESTS_AHEAD:
+                self._answer_one()
         except AttributeError:
             is_cut = False
         self.began = (self.began or time.monotonic()) if is_cut else None
+
+    def _answer_one(self) -> None:
+        """Answers the first request that waits, and closes the connection."""
+        first = self._messages.popleft()
+        self._messages.clear()
+        self._messages.append(first)
+        self.pause_reading()
+        self.close()
 
     def _is_cut(self) -> bool:
         parser: typing.Any = self._payload_parser
@@ -113,17 +133,62 @@ class Guarded(RequestHandler):
             return parser._state != WSParserState.READ_HEADER or bool(parser._partial) or bool(parser._tail)
         return not self._upgrade and self._current_request is None and not self._messages
 
+    def held(self) -> int:
+        """Bytes of a socket's messages that aren't whole, or wait to be read, and of answers that aren't sent."""
+        if self.transport is None:
+            return 0
+        unsent: int = self.transport.get_write_buffer_size()
+        parser: typing.Any = self._payload_parser
+        try:
+            come = len(parser._frame_payload) + len(parser._partial) + len(parser._tail) + parser.queue._size if parser is not None else 0
+        except AttributeError:
+            come = 0
+        return unsent + come
+
 
 class Guards:
-    """All connections, of which those are cut that drip."""
+    """All connections. Those are cut that drip, and the greatest where all together hold too much."""
 
-    def __init__(self, seconds: float):
-        self.seconds, self.guarded = seconds, set[Guarded]()
+    def __init__(self, config: LimitsConfig):
+        self.config, self.guarded = config, set[Guarded]()
+
+    def admit(self, it: Guarded) -> bool:
+        """Whether one more may be open."""
+        if len(self.guarded) >= CONNECTIONS_EACH * self.config.connections:
+            return False
+        self.guarded.add(it)
+        return True
 
     def sweep(self) -> None:
-        before = time.monotonic() - self.seconds
-        for it in [it for it in self.guarded if it.transport is None or (it.began is not None and it.began < before)]:
-            self.guarded.discard(it)
-            if it.transport is not None:
-                metrics.SLOW.inc()
-                it.transport.abort()
+        now = time.monotonic()
+        for it in list(self.guarded):
+            if it.began is None and it.transport is not None and it.transport.is_closing():
+                it.began = now  # it isn't closed before its last answer is taken
+            elif it.began is not None and it.began < now - self.config.message_seconds:
+                self._cut(it)
+        held = {it: it.held() for it in self.guarded}
+        over = sum(held.values()) - self.config.in_flight_bytes
+        for it in sorted(held, key=held.__getitem__, reverse=True) if over > 0 else ():
+            if over <= 0:
+                break
+            over -= held[it]
+            self._cut(it)
+
+    def _cut(self, it: Guarded) -> None:
+        self.guarded.discard(it)
+        if it.transport is not None:
+            metrics.SLOW.inc()
+            it.transport.abort()
+
+
+@contextlib.asynccontextmanager
+async def in_time(request: web.Request, seconds: float) -> AsyncIterator[None]:
+    """For what is sent: who doesn't take it for so long is cut."""
+    try:
+        async with asyncio.timeout(seconds):
+            yield
+    except asyncio.TimeoutError:
+        metrics.SLOW.inc()
+        if request.transport is not None:
+            request.transport.abort()
+        raise ConnectionResetError("the other side doesn't take what is sent") from None

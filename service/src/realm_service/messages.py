@@ -32,10 +32,13 @@ class Reader:
                 return value
         raise BadMessage("no number")
 
-    def bytes(self, count: int) -> bytes:
+    def skip(self, count: int) -> None:
         if count > len(self.data) - self.place:
             raise BadMessage("cut")
         self.place += count
+
+    def bytes(self, count: int) -> bytes:
+        self.skip(count)
         return self.data[self.place - count : self.place]
 
     def tables(self) -> frozenset[str]:
@@ -48,7 +51,7 @@ class Reader:
 @dataclasses.dataclass(frozen=True)
 class Head:
     """Of a message to a server: its tag, and as it has them the uuid, the ident that it speaks for, the ident that it gives up, the tables,
-    the version from which on it asks, or on which the first of its changes was made, and how many changes it has."""
+    the version from which on it asks, or the lowest on which one of its changes was made, and how many changes it has."""
 
     tag: int
     uuid: bytes = b""
@@ -71,8 +74,7 @@ def head(message: bytes) -> Head:
         return Head(tag, ident=read.number(), version=read.number())
     if tag == UPLOAD:
         ident, changes = read.number(), read.number()
-        version = (read.number(), read.number())[1] if changes else 0
-        return Head(tag, ident=ident, version=version, changes=changes)
+        return Head(tag, ident=ident, version=_lowest_base(read, changes), changes=changes)
     if tag == RETIRE:
         retired = read.number()
         return Head(tag, ident=read.number(), retired=retired)
@@ -80,6 +82,16 @@ def head(message: bytes) -> Head:
         ident, version, _, _ = (read.number() for _ in ("ident", "cursor", "settled", "form"))
         return Head(tag, ident=ident, version=version, tables=read.tables())
     raise BadMessage("no message for a server")
+
+
+def _lowest_base(read: Reader, changes: int) -> int:
+    """Of all changes, since the server skips those that it has: a first one of these may have any base."""
+    lowest = None
+    for _ in range(changes):
+        _, base, _, size = (read.number() for _ in range(4))
+        read.skip(size)
+        lowest = base if lowest is None else min(lowest, base)
+    return lowest or 0
 
 
 def ident_of(reply: bytes) -> tuple[bytes, int] | None:

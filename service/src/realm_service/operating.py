@@ -8,9 +8,9 @@ from collections.abc import AsyncIterator
 
 from .config import BadConfig, Config
 from .messages import journal_end
-from .node import Node
+from .node import Damaged, Node, NodeFailed
 from .server import store_of, tokens_of
-from .stores import Absent, Elsewhere, Fenced, Lease, Store, StoreDown
+from .stores import Absent, Elsewhere, Fenced, Lease, Store, Stored, StoreDown
 from .tokens import LEVELS
 
 
@@ -73,34 +73,47 @@ async def move(config: Config, target: Config, names: list[str]) -> None:
         for name in names:
             if name in await there.names():
                 raise Unable(f"{name} is there already")
-            async with _held(here, config, name) as lease, _held(there, target, name, create=True) as copy:
-                await _moved(here, there, lease, copy)
+            async with _held(here, config, name) as lease:
+                journal, devices = await here.read(lease)
+                whole = journal[: journal_end(journal)] + b"\0" if journal else b""
+                _look_at(name, whole)
+                async with _held(there, target, name, create=True) as copy:
+                    await _moved(here, there, lease, copy, Stored(whole, devices))
             print(f"{name}: moved, {copy.length} bytes")
 
 
-async def _moved(here: Store, there: Store, lease: Lease, copy: Lease) -> None:
-    journal, devices = await here.read(lease)
-    whole = journal[: journal_end(journal)] + b"\0" if journal else b""
-    _is_sound(whole)
-    users = {uuid: it.user for uuid, it in devices.items() if it.generation == lease.generation}
-    old = [(uuid, it) for uuid, it in devices.items() if it.generation != lease.generation]
-    for generation in range(1, lease.generation + 1):
-        claims = [(uuid, it.user) for uuid, it in old if it.generation == generation]
-        await there.append(copy, 0, b"", claims)
-        if generation < lease.generation:
-            await there.raise_generation(copy)
-    await there.append(copy, 0, whole, list(users.items()))
+async def _moved(here: Store, there: Store, lease: Lease, copy: Lease, stored: Stored) -> None:
+    try:
+        await _copied(there, copy, stored, lease.generation)
+    except (Fenced, StoreDown):
+        with contextlib.suppress(Fenced, StoreDown):
+            await there.remove(copy)
+        raise
     try:
         await here.remove(lease)
     except Fenced:
         await there.remove(copy)
         raise Unable(f"{lease.name} was changed meanwhile: nothing was moved") from None
+    except StoreDown as error:
+        raise Unable(f"{lease.name} is at both places, or was moved: the old store didn't answer when it was to be removed there ({error})") from error
 
 
-def _is_sound(journal: bytes) -> None:
+async def _copied(there: Store, copy: Lease, stored: Stored, last: int) -> None:
+    """The devices of each generation, and then the journal."""
+    for generation in range(1, last + 1):
+        claims = [(uuid, it.user) for uuid, it in stored.devices.items() if it.generation == generation]
+        await there.append(copy, 0, stored.journal if generation == last else b"", claims)
+        if generation < last:
+            await there.raise_generation(copy)
+
+
+def _look_at(name: str, journal: bytes) -> None:
+    """Opens the journal, and lets it go."""
     node = Node()
     try:
         node.open(journal)
+    except (Damaged, NodeFailed) as error:
+        raise Unable(f"{name}: {error}") from error
     finally:
         node.close()
 

@@ -13,7 +13,7 @@ from . import metrics
 from .devices import Caller
 from .histories import Histories
 from .history import History
-from .limits import Limits
+from .limits import Limits, in_time
 from .refusals import GENERATION, RESTART, Refused
 from .stores import Elsewhere, StoreDown
 
@@ -21,6 +21,7 @@ log = logging.getLogger("realm_service")
 HOP, WORKER = "Realm-Hop", "Realm-Worker"
 PASSED = ("Content-Type", "Retry-After", "WWW-Authenticate", GENERATION)
 HANDSHAKE_SECONDS, HEARTBEAT = 5.0, 20.0
+UNSAID = (None, 1000, 1006)  # of a socket that ended without a word of the owner's: it died
 LONGEST_WAIT = 60.0  # seconds that a question for news may wait
 LATE_SECONDS = 1.0  # after which a reply is late, and this worker tries to take the history
 HEARD_SECONDS = 0.5  # how long it counts that a worker answered, or didn't
@@ -33,7 +34,7 @@ class Owners:
         self.session: aiohttp.ClientSession | None = None
 
     async def start(self) -> None:
-        self.session = aiohttp.ClientSession()
+        self.session = aiohttp.ClientSession(connector=aiohttp.TCPConnector(limit=0))  # each socket that is passed on holds one
 
     async def stop(self) -> None:
         if self.session is not None:
@@ -90,13 +91,13 @@ class Owners:
         except (aiohttp.ClientError, asyncio.TimeoutError) as error:
             raise StoreDown(f"the owner doesn't answer: {error}") from error
 
-    @staticmethod
-    async def _streamed(request: web.Request, answer: aiohttp.ClientResponse, headers: dict[str, str]) -> web.StreamResponse:
+    async def _streamed(self, request: web.Request, answer: aiohttp.ClientResponse, headers: dict[str, str]) -> web.StreamResponse:
         stream = web.StreamResponse(status=answer.status, headers=headers)
         await stream.prepare(request)
         try:
             async for part in answer.content.iter_any():
-                await stream.write(part)
+                async with in_time(request, self.limits.config.message_seconds):
+                    await stream.write(part)
             await stream.write_eof()
         except (aiohttp.ClientError, OSError, asyncio.TimeoutError):
             if request.transport is not None:
@@ -129,7 +130,7 @@ class Owners:
                 if isinstance(error, Refused):
                     raise error
             if not socket.closed:
-                await socket.close(code=other.close_code or RESTART)
+                await socket.close(code=RESTART if other.close_code in UNSAID else other.close_code)
         finally:
             for task in tasks:
                 task.cancel()

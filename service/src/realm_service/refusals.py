@@ -2,6 +2,7 @@
 
 import asyncio
 import logging
+import time
 
 from aiohttp import web
 
@@ -33,14 +34,31 @@ KINDS: tuple[tuple[type[BaseException], int, int], ...] = (
 WORDS: dict[type[BaseException], str] = {
     asyncio.TimeoutError: "the history is at work on a long message: try again later, and send less at once",
     Fenced: "the history has moved to another worker: try again",
+    Elsewhere: "another worker has the history: try again",
+    StoreDown: "the worker or its store doesn't answer as yet: try again",
     Absent: "there is no such history, and the token may not make it",
 }
+
+
+class _Noted:
+    """Says why workers and stores don't answer, to the log and not to callers, at most once a second."""
+
+    at = 0.0
+
+    def __call__(self, error: BaseException) -> None:
+        if isinstance(error, (Elsewhere, StoreDown)) and time.monotonic() - self.at >= 1:
+            self.at = time.monotonic()
+            log.warning("callers are to try again: %s", error)
+
+
+_noted = _Noted()
 
 
 def refusal_of(error: BaseException) -> Refused:
     """What a caller is told of it. What has no name here is a fault of the service, and is logged."""
     if isinstance(error, Refused):
         return error
+    _noted(error)
     for kind, status, code in KINDS:
         if isinstance(error, kind):
             generation = error.ours if isinstance(error, Outdated) else 0

@@ -1,8 +1,8 @@
 """The service from its start to its end."""
 
 import asyncio
-import contextlib
 import logging
+import os
 import signal
 import typing
 
@@ -21,6 +21,7 @@ from .trimming import Trimmer
 log = logging.getLogger("realm_service")
 STOP_SECONDS = 20.0
 DAYS = 30  # of the token that is printed
+LOOPBACK = ("127.", "localhost:", "[::1]:")
 
 
 def store_of(config: Config) -> Store:
@@ -59,7 +60,7 @@ async def run(config: Config, is_default: bool = False) -> None:
     ended = asyncio.Event()
     for number in (signal.SIGTERM, signal.SIGINT):
         asyncio.get_running_loop().add_signal_handler(number, ended.set)
-    await doors.start(host, int(port))  # first the port, then the lease: so nobody else has this address
+    await doors.start(host.strip("[]"), int(port))  # first the port, then the lease: so nobody else has this address
     try:
         await store.start(address)
     except Elsewhere as error:
@@ -71,15 +72,23 @@ async def run(config: Config, is_default: bool = False) -> None:
     log.info("stops")
     await doors.stop()
     sweeper.cancel()
-    with contextlib.suppress(asyncio.TimeoutError):  # where the store doesn't answer, what it has is given back by its leases
+    is_late = False
+    try:
         await asyncio.wait_for(histories.stop(), STOP_SECONDS)
+    except asyncio.TimeoutError:
+        is_late = True
     await store.stop()
     await doors.stopped()
+    if is_late:  # a node can't be stopped, and a store may not answer: nobody was told a reply, and a lease gives the histories back
+        log.warning("ends while a history is at work")
+        logging.shutdown()
+        os._exit(0)
 
 
 def _say(config: Config, address: str, tokens: Tokens | None) -> None:
     where = typing.cast(str, {"files": config.store.folder, "sqlite": config.store.path}.get(config.store.kind, "PostgreSQL"))
     log.info("serves histories of %s at %s", where, address)
     if tokens is not None:
-        print(f"Histories in the folder {where}, at {address} on this machine alone. A token of the user `me` for all of them, for {DAYS} days:")
+        alone = " on this machine alone" if config.service.listen.startswith(LOOPBACK) else ""
+        print(f"Histories in the folder {where}, at {address}{alone}. A token of the user `me` for all of them, for {DAYS} days:")
         print(tokens.made("me", {"*": "rule"}, DAYS * 86400), flush=True)

@@ -11,6 +11,7 @@ from aiohttp import WSMsgType, web
 from . import metrics
 from .devices import Caller, Forbidden
 from .history import History
+from .limits import in_time
 from .messages import BadMessage
 from .refusals import RESTART, Refused, refusal_of, response_of
 from .stores import Fenced
@@ -19,6 +20,7 @@ from .visits import Visit, Visits
 
 HEARTBEAT = 20.0  # seconds
 LONGEST_TIMER = 86400.0  # seconds
+SOON = 1 << 15  # bytes that a socket takes without a wait
 
 
 class News:
@@ -74,6 +76,7 @@ class Sockets:
     def __init__(self, visits: Visits):
         self.visits, self.limits = visits, visits.limits
         self.open: set[web.WebSocketResponse] = set()
+        self.answering: set[web.WebSocketResponse] = set()  # of these, the ones that wait for a reply
 
     async def handle(self, request: web.Request) -> web.StreamResponse:
         try:
@@ -94,7 +97,7 @@ class Sockets:
             if other is not None:
                 await owners.relay(socket, other, visit.name, visit.caller)
             else:
-                await self._serve(socket, visit)
+                await self._serve(request, socket, visit)
         except Exception as error:
             refusal = refusal_of(error)
             metrics.REFUSED.labels(str(refusal.code)).inc()
@@ -103,7 +106,7 @@ class Sockets:
             self.open.discard(socket)
         return socket
 
-    async def _serve(self, socket: web.WebSocketResponse, visit: Visit) -> None:
+    async def _serve(self, request: web.Request, socket: web.WebSocketResponse, visit: Visit) -> None:
         history = typing.cast(History, visit.history)
         news, end = News(socket), _End(socket, visit)
         history.listeners.add(news)
@@ -116,7 +119,12 @@ class Sockets:
                     news.is_told = False
                     if history.gone:
                         raise Fenced(visit.name)
-                    await socket.send_bytes(await self.visits.answer(history, visit.caller, message.data, news))
+                    self.answering.add(socket)
+                    with self.limits.flight(len(message.data)):
+                        await self._send(request, socket, await self.visits.answer(history, visit.caller, message.data, news))
+                    self.answering.discard(socket)
+                    if not self.visits.is_open:
+                        raise Refused(503, "the worker stops", RESTART)
                 elif message.type == WSMsgType.TEXT:
                     visit.caller, visit.until = self._renewed(message.data, visit)
                     end.renew()
@@ -127,13 +135,21 @@ class Sockets:
         except ConnectionError:
             return
         finally:
+            self.answering.discard(socket)
             history.listeners.discard(news)
             end.timer.cancel()
+
+    async def _send(self, request: web.Request, socket: web.WebSocketResponse, reply: bytes) -> None:
+        if request.transport is not None and request.transport.get_write_buffer_size() + len(reply) < SOON:
+            await socket.send_bytes(reply)  # (which waits for nobody)
+        else:
+            async with in_time(request, self.limits.config.message_seconds):
+                await socket.send_bytes(reply)
 
     def _renewed(self, text: str, visit: Visit) -> tuple[Caller, float]:
         try:
             token = json.loads(text)["token"]
-        except (ValueError, KeyError, TypeError):
+        except (ValueError, KeyError, TypeError, RecursionError):
             raise BadMessage("a text frame is {\"token\": TOKEN}") from None
         renewed, until = self.visits.caller(str(token), visit.name)
         if (renewed.user, renewed.device) != (visit.caller.user, visit.caller.device):
@@ -141,5 +157,6 @@ class Sockets:
         return renewed, until
 
     async def close(self) -> None:
-        """Each socket is told to come back elsewhere, once its message is answered."""
-        await asyncio.gather(*(it.close(code=RESTART, message=b"restart") for it in list(self.open)), return_exceptions=True)
+        """Each socket is told to come back elsewhere, once its message is answered: where one is under way, by whoever answers it."""
+        closing = [it.close(code=RESTART, message=b"restart") for it in self.open - self.answering]
+        await asyncio.gather(*closing, return_exceptions=True)

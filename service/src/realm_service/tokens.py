@@ -69,7 +69,7 @@ class Tokens:
             device = uuid.UUID(claims["device"]).bytes if "device" in claims else None
             grants = tuple(_grant(*it) for it in claims["realm"].items())
             return _Claims(_user(claims["sub"]), float(claims["exp"]), device, grants)
-        except (jwt.PyJWTError, KeyError, ValueError, TypeError, AttributeError) as error:
+        except (jwt.PyJWTError, KeyError, ValueError, TypeError, AttributeError, RecursionError) as error:
             raise BadToken(f"the token doesn't hold: {error}") from error
 
     def caller(self, token: str, history: str) -> tuple[Caller | None, float]:
@@ -93,7 +93,6 @@ class Tokens:
 
 def _user(given: object) -> str:
     """A user is a text of one line, since a store keeps it in one."""
-    user = str(given)
-    if not user or len(user) > 200 or not user.isprintable():
+    if not isinstance(given, str) or not given or len(given) > 200 or not given.isprintable():
         raise ValueError("sub is a text of 1 to 200 printable characters")
-    return user
+    return given

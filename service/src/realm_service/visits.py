@@ -1,5 +1,6 @@
 """A request to a history: whose it is, what it may do there, and where the history is."""
 
+import asyncio
 import dataclasses
 import re
 import time
@@ -69,11 +70,18 @@ class Visits:
         return (name, token, *self.caller(token, name))
 
     async def visit(self, request: web.Request, is_device: bool = False) -> Visit:
-        """Finds the history. A device that says no generation is taken for one of the first."""
+        """Finds the history. A device that says no generation is taken for one of the first; its messages count for the rate, and each
+        request of the others."""
         name, token, caller, until = self.admitted(request)
         if not self.is_open:
-            raise StoreDown("the worker starts or stops: try again")
-        found = await self.owners.find(name, caller, HOP in request.headers)
+            raise StoreDown("the worker starts or stops")
+        if not is_device:
+            await self.limits.admit(caller.user, 0)
+        try:
+            async with asyncio.timeout(self.limits.config.message_seconds):
+                found = await self.owners.find(name, caller, HOP in request.headers)
+        except asyncio.TimeoutError:
+            raise StoreDown("nobody says in time who has the history") from None
         if isinstance(found, str):
             return Visit(name, token, caller, until, None, found)
         _, given = address_of(request)
@@ -84,10 +92,9 @@ class Visits:
         return Visit(name, token, caller, until, found, "")
 
     async def answer(self, history: History, caller: Caller, message: bytes, listener: Listener | None = None) -> bytes:
-        """The reply to a message, within the caller's limits."""
+        """The reply to a message, within the caller's rate."""
         await self.limits.admit(caller.user, len(message))
         began = time.perf_counter()
-        with self.limits.flight(len(message)):
-            reply = await history.ask(caller, message, listener)
+        reply = await history.ask(caller, message, listener)
         metrics.REPLYING.observe(time.perf_counter() - began)
         return reply

@@ -15,6 +15,7 @@ from . import Absent, Claims, Device, Elsewhere, Fenced, Lease, OnLapse, Stored,
 
 JOURNAL, DEVICES, NEW = ".realm", ".devices", ".new"
 PART = 1 << 26  # bytes of one read
+SMALL = 9  # bytes, up to which a journal counts as empty
 THREADS = 32  # syncs at once: a file system joins them
 
 Answer = typing.TypeVar("Answer")
@@ -25,6 +26,7 @@ class Files:
 
     def __init__(self, folder: str):
         self.folder = folder
+        self.doubtful: set[str] = set()  # histories of which a sync failed: what is read of their files may not be on the disk
         self.pool = concurrent.futures.ThreadPoolExecutor(THREADS, "files")
 
     def on_lapse(self, told: OnLapse) -> None:
@@ -119,16 +121,15 @@ class Files:
         devices: dict[bytes, Device] = {}
         generation = 1
         try:
-            with open(self._path(name, DEVICES), encoding="utf-8") as lines:
-                for line in lines:
-                    first, _, rest = line.partition(" ")
-                    if not line.endswith("\n"):
-                        break
-                    if first == "generation":
-                        generation = int(rest)
-                    else:
-                        number, _, user = rest[:-1].partition(" ")
-                        devices.setdefault(bytes.fromhex(first), Device(user, int(number)))
+            with open(self._path(name, DEVICES), "rb") as file:
+                whole = file.read()
+            for line in whole[: whole.rfind(b"\n") + 1].decode().split("\n")[:-1]:
+                first, _, rest = line.partition(" ")
+                if first == "generation":
+                    generation = int(rest)
+                else:
+                    number, _, user = rest.partition(" ")
+                    devices.setdefault(bytes.fromhex(first), Device(user, int(number)))
         except FileNotFoundError:
             pass
         except (OSError, ValueError) as error:
@@ -145,14 +146,37 @@ class Files:
                 file.truncate()
                 file.write("".join(it + "\n" for it in lines).encode())
                 file.flush()
-                os.fsync(file.fileno())
+                self._sync(file.fileno(), name)
             if is_new:
                 self._sync_folder()
         except OSError as error:
             raise StoreDown(str(error)) from error
 
+    def _sync(self, file: int, name: str) -> None:
+        try:
+            os.fsync(file)
+        except OSError:
+            self.doubtful.add(name)
+            raise
+
     def _read(self, lease: Lease) -> Stored:
         self._is_ours(lease)
+        if lease.name in self.doubtful:
+            self._write_anew(lease)
+        devices, lease.generation = self._noted(lease.name)
+        return Stored(self._journal(lease), devices)
+
+    def _write_anew(self, lease: Lease) -> None:
+        """A system may take for written what a failed sync left; so all of both files is written once more."""
+        path = self._path(lease.name, DEVICES)
+        if os.path.exists(path):
+            with open(path, "rb") as file:
+                os.close(self._put(path, file.read()))
+        self._replace(lease, self._journal(lease))
+        self.doubtful.discard(lease.name)
+
+    @staticmethod
+    def _journal(lease: Lease) -> bytes:
         size, parts, place = os.fstat(lease.file).st_size, [], 0
         while place < size:
             part = os.pread(lease.file, min(size - place, PART), place)
@@ -160,8 +184,7 @@ class Files:
                 raise StoreDown("the file is shorter than it was")
             parts.append(part)
             place += len(part)
-        devices, lease.generation = self._noted(lease.name)
-        return Stored(b"".join(parts), devices)
+        return b"".join(parts)
 
     def _is_ours(self, lease: Lease) -> None:
         """The lock is on what the name names, and not on a file that somebody put away."""
@@ -175,23 +198,28 @@ class Files:
     def _append(self, lease: Lease, gate: int, tail: bytes, claims: Claims) -> None:
         """The users of new devices come first, so that no device ever has an ident and no user."""
         self._is_ours(lease)
-        if tail and os.pread(lease.file, 1, gate) == b"\x01":
-            raise Fenced(f"{lease.name}: somebody appended")
+        if tail and not self._is_closed(lease.file, gate):
+            raise Fenced(f"{lease.name}: somebody appended, or cut it")
         if claims:
             self._note(lease.name, [f"{uuid.hex()} {lease.generation} {user}" for uuid, user in claims])
         try:
             if tail and gate == 0:
                 self._write(lease.file, tail, 0)
-                os.fsync(lease.file)
+                self._sync(lease.file, lease.name)
             elif tail:  # all of it behind the closed gate, and then the gate: a crash leaves none of it or all
                 self._write(lease.file, tail[1:], gate + 1)
-                os.fsync(lease.file)
+                self._sync(lease.file, lease.name)
                 self._write(lease.file, tail[:1], gate)
-                os.fsync(lease.file)
+                self._sync(lease.file, lease.name)
         except OSError as error:
             raise StoreDown(str(error)) from error
         if tail:
             lease.length = gate + len(tail) - 1
+
+    @staticmethod
+    def _is_closed(file: int, gate: int) -> bool:
+        """Whether the journal ends there as yet."""
+        return os.fstat(file).st_size <= SMALL if gate == 0 else os.pread(file, 1, gate) not in (b"", b"\x01")
 
     @staticmethod
     def _write(file: int, data: bytes, place: int) -> None:
@@ -201,16 +229,20 @@ class Files:
 
     def _replace(self, lease: Lease, journal: bytes) -> None:
         self._is_ours(lease)
-        path = self._path(lease.name, JOURNAL)
+        file = self._put(self._path(lease.name, JOURNAL), journal)
+        os.close(lease.file)
+        lease.file, lease.length = file, max(0, len(journal) - 1)
+
+    def _put(self, path: str, data: bytes) -> int:
+        """Puts a file of these bytes in a name's place; answers it open."""
         file = os.open(path + NEW, os.O_RDWR | os.O_CREAT | os.O_TRUNC | os.O_CLOEXEC, 0o600)
         self._lock(file)  # held before the name is its own
         try:
-            self._write(file, journal, 0)
+            self._write(file, data, 0)
             os.fsync(file)
             os.rename(path + NEW, path)
             self._sync_folder()
         except OSError as error:
             os.close(file)
             raise StoreDown(str(error)) from error
-        os.close(lease.file)
-        lease.file, lease.length = file, max(0, len(journal) - 1)
+        return file

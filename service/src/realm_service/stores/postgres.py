@@ -52,7 +52,7 @@ class Postgres:
         self.dsn, self.seconds, self.join_rows = dsn, seconds, join_rows
         self.id: object = uuids.uuid4()
         self.valid_until = 0.0  # by this machine's monotonic clock: up to then nobody else takes what is ours
-        self.address, self.lapses = "", 0
+        self.address, self.lapses, self.told_lapses = "", 0, 0
         self.told: OnLapse = lambda _: None
         self.writers = [Writer(dsn) for _ in range(writers)]
         self.tasks: list[asyncio.Task[None]] = []
@@ -64,17 +64,26 @@ class Postgres:
 
     async def start(self, address: str) -> None:
         self.address = address
-        schema = importlib.resources.files(__package__).joinpath("schema.sql").read_text(encoding="utf-8")
-        async with self._link() as link:
-            await link.execute("SELECT pg_advisory_lock($1)", SCHEMA_LOCK)
-            try:
-                await link.execute(schema)
-            finally:
-                await link.execute("SELECT pg_advisory_unlock($1)", SCHEMA_LOCK)
-            if address:  # who listened there before is gone: this process has it now
-                await link.execute("DELETE FROM worker WHERE address = $1", address)
+        try:
+            async with self._link() as link:
+                await self._prepare(link)
+        except (asyncpg.PostgresError, *LOST, ValueError) as error:  # such as a name of a database that there isn't
+            raise StoreDown(f"PostgreSQL: {type(error).__name__}: {error}") from error
         await self.renew()
         self.tasks = [asyncio.create_task(it) for it in (self._renew_always(), *(writer.run() for writer in self.writers))]
+
+    async def _prepare(self, link: asyncpg.Connection) -> None:
+        schema = importlib.resources.files(__package__).joinpath("schema.sql").read_text(encoding="utf-8")
+        await link.execute("SELECT pg_advisory_lock($1)", SCHEMA_LOCK)
+        try:
+            await link.execute(schema)
+        finally:
+            await link.execute("SELECT pg_advisory_unlock($1)", SCHEMA_LOCK)
+        if self.address:  # who listened there before is gone: this process has it now
+            await link.execute("DELETE FROM worker WHERE address = $1", self.address)
+        for setting in ("fsync", "synchronous_commit"):
+            if await link.fetchval(f"SHOW {setting}") == "off":
+                log.warning("PostgreSQL has %s off: what it confirmed may be lost", setting)
 
     async def stop(self) -> None:
         for task in self.tasks:
@@ -96,8 +105,11 @@ class Postgres:
         if not await self._run("fetchval", RENEW, self.id, self.seconds, seconds=self.seconds):
             await self._run("execute", BEGIN, self.id, self.address, self.seconds, seconds=self.seconds)
             self.lapses += 1
+        lapses = self.lapses
+        if self.told_lapses != lapses:  # also one that couldn't be told when it was seen
             rows = await self._run("fetch", "SELECT id, epoch FROM history WHERE owner = $1", self.id)
             self.told({(row["id"], row["epoch"]) for row in rows})
+            self.told_lapses = lapses
         self.valid_until = asked + self.seconds
 
     async def _renew_always(self) -> None:

@@ -1,6 +1,7 @@
 """Histories in one SQLite file: the tables of PostgreSQL, but for the workers. One process; one transaction for all that waits."""
 
 import asyncio
+import contextlib
 import fcntl
 import os
 import queue
@@ -49,8 +50,17 @@ class Sqlite:
             os.close(self.lock)
             raise Elsewhere(None, None) from None
         self.loop = asyncio.get_running_loop()
+        try:
+            self.link = await asyncio.to_thread(self._connected)
+        except sqlite3.Error as error:
+            os.close(self.lock)
+            raise StoreDown(f"{self.path}: {error}") from error
         self.thread.start()
-        await self._do(lambda link: None)
+
+    def _connected(self) -> sqlite3.Connection:
+        link = sqlite3.connect(self.path, isolation_level=None, check_same_thread=False)
+        link.executescript(SCHEMA)
+        return link
 
     async def stop(self) -> None:
         if self.thread.ident is not None:
@@ -155,9 +165,7 @@ class Sqlite:
 
     def _work(self) -> None:
         """Does all jobs that wait in one transaction, and tells their answers behind its commit."""
-        link = sqlite3.connect(self.path, isolation_level=None)
-        link.executescript(SCHEMA)
-        is_ended = False
+        link, is_ended = self.link, False
         while not is_ended:
             jobs = [self.jobs.get()]
             while not self.jobs.empty():
@@ -179,9 +187,10 @@ class Sqlite:
                 except (Absent, Fenced, StoreDown) as error:  # each is raised before anything of its job is changed
                     told.append((future, None, error))
             link.execute("COMMIT")
-        except sqlite3.Error as error:
-            if link.in_transaction:
-                link.execute("ROLLBACK")
+        except Exception as error:  # whatever it is: a thread that ends would hold up all histories for good
+            with contextlib.suppress(sqlite3.Error):
+                if link.in_transaction:
+                    link.execute("ROLLBACK")
             told = [(future, None, error) for _, future in jobs]
         return told
 
