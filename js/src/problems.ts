@@ -11,8 +11,9 @@ import { Refused, wordsOfCode, type Outdated } from './errors.js';
  * - `full`: a limit of the history or of a transaction.
  * - `damaged`: a reply that can't be taken, twice.
  * - `unauthorized`: the server refuses this device or its token.
+ * - `storage`: this device's disk is full, or failed. Sync tries again by itself.
  */
-export type ProblemKind = 'schema' | 'retired' | 'restored' | 'trimmed' | 'otherServer' | 'full' | 'damaged' | 'unauthorized';
+export type ProblemKind = 'schema' | 'retired' | 'restored' | 'trimmed' | 'otherServer' | 'full' | 'damaged' | 'unauthorized' | 'storage';
 
 /** A table or a column that is defined in two ways: of a table `column` is null. */
 export interface Conflict {

@@ -7,26 +7,35 @@ import type { Transport } from './sync.js';
 /** A token, or what hands one over: `wasRefused` asks for another one than before. */
 export type TokenSource = string | ((wasRefused: boolean) => string | Promise<string>);
 
-/** The token of a transport: asked for anew once it was refused. */
+/** The token of a transport: a source is asked once, and again once the server refused what it gave. */
 class Token {
   private wasRefused = false;
-  private renewed: string | null = null;
+  private current: Promise<string> | null = null;
   constructor(private readonly source: TokenSource) {}
 
-  async get(): Promise<string> {
-    if (this.renewed !== null) return this.renewed;
-    return typeof this.source === 'string' ? this.source : this.source(this.wasRefused);
+  get(): Promise<string> {
+    return (this.current ??= this.asked());
+  }
+
+  private async asked(): Promise<string> {
+    if (typeof this.source === 'string') return this.source;
+    try {
+      return await this.source(this.wasRefused);
+    } catch (error) {
+      this.current = null; // it is asked again at the next try
+      throw error;
+    }
   }
 
   renew(token: string): void {
-    this.renewed = token;
+    this.current = Promise.resolve(token);
     this.wasRefused = false;
   }
 
   /** The server refused the token. Throws where there is no other one to try: one is asked for once. */
   refused(text: string): void {
     if (typeof this.source === 'string' || this.wasRefused) throw new Unauthorized(text);
-    this.renewed = null;
+    this.current = null;
     this.wasRefused = true;
   }
 
@@ -70,7 +79,10 @@ async function* newsOf(at: (after: number, wait: number) => string, token: Token
         if (length >= 0) yield news;
         length = news;
       } else if (response.status === 204) length = Math.max(0, length);
-      else await later(60_000, signal); // a server without news: the loop asks from time to time
+      else {
+        length = -1; // a server without news, or one whose history was restored: the loop asks from time to time
+        await later(60_000, signal);
+      }
     } catch {
       await later(5_000, signal);
     }
@@ -146,7 +158,7 @@ export class WebSocketTransport implements Transport {
     this.token = new Token(token);
   }
 
-  private async connected(): Promise<WebSocket> {
+  private async connected(signal: AbortSignal): Promise<WebSocket> {
     if (this.socket?.readyState === 1) return this.socket;
     if (!this.Socket) throw new Unauthorized('this platform has no WebSocket: hand a class of them over, or use HTTP');
     const token = await this.token.get();
@@ -156,8 +168,13 @@ export class WebSocketTransport implements Transport {
       socket.onopen = () => done(0);
       socket.onerror = () => done(1006);
       socket.onclose = (event) => done(event.code);
+      signal.addEventListener('abort', () => done(1006), { once: true });
     });
-    if (code !== 0) throw await this.unconnected(code, token);
+    if (signal.aborted) {
+      socket.close();
+      throw new RealmError('no connection came about in time');
+    }
+    if (code !== 0) throw await this.unconnected(code, token, signal);
     this.token.accepted();
     socket.onerror = null;
     socket.onmessage = ({ data }) => this.take(data as ArrayBuffer | string);
@@ -167,10 +184,10 @@ export class WebSocketTransport implements Transport {
   }
 
   /** Why there is no connection. A page isn't told the status with which one was refused, so it is asked for by HTTP. */
-  private async unconnected(code: number, token: string): Promise<Error> {
+  private async unconnected(code: number, token: string, signal: AbortSignal): Promise<Error> {
     if (code >= 4000 && code !== 4000 + OUTDATED) return this.refused(code - 4000) ?? new RealmError(`the server ended the connection (${code})`);
     const asked = newsAt(this.url.replace(/^ws/, 'http'), this.generation, 0xffffffff, 0);
-    const response = await fetch(asked, { headers: headersOf(token) }).catch(() => null);
+    const response = await fetch(asked, { headers: headersOf(token), signal }).catch(() => null);
     if (response?.status === OUTDATED) return new Outdated(generationIn(response.headers));
     return this.refused(response?.status ?? 0) ?? new RealmError('the server cannot be reached');
   }
@@ -208,8 +225,7 @@ export class WebSocketTransport implements Transport {
   }
 
   async exchange(message: Uint8Array, signal: AbortSignal): Promise<Uint8Array> {
-    const socket = await this.connected();
-    if (signal.aborted) throw new RealmError('no reply came in time');
+    const socket = await this.connected(signal);
     return new Promise((done, fail) => {
       this.waiting = { done, fail };
       // A late reply would be taken for the next one's.

@@ -53,7 +53,7 @@ async function start(form: WorkerStart): Promise<void> {
   scope.onmessage = async ({ data }: MessageEvent) => {
     if (data.close) {
       asked.close();
-      await host.close();
+      await host.close().catch(() => {}); // the tab ends this worker, and with it what is open
       all.postMessage({ gone: epoch });
       return scope.postMessage({ closed: true });
     }

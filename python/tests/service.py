@@ -12,10 +12,11 @@ from realm_sync import Server
 
 
 class Service:
-    """Runs in a thread of its own, at a free port of this machine. `tokens` are those that it takes; `is_silent` keeps replies back."""
+    """Runs in a thread of its own, at a free port of this machine. `tokens` are those that it takes; `is_silent` keeps replies back, and
+    `asked` counts them."""
 
     def __init__(self) -> None:
-        self.server, self.tokens, self.is_silent, self.posts = Server(), {"good"}, False, 0
+        self.server, self.tokens, self.is_silent, self.posts, self.asked = Server(), {"good"}, False, 0, 0
         self.renewed: list[str] = []
         self.generation = 1
         self._sockets: set[web.WebSocketResponse] = set()
@@ -101,7 +102,9 @@ class Service:
         async for message in socket:
             if message.type == WSMsgType.TEXT:
                 self.renewed.append(json.loads(message.data)["token"])
-            elif message.type == WSMsgType.BINARY and not self.is_silent:
+            elif message.type == WSMsgType.BINARY and self.is_silent:
+                self.asked += 1
+            elif message.type == WSMsgType.BINARY:
                 await socket.send_bytes(await self._take(message.data))
         self._sockets.discard(socket)
         return socket

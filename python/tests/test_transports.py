@@ -6,6 +6,7 @@ import asyncio
 import os
 import tempfile
 import threading
+import time
 import unittest
 from collections.abc import Callable
 
@@ -55,9 +56,38 @@ class Tests(unittest.TestCase):
 
             with Database(None, TYPES, kind(url, source), options=FAST) as db:
                 self.assertTrue(db.synced(30))
-            self.assertIn(True, asked)
+                with db.write() as tx:
+                    tx.create(Day, day=len(asked))
+                self.assertTrue(db.synced(30))
+            self.assertEqual(asked, [False, True])
             with Database(None, TYPES, kind(url, lambda was_refused: "bad"), options=FAST) as db:
                 self.assertRaises(NeedsAttention, db.synced, 10)
+
+    def test_a_source_of_tokens_that_raises_is_asked_again(self) -> None:
+        for kind, url in ((HttpTransport, self.service.http), (WebSocketTransport, self.service.ws)):
+            fails, states = 3, list[str]()
+
+            def source(_: bool) -> str:
+                nonlocal fails
+                fails -= 1
+                if fails > 0:
+                    raise OSError("no network")
+                return "good"
+
+            with Database(None, TYPES) as db:
+                db.observe_sync(lambda state, states=states: states.append(state.status))  # type: ignore[misc]
+                db.start_sync(kind(url, source), options=FAST)
+                self.assertTrue(db.synced(30))
+            self.assertIn("offline", states)
+            self.assertNotIn("needs attention", states)
+
+    def test_a_database_is_closed_at_once_while_it_waits_for_a_reply(self) -> None:
+        self.service.is_silent = True
+        db = Database(None, TYPES, WebSocketTransport(self.service.ws, "good"), options=FAST)
+        until(lambda: self.service.asked > 0)
+        began = time.monotonic()
+        db.close()
+        self.assertLess(time.monotonic() - began, 5)
 
     def test_a_token_is_renewed_on_an_open_socket(self) -> None:
         with Database(None, TYPES, WebSocketTransport(self.service.ws, "good"), options=FAST) as db:

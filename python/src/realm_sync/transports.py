@@ -57,24 +57,27 @@ class CallTransport:
 
 
 class _Token:
-    """The token of a transport: asked for anew once it was refused."""
+    """The token of a transport: a source is asked once, and again once the server refused what it gave."""
 
     def __init__(self, source: TokenSource) -> None:
-        self._source, self._renewed, self._was_refused = source, "", False
+        self._source, self._was_refused = source, False
+        self._current: str | None = None
+        self._lock = threading.Lock()
 
     def get(self) -> str:
-        if self._renewed:
-            return self._renewed
-        return self._source if isinstance(self._source, str) else self._source(self._was_refused)
+        with self._lock:
+            if self._current is None:
+                self._current = self._source if isinstance(self._source, str) else self._source(self._was_refused)
+            return self._current
 
     def renew(self, token: str) -> None:
-        self._renewed, self._was_refused = token, False
+        self._current, self._was_refused = token, False
 
     def refused(self, why: str) -> None:
         """The server refused the token. Raises where there is no other one to try: one is asked for once."""
         if isinstance(self._source, str) or self._was_refused:
             raise Unauthorized(why)
-        self._renewed, self._was_refused = "", True
+        self._current, self._was_refused = None, True
 
     def accepted(self) -> None:
         self._was_refused = False
@@ -149,6 +152,7 @@ class HttpTransport:
                 length, wait = max(length, found, 0), 25
             except urllib.error.HTTPError as why:
                 why.close()
+                length, wait = -1, 0  # a server without news, or one whose history was restored: the loop asks from time to time
                 self._stopped.wait(30)
             except (OSError, ValueError, Error):
                 self._stopped.wait(30)
@@ -277,6 +281,7 @@ class WebSocketTransport:
         socket, self._socket = self._socket, None
         if socket is not None:
             _shut(socket)
+        self._arrived(ConnectionError("the connection was closed"))  # who waits for a reply waits no longer
 
 
 def _shut(socket: Any) -> None:
