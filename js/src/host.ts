@@ -403,7 +403,7 @@ export class Host {
   // ---- recovery
 
   private async onProblem(problem: Problem): Promise<boolean> {
-    if (problem.generation && this.engine.standing().ident === 0) {
+    if (problem.generation && problem.generation !== this.serverGeneration && this.engine.standing().ident === 0) {
       await this.agreeOn(problem.generation); // a new client begins in the generation that the history has
       return true;
     }

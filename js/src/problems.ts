@@ -75,8 +75,7 @@ export function problemOf(error: Refused, isRepeated: boolean): Problem | 'again
 }
 
 /** The problem of a server that says that its history was restored. */
-export const outdated = ({ message, generation }: Outdated): Problem =>
-  ({ kind: 'otherServer', text: message, isRecoverable: generation !== null, generation });
+export const outdated = ({ message, generation }: Outdated): Problem => ({ kind: 'otherServer', text: message, isRecoverable: true, generation });
 
 /** The problems in which a new client takes over by itself. The others are left to a person: what is to be done with another server's
  * history, or with an application that declares another schema, nobody can know here. */

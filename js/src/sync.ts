@@ -1,6 +1,6 @@
 // The background loop of sync: what there is to say is said, what came is taken, and the state is told.
 
-import { Endless, Outdated, RealmError, Refused, StorageFailed, Unauthorized, errorOfProblem } from './errors.js';
+import { Endless, NeedsAttention, Outdated, RealmError, Refused, StorageFailed, Unauthorized, errorOfProblem } from './errors.js';
 import { outdated, problem, problemOf, type Problem } from './problems.js';
 import type { Stop } from './query.js';
 
@@ -180,6 +180,7 @@ export class SyncLoop {
   private async failed(error: Error): Promise<void> {
     if (error instanceof Unauthorized) return this.stopFor(problem('unauthorized', error.message, false));
     if (error instanceof Outdated) return this.stopFor(outdated(error));
+    if (error instanceof NeedsAttention) return this.stopFor(error.problem);
     if (error instanceof Refused) {
       const what = problemOf(error, this.isRepeated);
       const wasRepeated = this.isRepeated;

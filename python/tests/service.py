@@ -39,9 +39,9 @@ class Service:
     def _run(self) -> None:
         asyncio.set_event_loop(self._loop)
         app = web.Application(client_max_size=1 << 26)
-        app.router.add_post("/v1/histories/test", self._post)
-        app.router.add_get("/v1/histories/test", self._socket)
-        app.router.add_get("/v1/histories/test/news", self._news)
+        app.router.add_post("/v1/histories/{name}", self._post)
+        app.router.add_get("/v1/histories/{name}", self._socket)
+        app.router.add_get("/v1/histories/{name}/news", self._news)
         runner = web.AppRunner(app)
         self._loop.run_until_complete(runner.setup())
         site = web.TCPSite(runner, "127.0.0.1", 0, shutdown_timeout=0.1)
@@ -65,7 +65,7 @@ class Service:
     def _check(self, request: web.Request) -> None:
         if request.headers.get("Authorization", "").removeprefix("Bearer ") not in self.tokens:
             raise web.HTTPUnauthorized
-        if int(request.query.get("generation", 1)) != self.generation:
+        if int(request.match_info["name"].partition("@")[2] or 1) != self.generation:
             raise web.HTTPGone(headers={"Realm-Generation": str(self.generation)})
 
     async def _take(self, message: bytes) -> bytes:

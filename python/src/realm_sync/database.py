@@ -356,9 +356,10 @@ class Database:
 
     def _recovered(self, problem: Problem) -> bool:
         """Whether a new client took over for this problem: by itself, with pauses where the network fails."""
-        if problem.generation and self._transport and self._client.standing().ident == 0:
-            self._client.agree_on(problem.generation)  # a new client begins in the generation that the history has
-            self._transport.generation = problem.generation
+        told = problem.generation
+        if told and told != self._client.generation and self._transport and self._client.standing().ident == 0:
+            self._client.agree_on(told)  # a new client begins in the generation that the history has
+            self._transport.generation = told
             return True
         is_asked = problem.is_recoverable if self._on_problem == "recover" else problem.recovers_by_itself
         if not is_asked or self._on_problem == "ask" or self._has_recovered:

@@ -9,7 +9,7 @@ import time
 from collections.abc import Callable
 from typing import Literal, Protocol
 
-from .errors import Closed, Endless, Error, Outdated, Reason, Refused, StorageFailed, Unauthorized, error_of, words_of_code
+from .errors import Closed, Endless, Error, NeedsAttention, Outdated, Reason, Refused, StorageFailed, Unauthorized, error_of, words_of_code
 from .problems import BY_CODE, Problem
 from .transports import Transport
 
@@ -184,7 +184,9 @@ class SyncLoop:
         if isinstance(why, Unauthorized):
             return self._stop_for(Problem("unauthorized", str(why), False))
         if isinstance(why, Outdated):
-            return self._stop_for(Problem("other server", str(why), why.generation is not None, generation=why.generation))
+            return self._stop_for(Problem("other server", str(why), True, generation=why.generation))
+        if isinstance(why, NeedsAttention):
+            return self._stop_for(why.problem)
         if isinstance(why, Refused):
             what, was_repeated = problem_of(why, self._is_repeated), self._is_repeated
             self._is_repeated = True
