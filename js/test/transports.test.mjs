@@ -116,7 +116,11 @@ test('a history that was restored on the server: a new device begins in its gene
     await db.write((tx) => tx.days.create({ day: 1 }));
     await db.synced();
     await db.stopSync();
+    const id = await db.write((tx) => tx.items.create({ quantity: 1 }));
+    // It reached the history before that was restored, and nobody told the device.
+    await server.node.take(db.link.host.engine.ask('U', Uint8Array.of((await db.stats()).last - 1, 0, 0, 0)));
     await db.write((tx) => tx.days.create({ day: 2 }));
+    await db.write((tx) => tx.items.at(id).quantity.add(4));
     server.generation = 3;
     for (const it of server.sockets) it.terminate();
     const fresh = await openDatabase({ schema, sync: { transport: both(server, 'good')[way], ...fast } });
@@ -124,12 +128,16 @@ test('a history that was restored on the server: a new device begins in its gene
     await db.startSync({ transport: both(server, 'good')[way], ...fast });
     await assert.rejects(db.synced(), /the history was restored on the server and is of generation 3/);
     assert.equal(db.syncState.problem.kind, 'otherServer');
+    const recovered = new Promise((done) => db.onRecovered(done));
     await db.recover();
+    const { saved, integrated, dropped } = await recovered;
+    assert.deepEqual([saved, integrated, dropped], [2, 1, []]);
     await db.synced();
     await db.close();
     db = await openDatabase({ schema, files, sync: { transport: both(server, 'good')[way], ...fast } });
     await db.synced();
     assert.deepEqual(db.days.toArray().map((it) => it.day), [1, 2]);
+    assert.equal(db.items.get(id).quantity, 5);
     assert.deepEqual((await files.names()).sort(), ['client-2', 'generation', 'kept-1']);
     await db.close(); await fresh.close(); await server.close();
   }

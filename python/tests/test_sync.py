@@ -354,10 +354,11 @@ class Recovering(unittest.TestCase):
             self.net.answer = lambda message: bytes([REFUSED, message[1], 2, 64, 1]) if message[0] == UPLOAD else None
             with db.write() as tx:
                 tx.create(Day, day=1)
-            for work in (lambda: db.synced(30), db.recover):
-                with self.assertRaises(NeedsAttention) as told:
-                    work()
-                self.assertEqual(told.exception.problem.cause, "full")
+            with self.assertRaises(NeedsAttention) as told:
+                db.synced(30)
+            with self.assertRaises(NeedsAttention) as again:
+                db.recover()
+            self.assertEqual([it.exception.problem.cause for it in (told, again)], ["full", "full"])
         self.assertEqual(os.listdir(os.path.dirname(self.path)), ["db"])
 
     def test_who_waits_for_sync_where_sync_waits_for_it_is_told(self) -> None:

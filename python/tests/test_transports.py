@@ -12,7 +12,7 @@ from collections.abc import Callable
 
 from realm_sync import Database, HttpTransport, NeedsAttention, TokenSource, Transaction, Transport, WebSocketTransport, aio
 
-from .common import FAST, TYPES, Day, until
+from .common import FAST, TYPES, Day, Item, until
 from .service import Service
 
 
@@ -121,7 +121,13 @@ class Tests(unittest.TestCase):
                     self.assertTrue(db.synced(30))
                     db.stop_sync()
                     with db.write() as tx:
-                        tx.create(Day, day=2)
+                        item = tx.create(Item, quantity=1)
+                    # It reached the history before that was restored, and nobody told the device.
+                    self.service.server.take(db._client.engine.ask(b"U", (db._client.standing().last - 1).to_bytes(4, "little")))
+                    for amount in (4, 5):
+                        with db.write() as tx:
+                            tx.create(Day, day=2)
+                            tx.add(Item, item, "quantity", amount)
                 self.service.generation = 3
                 with Database(None, TYPES, self.transports()[way], options=FAST) as fresh:
                     self.assertTrue(fresh.synced(30))
@@ -129,11 +135,14 @@ class Tests(unittest.TestCase):
                     with self.assertRaisesRegex(NeedsAttention, "restored on the server and is of generation 3") as told:
                         db.synced(30)
                     self.assertEqual(told.exception.problem.cause, "other server")
-                    db.recover()
+                    recovery = db.recover()
+                    self.assertEqual((recovery.saved, recovery.integrated, recovery.dropped), (2, 1, ()))
                     self.assertTrue(db.synced(30))
                 with Database(path, TYPES, self.transports()[way], options=FAST) as db:
                     self.assertTrue(db.synced(30))
-                    self.assertEqual([it.day for it in db[Day]], [1, 2])
+                    self.assertEqual(sorted(it.day for it in db[Day])[-2:], [1, 2])
+                    found = db[Item].get(item)
+                    self.assertEqual(found and found.quantity, 10)
                 self.assertEqual(sorted(it for it in os.listdir(folder) if it.startswith(name)), [name, f"{name}.generation", f"{name}.kept-1"])
 
     def test_asyncio(self) -> None:
