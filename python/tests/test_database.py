@@ -135,11 +135,11 @@ class Tests(unittest.TestCase):
                 tx.update(Day, 2, note="x")  # which it had, and has no more
             is_raising = True
             with self.assertLogs("realm_sync", "ERROR"), db.write() as tx:
-                tx.erase(Day, 1)
+                tx.update(Day, 1, note="x")
             is_raising, now = False, 9
             with db.write() as tx:
                 tx.erase(Day, 0)
-        self.assertEqual(told, [[0, 1, 2, 3], [0, 1, 3], [2, 3, 4]])
+        self.assertEqual(told, [[0, 1, 2, 3], [0, 1, 3], [1, 2, 3, 4]])
 
     def test_a_thread_has_one_transaction_at_a_time(self) -> None:
         with Database(None, TYPES) as db:
