@@ -15,7 +15,7 @@ node start.mjs | diff - start.out
 echo "the ten-minute start runs in an empty folder"
 
 # And in TypeScript, which finds the types in each way that it looks for modules, and takes the declarations as they are.
-cat >typed.ts <<'END'
+cat >typed.mts <<'END'
 import { counter, defineSchema, key, text, type ObjectOf } from 'realm-sync';
 import { openDatabase } from 'realm-sync/node';
 import { hooks } from 'realm-sync/react';
@@ -25,7 +25,7 @@ export const opened = async (): Promise<number> => (await openDatabase({ folder:
 export { hooks };
 END
 for way in "es2022 node" "node16 node16"; do
-    tsc --noEmit --strict --target es2022 --lib es2022,dom,dom.iterable --types "" --module "${way% *}" --moduleResolution "${way#* }" typed.ts
+    tsc --noEmit --strict --target es2022 --lib es2022,dom,dom.iterable --module "${way% *}" --moduleResolution "${way#* }" typed.mts
 done
 echo "its types are found there"
 
