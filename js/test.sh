@@ -1,9 +1,9 @@
 #!/bin/sh
 # Tests the npm package: its types, its tests in Node, and without --quick also those in a browser, and the module against the native library.
 #
-#     js/test.sh [--quick] [--trial]
+#     js/test.sh [--quick] [--quiet] [--trial]
 #
-# --trial is for work on the package: the library is built without its proof.
+# With --quiet nothing is said where all is well. --trial is for work on the package: the library is built without its proof.
 #
 # It takes node 20 or later, Debian's node-typescript, and for all tests chromium and python3. What is missing is installed by root, and
 # named else.
@@ -15,8 +15,9 @@ quick='' trial=''
 for word in "$@"; do
     case $word in
         --quick) quick=yes ;;
+        --quiet) exec "$top/building/quietly.sh" "$0" "$@" ;;
         --trial) trial=--trial ;;
-        *) echo "usage: js/test.sh [--quick] [--trial]" >&2; exit 2 ;;
+        *) echo "usage: js/test.sh [--quick] [--quiet] [--trial]" >&2; exit 2 ;;
     esac
 done
 need node nodejs

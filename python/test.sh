@@ -1,9 +1,9 @@
 #!/bin/sh
 # Tests the Python package: its types by mypy, its tests, the wheel in an empty environment, and without --quick its examples.
 #
-#     python/test.sh [--quick] [--trial]
+#     python/test.sh [--quick] [--quiet] [--trial]
 #
-# --trial is for work on the package: the library is built without its proof.
+# With --quiet nothing is said where all is well. --trial is for work on the package: the library is built without its proof.
 #
 # It takes Python 3.10 or later, and Debian's python3-mypy, python3-cryptography, python3-websocket and python3-aiohttp. What is missing is
 # installed by root, and named else.
@@ -15,18 +15,18 @@ quick='' trial=''
 for word in "$@"; do
     case $word in
         --quick) quick=yes ;;
+        --quiet) exec "$top/building/quietly.sh" "$0" "$@" ;;
         --trial) trial=--trial ;;
-        *) echo "usage: python/test.sh [--quick] [--trial]" >&2; exit 2 ;;
+        *) echo "usage: python/test.sh [--quick] [--quiet] [--trial]" >&2; exit 2 ;;
     esac
 done
 python=${PYTHON:-/usr/bin/python3}
-need mypy python3-mypy
-for module in cryptography websocket aiohttp wheel; do
+for module in mypy cryptography websocket aiohttp wheel; do
     "$python" -c "import $module" 2>/dev/null || need_package "python3-$module"
 done
 "$here/build.sh" $trial >/dev/null
 cd "$here"
-MYPYPATH=src mypy src tests "$top/examples/shopping"
+MYPYPATH=src "$python" -m mypy src tests "$top/examples/shopping"
 PYTHONPATH=src "$python" -m unittest discover -t . -s tests
 "$here/tests/empty_project.sh"
 [ -z "$quick" ] || exit 0

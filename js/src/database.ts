@@ -1,9 +1,9 @@
 // A database as an application has it in one tab: its objects to read at once, transactions, and the state of sync.
 
-import { call } from './call.js';
-import { Closed, SchemaConflict, errorOfForm } from './errors.js';
-import type { Answers, Committed, HostEvent, Snapshot } from './host.js';
-import { HostGone, type Link } from './link.js';
+import { call, kept } from './call.js';
+import { Closed, NeedsAttention, SchemaConflict, errorOfForm } from './errors.js';
+import type { Answers, Commit, Committed, HostEvent, Snapshot } from './host.js';
+import { HostGone, type Call, type Link } from './link.js';
 import type { LostForm } from './lost.js';
 import { Mirror, type Row, type RowChange } from './mirror.js';
 import { problem as problemFor } from './problems.js';
@@ -61,6 +61,7 @@ export class Database<T extends Tables> {
   private last = 0;
   private greatest = 0;
   private readonly id = crypto.randomUUID();
+  private handed = 0;
   /** Whose the last transactions of the client are, by their numbers, as far as the host told. */
   private readonly owners = new Map<number, string>();
   private readonly jobs: Job[] = [];
@@ -74,8 +75,8 @@ export class Database<T extends Tables> {
   private readonly stopListening: Stop;
   /** What the last snapshot said against the declared schema. */
   private conflict: SchemaConflict | null = null;
-  syncState: SyncState = { status: 'off' };
-  storage = '';
+  private state: SyncState = { status: 'off' };
+  private kind = '';
 
   private constructor(readonly schema: Schema<T>, private readonly link: Link, private token: TokenSource | undefined) {
     this.mirror = new Mirror(schema);
@@ -102,14 +103,19 @@ export class Database<T extends Tables> {
     return database as Realm<T>;
   }
 
-  private async refresh(): Promise<void> {
+  /** A call that may be made twice: where the place that has the files ended before it answered, the next one is asked. */
+  private async ask(method: Call, ...words: unknown[]): Promise<any> {
     for (;;) {
       try {
-        return this.load(await this.link.call('snapshot'));
+        return await this.link.call(method, ...words);
       } catch (error) {
         if (!(error instanceof HostGone)) throw error;
       }
     }
+  }
+
+  private async refresh(): Promise<void> {
+    this.load(await this.ask('snapshot'));
   }
 
   /** Adds what the schema declares and the data lack. Other devices that add the same agree with it. */
@@ -117,10 +123,11 @@ export class Database<T extends Tables> {
     while (this.mirror.lacking.length > 0) {
       const edits = this.mirror.lackingEdits();
       const list = [{ ms: Date.now(), edits, isBlind: false }];
-      const { answers, epoch, version } = (await this.link.call('commit', this.epoch, this.version, list)) as Answers;
-      const [answer] = answers;
+      const [answer] = await this.handOver(list).catch((error: unknown) => {
+        if (!(error instanceof HostGone)) throw error;
+        return this.refresh().then(() => ['stale' as const]);
+      });
       if (answer && answer !== 'stale' && 'error' in answer) throw errorOfForm(answer.error);
-      await this.reach(epoch, version);
       if (this.conflict) throw this.conflict;
     }
   }
@@ -130,7 +137,7 @@ export class Database<T extends Tables> {
   private take(event: HostEvent): void {
     switch (event.event) {
       case 'sync':
-        this.syncState = event.state;
+        this.state = event.state;
         for (const listener of this.syncListeners) call(listener, event.state);
         return;
       case 'recovered':
@@ -143,7 +150,7 @@ export class Database<T extends Tables> {
       case 'snapshot': return this.load(event);
       case 'delta':
         if (event.epoch !== this.epoch || event.version <= this.version) return;
-        if (event.version !== this.version + 1) return void this.refresh();
+        if (event.version !== this.version + 1) return void this.refresh().catch(() => {}); // (closed meanwhile)
         this.version = event.version;
         this.last = event.last;
         for (let number = event.last - event.count + 1; number <= event.last; number++) this.owners.set(number, event.by);
@@ -168,12 +175,8 @@ export class Database<T extends Tables> {
   }
 
   private async handToken(source: (wasRefused: boolean) => string | Promise<string>, wasRefused: boolean): Promise<void> {
-    try {
-      await this.link.call('giveToken', await source(wasRefused));
-    } catch {
-      // A source that fails is asked again when sync is tried again.
-      await this.link.call('giveToken', '').catch(() => {});
-    }
+    const token = await (async () => source(wasRefused))().catch(() => null); // one that fails is asked again when sync is tried again
+    await this.link.call('giveToken', token).catch(() => {});
   }
 
   private load(snapshot: Snapshot): void {
@@ -181,8 +184,8 @@ export class Database<T extends Tables> {
     this.version = snapshot.version;
     if (snapshot.last < this.last) this.owners.clear(); // a new client took over
     this.last = snapshot.last;
-    this.storage = snapshot.storage;
-    this.syncState = snapshot.sync;
+    this.kind = snapshot.storage;
+    this.state = snapshot.sync;
     this.conflict = null;
     let changes: RowChange[] = [];
     try {
@@ -192,7 +195,7 @@ export class Database<T extends Tables> {
       this.conflict = error;
     }
     this.changed(changes);
-    for (const listener of this.syncListeners) call(listener, this.syncState);
+    for (const listener of this.syncListeners) call(listener, this.state);
   }
 
   private changed(changes: RowChange[]): void {
@@ -203,9 +206,10 @@ export class Database<T extends Tables> {
     for (const arrive of arrivals) arrive();
   }
 
-  /** Waits until this tab has that version of the objects. */
+  /** Waits until this tab has that version of the objects. Another host's snapshot has what the one before had on the disk. */
   private async reach(epoch: string, version: number): Promise<void> {
-    while (!this.isClosed && !(this.epoch === epoch && this.version >= version)) {
+    if (this.epoch !== epoch) return this.refresh();
+    while (!this.isClosed && this.epoch === epoch && this.version < version) {
       const arrived = new Promise<boolean>((done) => this.arrivals.push(() => done(true)));
       const isLate = new Promise<boolean>((done) => setTimeout(() => done(false), 1000));
       if (!(await Promise.race([arrived, isLate]))) await this.refresh();
@@ -249,7 +253,10 @@ export class Database<T extends Tables> {
       try {
         const value = job.run(transaction.writer);
         transaction.close();
-        if (value instanceof Promise) throw new TypeError('the function of write() is synchronous: await before it, and not in it');
+        if (value instanceof Promise) {
+          value.catch(() => {}); // its verbs throw from now on
+          throw new TypeError('the function of write() is synchronous: await before it, and not in it');
+        }
         this.greatest = Math.max(this.greatest, Date.now()); // a clock that is set back loses no own conflict
         planned.push({ job, transaction, value, ms: this.greatest });
         if (transaction.edits.length > 0) before = transaction;
@@ -284,21 +291,25 @@ export class Database<T extends Tables> {
 
   /** Hands transactions to the host. Where it ended, the next one says whether they stand. */
   private async hand(planned: readonly Planned[]): Promise<readonly Committed[]> {
-    const last = this.last;
     const list = planned.map(({ transaction, ms }) => ({ ms, edits: transaction.edits, isBlind: !transaction.hasRead }));
+    const by = `${this.id}.${++this.handed}`;
     try {
-      const { answers, epoch, version } = (await this.link.call('commit', this.epoch, this.version, list, this.id)) as Answers;
-      await this.reach(epoch, version);
-      return answers;
+      return await this.handOver(list, by);
     } catch (error) {
       if (!(error instanceof HostGone)) throw error;
     }
-    let stands = 0;
-    while (stands < planned.length && this.owners.get(last + stands + 1) === this.id) stands += 1;
+    let numbers = [...this.owners].filter(([, owner]) => owner === by).map(([number]) => number);
     // The last transactions may stand without having been told: the next host has it noted whose they are.
-    if (stands === 0) stands = (await this.link.call('outcome', last, planned.length, this.id)) as number;
+    if (numbers.length === 0) numbers = (await this.ask('outcome', by)) as number[];
     await this.refresh();
-    return planned.map((_, place) => (place < stands ? { number: last + place + 1 } : 'stale'));
+    return planned.map((_, place) => (place < numbers.length ? { number: numbers[place]! } : 'stale'));
+  }
+
+  /** `by` names these transactions: a host that is killed may leave it to the next one to say that they stand. */
+  private async handOver(list: readonly Commit[], by = `${this.id}.${++this.handed}`): Promise<readonly Committed[]> {
+    const { answers, epoch, version } = (await this.link.call('commit', this.epoch, this.version, list, by)) as Answers;
+    await this.reach(epoch, version);
+    return answers;
   }
 
   /** A table by its name, for code that has it as a text. */
@@ -308,66 +319,75 @@ export class Database<T extends Tables> {
 
   /** Calls back with the objects that each transaction or message changed. */
   onChange(callback: (changes: readonly RowChange[]) => void): Stop {
-    this.changeListeners.add(callback);
-    return () => void this.changeListeners.delete(callback);
+    return kept(this.changeListeners, callback);
   }
 
   // ---- sync
 
-  /** Calls back now and with each later state. */
-  observeSync(callback: (state: SyncState) => void): Stop {
-    callback(this.syncState);
-    this.syncListeners.add(callback);
-    return () => void this.syncListeners.delete(callback);
+  /** What a screen shows of sync. */
+  get syncState(): SyncState {
+    return this.state;
   }
 
-  /** Resolves once all that was committed before is in the history, and all that the history had is here; waits while offline. */
+  /** Calls back now and with each later state. */
+  observeSync(callback: (state: SyncState) => void): Stop {
+    callback(this.state);
+    return kept(this.syncListeners, callback);
+  }
+
+  /** Resolves once all that was committed before is in the history, and all that the history had is here; waits while offline. Rejects where
+   * sync needs attention (`NeedsAttention`, `SchemaConflict`). */
   synced(): Promise<void> {
-    return this.link.call('synced');
+    return this.ask('synced');
   }
 
   /** Syncs with this server from now on. A transport of one's own is for databases in this very thread: in Node, and in memory. */
   startSync(options: SyncWith | SyncOver): Promise<void> {
-    if ('transport' in options) return this.link.call('startSync', options);
+    if ('transport' in options) return this.ask('startSync', options);
     this.token = options.token;
-    return this.link.call('startSync', formOf(options));
+    return this.ask('startSync', formOf(options));
   }
 
-  /** A token in place of one that ends soon, or that the server refused. */
+  /** A token in place of one that ends soon, or that the server refused. Of several tabs each has its own: there a function as the token is better. */
   renewToken(token: string): Promise<void> {
-    return this.link.call('renewToken', token);
+    return this.ask('renewToken', token);
   }
 
   stopSync(): Promise<void> {
-    return this.link.call('stopSync');
+    return this.ask('stopSync');
   }
 
-  /** Lets a new client take this one's place, with what is unsent: where sync needs attention, and the problem is recoverable. */
-  recover(): Promise<boolean> {
-    const state = this.syncState;
-    return this.link.call('recover', state.status === 'attention' ? state.problem : problemFor('damaged', 'asked for', true));
+  /** Lets a new client take this one's place, with what is unsent: where sync needs attention, and the problem is recoverable. Else it rejects
+   * with `NeedsAttention`. */
+  async recover(): Promise<boolean> {
+    const problem = this.state.status === 'attention' ? this.state.problem : problemFor('damaged', 'asked for', true);
+    if (!problem.isRecoverable) throw new NeedsAttention(problem);
+    return this.ask('recover', problem);
   }
 
   /** Calls back with what a new client saved of what the old one had unsent, and what was lost. */
   onRecovered(callback: (recovery: Recovery) => void): Stop {
-    this.recoveryListeners.add(callback);
-    return () => void this.recoveryListeners.delete(callback);
+    return kept(this.recoveryListeners, callback);
   }
 
   /** Calls back with edits of this device that aren't seen any more after changes of other devices came. */
   onLost(callback: (lost: readonly LostEdit[]) => void): Stop {
-    this.lossListeners.add(callback);
-    return () => void this.lossListeners.delete(callback);
+    return kept(this.lossListeners, callback);
   }
 
   /** Where the client stands, and the memory of the merge core in bytes. */
   stats(): Promise<{ ident: number; cursor: number; last: number; unsent: number; memory: number }> {
-    return this.link.call('stats');
+    return this.ask('stats');
   }
 
   /** The client's file as bytes. */
   exportFile(): Promise<Uint8Array> {
-    return this.link.call('file');
+    return this.ask('file');
+  }
+
+  /** Where the files are: `opfs`, `indexeddb`, `folder` or `memory`. */
+  get storage(): string {
+    return this.kind;
   }
 
   /** Whether this tab is the one that has the files. */

@@ -68,10 +68,17 @@ export class Refused extends RealmError {
 
 /** An edit of a transaction doesn't act on the objects; nothing of the transaction was done. */
 export class BrokenEdit extends Refused {
-  /** The edit's place in the transaction, why it breaks, and the edit. */
-  constructor(readonly place: number, readonly code: number, readonly edit: string | undefined) {
+  readonly table: string;
+  /** Null where the edit is of a whole object. */
+  readonly column: string | null;
+
+  /** The edit's place in the transaction, why it breaks (docs/FORMATS.md, "Outcome lines"), and the edit as JSON. */
+  constructor(readonly place: number, readonly code: number, readonly edit: string) {
     super('Break', [place, code, 0]);
-    if (edit) this.message += `: ${edit}`;
+    this.message += `: ${edit}`;
+    const { table, column = null } = JSON.parse(edit) as { table: string; column?: string };
+    this.table = table;
+    this.column = column;
   }
 }
 

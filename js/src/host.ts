@@ -5,7 +5,7 @@ import { conflictIn } from './conflict.js';
 import { Status, expectDone, textOf, utf8, type Reply, type Standing } from './door.js';
 import { Engine } from './engine.js';
 import {
-  BadRequest, BrokenEdit, NeedsAttention, Outdated, RealmError, Refused, StorageFailed, Unauthorized, formOfError, storageError, type ErrorForm,
+  BadRequest, BrokenEdit, Closed, NeedsAttention, Outdated, RealmError, Refused, StorageFailed, Unauthorized, formOfError, storageError, type ErrorForm,
 } from './errors.js';
 import { LostEdits, type LostForm } from './lost.js';
 import type { Put } from './mirror.js';
@@ -43,7 +43,7 @@ export interface Delta {
   readonly version: number;
   readonly last: number;
   readonly puts: readonly Put[];
-  /** Whose transactions it is of, and how many: they end with number `last`. */
+  /** Under which name its transactions were handed over, and how many they are: they end with number `last`. */
   readonly by: string;
   readonly count: number;
 }
@@ -80,11 +80,16 @@ async function keepNote(files: Files, name: string, note: unknown): Promise<void
   await file.close();
 }
 
-async function noteOf<T>(files: Files, name: string): Promise<T> {
+/** Null where it was cut off before it was written. */
+async function noteOf<T>(files: Files, name: string): Promise<T | null> {
   const file = await files.open(name);
   const text = textOf(await file.read());
   await file.close();
-  return JSON.parse(text) as T;
+  try {
+    return JSON.parse(text) as T;
+  } catch {
+    return null;
+  }
 }
 
 /** What ends a recovery: any other error, as of the network, is tried again. */
@@ -107,7 +112,9 @@ export class Host {
   private recovering: Promise<boolean> | null = null;
   /** Whether a new client took over since the last time that all was up to date. */
   private hasRecovered = false;
-  private waitingForToken: ((token: string) => void)[] = [];
+  private waitingForToken: ((token: string | null) => void)[] = [];
+  /** After a failure, until the files are open again. */
+  private isBroken = false;
   private serverGeneration = 1;
 
   private constructor(
@@ -139,7 +146,7 @@ export class Host {
     const heir = found[1] ?? null;
     const reason = heir === null ? null : await noteOf<Problem>(files, reasonName(heir));
     const host = new Host(module, files, engine, generation, heir, reason);
-    if ((await files.names()).includes(SERVER_GENERATION)) host.serverGeneration = await noteOf<number>(files, SERVER_GENERATION);
+    if ((await files.names()).includes(SERVER_GENERATION)) host.serverGeneration = (await noteOf<number>(files, SERVER_GENERATION)) ?? 1;
     return host;
   }
 
@@ -152,9 +159,13 @@ export class Host {
     for (const listener of this.listeners) listener(event);
   }
 
-  /** One after the other. */
+  /** One after the other, over files that are open. */
   private alone<T>(work: () => Promise<T>): Promise<T> {
-    const result = this.queue.then(work);
+    const result = this.queue.then(async () => {
+      if (this.isClosed) throw new Closed('the database was closed');
+      if (this.isBroken) await this.openAgain();
+      return work();
+    });
     this.queue = result.catch(() => {});
     return result;
   }
@@ -179,7 +190,7 @@ export class Host {
   // ---- transactions
 
   /** Commits transactions that were written at this version of the objects, one after the other, up to the first that is refused. */
-  commit(epoch: string, version: number, list: readonly Commit[], by = ''): Promise<Answers> {
+  commit(epoch: string, version: number, list: readonly Commit[], by: string): Promise<Answers> {
     return this.alone(async () => {
       const isCurrent = epoch === this.epoch && version === this.version;
       const last = this.engine.standing().last;
@@ -190,7 +201,7 @@ export class Host {
         if (!isMine) throw error;
         if (places.length > 0) {
           const puts = this.putsOf(places.join(''));
-          await this.engine.settled(null, by && `${last + 1} ${places.length} ${by}`);
+          await this.engine.settled(null, `${last + 1} ${places.length} ${by}`);
           this.toldPuts(puts, by, places.length);
           this.loop?.committed();
         }
@@ -225,18 +236,29 @@ export class Host {
   private refusal(reply: Reply, edits: readonly string[]): RealmError {
     const refused = refusalOf(reply);
     const [place, code] = refused.details;
-    return refused.reason === 'Break' ? new BrokenEdit(place, code, edits[place]) : refused;
+    return refused.reason === 'Break' ? new BrokenEdit(place, code, edits[place]!) : refused;
   }
 
   /** Opens the files again after a failure, tells all objects anew, and what became of the transactions behind number `last`. */
   private async reopened(why: unknown, last: number, count: number): Promise<Committed[]> {
-    await this.engine.close().catch(() => {});
-    this.use(await Engine.open(this.module, await this.files.open(nameOf(this.generation))));
-    this.version += 1;
-    this.tell({ event: 'snapshot', ...this.shot() });
+    this.isBroken = true;
+    await this.openAgain();
     const stands = this.engine.standing().last - last;
     const error = formOfError(storageError(why));
     return Array.from({ length: count }, (_, place) => (place < stands ? { number: last + place + 1 } : { error }));
+  }
+
+  /** Where that fails too, it is tried again at the next call: what the disk has is seen then. */
+  private async openAgain(): Promise<void> {
+    await this.engine.close().catch(() => {});
+    try {
+      this.use(await Engine.open(this.module, await this.files.open(nameOf(this.generation))));
+    } catch (error) {
+      throw storageError(error);
+    }
+    this.isBroken = false;
+    this.version += 1;
+    this.tell({ event: 'snapshot', ...this.shot() });
   }
 
   private use(engine: Engine): void {
@@ -244,13 +266,12 @@ export class Host {
     this.talk = new Talk(engine);
   }
 
-  /** How many of the transactions that a tab handed to another host, which then was killed, stand: the first of them would be number
-   * `last` + 1. */
-  outcome(last: number, count: number, by: string): Promise<number> {
+  /** The numbers of the transactions that were handed under this name to another host, which then was killed: none where they don't stand. */
+  outcome(by: string): Promise<number[]> {
     return this.alone(async () => {
-      const [first, made, whose] = this.engine.noted().split(' ');
-      const isMine = whose === by && Number(first) === last + 1 && this.engine.standing().last >= last + Number(made);
-      return isMine ? Math.min(count, Number(made)) : 0;
+      const [first, count, whose] = this.engine.noted().split(' ');
+      const numbers = whose === by ? Array.from({ length: Number(count) }, (_, place) => Number(first) + place) : [];
+      return this.engine.standing().last >= (numbers.at(-1) ?? 0) ? numbers : [];
     });
   }
 
@@ -358,14 +379,19 @@ export class Host {
   /** A token of a tab's source. */
   askToken(wasRefused: boolean): Promise<string> {
     return new Promise((done, fail) => {
-      this.waitingForToken.push(done);
-      setTimeout(() => fail(new RealmError('no page handed a token over')), TOKEN_TIME);
+      const late = setTimeout(() => fail(new RealmError('no page handed a token over')), TOKEN_TIME);
+      this.waitingForToken.push((token) => {
+        clearTimeout(late);
+        if (token === null) fail(new RealmError('no token could be had'));
+        else done(token);
+      });
       this.tell({ event: 'token', wasRefused });
     });
   }
 
-  giveToken(token: string): void {
-    for (const done of this.waitingForToken.splice(0)) done(token);
+  /** Null where the tab's source failed. */
+  giveToken(token: string | null): void {
+    for (const given of this.waitingForToken.splice(0)) given(token);
   }
 
   /** A token in place of one that was refused, or that ends soon. */
@@ -377,7 +403,7 @@ export class Host {
   // ---- recovery
 
   private async onProblem(problem: Problem): Promise<boolean> {
-    if (problem.generation && this.engine.standing().ident === 0) {
+    if (problem.generation && problem.generation !== this.serverGeneration && this.engine.standing().ident === 0) {
       await this.agreeOn(problem.generation); // a new client begins in the generation that the history has
       return true;
     }
@@ -495,7 +521,9 @@ export class Host {
     this.isClosed = true;
     this.loop?.stop();
     this.loop = null;
-    await this.alone(async () => this.engine.close());
+    this.giveToken(null);
+    await this.queue;
+    await this.engine.close();
     await this.files.close();
   }
 }

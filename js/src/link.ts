@@ -27,7 +27,7 @@ export type MakeSync = (form: any, host: Host) => SyncOptions;
 export async function answer(host: Host, method: Call, words: any[], makeSync: MakeSync): Promise<unknown> {
   switch (method) {
     case 'commit': return host.commit(words[0], words[1], words[2], words[3]);
-    case 'outcome': return host.outcome(words[0], words[1], words[2]);
+    case 'outcome': return host.outcome(words[0]);
     case 'recover': return host.recover(words[0]);
     case 'startSync': return host.startSync(makeSync(words[0], host));
     case 'giveToken': return host.giveToken(words[0]);

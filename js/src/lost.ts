@@ -56,7 +56,7 @@ function isLost(edit: Edit, before: any, after: any, others: readonly Edit[]): b
     case 'SetInsert': return has(before, edit.value) && !has(after, edit.value);
     case 'SetErase': return !has(before, edit.value) && has(after, edit.value);
     case 'DictUpdate': return isSameValue(before[edit.at!], edit.value) && !isSameValue(after[edit.at!], edit.value);
-    case 'DictErase': return !(edit.at! in before) && edit.at! in after;
+    case 'DictErase': return !Object.hasOwn(before, edit.at!) && Object.hasOwn(after, edit.at!);
     default: return false;
   }
 }
@@ -110,7 +110,7 @@ export class LostEdits {
   constructor(private readonly engine: Engine, message: Uint8Array) {
     const { ident, unsent } = engine.standing();
     const others = unsent > 0 ? readOf(() => editsOfOthers(message, ident)) : null;
-    if (!others) return;
+    if (!others?.size) return;
     for (const [name, mine] of byObject([...unsentOf(engine)].flatMap(({ body, ms }) => editsAt(body, ms)))) {
       const theirs = others.get(name);
       const before = theirs && this.cells(mine[0]!);

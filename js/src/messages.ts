@@ -177,7 +177,9 @@ class Edits {
   constructor(private readonly from: Bytes, private readonly strings: readonly string[]) {}
 
   private name(): string {
-    return this.strings[this.from.number()]!;
+    const name = this.strings[this.from.number()];
+    if (name === undefined) throw new RangeError('a name that is not there');
+    return name;
   }
 
   private key(): string {

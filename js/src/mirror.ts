@@ -76,8 +76,8 @@ function replace(rows: TableRows, key: Key, after: Row | undefined): RowChange |
 export function isSame(one: any, other: any): boolean {
   if (one === other) return true;
   if (typeof one !== 'object' || typeof other !== 'object' || one === null || other === null) return false;
-  if (one instanceof Date) return one.getTime() === (other as Date).getTime();
-  if (one instanceof Set) return one.size === other.size && [...one].every((it) => other.has(it));
+  if (one instanceof Date) return other instanceof Date && one.getTime() === other.getTime();
+  if (one instanceof Set) return other instanceof Set && one.size === other.size && [...one].every((it) => other.has(it));
   if (Array.isArray(one) || one instanceof Uint8Array) {
     return one.length === other.length && (one as unknown[]).every((it, place) => isSame(it, other[place]));
   }

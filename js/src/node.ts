@@ -48,6 +48,9 @@ export async function openDatabase<T extends Tables>(options: NodeOptions<T>): P
   return db;
 }
 
+/** Takes a database in that folder off this machine, with what was never sent. `Busy` where it is open. */
+export const deleteDatabase = (folder: string): Promise<void> => NodeFiles.erase(folder);
+
 async function opened<T extends Tables>(schema: Schema<T>, plain: Files, key: EncryptionKey | undefined): Promise<Realm<T>> {
   const files = key ? await SealedFiles.over(plain, key) : plain;
   return Database.open(schema, new LocalLink(await Host.start(loadModule(), files), optionsOf));

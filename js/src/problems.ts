@@ -11,8 +11,9 @@ import { Refused, wordsOfCode, type Outdated } from './errors.js';
  * - `full`: a limit of the history or of a transaction.
  * - `damaged`: a reply that can't be taken, twice.
  * - `unauthorized`: the server refuses this device or its token.
+ * - `storage`: this device's disk is full, or failed. Sync tries again by itself.
  */
-export type ProblemKind = 'schema' | 'retired' | 'restored' | 'trimmed' | 'otherServer' | 'full' | 'damaged' | 'unauthorized';
+export type ProblemKind = 'schema' | 'retired' | 'restored' | 'trimmed' | 'otherServer' | 'full' | 'damaged' | 'unauthorized' | 'storage';
 
 /** A table or a column that is defined in two ways: of a table `column` is null. */
 export interface Conflict {
@@ -74,8 +75,7 @@ export function problemOf(error: Refused, isRepeated: boolean): Problem | 'again
 }
 
 /** The problem of a server that says that its history was restored. */
-export const outdated = ({ message, generation }: Outdated): Problem =>
-  ({ kind: 'otherServer', text: message, isRecoverable: generation !== null, generation });
+export const outdated = ({ message, generation }: Outdated): Problem => ({ kind: 'otherServer', text: message, isRecoverable: true, generation });
 
 /** The problems in which a new client takes over by itself. The others are left to a person: what is to be done with another server's
  * history, or with an application that declares another schema, nobody can know here. */

@@ -1,9 +1,11 @@
 // Queries over a tab's objects, and live ones: what changed is put into the result at its place, and the rest stays as it is.
 
-import { call } from './call.js';
-import type { Row, RowChange, TableRows } from './mirror.js';
+import { call, kept, tried } from './call.js';
+import { isSame, type Row, type RowChange, type TableRows } from './mirror.js';
 import type { Key, KeyOf, ObjectOf } from './schema.js';
+import { spelledKey } from './values.js';
 
+/** What a change is to a result, also behind its `limit`. */
 export interface Changes<R> {
   readonly inserted: readonly R[];
   readonly updated: readonly { readonly before: R; readonly after: R }[];
@@ -52,7 +54,7 @@ export class Feed {
     const telling: (() => void)[] = [];
     for (const [table, some] of byTable) {
       for (const listener of this.listeners.get(table) ?? []) {
-        const tell = listener(some);
+        const tell = tried(() => listener(some));
         if (tell) telling.push(tell);
       }
     }
@@ -79,10 +81,18 @@ export class Query<T> implements AsyncIterable<readonly ObjectOf<T>[]> {
     return new Query<T>(this.rows, this.feed, { ...this.plan, ...more });
   }
 
-  /** By values that columns have (found by an index), or by a test. */
+  /** By values that columns have (found by an index), or by a test. A test that asks the clock is asked again where its object changes. */
   where(test: { readonly [C in keyof ObjectOf<T>]?: ObjectOf<T>[C] } | Test<ObjectOf<T>>): Query<T> {
     if (typeof test === 'function') return this.with({ tests: [...this.plan.tests, test] });
-    return this.with({ equal: [...this.plan.equal, ...Object.entries(test)] });
+    const { form } = this.rows;
+    const equal = Object.entries(test).map(([name, value]) => [this.known(name), name === form.keyName ? spelledKey(form, value as Key) : value] as const);
+    return this.with({ equal: [...this.plan.equal, ...equal] });
+  }
+
+  private known(name: string): string {
+    const { form } = this.rows;
+    if (name !== form.keyName && !form.column.has(name)) throw new TypeError(`${form.name} has no column ${name}`);
+    return name;
   }
 
   /** By columns, one after the other; `-name` the other way round. Objects that are equal in them stand by their keys. */
@@ -90,13 +100,15 @@ export class Query<T> implements AsyncIterable<readonly ObjectOf<T>[]> {
     const made = orders.map((it): Compare<any> => {
       if (typeof it === 'function') return it;
       const isBack = it.startsWith('-') && !this.rows.form.column.has(it);
-      const name = isBack ? it.slice(1) : it;
+      const name = this.known(isBack ? it.slice(1) : it);
       return isBack ? (a, b) => compareValues(b[name], a[name]) : (a, b) => compareValues(a[name], b[name]);
     });
     return this.with({ orders: [...this.plan.orders, ...made] });
   }
 
+  /** The first so many, in the order of `sortBy`. */
   limit(most: number): Query<T> {
+    if (!(most >= 0)) throw new RangeError(`a limit is 0 or more, and ${most} isn't`);
     return this.with({ most });
   }
 
@@ -119,11 +131,17 @@ export class Query<T> implements AsyncIterable<readonly ObjectOf<T>[]> {
     return this.toArray().length;
   }
 
-  /** Calls back now and after each change of the result, until it is stopped. */
+  /** Calls back now and after each change of the result, until it is stopped. `changes` is null now, and where a test had thrown before. */
   observe(callback: (rows: readonly ObjectOf<T>[], changes: Changes<ObjectOf<T>> | null) => void): Stop {
-    this.live ??= new Live(this.rows, this.feed, this.plan, () => { this.live = null; });
-    const stop = this.live.listen(callback as (rows: readonly Row[], changes: Changes<Row> | null) => void);
-    callback(this.live.rows as any, null);
+    const live: Live<any> = this.live ?? new Live(this.rows, this.feed, this.plan, () => { if (this.live === live) this.live = null; });
+    this.live = live;
+    const stop = live.listen(callback as Told<Row>);
+    try {
+      callback(live.rows as any, null);
+    } catch (error) {
+      stop();
+      throw error;
+    }
     return stop;
   }
 
@@ -165,43 +183,106 @@ function comparing(rows: TableRows, { orders }: Plan<any>): Compare<any> {
 }
 
 function matches({ equal, tests }: Plan<any>, row: any): boolean {
-  for (const [name, value] of equal) if (row[name] !== value) return false;
+  for (const [name, value] of equal) if (!isSame(row[name], value)) return false;
   for (const test of tests) if (!test(row)) return false;
   return true;
 }
 
+/** The objects among which those of a plan are: by an index of a column, where a plain value of one is asked for. */
+function candidates(rows: TableRows, { equal }: Plan<any>): Iterable<Row> {
+  const plain = equal.find(([, value]) => !(value instanceof Object));
+  if (!plain) return rows.rows.values();
+  const [name, value] = plain;
+  if (name !== rows.form.keyName) return rows.index(name).get(value) ?? [];
+  const row = rows.rows.get(value as Key);
+  return row ? [row] : [];
+}
+
 function find(rows: TableRows, plan: Plan<any>, compare: Compare<any>): any[] {
-  const [first] = plan.equal;
-  const from: Iterable<Row> = first && first[0] !== rows.form.keyName ? rows.index(first[0]).get(first[1]) ?? [] : rows.rows.values();
+  const from = candidates(rows, plan);
   const found: any[] = [];
   for (const row of from) if (matches(plan, row)) found.push(row);
   return found.sort(compare);
 }
 
+type Told<R> = (rows: readonly R[], changes: Changes<R> | null) => void;
+
 /** The result of a query that is kept up to date. */
 class Live<R extends Row> {
-  private all: R[];
-  rows: readonly R[];
+  rows: readonly R[] = [];
+  private all: R[] = [];
+  /** Those of the result by their keys: a test that asks the clock may say otherwise of an object by now than when it came in. */
+  private members = new Map<Key, R>();
   private readonly compare: Compare<R>;
-  private readonly listeners = new Set<(rows: readonly R[], changes: Changes<R> | null) => void>();
+  private readonly listeners = new Set<Told<R>>();
   private readonly stop: Stop;
+  /** Whether a test threw, so that all is found anew. */
+  private isStale = false;
 
   constructor(private readonly table: TableRows, feed: Feed, private readonly plan: Plan<R>, private readonly ended: () => void) {
     this.compare = comparing(table, plan);
-    this.all = find(table, plan, this.compare);
-    this.rows = cut(this.all.slice(), plan.most);
+    this.findAll();
     this.stop = feed.listen(table.form.name, (changes) => this.take(changes));
   }
 
-  listen(listener: (rows: readonly R[], changes: Changes<R> | null) => void): Stop {
-    this.listeners.add(listener);
+  private findAll(): void {
+    this.all = find(this.table, this.plan, this.compare);
+    this.members = new Map(this.all.map((row) => [row[this.table.form.keyName] as Key, row]));
+    this.rows = cut(this.all.slice(), this.plan.most);
+  }
+
+  listen(listener: Told<R>): Stop {
+    const stop = kept(this.listeners, listener);
     return () => {
-      this.listeners.delete(listener);
-      if (this.listeners.size === 0) {
-        this.stop();
-        this.ended();
-      }
+      stop();
+      if (this.listeners.size > 0) return;
+      this.stop();
+      this.ended();
     };
+  }
+
+  private take(changes: RowChange[]): (() => void) | null {
+    const wasStale = this.isStale;
+    this.isStale = true;
+    let changed: Changes<R> | null = null;
+    if (wasStale) this.findAll();
+    else {
+      changed = this.sorted(changes);
+      this.edit(changed);
+    }
+    this.isStale = false;
+    if (changed && changed.inserted.length + changed.updated.length + changed.removed.length === 0) return null;
+    return () => {
+      for (const listener of [...this.listeners]) if (this.listeners.has(listener)) call(listener, this.rows, changed);
+    };
+  }
+
+  /** What the changes of the table are to the result. */
+  private sorted(changes: RowChange[]): Changes<R> {
+    const inserted: R[] = [], removed: R[] = [], updated: { before: R; after: R }[] = [];
+    for (const { key, after } of changes as { key: Key; after: R | undefined }[]) {
+      const before = this.members.get(key);
+      const is = after !== undefined && matches(this.plan, after);
+      if (before && is) updated.push({ before, after });
+      else if (before) removed.push(before);
+      else if (is) inserted.push(after);
+    }
+    return { inserted, updated, removed };
+  }
+
+  private edit({ inserted, updated, removed }: Changes<R>): void {
+    const out = [...removed, ...updated.map((it) => it.before)], into = [...inserted, ...updated.map((it) => it.after)];
+    if (out.length + into.length === 0) return;
+    const { keyName } = this.table.form;
+    for (const row of out) this.members.delete(row[keyName] as Key);
+    for (const row of into) this.members.set(row[keyName] as Key, row);
+    if (out.length + into.length > 32 && (out.length + into.length) * 8 > this.all.length) {
+      this.all = [...this.members.values()].sort(this.compare);
+    } else {
+      for (const row of out) this.all.splice(this.placeOf(row), 1);
+      for (const row of into) this.all.splice(this.place(row), 0, row);
+    }
+    this.rows = cut(this.all.slice(), this.plan.most);
   }
 
   private place(row: R): number {
@@ -214,43 +295,22 @@ class Live<R extends Row> {
     return low;
   }
 
-  private take(changes: RowChange[]): (() => void) | null {
-    const inserted: R[] = [], removed: R[] = [], updated: { before: R; after: R }[] = [];
-    for (const { before, after } of changes as { before: R | undefined; after: R | undefined }[]) {
-      const was = before !== undefined && matches(this.plan, before);
-      const is = after !== undefined && matches(this.plan, after);
-      if (was && is) updated.push({ before: before!, after: after! });
-      else if (was) removed.push(before!);
-      else if (is) inserted.push(after!);
-    }
-    if (inserted.length + removed.length + updated.length === 0) return null;
-    const touched = inserted.length + removed.length + 2 * updated.length;
-    if (touched > 32 && touched * 8 > this.all.length) this.all = find(this.table, this.plan, this.compare);
-    else this.edit([...removed, ...updated.map((it) => it.before)], [...inserted, ...updated.map((it) => it.after)]);
-    this.rows = cut(this.all.slice(), this.plan.most);
-    return () => {
-      for (const listener of [...this.listeners]) call(listener, this.rows, { inserted, updated, removed });
-    };
-  }
-
-  private edit(out: R[], into: R[]): void {
-    for (const row of out) {
-      const place = this.place(row);
-      if (this.all[place] === row) this.all.splice(place, 1);
-      else this.all.splice(this.all.indexOf(row), 1);
-    }
-    for (const row of into) this.all.splice(this.place(row), 0, row);
+  /** Where an object of the result is: where an order asks the clock, that may not be its place any more. */
+  private placeOf(row: R): number {
+    const place = this.place(row);
+    return this.all[place] === row ? place : this.all.indexOf(row);
   }
 }
 
 /** A table: its objects by key, and queries over them. */
 export class Table<T> extends Query<T> {
   get(key: KeyOf<T>): ObjectOf<T> | undefined {
-    return this.rows.rows.get(key as Key) as ObjectOf<T> | undefined;
+    const { rows, form } = this.rows;
+    return (rows.get(key as Key) ?? rows.get(spelledKey(form, key as Key))) as ObjectOf<T> | undefined;
   }
 
   has(key: KeyOf<T>): boolean {
-    return this.rows.rows.has(key as Key);
+    return this.get(key) !== undefined;
   }
 
   override count(): number {
@@ -259,10 +319,11 @@ export class Table<T> extends Query<T> {
 
   /** Calls back now and after each change of one object; undefined while it isn't there. */
   observeOne(key: KeyOf<T>, callback: (object: ObjectOf<T> | undefined) => void): Stop {
+    const mine = spelledKey(this.rows.form, key as Key);
     callback(this.get(key));
     return this.feed.listen(this.rows.form.name, (changes) => {
-      const mine = changes.find((it) => it.key === key);
-      return mine ? () => callback(mine.after as ObjectOf<T> | undefined) : null;
+      const change = changes.find((it) => it.key === mine);
+      return change ? () => callback(change.after as ObjectOf<T> | undefined) : null;
     });
   }
 }

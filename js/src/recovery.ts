@@ -61,13 +61,20 @@ export class Takeover {
   async join(old: Standing): Promise<void> {
     await born(this.heir);
     await this.takeAll();
-    // At another server the old ident may be somebody else's: it is left alone, and nothing of the old client is in that history.
-    if (this.problem.kind === 'otherServer') return;
+    // At another server the old ident may be somebody else's: it is left alone, and nothing of the old client is in that history. One that was
+    // restored is the same as it was once: what it has of the old client isn't saved again, and its service takes no more of it.
+    if (this.problem.kind === 'otherServer') {
+      if (this.problem.generation) this.own = await this.changesOfOld(old.ident);
+      return;
+    }
     const other = await this.retire(old.ident);
     await this.takeAll();
-    const journal = await this.heir.bytes();
-    this.own = new Map(changesOf(old.ident, journal).map(({ number, ms }) => [number, ms]));
-    if (other !== null) this.savedByOther = changesOf(other, journal);
+    this.own = await this.changesOfOld(old.ident);
+    if (other !== null) this.savedByOther = changesOf(other, await this.heir.bytes());
+  }
+
+  private async changesOfOld(ident: number): Promise<ReadonlyMap<number, bigint>> {
+    return new Map(changesOf(ident, await this.heir.bytes()).map(({ number, ms }) => [number, ms]));
   }
 
   /** It sends no change: one that it saved in a try that was cut off is in no history before it has taken the old client's place. */

@@ -88,9 +88,10 @@ class SealedFile implements OpenFile {
 
   static async open(inner: OpenFile, key: CryptoKey): Promise<SealedFile> {
     const bytes = await inner.read();
-    // Nothing was answered of a file whose first gate is closed: it is begun anew, if it is one of these at all.
+    // Nothing was answered of a file whose first gate is closed: it is begun anew, if it is one of these at all, and has no record behind the first.
     if (bytes.length > FIRST && bytes[FIRST] === 1) return SealedFile.read(inner, key, bytes);
     if (!(isSealed(bytes) || bytes.subarray(0, MAGIC.length).every((it) => it === 0))) throw new BadFile(0);
+    if (bytes.length > FIRST + HEAD + NONCE + TAG + 1) throw new BadFile(FIRST);
     return SealedFile.made(inner, key);
   }
 

@@ -1,6 +1,6 @@
 // The background loop of sync: what there is to say is said, what came is taken, and the state is told.
 
-import { Endless, Outdated, Refused, Unauthorized, errorOfProblem } from './errors.js';
+import { Endless, NeedsAttention, Outdated, RealmError, Refused, StorageFailed, Unauthorized, errorOfProblem } from './errors.js';
 import { outdated, problem, problemOf, type Problem } from './problems.js';
 import type { Stop } from './query.js';
 
@@ -19,8 +19,8 @@ export interface Transport {
 
 export type SyncState =
   | { readonly status: 'off' | 'connecting' }
-  /** `retryAt` is a moment in ms since the epoch. */
-  | { readonly status: 'offline'; readonly reason: string; readonly retryAt: number }
+  /** `retryAt` is a moment in ms since the epoch, `unsent` how many transactions wait. */
+  | { readonly status: 'offline'; readonly reason: string; readonly retryAt: number; readonly unsent: number }
   | { readonly status: 'syncing'; readonly unsent: number }
   | { readonly status: 'upToDate'; readonly at: number }
   | { readonly status: 'recovering'; readonly problem: Problem }
@@ -87,6 +87,7 @@ export class SyncLoop {
   private fails = 0;
   private isRepeated = false;
   private hasWork = true;
+  private mustUpgrade = false;
   /** Why nothing is sent until `resume`. */
   private held: Problem | null = null;
   /** Those who wait for a round that began after they asked. */
@@ -113,7 +114,8 @@ export class SyncLoop {
 
   /** Something was committed: it is sent at once, but where the loop waits before it tries again. */
   committed(): void {
-    if (['upToDate', 'syncing', 'connecting'].includes(this.state.status)) this.poke();
+    if (this.state.status === 'offline') this.set({ ...this.state, unsent: this.node.unsent() });
+    else if (['upToDate', 'syncing', 'connecting'].includes(this.state.status)) this.poke();
   }
 
   /** Goes on after a problem that was settled. */
@@ -138,7 +140,7 @@ export class SyncLoop {
     this.stopWatching();
     this.current?.abort();
     this.wake.abort();
-    this.release(new Error('sync was stopped'));
+    this.release(new RealmError('sync was stopped'));
     this.options.transport.close?.();
   }
 
@@ -178,18 +180,20 @@ export class SyncLoop {
   private async failed(error: Error): Promise<void> {
     if (error instanceof Unauthorized) return this.stopFor(problem('unauthorized', error.message, false));
     if (error instanceof Outdated) return this.stopFor(outdated(error));
+    if (error instanceof NeedsAttention) return this.stopFor(error.problem);
     if (error instanceof Refused) {
       const what = problemOf(error, this.isRepeated);
       const wasRepeated = this.isRepeated;
       this.isRepeated = true;
       if (what !== 'again' && what !== 'upgrade') return this.stopFor({ ...what, conflict: error.conflict });
+      this.mustUpgrade = what === 'upgrade';
       this.hasWork = !wasRepeated; // at once, and with pauses where it comes to the same again
-      if (what === 'upgrade') await this.node.upgrade();
       if (this.hasWork) return;
     }
     this.fails += 1;
     const wait = Math.min(this.options.retryMost, this.options.retryFrom * 2 ** (this.fails - 1)) * (0.75 + Math.random() / 2);
-    this.set({ status: 'offline', reason: error.message, retryAt: Date.now() + wait });
+    if (error instanceof StorageFailed) this.tellAttention(problem('storage', error.message, false));
+    else this.set({ status: 'offline', reason: error.message, retryAt: Date.now() + wait, unsent: this.node.unsent() });
     await this.sleep(wait);
   }
 
@@ -201,9 +205,13 @@ export class SyncLoop {
     if (this.isStopped) return;
     this.held = found;
     this.hasWork = false;
+    this.tellAttention(found);
+    while (this.held && !this.isStopped) await this.sleep(0x7fffffff);
+  }
+
+  private tellAttention(found: Problem): void {
     this.set({ status: 'attention', problem: found });
     this.release(errorOfProblem(found));
-    while (this.held && !this.isStopped) await this.sleep(0x7fffffff);
   }
 
   private async exchange(message: Uint8Array): Promise<Uint8Array> {
@@ -218,8 +226,11 @@ export class SyncLoop {
 
   /** Sends and takes until a reply says that the end of the history is reached and nothing is unsent. */
   private async round(): Promise<void> {
+    if (this.mustUpgrade) await this.node.upgrade();
+    this.mustUpgrade = false;
     let before = '';
     for (let count = 0, idle = 0, isDone = false; !isDone && !this.isStopped; count++) {
+      const message = await this.node.next();
       const now = this.node.progress();
       idle = now === before ? idle + 1 : 0;
       before = now;
@@ -228,8 +239,7 @@ export class SyncLoop {
       }
       const unsent = this.node.unsent();
       if (this.state.status !== 'upToDate' || unsent > 0) this.set({ status: 'syncing', unsent });
-      const reply = await this.exchange(await this.node.next());
-      const isEnd = await this.node.take(reply);
+      const isEnd = await this.node.take(await this.exchange(message));
       isDone = isEnd && this.node.unsent() === 0;
     }
   }

@@ -189,6 +189,11 @@ class TableEditor implements TableWriter<any> {
     const column = this.column(name);
     if (column.shape === 'One') return this.assign(key, column, value);
     const handle = this.at(key)[name];
+    const isDict = column.shape === 'Dict';
+    // A text is one value, and not its characters.
+    if (!(value instanceof Object) || Symbol.iterator in value === isDict) {
+      throw new InvalidValue(`${this.form.name}.${name}: a ${column.shape.toLowerCase()} is given as ${isDict ? 'an object' : 'an array or a set'}`);
+    }
     if (column.shape === 'Dict') {
       for (const [at, it] of Object.entries(value)) (handle as DictHandle<unknown>).set(at, it);
     } else if (column.shape === 'Set') (handle as SetHandle<unknown>).add(...value);

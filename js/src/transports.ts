@@ -1,32 +1,42 @@
 // Transports: one message there, one reply back.
 
-import { Outdated, RealmError, Unauthorized } from './errors.js';
+import { NeedsAttention, Outdated, RealmError, Unauthorized } from './errors.js';
+import { problem } from './problems.js';
 import type { Stop } from './query.js';
 import type { Transport } from './sync.js';
 
 /** A token, or what hands one over: `wasRefused` asks for another one than before. */
 export type TokenSource = string | ((wasRefused: boolean) => string | Promise<string>);
 
-/** The token of a transport: asked for anew once it was refused. */
+/** The token of a transport: a source is asked once, and again once the server refused what it gave. */
 class Token {
   private wasRefused = false;
-  private renewed: string | null = null;
+  private current: Promise<string> | null = null;
   constructor(private readonly source: TokenSource) {}
 
-  async get(): Promise<string> {
-    if (this.renewed !== null) return this.renewed;
-    return typeof this.source === 'string' ? this.source : this.source(this.wasRefused);
+  get(): Promise<string> {
+    return (this.current ??= this.asked());
+  }
+
+  private async asked(): Promise<string> {
+    if (typeof this.source === 'string') return this.source;
+    try {
+      return await this.source(this.wasRefused);
+    } catch (error) {
+      this.current = null; // it is asked again at the next try
+      throw error;
+    }
   }
 
   renew(token: string): void {
-    this.renewed = token;
+    this.current = Promise.resolve(token);
     this.wasRefused = false;
   }
 
   /** The server refused the token. Throws where there is no other one to try: one is asked for once. */
-  refused(text: string): void {
-    if (typeof this.source === 'string' || this.wasRefused) throw new Unauthorized(text);
-    this.renewed = null;
+  refused(why: Error): void {
+    if (typeof this.source === 'string' || this.wasRefused) throw why;
+    this.current = null;
     this.wasRefused = true;
   }
 
@@ -36,25 +46,41 @@ class Token {
 }
 
 const headersOf = (token: string): Record<string, string> => (token ? { authorization: `Bearer ${token}` } : {});
-/** What a server says by these it says for good. */
-const isForGood = (status: number): boolean => status === 401 || status === 403 || status === 404;
-function refusal(status: number): string {
-  if (status === 401) return 'the server refuses the token';
-  return status === 404 ? 'the server has no such history' : `the server refuses this device (${status})`;
+const TOKEN_REFUSED = 401, OUTDATED = 410, TOO_LARGE = 413;
+const WORDS: Record<number, string> = {
+  401: 'the server refuses the token',
+  403: 'the server refuses this device',
+  404: 'the server has no such history',
+  413: 'the server takes no message that is so large',
+};
+
+/** What a server says for good by a status, with its own words; null where it may be tried again. */
+function refusal(status: number, said: string): Error | null {
+  const words = WORDS[status];
+  if (!words) return null;
+  const text = said ? `${words}: ${said}` : words;
+  return status === TOO_LARGE ? new NeedsAttention(problem('full', text, false)) : new Unauthorized(text);
 }
 
-const OUTDATED = 410;
-/** An address, with the generation in which the client's file began. */
-function addressOf(url: string, generation: number): string {
-  return generation === 1 ? url : `${url}${url.includes('?') ? '&' : '?'}generation=${generation}`;
+/** The words of an answer, where it has some for people. */
+async function wordsOf(response: Response): Promise<string> {
+  if (!response.headers.get('content-type')?.startsWith('text/plain')) return '';
+  return (await response.text()).split('\n')[0]!.slice(0, 200);
 }
-const newsAt = (url: string, generation: number, after: number, wait: number): string => {
-  const at = new URL(addressOf(url, generation));
-  at.pathname += '/news';
+
+/** An address, with the generation in which the client's file began behind the history's name: the first is said by the address as it is. */
+function addressOf(url: string, generation: number, more = ''): URL {
+  const at = new URL(url, globalThis.location?.href);
+  if (generation !== 1) at.pathname = at.pathname.replace(/(@\d+)?\/?$/, `@${generation}`);
+  at.pathname += more;
+  return at;
+}
+function newsAt(url: string, generation: number, after: number, wait: number): string {
+  const at = addressOf(url.replace(/^ws/, 'http'), generation, '/news');
   at.searchParams.set('after', String(after));
   at.searchParams.set('wait', String(wait));
   return String(at);
-};
+}
 function generationIn(headers: Headers): number | null {
   const told = Number(headers.get('realm-generation') ?? 0);
   return told > 0 ? told : null;
@@ -70,7 +96,10 @@ async function* newsOf(at: (after: number, wait: number) => string, token: Token
         if (length >= 0) yield news;
         length = news;
       } else if (response.status === 204) length = Math.max(0, length);
-      else await later(60_000, signal); // a server without news: the loop asks from time to time
+      else {
+        length = -1; // a server without news, or one whose history was restored: the loop asks from time to time
+        await later(60_000, signal);
+      }
     } catch {
       await later(5_000, signal);
     }
@@ -103,15 +132,14 @@ export class HttpTransport implements Transport {
     for (;;) {
       const headers = { 'content-type': 'application/octet-stream', ...headersOf(await this.token.get()) };
       const response = await fetch(addressOf(this.url, this.generation), { method: 'POST', body: message, signal, headers });
-      if (response.status === OUTDATED) throw new Outdated(generationIn(response.headers));
-      if (response.status === 401) {
-        this.token.refused(refusal(401));
-        continue;
+      if (response.ok) {
+        this.token.accepted();
+        return new Uint8Array(await response.arrayBuffer());
       }
-      if (isForGood(response.status)) throw new Unauthorized(refusal(response.status));
-      if (!response.ok) throw new RealmError(`the server answered ${response.status}`);
-      this.token.accepted();
-      return new Uint8Array(await response.arrayBuffer());
+      if (response.status === OUTDATED) throw new Outdated(generationIn(response.headers));
+      const refused = refusal(response.status, await wordsOf(response));
+      if (response.status === TOKEN_REFUSED) this.token.refused(refused!);
+      else throw refused ?? new RealmError(`the server answered ${response.status}`);
     }
   }
 
@@ -146,45 +174,54 @@ export class WebSocketTransport implements Transport {
     this.token = new Token(token);
   }
 
-  private async connected(): Promise<WebSocket> {
+  private async connected(signal: AbortSignal): Promise<WebSocket> {
     if (this.socket?.readyState === 1) return this.socket;
     if (!this.Socket) throw new Unauthorized('this platform has no WebSocket: hand a class of them over, or use HTTP');
     const token = await this.token.get();
     const socket = new this.Socket(addressOf(this.url, this.generation), token ? ['realm', `bearer.${token}`] : ['realm']);
     socket.binaryType = 'arraybuffer';
-    const code = await new Promise<number>((done) => {
-      socket.onopen = () => done(0);
-      socket.onerror = () => done(1006);
-      socket.onclose = (event) => done(event.code);
+    const isOpen = await new Promise<boolean>((done) => {
+      socket.onopen = () => done(true);
+      socket.onerror = socket.onclose = () => done(false);
+      signal.addEventListener('abort', () => done(false), { once: true });
     });
-    if (code !== 0) throw await this.unconnected(code, token);
+    if (signal.aborted) {
+      socket.close();
+      throw new RealmError('no connection came about in time');
+    }
+    if (!isOpen) throw await this.unconnected(token, signal);
     this.token.accepted();
     socket.onerror = null;
     socket.onmessage = ({ data }) => this.take(data as ArrayBuffer | string);
-    socket.onclose = ({ code: why }) => this.lost(socket, why);
+    socket.onclose = ({ code, reason }) => this.lost(socket, this.ended(code, reason));
     this.socket = socket;
     return socket;
   }
 
   /** Why there is no connection. A page isn't told the status with which one was refused, so it is asked for by HTTP. */
-  private async unconnected(code: number, token: string): Promise<Error> {
-    if (code >= 4000 && code !== 4000 + OUTDATED) return this.refused(code - 4000) ?? new RealmError(`the server ended the connection (${code})`);
-    const asked = newsAt(this.url.replace(/^ws/, 'http'), this.generation, 0xffffffff, 0);
-    const response = await fetch(asked, { headers: headersOf(token) }).catch(() => null);
-    if (response?.status === OUTDATED) return new Outdated(generationIn(response.headers));
-    return this.refused(response?.status ?? 0) ?? new RealmError('the server cannot be reached');
+  private async unconnected(token: string, signal: AbortSignal): Promise<Error> {
+    const asked = newsAt(this.url, this.generation, 0xffffffff, 0);
+    const response = await fetch(asked, { headers: headersOf(token), signal }).catch(() => null);
+    if (!response) return new RealmError('the server cannot be reached');
+    if (response.status === OUTDATED) return new Outdated(generationIn(response.headers));
+    return this.refused(response.status, await wordsOf(response)) ?? new RealmError(`no connection came about (${response.status})`);
   }
 
-  private refused(status: number): Error | null {
-    if (status === 401) {
-      try {
-        this.token.refused(refusal(401));
-        return new RealmError('the token has ended: another one is tried');
-      } catch (error) {
-        return error as Error;
-      }
+  private refused(status: number, said: string): Error | null {
+    const why = refusal(status, said);
+    if (status !== TOKEN_REFUSED) return why;
+    try {
+      this.token.refused(why!);
+      return new RealmError('the token has ended: another one is tried');
+    } catch (error) {
+      return error as Error;
     }
-    return isForGood(status) ? new Unauthorized(refusal(status)) : null;
+  }
+
+  /** Why the server ended a connection: its codes are 4000 and a status, and 1009 for a message that is too large. */
+  private ended(code: number, reason: string): Error {
+    if (code === 4000 + OUTDATED) return new Outdated(Number(/is of generation (\d+): begin/.exec(reason)?.[1] ?? 0) || null);
+    return this.refused(code === 1009 ? TOO_LARGE : code - 4000, reason) ?? new RealmError('the connection was lost');
   }
 
   private take(data: ArrayBuffer | string): void {
@@ -194,13 +231,12 @@ export class WebSocketTransport implements Transport {
     waiting?.done(new Uint8Array(data));
   }
 
-  private lost(socket: WebSocket, code: number): void {
+  private lost(socket: WebSocket, why: Error): void {
     if (this.socket !== socket) return;
     this.socket = null;
     const waiting = this.waiting;
     this.waiting = null;
-    const refused = code >= 4000 ? this.refused(code - 4000) : null;
-    if (waiting) waiting.fail(refused ?? new RealmError('the connection was lost'));
+    if (waiting) waiting.fail(why);
     else if (!this.isClosed) {
       // Nobody waits: the loop connects again, and asks what came meanwhile.
       setTimeout(() => this.watcher(), 1000 * Math.random());
@@ -208,8 +244,7 @@ export class WebSocketTransport implements Transport {
   }
 
   async exchange(message: Uint8Array, signal: AbortSignal): Promise<Uint8Array> {
-    const socket = await this.connected();
-    if (signal.aborted) throw new RealmError('no reply came in time');
+    const socket = await this.connected(signal);
     return new Promise((done, fail) => {
       this.waiting = { done, fail };
       // A late reply would be taken for the next one's.

@@ -1,18 +1,17 @@
 // Keys and values between code and the core's JSON: docs/FORMATS.md, "Values, keys and columns".
 
+import { textOf, utf8 } from './door.js';
 import { InvalidValue } from './errors.js';
 import type { ColumnForm, Field, Key, KeyKind, TableForm } from './schema.js';
 
 const INT_MIN = -(2n ** 63n), INT_MAX = 2n ** 63n - 1n;
 const UUID = /^[0-9a-f]{8}-[0-9a-f]{4}-[0-9a-f]{4}-[0-9a-f]{4}-[0-9a-f]{12}$/;
-const encoder = new TextEncoder();
 
-/** A text as JSON. Half a character, which UTF-8 doesn't have, becomes U+FFFD, as everywhere in a browser. */
-export function quote(value: string): string {
-  const well = value as string & { isWellFormed?(): boolean; toWellFormed?(): string };
-  if (well.isWellFormed) return JSON.stringify(well.isWellFormed() ? value : well.toWellFormed!());
-  return JSON.stringify(/[\ud800-\udfff]/.test(value) ? new TextDecoder().decode(encoder.encode(value)) : value);
-}
+/** A text without half characters, which UTF-8 doesn't have: they become U+FFFD, as everywhere in a browser. */
+export const wellFormed = (value: string): string => (/[\ud800-\udfff]/.test(value) ? textOf(utf8(value)) : value);
+
+/** A text as JSON. */
+export const quote = (value: string): string => JSON.stringify(wellFormed(value));
 
 function int(value: unknown, where: string): string {
   if (typeof value === 'bigint') {
@@ -49,9 +48,15 @@ export function plainKey(kind: KeyKind, value: unknown, where: string): Key {
     const text = int(value, where);
     return Number.isSafeInteger(Number(text)) ? Number(text) : BigInt(text);
   }
-  if (typeof value !== 'string' || encoder.encode(value).length > 255) throw new InvalidValue(`${where}: a text key has at most 255 bytes`);
-  return value;
+  if (typeof value !== 'string' || utf8(value).length > 255) throw new InvalidValue(`${where}: a text key has at most 255 bytes`);
+  return wellFormed(value);
 }
+
+/** A key as objects have it: a uuid may be asked for in upper case, a small integer as a bigint. */
+export const spelledKey = (form: TableForm, value: Key): Key => {
+  if (form.keyKind === 'Uuid' && typeof value === 'string') return value.toLowerCase();
+  return typeof value === 'bigint' && Number.isSafeInteger(Number(value)) ? Number(value) : value;
+};
 
 export function keyJson(kind: KeyKind, value: Key): string {
   if (kind === 'Uuid') return `{"uuid":"${value as string}"}`;
@@ -91,26 +96,29 @@ export function valueJson(field: Field<unknown, any>, tables: ReadonlyMap<string
 }
 
 export const atJson = (at: string, where: string): string => {
-  if (encoder.encode(at).length > 255) throw new InvalidValue(`${where}: a text key has at most 255 bytes`);
+  if (utf8(at).length > 255) throw new InvalidValue(`${where}: a text key has at most 255 bytes`);
   return quote(at);
 };
 
 // ---- reading
 
-/** An integer of 16 digits and more, which JSON.parse rounds: kept aside as a text that begins with U+0000. */
+/** An integer of 16 digits and more, which JSON.parse rounds: kept aside as a text that begins with half a character, as no text does. */
 const LONG = /[[:,]-?\d{16,}/;
-const LONG_INT = /^\0-?\d{16,}$/;
+const LONG_INT = /^\ud800-?\d{16,}$/;
 const TOKENS = /"(?:[^"\\]|\\.)*"|-?\d{16,}/g;
 
 export function parseLine(line: string): unknown {
   if (!LONG.test(line)) return JSON.parse(line);
-  return JSON.parse(line.replace(TOKENS, (token) => (token[0] === '"' ? token : `"\\u0000${token}"`)));
+  return JSON.parse(line.replace(TOKENS, (token) => (token[0] === '"' ? token : `"\\ud800${token}"`)));
 }
 
 /** A key that `parseLine` read, as JSON again. */
 export function textOfKey(parsed: unknown): string {
   return typeof parsed === 'string' && LONG_INT.test(parsed) ? parsed.slice(1) : JSON.stringify(parsed);
 }
+
+/** The last moment that a Date has; one beyond it, of another program, reads as this one. */
+const MOST_MS = 8.64e15;
 
 function readInt(it: unknown, big: boolean): number | bigint {
   const exact = typeof it === 'string' ? BigInt(it.slice(1)) : (it as number);
@@ -131,7 +139,7 @@ function readValue(field: Field<unknown, any>, it: any): unknown {
     case 'Bool':
     case 'Text': return it;
     case 'Bytes': return bytesOf(it.bytes);
-    case 'Time': return new Date(Number(readInt(it.secs, false)) * 1000 + Math.floor(it.nanos / 1_000_000));
+    case 'Time': return new Date(Math.max(-MOST_MS, Math.min(MOST_MS, Number(readInt(it.secs, false)) * 1000 + Math.floor(it.nanos / 1_000_000))));
     case 'Uuid': return it.uuid;
     case 'Link': return readKey(it.key);
   }

@@ -32,11 +32,11 @@ async function plainFilesOf({ name, storage, durability }: WorkerStart): Promise
 
 /** Held as long as this worker lives: a tab's lock goes with its page, and its worker may outlive that by a moment. IndexedDB has no lock. */
 function lockFiles(name: string): Promise<void> {
-  return new Promise((held) => {
-    void navigator.locks.request(`realm-sync:${name}:files`, () => {
+  return new Promise((held, refused) => {
+    navigator.locks.request(`realm-sync:${name}:files`, () => {
       held();
       return new Promise(() => {});
-    });
+    }).catch(refused);
   });
 }
 
@@ -53,7 +53,7 @@ async function start(form: WorkerStart): Promise<void> {
   scope.onmessage = async ({ data }: MessageEvent) => {
     if (data.close) {
       asked.close();
-      await host.close();
+      await host.close().catch(() => {}); // the tab ends this worker, and with it what is open
       all.postMessage({ gone: epoch });
       return scope.postMessage({ closed: true });
     }

@@ -18,6 +18,13 @@ export const memory = (files = new MemoryFiles()) => openDatabase({ schema, file
 export class FailingFiles extends MemoryFiles {
   failAt = 0;
   strokes = 0;
+  /** Whether the disk is gone: nothing can be opened. */
+  isGone = false;
+
+  async open(name) {
+    if (this.isGone) throw Object.assign(new Error('the disk is gone'), { code: 'EIO' });
+    return super.open(name);
+  }
 
   stroke() {
     this.strokes += 1;

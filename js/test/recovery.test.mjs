@@ -1,6 +1,6 @@
 import assert from 'node:assert/strict';
 import test from 'node:test';
-import { FileImage, MemoryFiles, SchemaConflict, bool, defineSchema, int, key, openDatabase, text } from '../dist/node.js';
+import { FileImage, MemoryFiles, NeedsAttention, SchemaConflict, bool, defineSchema, int, key, openDatabase, text } from '../dist/node.js';
 import { Tag } from '../dist/messages.js';
 import { fast, memory, online, plain, server } from './common.mjs';
 
@@ -273,6 +273,20 @@ test('two copies of a restored file: each keeps its own work, and what both have
     assert.equal(it.items.get('00000000-0000-4000-8000-000000000001').quantity, 11);
     await it.close();
   }
+});
+
+test('a problem that no new client settles is no reason for one', async () => {
+  const net = await server();
+  const files = new MemoryFiles();
+  const db = await online(net, files);
+  await db.write((tx) => tx.days.create({ day: 1 }));
+  await db.synced();
+  net.onMessage = (message) => (message[0] === Tag.Upload ? Uint8Array.of(Tag.Refused, message[1], 2, 64, 1) : null);
+  await db.write((tx) => tx.days.create({ day: 2 }));
+  await assert.rejects(db.synced(), (error) => error instanceof NeedsAttention && error.problem.kind === 'full');
+  await assert.rejects(db.recover(), (error) => error instanceof NeedsAttention && error.problem.kind === 'full');
+  assert.deepEqual(await files.names(), ['client-1']);
+  await db.close();
 });
 
 test('a takeover that settles nothing is not tried again and again', async () => {

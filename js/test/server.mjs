@@ -112,7 +112,7 @@ class TestServer {
     });
   }
 
-  isOutdated(url) { return Number(url.searchParams.get('generation') ?? 1) !== this.generation; }
+  isOutdated(url) { return Number(/@(\d+)/.exec(url.pathname)?.[1] ?? 1) !== this.generation; }
   get port() { return this.http.address().port; }
   get origin() { return `http://127.0.0.1:${this.port}`; }
   get url() { return `${this.origin}${HISTORY}test`; }

@@ -4,8 +4,9 @@ import fs from 'node:fs';
 import os from 'node:os';
 import path from 'node:path';
 import test from 'node:test';
-import { BadFile, Busy, FileImage, MemoryFiles, WrongKey, defineSchema, key, openDatabase, text } from '../dist/node.js';
-import { FailingFiles, memory, objectsOf, schema } from './common.mjs';
+import { BadFile, Busy, FileImage, MemoryFiles, StorageFailed, WrongKey, defineSchema, deleteDatabase, key, openDatabase, text } from '../dist/node.js';
+import { Tag } from '../dist/messages.js';
+import { FailingFiles, fast, memory, objectsOf, online, schema, server } from './common.mjs';
 
 test('a storage that fails at each stroke loses nothing that was answered, and is opened again', async () => {
   for (let at = 1; at <= 12; at++) {
@@ -52,6 +53,79 @@ test('writes that go to the disk together: the same bytes as one by one, and all
     const { said } = await work(new FailingFiles(), true, at);
     assert.ok(said.every((it) => it === said[0]), `${at} ${said}`);
   }
+});
+
+test('a disk that is gone for a while: the database goes on once it is back, with what had reached it', async () => {
+  // A commit is the record, a sync, its gate, a sync.
+  for (const [failAt, days] of [[3, [1, 4]], [4, [1, 2, 4]]]) {
+    const net = await server();
+    const files = new FailingFiles();
+    const db = await online(net, files);
+    await db.write((tx) => tx.days.create({ day: 1 }));
+    await db.synced();
+    files.failAt = failAt;
+    files.isGone = true;
+    for (const day of [2, 3]) await assert.rejects(db.write((tx) => tx.days.create({ day })), StorageFailed);
+    files.isGone = false;
+    await db.write((tx) => tx.days.create({ day: 4 }));
+    assert.deepEqual(db.days.toArray().map((it) => it.day), days);
+    await db.synced();
+    assert.equal((await db.stats()).unsent, 0);
+    await db.close();
+    const again = await memory(files);
+    assert.deepEqual(again.days.toArray().map((it) => it.day), days);
+    await again.close();
+  }
+});
+
+test('a disk that is full when a message comes: sync needs attention, says why, and goes on by itself', async () => {
+  const net = await server();
+  const other = await online(net);
+  await other.write((tx) => tx.days.create({ day: 1 }));
+  await other.synced();
+  const files = new FailingFiles();
+  const db = await memory(files);
+  let isFull = true;
+  net.onMessage = (message) => {
+    if (message[0] === Tag.Ask2 && isFull) { files.failAt = 1; isFull = false; } // the first stroke of the reply
+    return null;
+  };
+  const told = [];
+  db.observeSync((state) => told.push(state));
+  await db.startSync({ transport: net.transport(), ...fast });
+  while (db.days.count() === 0) await new Promise((done) => setTimeout(done, 2));
+  await db.synced();
+  const [problem] = told.filter((it) => it.status === 'attention').map((it) => it.problem);
+  assert.equal(problem?.kind, 'storage', told.map((it) => it.status).join());
+  assert.match(problem.text, /fails this stroke/);
+  await db.close(); await other.close();
+});
+
+test('a note that was cut off is none', async () => {
+  const net = await server();
+  const files = new MemoryFiles();
+  let db = await online(net, files);
+  await db.synced();
+  await db.close();
+  await files.open('generation'); // made, and never written
+  db = await online(net, files);
+  await db.synced();
+  await db.close();
+});
+
+test('a folder whose database is deleted', async () => {
+  const folder = fs.mkdtempSync(path.join(os.tmpdir(), 'realm-'));
+  const db = await openDatabase({ folder, schema });
+  fs.writeFileSync(path.join(folder, 'mine'), 'x');
+  await assert.rejects(deleteDatabase(folder), Busy);
+  await db.close();
+  await deleteDatabase(folder);
+  assert.deepEqual(fs.readdirSync(folder), ['mine']);
+  fs.unlinkSync(path.join(folder, 'mine'));
+  await (await openDatabase({ folder, schema })).close();
+  await deleteDatabase(folder);
+  assert.ok(!fs.existsSync(folder));
+  await deleteDatabase(folder);
 });
 
 test('a folder: one process at a time, and what was answered is there after a kill', async () => {
@@ -152,6 +226,7 @@ test('an encrypted file of which a byte is changed, or two records changed place
     await assert.rejects(openDatabase({ schema, files, encryptionKey: KEY }), (error) => error instanceof BadFile || error instanceof WrongKey);
   };
   for (let at = 30; at < whole.length - 1; at += 29) await refused(whole.map((it, place) => (place === at ? it ^ 4 : it)));
+  await refused(whole.map((it, place) => (place === 24 ? 0 : it))); // the first gate is closed, and records stand behind it
   // The records of two transactions are as long as each other.
   const records = recordsOf(whole);
   const [[one, length], [other, same]] = records.slice(-2);

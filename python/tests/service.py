@@ -12,10 +12,11 @@ from realm_sync import Server
 
 
 class Service:
-    """Runs in a thread of its own, at a free port of this machine. `tokens` are those that it takes; `is_silent` keeps replies back."""
+    """Runs in a thread of its own, at a free port of this machine. `tokens` are those that it takes; `is_silent` keeps replies back, and
+    `asked` counts them."""
 
     def __init__(self) -> None:
-        self.server, self.tokens, self.is_silent, self.posts = Server(), {"good"}, False, 0
+        self.server, self.tokens, self.is_silent, self.posts, self.asked = Server(), {"good"}, False, 0, 0
         self.renewed: list[str] = []
         self.generation = 1
         self._sockets: set[web.WebSocketResponse] = set()
@@ -38,9 +39,9 @@ class Service:
     def _run(self) -> None:
         asyncio.set_event_loop(self._loop)
         app = web.Application(client_max_size=1 << 26)
-        app.router.add_post("/v1/histories/test", self._post)
-        app.router.add_get("/v1/histories/test", self._socket)
-        app.router.add_get("/v1/histories/test/news", self._news)
+        app.router.add_post("/v1/histories/{name}", self._post)
+        app.router.add_get("/v1/histories/{name}", self._socket)
+        app.router.add_get("/v1/histories/{name}/news", self._news)
         runner = web.AppRunner(app)
         self._loop.run_until_complete(runner.setup())
         site = web.TCPSite(runner, "127.0.0.1", 0, shutdown_timeout=0.1)
@@ -64,7 +65,7 @@ class Service:
     def _check(self, request: web.Request) -> None:
         if request.headers.get("Authorization", "").removeprefix("Bearer ") not in self.tokens:
             raise web.HTTPUnauthorized
-        if int(request.query.get("generation", 1)) != self.generation:
+        if int(request.match_info["name"].partition("@")[2] or 1) != self.generation:
             raise web.HTTPGone(headers={"Realm-Generation": str(self.generation)})
 
     async def _take(self, message: bytes) -> bytes:
@@ -101,7 +102,9 @@ class Service:
         async for message in socket:
             if message.type == WSMsgType.TEXT:
                 self.renewed.append(json.loads(message.data)["token"])
-            elif message.type == WSMsgType.BINARY and not self.is_silent:
+            elif message.type == WSMsgType.BINARY and self.is_silent:
+                self.asked += 1
+            elif message.type == WSMsgType.BINARY:
                 await socket.send_bytes(await self._take(message.data))
         self._sockets.discard(socket)
         return socket

@@ -9,7 +9,7 @@ import unittest
 from datetime import datetime, timezone
 from typing import Any, cast
 
-from realm_sync import BrokenEdit, Closed, Database, InvalidValue, Refused, SchemaConflict, SchemaError, table
+from realm_sync import BrokenEdit, Closed, Database, Error, InvalidValue, Refused, SchemaConflict, SchemaError, table
 
 from .common import TYPES, Day, Item, List, edit, keys
 
@@ -48,12 +48,15 @@ class Tests(unittest.TestCase):
             ):
                 with self.assertRaisesRegex(InvalidValue, words), db.write() as tx:
                     tx.create(Item, **cast(dict[str, Any], values))
+            for given in (dict(tags="dairy"), dict(steps=b"pour"), dict(tags=None), dict(prices=[("k", 1)]), dict(steps=5)):
+                with self.assertRaisesRegex(InvalidValue, "is no (set|list|dict) of values"), db.write() as tx:
+                    tx.create(Item, **cast(dict[str, Any], given))
             with self.assertRaisesRegex(InvalidValue, "needs day"), db.write() as tx:
                 tx.create(Day, note="x")
             with self.assertRaisesRegex(BrokenEdit, "edit 2 doesn't act: no such object: .*\"key\":2") as told, db.write() as tx:
                 tx.create(Day, day=1, note="a")
                 tx.update(Day, 2, note="none")
-            self.assertEqual(told.exception.place, 2)
+            self.assertEqual((told.exception.place, told.exception.table, told.exception.column), (2, "days", "note"))
             with self.assertRaisesRegex(Refused, "4,194,304 bytes"), db.write() as tx:
                 tx.create(Day, day=1, note="x" * 5_000_000)
             with self.assertRaises(ZeroDivisionError), db.write() as tx:
@@ -93,6 +96,70 @@ class Tests(unittest.TestCase):
                 if turn % 7 == 0:
                     for name, query in queries.items():
                         self.assertEqual(told[name], query.all(), f"{name} {turn}")
+
+    def test_objects_are_found_by_keys_of_any_spelling_and_by_nothing_that_is_no_column(self) -> None:
+        with Database(None, TYPES) as db:
+            with db.write() as tx:
+                key = tx.create(List, name="a")
+                tx.update(List, str(key).upper(), name="b")
+                seen = tx.get(List, str(key))
+                self.assertEqual(seen and (seen.id, seen.name), (key, "b"))
+                self.assertEqual(tx.create(List, id=str(key), name="c"), key)
+            found = db[List].get(str(key))
+            self.assertEqual(found and (found.id, found.name), (key, "c"))
+            self.assertEqual(db[List].where(id=str(key).upper()).all(), [found])
+            self.assertTrue(key in db[List] and str(key) in db[List])
+            for wrong in (lambda: db[List].where(nope=1), lambda: db[List].sort("-nope")):
+                self.assertRaisesRegex(TypeError, "lists has no column nope", wrong)
+            self.assertRaises(ValueError, db[List].limit, -1)
+
+    def test_a_test_that_asks_the_clock_or_raises_spoils_no_live_result(self) -> None:
+        told: list[list[int]] = []
+        now, is_raising = 3, False
+
+        def test(day: Day) -> bool:
+            if is_raising:
+                raise ValueError("mine")
+            return day.day <= now
+
+        with Database(None, TYPES) as db:
+            with db.write() as tx:
+                for day in range(6):
+                    tx.create(Day, day=day)
+            db[Day].where(test).observe(lambda days: told.append([it.day for it in days]))
+            now = 9
+            with db.write() as tx:
+                tx.erase(Day, 5)  # which the result never had
+            now = 0
+            with db.write() as tx:
+                tx.update(Day, 2, note="x")  # which it had, and has no more
+            is_raising = True
+            with self.assertLogs("realm_sync", "ERROR"), db.write() as tx:
+                tx.update(Day, 1, note="x")
+            is_raising, now = False, 9
+            with db.write() as tx:
+                tx.erase(Day, 0)
+        self.assertEqual(told, [[0, 1, 2, 3], [0, 1, 3], [1, 2, 3, 4]])
+
+    def test_a_thread_has_one_transaction_at_a_time(self) -> None:
+        with Database(None, TYPES) as db:
+            with self.assertRaisesRegex(Error, "this thread has a transaction already"), db.write(), db.write():
+                pass
+            with db.write() as tx:
+                tx.create(Day, day=1)
+            self.assertEqual(len(db[Day]), 1)
+
+    def test_a_moment_beyond_the_years_of_a_datetime_reads_as_the_last_one(self) -> None:
+        key = keys(random.Random(1), 1)[0]
+        cell = {"table": "items", "key": {"uuid": str(key)}, "column": "when"}
+        with Database(None, TYPES) as db:
+            with db.write() as tx:
+                tx.create(Item, id=key)
+            for secs, year in ((10**15, 9999), (-(10**15), 1)):
+                db._client.commit([{"op": "Update", **cell, "value": {"secs": secs, "nanos": 0}}], 1)
+                db._load()
+                found = db[Item].get(key)
+                self.assertEqual(found and found.when.year, year)
 
     def test_who_begins_to_observe_in_a_callback_sees_each_change_once(self) -> None:
         seen: list[list[str]] = []

@@ -2,6 +2,7 @@
 
 from __future__ import annotations
 
+import errno
 import os
 import signal
 import subprocess
@@ -10,12 +11,13 @@ import tempfile
 import textwrap
 import unittest
 
-from realm_sync import BadFile, Busy, Client, Database, OtherProcess, StorageFull, WrongKey
+from realm_sync import BadFile, Busy, Client, Database, OtherProcess, StorageFailed, StorageFull, SyncState, WrongKey, delete_database
 from realm_sync.client import DatabaseClient
+from realm_sync.messages import ASK2
 from realm_sync.sealed import FIRST, SealedFiles
-from realm_sync.storage import FileImage, MemoryFiles
+from realm_sync.storage import FileImage, MemoryFiles, Storage
 
-from .common import TYPES, Day, FailingImage
+from .common import FAST, TYPES, Day, FailingImage, Net, until
 
 KEY = bytes(range(32))
 
@@ -87,6 +89,84 @@ class Tests(unittest.TestCase):
                 self.assertEqual(again.dump().count('"table":"days"}\n') - 2, 1 + said.count(True))
                 again.close()
 
+    def test_a_disk_that_is_gone_for_a_while(self) -> None:
+        # A commit is the record, a sync, its gate, a sync.
+        for fail_at, days in ((3, [1, 4]), (4, [1, 2, 4])):
+            files, image, is_gone = MemoryFiles(), FailingImage(), False
+
+            class Files(MemoryFiles):
+                def open(self, name: str) -> Storage:
+                    if is_gone:
+                        raise OSError(errno.EIO, "gone")
+                    return files.open(name)
+
+            files.files["client"] = image
+            db = Database(None, TYPES)
+            db._client.close()
+            db._client = DatabaseClient(Files())
+            db._apply_schema()
+            with db.write() as tx:
+                tx.create(Day, day=1)
+            image.fail_at, is_gone = fail_at, True
+            for day in (2, 3):
+                with self.assertRaises(StorageFailed), db.write() as tx:
+                    tx.create(Day, day=day)
+            is_gone = False
+            with db.write() as tx:
+                tx.create(Day, day=4)
+            self.assertEqual([it.day for it in db[Day]], days)
+            db.close()
+
+    def test_a_disk_that_is_full_when_a_message_comes(self) -> None:
+        net, image, told, is_full = Net(), FailingImage(), list[SyncState](), True
+
+        def answer(message: bytes) -> None:
+            nonlocal is_full
+            if message[0] == ASK2 and is_full:
+                image.fail_at, is_full = 1, False  # the first stroke of the reply
+
+        with net.database() as other:
+            with other.write() as tx:
+                tx.create(Day, day=1)
+            self.assertTrue(other.synced(30))
+        files = MemoryFiles()
+        files.files["client"] = image
+        with Database(None, TYPES) as db:
+            db._client.close()
+            db._client = DatabaseClient(files)
+            db._apply_schema()
+            db.observe_sync(told.append)
+            net.answer = answer
+            db.start_sync(net.transport(), options=FAST)
+            until(lambda: len(db[Day]) == 1)
+            self.assertTrue(db.synced(30))
+        problems = [it.problem.cause for it in told if it.problem]
+        self.assertEqual(problems, ["storage"], told)
+
+    def test_a_note_that_was_cut_off_is_none(self) -> None:
+        net = Net()
+        with net.database(self.path) as db:
+            self.assertTrue(db.synced(30))
+        with open(f"{self.path}.generation.new", "wb"):
+            pass
+        with net.database(self.path) as db:
+            self.assertTrue(db.synced(30))
+            db._client.agree_on(5)
+        self.assertEqual(sorted(os.listdir(self.folder)), ["db", "db.generation"])
+
+    def test_a_database_is_deleted_where_it_is_closed(self) -> None:
+        with Database(self.path, [Day]) as db:
+            db._client.agree_on(5)
+            self.assertRaises(Busy, delete_database, self.path)
+        for name in ("db.mine", "dbx.heir", "db.kept-1", "db.reason"):
+            with open(os.path.join(self.folder, name), "wb"):
+                pass
+        delete_database(self.path)
+        delete_database(self.path)
+        self.assertEqual(sorted(os.listdir(self.folder)), ["db.mine", "dbx.heir"])
+        with Database(self.path, [Day]) as db:
+            self.assertEqual(len(db[Day]), 0)
+
     def test_a_fork_does_not_write(self) -> None:
         with Database(self.path, [Day]) as db:
             child = os.fork()
@@ -146,7 +226,7 @@ class Tests(unittest.TestCase):
         client = DatabaseClient(SealedFiles(files, KEY))
         client.close()
         whole = files.files["client"].read()
-        for at in range(FIRST + 1, len(whole) - 1, 5):
+        for at in [FIRST, *range(FIRST + 1, len(whole) - 1, 5)]:
             changed = whole[:at] + bytes([whole[at] ^ 4]) + whole[at + 1 :]
             files.files["client"] = FileImage(changed)
             with self.assertRaises((BadFile, WrongKey)):

@@ -10,7 +10,7 @@ import threading
 import time
 import unittest
 
-from realm_sync import CallTransport, Client, Database, LostEdit, NeedsAttention, Recovery, Refused, SchemaConflict, Server, SyncState, table
+from realm_sync import CallTransport, Client, Closed, Database, Error, LostEdit, NeedsAttention, Recovery, Refused, SchemaConflict, Server, SyncState, table
 from realm_sync.messages import ASK2, BIND, DOWNLOAD, REFUSED, STORED, UPLOAD
 
 from .common import FAST, TYPES, Day, Item, Net, edit, keys, until
@@ -347,6 +347,53 @@ class Recovering(unittest.TestCase):
             self.net.answer = lambda message: bytes([REFUSED, message[1], 0, 71, 9]) if message[0] == ASK2 and message[1] != 1 else None
             self.assertRaisesRegex(Refused, "gave up the history", db.recover)
         self.assertEqual(os.listdir(os.path.dirname(self.path)), ["db"])
+
+    def test_a_problem_that_no_new_client_settles_is_no_reason_for_one(self) -> None:
+        with self.net.database(self.path) as db:
+            self.assertTrue(db.synced(30))
+            self.net.answer = lambda message: bytes([REFUSED, message[1], 2, 64, 1]) if message[0] == UPLOAD else None
+            with db.write() as tx:
+                tx.create(Day, day=1)
+            with self.assertRaises(NeedsAttention) as told:
+                db.synced(30)
+            with self.assertRaises(NeedsAttention) as again:
+                db.recover()
+            self.assertEqual([it.exception.problem.cause for it in (told, again)], ["full", "full"])
+        self.assertEqual(os.listdir(os.path.dirname(self.path)), ["db"])
+
+    def test_who_waits_for_sync_where_sync_waits_for_it_is_told(self) -> None:
+        told: list[str] = []
+        with self.net.database() as db, self.net.database() as other:
+
+            def wait(_: object) -> None:
+                if threading.current_thread() is not threading.main_thread():
+                    try:
+                        db.synced()
+                    except Error as why:
+                        told.append(str(why))
+
+            db[Day].observe(wait)
+            with self.assertRaisesRegex(Error, "sync waits for this thread's transaction"), db.write():
+                db.synced()
+            with other.write() as tx:
+                tx.create(Day, day=1)
+            self.assertTrue(other.synced(30))
+            until(lambda: bool(told))
+            self.assertRegex(told[0], "a callback of sync")
+            self.net.is_down = True
+            threading.Timer(0.1, db.stop_sync).start()
+            self.assertRaisesRegex(Closed, "sync was stopped", db.synced)
+
+    def test_a_callback_that_settles_the_problem_it_is_told_of(self) -> None:
+        with self.net.database(self.path) as db:
+            self.assertTrue(db.synced(30))
+            refusals = [bytes([REFUSED, db._client.standing().ident, 2, 64, 1])]
+            self.net.answer = lambda message: refusals.pop() if message[0] == UPLOAD and refusals else None
+            db.observe_sync(lambda state: db.renew_token("") if state.status == "needs attention" else None)
+            with db.write() as tx:
+                tx.create(Day, day=1)
+            until(lambda: not refusals and db.sync_state.status == "up to date")
+            self.assertEqual(db.unsent, 0)
 
     def test_schemas_that_differ_are_told_before_anything_is_sent(self) -> None:
         @table("days")

@@ -6,12 +6,13 @@ import asyncio
 import os
 import tempfile
 import threading
+import time
 import unittest
 from collections.abc import Callable
 
 from realm_sync import Database, HttpTransport, NeedsAttention, TokenSource, Transaction, Transport, WebSocketTransport, aio
 
-from .common import FAST, TYPES, Day, until
+from .common import FAST, TYPES, Day, Item, until
 from .service import Service
 
 
@@ -55,9 +56,38 @@ class Tests(unittest.TestCase):
 
             with Database(None, TYPES, kind(url, source), options=FAST) as db:
                 self.assertTrue(db.synced(30))
-            self.assertIn(True, asked)
+                with db.write() as tx:
+                    tx.create(Day, day=len(asked))
+                self.assertTrue(db.synced(30))
+            self.assertEqual(asked, [False, True])
             with Database(None, TYPES, kind(url, lambda was_refused: "bad"), options=FAST) as db:
                 self.assertRaises(NeedsAttention, db.synced, 10)
+
+    def test_a_source_of_tokens_that_raises_is_asked_again(self) -> None:
+        for kind, url in ((HttpTransport, self.service.http), (WebSocketTransport, self.service.ws)):
+            fails, states = 3, list[str]()
+
+            def source(_: bool) -> str:
+                nonlocal fails
+                fails -= 1
+                if fails > 0:
+                    raise OSError("no network")
+                return "good"
+
+            with Database(None, TYPES) as db:
+                db.observe_sync(lambda state, states=states: states.append(state.status))  # type: ignore[misc]
+                db.start_sync(kind(url, source), options=FAST)
+                self.assertTrue(db.synced(30))
+            self.assertIn("offline", states)
+            self.assertNotIn("needs attention", states)
+
+    def test_a_database_is_closed_at_once_while_it_waits_for_a_reply(self) -> None:
+        self.service.is_silent = True
+        db = Database(None, TYPES, WebSocketTransport(self.service.ws, "good"), options=FAST)
+        until(lambda: self.service.asked > 0)
+        began = time.monotonic()
+        db.close()
+        self.assertLess(time.monotonic() - began, 5)
 
     def test_a_token_is_renewed_on_an_open_socket(self) -> None:
         with Database(None, TYPES, WebSocketTransport(self.service.ws, "good"), options=FAST) as db:
@@ -91,7 +121,13 @@ class Tests(unittest.TestCase):
                     self.assertTrue(db.synced(30))
                     db.stop_sync()
                     with db.write() as tx:
-                        tx.create(Day, day=2)
+                        item = tx.create(Item, quantity=1)
+                    # It reached the history before that was restored, and nobody told the device.
+                    self.service.server.take(db._client.engine.ask(b"U", (db._client.standing().last - 1).to_bytes(4, "little")))
+                    for amount in (4, 5):
+                        with db.write() as tx:
+                            tx.create(Day, day=2)
+                            tx.add(Item, item, "quantity", amount)
                 self.service.generation = 3
                 with Database(None, TYPES, self.transports()[way], options=FAST) as fresh:
                     self.assertTrue(fresh.synced(30))
@@ -99,11 +135,14 @@ class Tests(unittest.TestCase):
                     with self.assertRaisesRegex(NeedsAttention, "restored on the server and is of generation 3") as told:
                         db.synced(30)
                     self.assertEqual(told.exception.problem.cause, "other server")
-                    db.recover()
+                    recovery = db.recover()
+                    self.assertEqual((recovery.saved, recovery.integrated, recovery.dropped), (2, 1, ()))
                     self.assertTrue(db.synced(30))
                 with Database(path, TYPES, self.transports()[way], options=FAST) as db:
                     self.assertTrue(db.synced(30))
-                    self.assertEqual([it.day for it in db[Day]], [1, 2])
+                    self.assertEqual(sorted(it.day for it in db[Day])[-2:], [1, 2])
+                    found = db[Item].get(item)
+                    self.assertEqual(found and found.quantity, 10)
                 self.assertEqual(sorted(it for it in os.listdir(folder) if it.startswith(name)), [name, f"{name}.generation", f"{name}.kept-1"])
 
     def test_asyncio(self) -> None:

@@ -27,6 +27,7 @@ from .problems import Conflict, Problem
 from .query import Query, RowChange, Table
 from .recovery import Dropped, Recovery
 from .schema import Counter, SchemaError, link, table
+from .storage import delete_database
 from .sync import SyncOptions, SyncState
 from .transaction import Transaction
 from .transports import CallTransport, HttpTransport, TokenSource, Transport, WebSocketTransport
@@ -36,5 +37,5 @@ __all__ = [
     "Edits", "Endless", "Error", "HttpTransport", "InvalidValue", "LostEdit", "NeedsAttention", "OtherProcess", "OutOfMemory", "Outdated",
     "Problem", "Query", "Reason", "Recovery", "Refused", "RowChange", "SchemaConflict", "SchemaError", "Server", "Standing",
     "StorageFailed", "StorageFull", "SyncOptions", "SyncState", "Table", "TokenSource", "Transaction", "Transport", "Unauthorized",
-    "WebSocketTransport", "WrongKey", "kept_ends", "link", "table",
+    "WebSocketTransport", "WrongKey", "delete_database", "kept_ends", "link", "table",
 ]  # fmt: skip

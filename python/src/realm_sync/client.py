@@ -37,13 +37,30 @@ class DatabaseClient:
         self._files = files
         if files.has(HEIR) and not files.has(CLIENT):
             files.replace(CLIENT, HEIR)  # it was cut off between the two names
-        self._engine = Engine(files.open(CLIENT))
-        self._talk = Talk(self._engine)
+        self._opened: Engine | None = Engine(files.open(CLIENT))
+        self._talk = Talk(self._opened)
         try:
-            born(self._engine)
+            born(self._opened)
         except BaseException:
-            self._engine.close()
+            self._opened.close()
             raise
+
+    @property
+    def _engine(self) -> Engine:
+        if self._opened is None:
+            raise StorageFailed("the storage failed, and the file can't be opened again")
+        return self._opened
+
+    @property
+    def is_open(self) -> bool:
+        return self._opened is not None
+
+    def mended(self) -> bool:
+        """Opens the file where that failed after a failure of the disk: whether all is to be read anew."""
+        if self.is_open:
+            return False
+        self._open_again()
+        return True
 
     def dump(self) -> str:
         return self._engine.dump()
@@ -93,13 +110,18 @@ class DatabaseClient:
             raise
         except Exception as why:
             self._open_again()
-            raise StorageFailed(f"{why}; the file was opened again") from why
+            raise why if isinstance(why, StorageFailed) else StorageFailed(f"{why}; the file was opened again") from why
 
     def _open_again(self) -> None:
-        """After a failure: what was answered is in the file."""
-        self._engine.close()
-        self._engine = Engine(self._files.open(CLIENT))
-        self._talk = Talk(self._engine)
+        """After a failure: what was answered is in the file. Where that can't be opened now, it is tried again at the next call."""
+        engine, self._opened = self._opened, None
+        if engine:
+            engine.close()
+        try:
+            self._opened = Engine(self._files.open(CLIENT))
+        except OSError as why:
+            raise StorageFailed(f"the storage failed, and the file can't be opened again: {why.strerror}") from why
+        self._talk = Talk(self._opened)
 
     # ---- recovery
 
@@ -110,11 +132,15 @@ class DatabaseClient:
         return Problem(**self._note(REASON))
 
     def _keep(self, name: str, note: Any) -> None:
-        """Keeps something small beside the client's file."""
-        self._files.remove(name)
-        storage = self._files.open(name)
-        storage.apply([Write(0, to_json(note).encode()), None])
-        storage.close()
+        """Keeps something small beside the client's file: all of it, or what was there before."""
+        new = f"{name}.new"
+        self._files.remove(new)  # that of a try that was cut off
+        storage = self._files.open(new)
+        try:
+            storage.apply([Write(0, to_json(note).encode()), None])
+        finally:
+            storage.close()
+        self._files.replace(name, new)
 
     def _note(self, name: str) -> Any:
         storage = self._files.open(name)
@@ -159,14 +185,15 @@ class DatabaseClient:
         self._files.replace(CLIENT, HEIR)
         self._files.remove(REASON)
         self._engine.close()
-        self._engine, self._talk = heir, Talk(heir)
+        self._opened, self._talk = heir, Talk(heir)
 
     @property
     def engine(self) -> Engine:
         return self._engine
 
     def close(self) -> None:
-        self._engine.close()
+        if self._opened:
+            self._opened.close()
 
 
 def _kept_names() -> Iterator[str]:

@@ -74,6 +74,7 @@ class Database:
         self._is_closed = False
         self._conflict: SchemaConflict | None = None
         self._greatest = self._number = 0
+        self._writer: int | None = None  # the thread that has a transaction open
         self._sync_listeners: list[Callable[[SyncState], None]] = []
         self._lost_listeners: list[Callable[[Sequence[LostEdit]], None]] = []
         self._recovery_listeners: list[Callable[[Recovery], None]] = []
@@ -204,21 +205,33 @@ class Database:
     @contextlib.contextmanager
     def write(self) -> Iterator[Transaction]:
         """A transaction: all of its edits stand, on the disk, once the `with` ends, or none where it raises. Others wait meanwhile."""
-        with self._lock:
-            if self._is_closed:
-                raise Closed("the database was closed")
-            if self._conflict:
-                raise self._conflict
-            transaction = Transaction(lambda name: self._rows[name].by_key, self._key_kinds)
-            try:
-                yield transaction
-            finally:
-                transaction.end()
-            if transaction.edits:
-                self._commit(transaction.edits)
-        self._tell()
+        if self._writer == threading.get_ident():
+            raise Error("this thread has a transaction already: its edits go there, or behind it")
+        try:
+            with self._lock:
+                self._mend()
+                if self._conflict:
+                    raise self._conflict
+                transaction = Transaction(lambda name: self._rows[name].by_key, self._key_kinds)
+                self._writer = threading.get_ident()
+                try:
+                    yield transaction
+                finally:
+                    self._writer = None
+                    transaction.end()
+                if transaction.edits:
+                    self._commit(transaction.edits)
+        finally:
+            self._tell()
         if self._loop and transaction.edits:
             self._loop.committed()
+
+    def _mend(self) -> None:
+        """Opens the file where the disk failed, also when it was to be opened again."""
+        if self._is_closed:
+            raise Closed("the database was closed")
+        if self._client.mended():
+            self._load()
 
     def run(self, work: Callable[[Transaction], R]) -> R:
         """The same as a function of a transaction: answers what that answers."""
@@ -234,7 +247,8 @@ class Database:
             place, code, _ = why.details
             raise BrokenEdit(place, code, to_json(edits[place])) from None
         except StorageFailed:
-            self._load()  # it was opened again
+            if self._client.is_open:  # again
+                self._load()
             raise
         if places is None:
             self._load()
@@ -285,10 +299,13 @@ class Database:
 
     def synced(self, timeout: float | None = None) -> bool:
         """Waits until all that was committed is in the history, and all that the history had is here; False after `timeout` seconds. Raises
-        where sync needs attention."""
-        if not self._loop:
+        where sync needs attention (`NeedsAttention`, `SchemaConflict`). It is called outside of a transaction and of callbacks of sync."""
+        loop = self._loop
+        if not loop:
             raise Error("this database has no sync")
-        return self._loop.synced(timeout)
+        if self._writer == threading.get_ident():
+            raise Error("sync waits for this thread's transaction: call synced() behind it")
+        return loop.synced(timeout)
 
     def renew_token(self, token: str) -> None:
         """A token in place of one that ends soon, or that the server refused."""
@@ -307,7 +324,8 @@ class Database:
             try:
                 taken = self._client.take(message)
             except StorageFailed:
-                self._load()
+                if self._client.is_open:
+                    self._load()
                 raise
             self._changed(taken.places)
             lost = [it for form in taken.lost for it in self._lost(form)]
@@ -338,9 +356,10 @@ class Database:
 
     def _recovered(self, problem: Problem) -> bool:
         """Whether a new client took over for this problem: by itself, with pauses where the network fails."""
-        if problem.generation and self._transport and self._client.standing().ident == 0:
-            self._client.agree_on(problem.generation)  # a new client begins in the generation that the history has
-            self._transport.generation = problem.generation
+        told = problem.generation
+        if told and told != self._client.generation and self._transport and self._client.standing().ident == 0:
+            self._client.agree_on(told)  # a new client begins in the generation that the history has
+            self._transport.generation = told
             return True
         is_asked = problem.is_recoverable if self._on_problem == "recover" else problem.recovers_by_itself
         if not is_asked or self._on_problem == "ask" or self._has_recovered:
@@ -360,11 +379,13 @@ class Database:
         return False
 
     def recover(self, problem: Problem | None = None) -> Recovery:
-        """Lets a new client take this one's place, with what is unsent: where sync needs attention, and the problem is recoverable. Until it has all,
-        this one goes on; where it is cut off, it is begun again with the same new client."""
+        """Lets a new client take this one's place, with what is unsent: where sync needs attention, and the problem is recoverable; else it raises
+        `NeedsAttention`. Until it has all, this one goes on; where it is cut off, it is begun again with the same new client."""
         if not self._transport or not self._loop:
             raise Error("this database has no sync")
         problem = problem or self.sync_state.problem or Problem("damaged", "asked for", True)
+        if not problem.is_recoverable:
+            raise NeedsAttention(problem)
         with self._lock:
             standing = self._client.standing()
         # The core hands over the unsent changes of a client with an ident alone: a new one would begin without them.
@@ -435,6 +456,7 @@ class _Syncing:
 
     def next(self) -> bytes:
         with self._db._lock:
+            self._db._mend()
             return self._db._client.next()
 
     def take(self, message: bytes) -> bool:

@@ -3,6 +3,7 @@
 from __future__ import annotations
 
 import enum
+import json
 from collections.abc import Mapping
 
 from .problems import Conflict, Problem
@@ -82,11 +83,15 @@ class Refused(Error):
 
 
 class BrokenEdit(Refused):
-    """An edit of a transaction doesn't act on the objects; nothing of the transaction was done."""
+    """An edit of a transaction doesn't act on the objects; nothing of the transaction was done. `place` is the edit's in the transaction, `code` says
+    why (docs/FORMATS.md, "Outcome lines"), `edit` is it as JSON; `column` is None where it is of a whole object."""
 
     def __init__(self, place: int, code: int, edit: str) -> None:
         super().__init__(Reason.BREAK, (place, code, 0))
         self.place, self.code, self.edit = place, code, edit
+        fields = json.loads(edit)
+        self.table: str = fields["table"]
+        self.column: str | None = fields.get("column")
         self.args = (f"{self.args[0]}: {edit}",)
 
 

@@ -13,7 +13,8 @@ from typing import Literal
 # - "full": a limit of the history or of a transaction.
 # - "damaged": a reply that can't be taken, twice.
 # - "unauthorized": the server refuses this device or its token.
-Cause = Literal["schema", "retired", "restored", "trimmed", "other server", "full", "damaged", "unauthorized"]
+# - "storage": this device's disk is full, or failed. Sync tries again by itself.
+Cause = Literal["schema", "retired", "restored", "trimmed", "other server", "full", "damaged", "unauthorized", "storage"]
 
 
 @dataclasses.dataclass(frozen=True)

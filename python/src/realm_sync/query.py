@@ -4,10 +4,10 @@ from __future__ import annotations
 
 import bisect
 import threading
-from collections.abc import Callable, Iterator, Sequence
+from collections.abc import Callable, Iterable, Iterator, Sequence
 from typing import Any, Generic, NamedTuple, TypeVar
 
-from .schema import Key, TableForm, read_cell, read_key
+from .schema import Key, TableForm, plain_key, read_cell, read_key
 
 T = TypeVar("T")
 Stop = Callable[[], None]
@@ -69,9 +69,10 @@ class Query(Generic[T]):
 
     def where(self, *tests: Callable[[T], bool], **equal: Any) -> Query[T]:
         """By tests, and by values that columns have."""
-        unknown = equal.keys() - {self.rows.form.key, *self.rows.form.columns}
-        if unknown:
-            raise TypeError(f"{self.rows.form.name} has no column {', '.join(sorted(unknown))}")
+        form = self.rows.form
+        self._check(equal)
+        if form.key in equal:
+            equal[form.key] = plain_key(form, equal[form.key])
 
         def equals(row: T) -> bool:
             return all(getattr(row, name) == value for name, value in equal.items())
@@ -80,9 +81,18 @@ class Query(Generic[T]):
 
     def sort(self, *columns: str) -> Query[T]:
         """By columns; `-name` the other way round. Objects that are equal in them stand by their keys."""
+        self._check(it.removeprefix("-") for it in columns)
         return Query(self.rows, self._begin, self._tests, self._orders + columns, self.most)
 
+    def _check(self, names: Iterable[str]) -> None:
+        unknown = set(names) - {self.rows.form.key, *self.rows.form.columns}
+        if unknown:
+            raise TypeError(f"{self.rows.form.name} has no column {', '.join(sorted(unknown))}")
+
     def limit(self, most: int) -> Query[T]:
+        """The first so many, in the order of `sort`."""
+        if most < 0:
+            raise ValueError(f"a limit is 0 or more, and {most} isn't")
         return Query(self.rows, self._begin, self._tests, self._orders, most)
 
     def matches(self, row: T | None) -> bool:
@@ -112,7 +122,11 @@ class Query(Generic[T]):
     def observe(self, callback: Callable[[Sequence[T]], None]) -> Stop:
         """Calls back now, and after each change of the result: in the thread that wrote, or that of sync, one change after the other."""
         live = self._begin(self, callback)
-        live.tell_first()
+        try:
+            live.tell_first()
+        except BaseException:
+            live.stop()
+            raise
         return live.stop
 
 
@@ -121,10 +135,17 @@ class Live:
 
     def __init__(self, query: Query[Any], callback: Callback, since: int) -> None:
         self._query, self._callback, self._since = query, callback, since
-        self._all = sorted(filter(query.matches, query.rows.by_key.values()), key=query.order)
-        self._orders = [query.order(it) for it in self._all]
         self._is_told = threading.Event()
+        self._find()
         query.rows.lives.append(self)
+
+    def _find(self) -> None:
+        query = self._query
+        self._all = sorted(filter(query.matches, list(query.rows.by_key.values())), key=query.order)
+        self._orders = [query.order(it) for it in self._all]
+        # By which order each object of the result stands in it: a test that asks the clock may say otherwise of it by now.
+        self._placed = {order[-1]: order for order in self._orders}
+        self._is_stale = False  # whether a test raised, so that all is found anew
 
     def stop(self) -> None:
         if self in self._query.rows.lives:
@@ -145,29 +166,34 @@ class Live:
                 self._callback(self._all[: self._query.most])
 
     def _take(self, changes: list[RowChange]) -> bool:
-        touched = [(it.before, it.after) for it in changes if self._query.matches(it.before) or self._query.matches(it.after)]
-        for before, _ in touched:
-            if self._query.matches(before):
-                place = bisect.bisect_left(self._orders, self._query.order(before))
-                del self._all[place], self._orders[place]
-        for _, after in touched:
-            if self._query.matches(after):
-                order = self._query.order(after)
-                place = bisect.bisect_left(self._orders, order)
-                self._all.insert(place, after)
-                self._orders.insert(place, order)
-        return bool(touched)
+        if self._is_stale:
+            self._find()
+            return True
+        self._is_stale = True
+        before = [order for it in changes if (order := self._placed.pop(_rank(it.key), None))]
+        after = [(self._query.order(it.after), it.after) for it in changes if self._query.matches(it.after)]
+        for order in before:
+            place = bisect.bisect_left(self._orders, order)
+            del self._all[place], self._orders[place]
+        for order, row in after:
+            place = bisect.bisect_left(self._orders, order)
+            self._all.insert(place, row)
+            self._orders.insert(place, order)
+            self._placed[order[-1]] = order
+        self._is_stale = False
+        return bool(before or after)
 
 
 class Table(Query[T]):
     """A table's objects by key, and queries over them."""
 
     def get(self, key: Key) -> T | None:
-        found: T | None = self.rows.by_key.get(key)
+        """The object of that key; of a table of UUIDs a text of one will do."""
+        found: T | None = self.rows.by_key.get(plain_key(self.rows.form, key))
         return found
 
     def __contains__(self, key: Key) -> bool:
-        return key in self.rows.by_key
+        return self.get(key) is not None
 
     def __len__(self) -> int:
         return len(self.rows.by_key)

@@ -72,11 +72,14 @@ class Takeover:
         """The heir takes the history, retires the old client, and takes what that had sent before."""
         born(self._heir)
         self._take_all()
-        # At another server the old ident may be somebody else's: it is left alone, and nothing of the old client is in that history.
-        if self._problem.cause == "other server":
+        # At another server the old ident may be somebody else's: it is left alone, and nothing of the old client is in that history. One that was
+        # restored is the same as it was once: what it has of the old client isn't saved again, and its service takes no more of it.
+        is_other, other = self._problem.cause == "other server", 0
+        if is_other and not self._problem.generation:
             return
-        other = self._retire(old.ident)
-        self._take_all()
+        if not is_other:
+            other = self._retire(old.ident)
+            self._take_all()
         journal = self._heir.data()
         self._own = {it.number: it.ms for it in history_of(old.ident, journal)}
         self._saved_by_other = history_of(other, journal) if other else []

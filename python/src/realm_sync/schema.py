@@ -164,6 +164,13 @@ def key_json(where: str, kind: str, value: Any) -> Any:
     return value
 
 
+def plain_key(form: TableForm, value: Any) -> Any:
+    """A key as objects have it: that of a table of UUIDs may be asked for as a text."""
+    if form.key_kind == "Uuid" and isinstance(value, str):
+        return read_key(key_json(f"{form.name}.{form.key}", form.key_kind, value))
+    return value
+
+
 def whole_text(where: str, value: str) -> str:
     """A text, unless it has half a character, which UTF-8 doesn't have."""
     try:
@@ -205,6 +212,15 @@ def value_json(column: Column, key_kinds: Mapping[str, str], it: Any) -> Any:
     return value
 
 
+def _moment(secs: int, nanos: int) -> datetime.datetime:
+    """A moment beyond the years of a datetime, of another program, reads as the first or the last one."""
+    try:
+        return EPOCH + datetime.timedelta(seconds=secs, microseconds=nanos // 1000)
+    except OverflowError:
+        most = datetime.datetime.max if secs > 0 else datetime.datetime.min
+        return most.replace(tzinfo=datetime.timezone.utc)
+
+
 def _read_one(column: Column, value: Any) -> Any:
     if value is None:
         return None
@@ -212,7 +228,7 @@ def _read_one(column: Column, value: Any) -> Any:
         case "Bytes":
             return bytes.fromhex(value["bytes"])
         case "Time":
-            return EPOCH + datetime.timedelta(seconds=value["secs"], microseconds=value["nanos"] // 1000)
+            return _moment(value["secs"], value["nanos"])
         case "Uuid":
             return uuid.UUID(value["uuid"])
         case "Link":

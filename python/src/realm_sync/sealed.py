@@ -39,13 +39,15 @@ class SealedStorage:
     def __init__(self, inner: Storage, key: bytes) -> None:
         self._inner, self._image, self._gate, self._count = inner, FileImage(), FIRST, 0
         data = inner.read()
-        # Nothing was answered of a file whose first gate is closed: it is begun anew, if it is one of these at all.
+        # Nothing was answered of a file whose first gate is closed: it is begun anew, if it is one of these at all, and has no record behind the first.
         if data[FIRST : FIRST + 1] == b"\1":
             self._read(data, key)
-        elif is_sealed(data) or not any(data[: len(MAGIC)]):
-            self._make(key)
-        else:
+        elif not is_sealed(data) and any(data[: len(MAGIC)]):
             raise BadFile(0)
+        elif len(data) > FIRST + 5 + NONCE + TAG + 1:
+            raise BadFile(FIRST)
+        else:
+            self._make(key)
 
     def _make(self, key: bytes) -> None:
         salt = os.urandom(SALT)

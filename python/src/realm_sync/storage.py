@@ -5,6 +5,7 @@ from __future__ import annotations
 import errno
 import fcntl
 import os
+import re
 from collections.abc import Sequence
 from typing import NamedTuple, Protocol
 
@@ -97,6 +98,24 @@ def sync_folder(path: str) -> None:
         os.fsync(folder)
     finally:
         os.close(folder)
+
+
+# The other files of a database: docs/STORAGE.md.
+_BESIDE = re.compile(r"\.(heir|reason|generation|kept-\d+)(\.new)?")
+
+
+def delete_database(path: str | os.PathLike[str]) -> None:
+    """Takes a database off this machine, with what was never sent: the file of that path, and those beside it (docs/STORAGE.md). `Busy` where it is
+    open."""
+    folder, name = os.path.split(os.fspath(path))
+    if os.path.exists(path):
+        file = FileStorage(os.fspath(path))
+        os.unlink(path)
+        file.close()
+    for it in os.listdir(folder or "."):
+        if it.startswith(name) and _BESIDE.fullmatch(it, len(name)):
+            os.unlink(os.path.join(folder, it))
+    sync_folder(os.fspath(path))
 
 
 class FileStorage:

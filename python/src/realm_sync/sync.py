@@ -9,7 +9,7 @@ import time
 from collections.abc import Callable
 from typing import Literal, Protocol
 
-from .errors import Endless, Outdated, Reason, Refused, Unauthorized, error_of, words_of_code
+from .errors import Closed, Endless, Error, NeedsAttention, Outdated, Reason, Refused, StorageFailed, Unauthorized, error_of, words_of_code
 from .problems import BY_CODE, Problem
 from .transports import Transport
 
@@ -98,7 +98,9 @@ class SyncLoop:
         self._node, self._transport, self._options, self._tell, self._on_problem = node, transport, options, tell, on_problem
         self._wake = threading.Condition()
         self._asked, self._done, self._fails = 1, 0, 0
-        self._stopped = self._is_repeated = False
+        # The last problem that was told, and how many were.
+        self._problem, self._problems = Problem("damaged", "", False), 0
+        self._stopped = self._is_repeated = self._must_upgrade = False
         self._held: Problem | None = None
         self.state = SyncState("connecting")
         self._poll = options.poll
@@ -118,7 +120,9 @@ class SyncLoop:
 
     def committed(self) -> None:
         """Something was committed: it is sent at once, but where the loop waits before it tries again."""
-        if self.state.status in ("up to date", "syncing", "connecting"):
+        if self.state.status == "offline":
+            self._set(dataclasses.replace(self.state, unsent=self._node.unsent()))
+        elif self.state.status in ("up to date", "syncing", "connecting"):
             self.poke()
 
     def resume(self) -> None:
@@ -130,12 +134,19 @@ class SyncLoop:
     def synced(self, timeout: float | None = None) -> bool:
         """Waits until all that was committed is in the history, and all that the history had is here; False after `timeout` seconds. Raises
         where sync needs attention."""
+        if threading.current_thread() is self._thread:
+            raise Error("this is a callback of sync, which waits for it: call synced() in another thread")
         want = self.poke()
         with self._wake:
-            self._wake.wait_for(lambda: self._done >= want or self._stopped or self._held, timeout)
-            if self._held:
-                raise error_of(self._held)
-            return self._done >= want
+            seen = self._problems
+            self._wake.wait_for(lambda: self._done >= want or self._stopped or self._held or self._problems > seen, timeout)
+            if self._done >= want:
+                return True
+            if self._held or self._problems > seen:
+                raise error_of(self._held or self._problem)
+            if self._stopped:
+                raise Closed("sync was stopped")
+            return False
 
     def stop(self) -> None:
         with self._wake:
@@ -173,20 +184,24 @@ class SyncLoop:
         if isinstance(why, Unauthorized):
             return self._stop_for(Problem("unauthorized", str(why), False))
         if isinstance(why, Outdated):
-            return self._stop_for(Problem("other server", str(why), why.generation is not None, generation=why.generation))
+            return self._stop_for(Problem("other server", str(why), True, generation=why.generation))
+        if isinstance(why, NeedsAttention):
+            return self._stop_for(why.problem)
         if isinstance(why, Refused):
             what, was_repeated = problem_of(why, self._is_repeated), self._is_repeated
             self._is_repeated = True
             if isinstance(what, Problem):
                 return self._stop_for(what)
-            if what == "upgrade":
-                self._node.upgrade()
+            self._must_upgrade = what == "upgrade"
             if not was_repeated:
                 return None  # at once, and with pauses where it comes to the same again
         self._fails += 1
         options = self._options
         wait = min(options.retry_most, options.retry_from * 2 ** min(self._fails - 1, 30)) * random.uniform(0.75, 1.25)
-        self._set(SyncState("offline", str(why), self._node.unsent(), retry_at=time.time() + wait))
+        if isinstance(why, StorageFailed):
+            self._tell_attention(Problem("storage", str(why), False))
+        else:
+            self._set(SyncState("offline", str(why), self._node.unsent(), retry_at=time.time() + wait))
         return self._sleep(wait, want)
 
     def _stop_for(self, problem: Problem) -> None:
@@ -195,11 +210,17 @@ class SyncLoop:
             return
         if self._stopped:
             return
-        self._set(SyncState("needs attention", problem.text, self._node.unsent(), problem=problem))
         with self._wake:
             self._held = problem
-            self._wake.notify_all()
+        self._tell_attention(problem, self._node.unsent())
+        with self._wake:
             self._wake.wait_for(lambda: self._stopped or self._held is None)
+
+    def _tell_attention(self, problem: Problem, unsent: int = 0) -> None:
+        self._set(SyncState("needs attention", problem.text, unsent, problem=problem))
+        with self._wake:
+            self._problem, self._problems = problem, self._problems + 1
+            self._wake.notify_all()
 
     def _sleep(self, seconds: float, want: int) -> None:
         with self._wake:
@@ -207,10 +228,14 @@ class SyncLoop:
 
     def _round(self) -> None:
         """Sends and takes until a reply says that the end of the history is reached and nothing is unsent."""
+        if self._must_upgrade:
+            self._node.upgrade()
+            self._must_upgrade = False
         before: tuple[int, ...] = ()
         count = idle = 0
         is_done = False
         while not is_done and not self._stopped:
+            message = self._node.next()
             now = self._node.progress()
             idle, before = (idle + 1 if now == before else 0), now
             if count == self._options.most_messages or idle == _MOST_IDLE:
@@ -218,6 +243,6 @@ class SyncLoop:
             unsent = self._node.unsent()
             if unsent or self.state.status != "up to date":
                 self._set(SyncState("syncing", unsent=unsent))
-            is_end = self._node.take(self._transport.exchange(self._node.next()))
+            is_end = self._node.take(self._transport.exchange(message))
             is_done = is_end and not self._node.unsent()
             count += 1

@@ -9,7 +9,7 @@ from collections.abc import Callable, Iterable, Iterator, Mapping
 from typing import Any, TypeVar
 
 from .errors import Closed, InvalidValue
-from .schema import EPOCH, Column, Key, TableForm, form_of, key_json, value_json, whole_text
+from .schema import EPOCH, Column, Key, TableForm, form_of, key_json, plain_key, value_json, whole_text
 
 T = TypeVar("T")
 _ZERO: dict[str, Any] = {"Int": 0, "Bool": False, "Text": "", "Bytes": b"", "Time": EPOCH, "Uuid": uuid.UUID(int=0)}
@@ -27,7 +27,7 @@ class Transaction:
     def get(self, type_: type[T], key: Key) -> T | None:
         """The object as it is by now, with this transaction's own edits."""
         form = form_of(type_)
-        changed = self._changed.get(form.name, {})
+        key, changed = plain_key(form, key), self._changed.get(form.name, {})
         found: T | None = changed[key] if key in changed else self._rows(form.name).get(key)
         return found
 
@@ -46,6 +46,7 @@ class Transaction:
         if key is None:
             raise InvalidValue(f"{form.name}: create needs {form.key}")
         self._edit("CreateObject", form, key)
+        key = plain_key(form, key)
         if self.get(type_, key) is None:
             self._put(form, key, form.type(**{form.key: key}, **{it.name: _default(it) for it in form.columns.values()}))
         for name, value in values.items():
@@ -54,6 +55,9 @@ class Transaction:
 
     def _fill(self, form: TableForm, key: Key, column: Column, value: Any) -> None:
         at = Collection(self, form, key, column)
+        # A text is one value, and not its characters.
+        if column.shape != "One" and (isinstance(value, (str, bytes)) or not isinstance(value, Mapping if column.shape == "Dict" else Iterable)):
+            raise InvalidValue(f"{column.where}: {value!r:.80} is no {column.shape.lower()} of values")
         match column.shape:
             case "One":
                 self._assign(form, key, column, value)
@@ -111,7 +115,7 @@ class Transaction:
         self.edits.append({"op": op, "table": form.name, "key": key_json(f"{form.name}.{form.key}", form.key_kind, key), **more})
 
     def _put(self, form: TableForm, key: Key, row: Any) -> None:
-        self._changed.setdefault(form.name, {})[key] = row
+        self._changed.setdefault(form.name, {})[plain_key(form, key)] = row
 
     def _assign(self, form: TableForm, key: Key, column: Column, value: Any) -> None:
         self._edit("Update", form, key, column=column.name, value=value_json(column, self._key_kinds, value))

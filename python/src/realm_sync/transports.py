@@ -3,6 +3,7 @@
 from __future__ import annotations
 
 import json
+import re
 import threading
 import urllib.error
 import urllib.parse
@@ -10,7 +11,8 @@ import urllib.request
 from collections.abc import Callable
 from typing import Any, Protocol
 
-from .errors import Error, Outdated, Unauthorized
+from .errors import Error, NeedsAttention, Outdated, Unauthorized
+from .problems import Problem
 
 # A token, or what hands one over: it is asked for another one than before where that was refused.
 TokenSource = str | Callable[[bool], str]
@@ -57,24 +59,27 @@ class CallTransport:
 
 
 class _Token:
-    """The token of a transport: asked for anew once it was refused."""
+    """The token of a transport: a source is asked once, and again once the server refused what it gave."""
 
     def __init__(self, source: TokenSource) -> None:
-        self._source, self._renewed, self._was_refused = source, "", False
+        self._source, self._was_refused = source, False
+        self._current: str | None = None
+        self._lock = threading.Lock()
 
     def get(self) -> str:
-        if self._renewed:
-            return self._renewed
-        return self._source if isinstance(self._source, str) else self._source(self._was_refused)
+        with self._lock:
+            if self._current is None:
+                self._current = self._source if isinstance(self._source, str) else self._source(self._was_refused)
+            return self._current
 
     def renew(self, token: str) -> None:
-        self._renewed, self._was_refused = token, False
+        self._current, self._was_refused = token, False
 
-    def refused(self, why: str) -> None:
+    def refused(self, why: Error) -> None:
         """The server refused the token. Raises where there is no other one to try: one is asked for once."""
         if isinstance(self._source, str) or self._was_refused:
-            raise Unauthorized(why)
-        self._renewed, self._was_refused = "", True
+            raise why
+        self._current, self._was_refused = None, True
 
     def accepted(self) -> None:
         self._was_refused = False
@@ -84,26 +89,48 @@ class _Token:
         return {"Authorization": f"Bearer {token}"} if token else {}
 
 
-def _refusal(status: int) -> str:
-    """What a server says for good by this status; nothing where it may be tried again."""
-    words = {401: "the server refuses the token", 403: "the server refuses this device", 404: "the server has no such history"}
-    return words.get(status, "")
+TOKEN_REFUSED, OUTDATED, TOO_LARGE = 401, 410, 413
+_WORDS = {
+    401: "the server refuses the token",
+    403: "the server refuses this device",
+    404: "the server has no such history",
+    413: "the server takes no message that is so large",
+}
 
 
-OUTDATED = 410
-_GENERATION = "Realm-Generation"
+def _refusal(status: int, said: str) -> Error | None:
+    """What a server says for good by a status, with its own words; None where it may be tried again."""
+    if status not in _WORDS:
+        return None
+    text = f"{_WORDS[status]}: {said}" if said else _WORDS[status]
+    return NeedsAttention(Problem("full", text, False)) if status == TOO_LARGE else Unauthorized(text)
 
 
-def _address(url: str, generation: int, **words: int) -> str:
-    """An address, with the generation in which the client's file began, and other words."""
-    words = {**({"generation": generation} if generation != 1 else {}), **words}
-    return f"{url}{'&' if '?' in url else '?'}{urllib.parse.urlencode(words)}" if words else url
+def _first_line(text: bytes) -> str:
+    return text.decode(errors="replace").partition("\n")[0][:200]
+
+
+def _words(headers: Any, body: bytes | None) -> str:
+    """The words of an answer, where it has some for people."""
+    return _first_line(body or b"") if _header(headers, "Content-Type").startswith("text/plain") else ""
+
+
+def _header(headers: Any, name: str) -> str:
+    """Of an answer's headers, whose names may be in lower case."""
+    return {str(it).lower(): str(value) for it, value in dict(headers or {}).items()}.get(name.lower(), "")
+
+
+def _address(url: str, generation: int, more: str = "", **words: int) -> str:
+    """An address, with the generation in which the client's file began behind the history's name (the first is said by the address as it is), and
+    more behind that."""
+    parts = urllib.parse.urlsplit(url)
+    path = parts.path if generation == 1 else re.sub(r"(@\d+)?/?$", f"@{generation}", parts.path, count=1)
+    query = "&".join(filter(None, (parts.query, urllib.parse.urlencode(words))))
+    return urllib.parse.urlunsplit(parts._replace(path=path + more, query=query))
 
 
 def _generation_in(headers: Any) -> int | None:
-    """Of an answer's headers, whose names may be in lower case."""
-    found = {str(name).lower(): value for name, value in dict(headers or {}).items()}.get(_GENERATION.lower())
-    return int(found) if found else None
+    return int(_header(headers, "Realm-Generation") or 0) or None
 
 
 class HttpTransport:
@@ -124,15 +151,15 @@ class HttpTransport:
                 self._token.accepted()
                 return data
             except urllib.error.HTTPError as why:
-                why.close()
+                with why:
+                    refused = _refusal(why.code, _words(why.headers, why.read(1000)))
                 if why.code == OUTDATED:
                     raise Outdated(_generation_in(why.headers)) from why
-                if why.code == 401:
-                    self._token.refused(_refusal(401))
-                elif _refusal(why.code):
-                    raise Unauthorized(_refusal(why.code)) from why
-                else:
+                if refused is None:
                     raise Error(f"the server answered {why.code}") from why
+                if why.code != TOKEN_REFUSED:
+                    raise refused from why
+                self._token.refused(refused)
 
     def watch(self, callback: Callable[[], None]) -> bool:
         if self._news:
@@ -149,15 +176,15 @@ class HttpTransport:
                 length, wait = max(length, found, 0), 25
             except urllib.error.HTTPError as why:
                 why.close()
+                length, wait = -1, 0  # a server without news, or one whose history was restored: the loop asks from time to time
                 self._stopped.wait(30)
             except (OSError, ValueError, Error):
                 self._stopped.wait(30)
 
     def _news_after(self, length: int, seconds: int) -> int:
         """The length of the history once it is above that, or after so many seconds that length."""
-        base, _, query = self._url.partition("?")
-        url = f"{base}/news{'?' if query else ''}{query}"
-        request = urllib.request.Request(_address(url, self.generation, after=length, wait=seconds), headers=self._token.headers())
+        url = _address(self._url, self.generation, "/news", after=length, wait=seconds)
+        request = urllib.request.Request(url, headers=self._token.headers())
         with urllib.request.urlopen(request, timeout=seconds + 10) as reply:
             return int(json.load(reply)["news"]) if reply.status == 200 else length
 
@@ -191,25 +218,38 @@ class WebSocketTransport:
         except websocket.WebSocketBadStatusException as why:
             if why.status_code == OUTDATED:
                 raise Outdated(_generation_in(why.resp_headers)) from why
-            raise self._refused(int(why.status_code)) from why
+            raise self._refused(int(why.status_code), _words(why.resp_headers, getattr(why, "resp_body", None))) from why
         self._token.accepted()
         socket.settimeout(None)
         self._socket = socket
         threading.Thread(target=self._reading, args=(socket,), name="realm_sync socket", daemon=True).start()
         return socket
 
-    def _refused(self, status: int) -> Exception:
-        if status == 401:
-            try:
-                self._token.refused(_refusal(401))
-                return Error("the token has ended: another one is tried")
-            except Unauthorized as why:
-                return why
-        return Unauthorized(_refusal(status)) if _refusal(status) else Error(f"the server cannot be reached ({status})")
+    def _refused(self, status: int, said: str) -> Error:
+        refused = _refusal(status, said)
+        if refused is None:
+            return Error(f"no connection came about ({status})")
+        if status != TOKEN_REFUSED:
+            return refused
+        try:
+            self._token.refused(refused)
+            return Error("the token has ended: another one is tried")
+        except Error as why:
+            return why
+
+    def _ended(self, data: bytes) -> Exception:
+        """Why the server ended a connection: its codes are 4000 and a status, and 1009 for a message that is too large."""
+        code, said = int.from_bytes(data[:2], "big"), _first_line(data[2:])
+        if code == 4000 + OUTDATED:
+            found = re.search(r"is of generation (\d+): begin", said)
+            return Outdated(int(found[1]) if found else None)
+        if code == 1009 or code - 4000 in _WORDS:
+            return self._refused(TOO_LARGE if code == 1009 else code - 4000, said)
+        return ConnectionError("the connection was lost")
 
     def _reading(self, socket: Any) -> None:
         """Takes what comes: a thread for each connection."""
-        code = 0
+        why: Exception = ConnectionError("the connection was lost")
         try:
             while True:
                 kind, data = socket.recv_data()
@@ -218,11 +258,11 @@ class WebSocketTransport:
                 elif kind == 2:
                     self._arrived(bytes(data))
                 elif kind == 8:
-                    code = int.from_bytes(data[:2], "big")
+                    why = self._ended(bytes(data))
                     break
         except Exception:  # whatever ended the connection
             pass
-        self._lost(socket, code)
+        self._lost(socket, why)
 
     def _arrived(self, reply: bytes | Exception) -> None:
         with self._replies:
@@ -230,14 +270,14 @@ class WebSocketTransport:
                 self._reply = reply
                 self._replies.notify_all()
 
-    def _lost(self, socket: Any, code: int) -> None:
+    def _lost(self, socket: Any, why: Exception) -> None:
         with self._replies:
             if self._socket is not socket:
                 return
             self._socket = None
             is_waiting = self._is_waiting
         _shut(socket)
-        self._arrived(self._refused(code - 4000) if code >= 4000 else ConnectionError("the connection was lost"))
+        self._arrived(why)
         if not is_waiting and not self._is_closed:
             self._watcher()  # nobody waits: the loop connects again, and asks what came meanwhile
 
@@ -277,6 +317,7 @@ class WebSocketTransport:
         socket, self._socket = self._socket, None
         if socket is not None:
             _shut(socket)
+        self._arrived(ConnectionError("the connection was closed"))  # who waits for a reply waits no longer
 
 
 def _shut(socket: Any) -> None:

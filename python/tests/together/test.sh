@@ -9,14 +9,20 @@ room=$(mktemp -d)
 export REALM_SYNC_LIBRARY="${REALM_SYNC_LIBRARY:-$top/python/src/realm_sync/librealm_sync.so}"
 export PYTHONPATH="$top/python/src"
 port=$("$python" -c 'import socket; s = socket.socket(); s.bind(("127.0.0.1", 0)); print(s.getsockname()[1])')
-(cd "$room" && exec "$top/realm_service" --folder "$room/histories" --listen "127.0.0.1:$port") >"$room/service" 2>&1 &
-service=$!
-trap 'kill "$service" 2>/dev/null || true; rm -rf "$room"' EXIT
-for _ in $(seq 300); do
-    grep -q '^eyJ' "$room/service" && break
-    kill -0 "$service" 2>/dev/null || { cat "$room/service" >&2; exit 1; }
-    sleep 0.2
-done
+start() {
+    (cd "$room" && exec "$top/realm_service" --folder "$room/histories" --listen "127.0.0.1:$port") >"$room/service" 2>&1 &
+    service=$!
+    for _ in $(seq 300); do
+        grep -q '^eyJ' "$room/service" && return
+        kill -0 "$service" 2>/dev/null || break
+        sleep 0.2
+    done
+    cat "$room/service" >&2
+    exit 1
+}
+service=
+trap '[ -z "$service" ] || kill "$service" 2>/dev/null || true; rm -rf "$room"' EXIT
+start
 REALM_TOKEN=$(grep '^eyJ' "$room/service")
 export REALM_TOKEN
 for scheme in http ws; do
@@ -26,6 +32,15 @@ for scheme in http ws; do
     "$python" "$here/device.py" "$room/python-$scheme" "$url" python >"$room/python-$scheme.out"
     wait "$device"
     echo "two packages agree over $scheme: $(cat "$room/python-$scheme.out")"
+done
+kill "$service"
+wait "$service" || true
+"$top/realm_service" --folder "$room/histories" raise-generation --all >/dev/null
+start
+for scheme in http ws; do
+    url="$scheme://127.0.0.1:$port/v1/histories/$scheme"
+    said="$("$python" "$here/restored.py" "$room/python-$scheme" "$url"); $(node "$here/restored.mjs" "$room/node-$scheme" "$url")"
+    echo "a history that was restored, over $scheme: $said"
 done
 if command -v "${CHROMIUM:-chromium}" >/dev/null && [ -d "$top/examples/shopping/web/dist" ]; then
     node "$here/page.mjs" "ws://127.0.0.1:$port/v1/histories/page"
