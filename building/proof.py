@@ -1,7 +1,7 @@
 """Proves and builds by the way of the gate: `rt ci` on a copy of the crates that are needed, without their wrong bodies.
 
-Crates are proved side by side, each over the statements of those below. What passes is kept on the machine, and counts for `rt ci`;
-what `rt ci` passed on the machine is taken.
+Crates are proved side by side, each over the statements of those below. A kit that keeps on
+the machine what a run passed takes it for `rt ci` too, and what `rt ci` passed is taken here.
 """
 import contextlib
 import os
