@@ -4,7 +4,9 @@
 mod committing;
 mod next;
 mod taking;
+mod talk;
 
 pub use committing::commit;
 pub use next::{Next, next_message};
 pub use taking::{Taken, take};
+pub use talk::{Stale, Talk};

@@ -33,7 +33,10 @@ pub fn next_message<D: Disk>(client: &Client<D>, sent: u32) -> Result<Next, Clie
     }
 }
 
-fn message_above<D: Disk>(client: &Client<D>, sent: u32) -> Result<Message, ClientRefusal>
+pub(crate) fn message_above<D: Disk>(
+    client: &Client<D>,
+    sent: u32,
+) -> Result<Message, ClientRefusal>
     ensures step { (records : List model.ClientRecord) → IsClientOf records client.now → Sends (next_message (model.client_of the_profile records) sent) result }
     ensures closed { IsErrOf result ClientRefusal.Closed ↔ (is_closed client.now ≡ true) }
 {
@@ -61,7 +64,7 @@ fn bears_none(message: &Message) -> bool
 }
 
 /// The number of the last change of an Upload, or else this number.
-fn sent_by(message: &Message, sent: u32) -> u32
+pub(crate) fn sent_by(message: &Message, sent: u32) -> u32
     ensures { result ≡ sent_by (message_seen message.now) sent }
 {
     match message {
