@@ -122,7 +122,7 @@ def served(store, count, words, is_profiled):
     given = stores(store)
     workers = [Service(given, limits=LIMITS, histories={"idle_seconds": 30.0}) for _ in range(count)]
     for it in workers:
-        it.start(["-m", "cProfile", "-o", it.profile] if is_profiled else [])
+        it.start([os.path.join(HERE, "profiled.py"), it.profile] if is_profiled else [])
     for it in workers:
         it.ready()
     before = [processor(it.process.pid) for it in workers]

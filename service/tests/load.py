@@ -18,6 +18,7 @@ import hashlib
 import json
 import multiprocessing
 import random
+import signal
 import sys
 import time
 
@@ -168,6 +169,7 @@ def digest(lines):
 
 
 def child(given, numbers, pipe):
+    signal.signal(signal.SIGTERM, signal.SIG_DFL)
     with contextlib.suppress(ImportError):
         import uvloop
 
@@ -191,7 +193,7 @@ class Load:
             key = (lambda n: n % given.histories) if given.histories >= given.processes else (lambda n: n)
             numbers = [it for it in range(given.clients) if key(it) % given.processes == part]
             ours, theirs = context.Pipe()
-            made = context.Process(target=child, args=(given, numbers, theirs))
+            made = context.Process(target=child, args=(given, numbers, theirs), daemon=True)  # ends where this one is told to
             made.start()
             theirs.close()
             self.pipes.append(ours)
