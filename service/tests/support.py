@@ -24,7 +24,7 @@ from realm_service.tokens import Tokens  # noqa: E402
 signal.signal(signal.SIGTERM, lambda *_: sys.exit("terminated"))  # so that what is to be done at the end is done
 logging.getLogger("asyncio").setLevel(logging.ERROR)  # (it tells each step of a test that takes its time)
 SECRET = "a secret of the tests alone, which nobody else has"
-START_SECONDS, STOP_SECONDS = 60, 60
+START_SECONDS, STOP_SECONDS = 180, 120  # (of a machine that is busy otherwise)
 PLAIN = os.path.join(os.path.dirname(os.path.abspath(__file__)), "plain")  # has no uvloop, whatever the system has
 LOCAL = urllib.request.build_opener(urllib.request.ProxyHandler({}))  # whatever the environment says
 
