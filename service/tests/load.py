@@ -16,6 +16,7 @@ import contextlib
 import dataclasses
 import hashlib
 import json
+import logging
 import multiprocessing
 import random
 import signal
@@ -170,6 +171,7 @@ def digest(lines):
 
 def child(given, numbers, pipe):
     signal.signal(signal.SIGTERM, signal.SIG_DFL)
+    logging.getLogger("asyncio").setLevel(logging.CRITICAL)  # (it tells each ping that finds its connection closed)
     with contextlib.suppress(ImportError):
         import uvloop
 

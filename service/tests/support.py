@@ -87,9 +87,9 @@ class Service:
         path = [os.path.join(TOP, "service", "src"), *([PLAIN] if store["kind"] == "files" else [])]
         self.env = {**os.environ, "PYTHONPATH": os.pathsep.join(path)}
 
-    def start(self, under=()):
+    def start(self, program=("-m", "realm_service")):
         with open(self.log, "ab") as log:
-            words = [sys.executable, *under, "-m", "realm_service", "--config", self.config]
+            words = [sys.executable, *program, "--config", self.config]
             self.process = subprocess.Popen(words, stdout=log, stderr=log, stdin=subprocess.DEVNULL, env=self.env)
         atexit.register(self.kill)
         return self
