@@ -32,12 +32,13 @@ cd "$top/service/tests" || exit 1
 
 out=$(mktemp -d) || exit 1
 trap 'rm -rf "$out"' EXIT
-suites="test_parts test_stores test_limits test_attacks test_faults test_service.OfFiles test_service.OfSqlite test_service.OfPostgres
-    test_service.Workers test_service.WithoutConfiguration"
-for suite in $suites; do
-    { timeout -k 30 600 "$python" -W ignore::ResourceWarning -m unittest "$suite" >"$out/$suite" 2>&1; echo $? >"$out/$suite.status"; } &
-done
-wait
+# Some at once, since they wait most of their time; the longest first.
+suites="test_attacks test_faults test_service.OfFiles test_service.OfPostgres test_service.OfSqlite test_limits test_stores test_service.Workers
+    test_service.WithoutConfiguration test_parts"
+# shellcheck disable=SC2086
+printf '%s\n' $suites | xargs -P $((2 * $(nproc))) -I SUITE sh -c '
+    timeout -k 30 600 "$0" -W ignore::ResourceWarning -m unittest SUITE >"$1/SUITE" 2>&1
+    echo $? >"$1/SUITE.status"' "$python" "$out"
 failed=0
 for suite in $suites; do
     if [ "$(cat "$out/$suite.status")" -ne 0 ]; then

@@ -103,17 +103,25 @@ def echoing(seconds, clients):
         process.wait()
 
 
-PARTS = (("realm_turns", "the node"), ("uvloop", "the loop and sockets"), ("aiohttp", "aiohttp"), ("asyncpg", "asyncpg"), ("prometheus", "metrics"),
-         ("sqlite3", "SQLite"), ("realm_service", "the service"), ("asyncio", "asyncio"), ("selectors", "asyncio"))
+PARTS = (("realm_service/node.py", "the node and the way to it"), ("realm_service/stores", "the store"), ("asyncpg", "asyncpg"), ("uvloop", "uvloop"),
+         ("prometheus", "metrics"), ("aiohttp", "aiohttp"), ("realm_service/messages.py", "heads of messages"),
+         ("realm_service/limits.py", "limits"), ("realm_service/history.py", "batches"), ("realm_service", "the rest of the service"))
+
+
+def part_of(file, function):
+    return next((part for name, part in PARTS if name in file + function), "Python's library")
 
 
 def parts_of(paths):
-    """Of the time in the processor that profiles saw, what was in code of each part."""
+    """What part of the loops' processor time each part took; what is built in counts for its caller."""
     taken = collections.Counter()
     for path in paths:
-        for (file, _, function), (_, _, own, _, _) in pstats.Stats(path).stats.items():
-            if "select.epoll" not in function:
-                taken[next((part for name, part in PARTS if name in file + function), "Python's own")] += own
+        for (file, _, function), (_, _, own, _, callers) in pstats.Stats(path).stats.items():
+            if file == "~" and "uvloop" not in function:
+                for (caller, _, called), (_, _, for_it, _) in callers.items():
+                    taken[part_of(caller, called)] += for_it
+            else:
+                taken[part_of(file, function)] += own
     whole = sum(taken.values())
     return ", ".join(f"{part} {100 * own / whole:.0f} %" for part, own in taken.most_common())
 
@@ -122,7 +130,7 @@ def served(store, count, words, is_profiled):
     given = stores(store)
     workers = [Service(given, limits=LIMITS, histories={"idle_seconds": 30.0}) for _ in range(count)]
     for it in workers:
-        it.start(["-m", "cProfile", "-o", it.profile] if is_profiled else [])
+        it.start(*[(os.path.join(HERE, "profiled.py"), it.profile)] if is_profiled else ())
     for it in workers:
         it.ready()
     before = [processor(it.process.pid) for it in workers]

@@ -104,7 +104,7 @@ class Faults:
             self.rounds(load)
             said, _ = load.communicate("", timeout=300)
         finally:
-            load.kill()
+            load.terminate()
             load.wait()
         for it in self.workers:
             self.noted(it)

@@ -16,8 +16,10 @@ import contextlib
 import dataclasses
 import hashlib
 import json
+import logging
 import multiprocessing
 import random
+import signal
 import sys
 import time
 
@@ -168,6 +170,8 @@ def digest(lines):
 
 
 def child(given, numbers, pipe):
+    signal.signal(signal.SIGTERM, signal.SIG_DFL)
+    logging.getLogger("asyncio").setLevel(logging.CRITICAL)  # (it tells each ping that finds its connection closed)
     with contextlib.suppress(ImportError):
         import uvloop
 
@@ -191,7 +195,7 @@ class Load:
             key = (lambda n: n % given.histories) if given.histories >= given.processes else (lambda n: n)
             numbers = [it for it in range(given.clients) if key(it) % given.processes == part]
             ours, theirs = context.Pipe()
-            made = context.Process(target=child, args=(given, numbers, theirs))
+            made = context.Process(target=child, args=(given, numbers, theirs), daemon=True)  # ends where this one is told to
             made.start()
             theirs.close()
             self.pipes.append(ours)

