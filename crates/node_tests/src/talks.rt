@@ -11,6 +11,7 @@ use sync_next::{Stale, Talk};
 const ID: [u8; 16] = [7; 16];
 
 /// What happens to a client of ident 9.
+#[derive(Clone, Copy)]
 enum Step {
     Commits(&'static str),
     Takes(&'static [u8]),
