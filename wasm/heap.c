@@ -1,5 +1,6 @@
-// The heap of the program in a page: blocks of size classes, four to a doubling, each kept in a list of its class when free.
-// Free blocks are never joined. A run of the program is short, and each begins with a memory of its own.
+// The heap of the program or the library in a page: blocks of size classes, four to a doubling, each kept in a list of its class when free.
+// Free blocks are never joined: what was given back serves blocks of its class alone. A run of the program is short, and each begins with a
+// memory of its own; a client of the library lives as long as its page, and its memory stays as large as it once was.
 
 typedef unsigned long u64;
 typedef unsigned char u8;

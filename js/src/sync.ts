@@ -114,7 +114,7 @@ export class SyncLoop {
 
   /** Something was committed: it is sent at once, but where the loop waits before it tries again. */
   committed(): void {
-    if (this.state.status === 'offline') this.set({ ...this.state, unsent: this.node.unsent() });
+    if (this.state.status === 'offline') this.set({ ...this.state, unsent: this.unsent() });
     else if (['upToDate', 'syncing', 'connecting'].includes(this.state.status)) this.poke();
   }
 
@@ -151,6 +151,15 @@ export class SyncLoop {
   private set(state: SyncState): void {
     this.state = state;
     if (!this.isStopped) this.tell(state);
+  }
+
+  /** None where the files couldn't be opened again. */
+  private unsent(): number {
+    try {
+      return this.node.unsent();
+    } catch {
+      return 0;
+    }
   }
 
   private async sleep(ms: number): Promise<void> {
@@ -193,7 +202,7 @@ export class SyncLoop {
     this.fails += 1;
     const wait = Math.min(this.options.retryMost, this.options.retryFrom * 2 ** (this.fails - 1)) * (0.75 + Math.random() / 2);
     if (error instanceof StorageFailed) this.tellAttention(problem('storage', error.message, false));
-    else this.set({ status: 'offline', reason: error.message, retryAt: Date.now() + wait, unsent: this.node.unsent() });
+    else this.set({ status: 'offline', reason: error.message, retryAt: Date.now() + wait, unsent: this.unsent() });
     await this.sleep(wait);
   }
 

@@ -10,6 +10,8 @@ from __future__ import annotations
 import os
 import resource
 import sqlite3
+import subprocess
+import sys
 import tempfile
 import time
 from collections.abc import Callable
@@ -100,8 +102,34 @@ def opening(folder: str, count: int) -> None:
                 edits.update("notes", number, "text", f"note {number}")
         with open(path, "wb") as it:
             it.write(made._engine.data())
-    timed(f"opening {count:,} own transactions, all unsent", 1, lambda: Database(path, [Note]).close())
-    print(f"{'  the most memory of the process until then':66} {resource.getrusage(resource.RUSAGE_SELF).ru_maxrss // 1024:9} MB")
+    beside = sqlite(f"{path}.sqlite")
+    beside.execute("BEGIN")
+    add_sqlite(beside, 0, count)
+    beside.execute("COMMIT")
+    beside.close()
+    # Each in a process of its own, for its memory.
+    for kind, file in (("database", path), ("sqlite", f"{path}.sqlite")):
+        subprocess.run([sys.executable, __file__, kind, file, str(count)], check=True)
+
+
+def most_memory() -> int:
+    """Of this process, in MB."""
+    return resource.getrusage(resource.RUSAGE_SELF).ru_maxrss // 1024
+
+
+def open_one(kind: str, path: str, count: int) -> None:
+    """Opens a file, and has all of its objects."""
+    before, found = most_memory(), list[Note]()
+    if kind == "sqlite":
+
+        def select() -> None:
+            rows = sqlite3.connect(path).execute("SELECT * FROM notes")
+            found.extend(Note(id=id_, text=text, done=bool(done), read=Counter(read)) for id_, text, done, read in rows)
+
+        timed(f"beside: opening SQLite's file, and {count:,} rows as objects", 1, select)
+    else:
+        timed(f"opening {count:,} own transactions, all unsent", 1, lambda: found.extend(Database(path, [Note])[Note]))
+    print(f"{'  the memory of the process, more than before':66} {most_memory() - before:9} MB")
 
 
 def first_sync(folder: str) -> None:
@@ -124,4 +152,7 @@ def main() -> None:
         opening(folder, 100_000)
 
 
-main()
+if len(sys.argv) == 4:
+    open_one(sys.argv[1], sys.argv[2], int(sys.argv[3]))
+else:
+    main()

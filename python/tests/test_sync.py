@@ -51,6 +51,9 @@ class Agreement(unittest.TestCase):
             with one.write() as tx:
                 tx.create(Day, day=2)
             until(lambda: one.sync_state.status == "offline" and one.sync_state.unsent == 1)
+            with one.write() as tx:
+                tx.create(Day, day=3)
+            until(lambda: one.sync_state.status == "offline" and one.sync_state.unsent == 2)
             net.is_down = False
             self.assertTrue(one.synced(30))
             until(lambda: states[-1] == "up to date")

@@ -5,12 +5,13 @@ import { test, wait } from './harness.mjs';
 const adding = (count) => `(async () => { for (let i = 0; i < ${count}; i++) await add(); return ${count}; })()`;
 const sum = (counts) => counts.reduce((one, other) => one + other, 0);
 
+/** Four tabs; what the system has is enough, since the machine isn't stopped here. */
 async function openTabs(bench, browser, storage, isSynced) {
   const sync = isSynced ? `, sync: { url: '${bench.server.socketUrl}', token: 'tabs' }` : '';
   const tabs = [];
   for (let at = 0; at < 4; at++) {
     const tab = await bench.tab(browser);
-    await tab.evaluate(`open({ storage: '${storage}'${sync} })`);
+    await tab.evaluate(`open({ storage: '${storage}', durability: 'relaxed'${sync} })`);
     if (at === 0) await tab.evaluate(`db.write((tx) => tx.days.create({ day: 1, note: '0' }))`);
     tabs.push(tab);
   }

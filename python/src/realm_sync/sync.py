@@ -97,7 +97,7 @@ class SyncLoop:
     ) -> None:
         self._node, self._transport, self._options, self._tell, self._on_problem = node, transport, options, tell, on_problem
         self._wake = threading.Condition()
-        self._asked, self._done, self._fails = 1, 0, 0
+        self._asked, self._done, self._fails, self._commits = 1, 0, 0, 0
         # The last problem that was told, and how many were.
         self._problem, self._problems = Problem("damaged", "", False), 0
         self._stopped = self._is_repeated = self._must_upgrade = False
@@ -120,10 +120,11 @@ class SyncLoop:
 
     def committed(self) -> None:
         """Something was committed: it is sent at once, but where the loop waits before it tries again."""
-        if self.state.status == "offline":
-            self._set(dataclasses.replace(self.state, unsent=self._node.unsent()))
-        elif self.state.status in ("up to date", "syncing", "connecting"):
+        if self.state.status in ("up to date", "syncing", "connecting"):
             self.poke()
+        with self._wake:
+            self._commits += 1
+            self._wake.notify_all()
 
     def resume(self) -> None:
         """Goes on after a problem that was settled."""
@@ -201,7 +202,7 @@ class SyncLoop:
         if isinstance(why, StorageFailed):
             self._tell_attention(Problem("storage", str(why), False))
         else:
-            self._set(SyncState("offline", str(why), self._node.unsent(), retry_at=time.time() + wait))
+            self._set(SyncState("offline", str(why), self._unsent(), retry_at=time.time() + wait))
         return self._sleep(wait, want)
 
     def _stop_for(self, problem: Problem) -> None:
@@ -212,7 +213,7 @@ class SyncLoop:
             return
         with self._wake:
             self._held = problem
-        self._tell_attention(problem, self._node.unsent())
+        self._tell_attention(problem, self._unsent())
         with self._wake:
             self._wake.wait_for(lambda: self._stopped or self._held is None)
 
@@ -222,9 +223,23 @@ class SyncLoop:
             self._problem, self._problems = problem, self._problems + 1
             self._wake.notify_all()
 
+    def _unsent(self) -> int:
+        try:
+            return self._node.unsent()
+        except Error:  # the file couldn't be opened again, or was closed
+            return 0
+
     def _sleep(self, seconds: float, want: int) -> None:
-        with self._wake:
-            self._wake.wait_for(lambda: self._stopped or self._asked > want, seconds)
+        """While it is offline it tells how many transactions wait, as they are committed."""
+        end, commits = time.monotonic() + seconds, self._commits
+        while True:
+            with self._wake:
+                self._wake.wait_for(lambda: self._stopped or self._asked > want or self._commits != commits, end - time.monotonic())
+                if self._stopped or self._asked > want or self._commits == commits:
+                    return
+                commits = self._commits
+            if self.state.status == "offline":
+                self._set(dataclasses.replace(self.state, unsent=self._unsent()))
 
     def _round(self) -> None:
         """Sends and takes until a reply says that the end of the history is reached and nothing is unsent."""
