@@ -1,1 +1,1 @@
-mod Replacing
+mod Words
