@@ -25,7 +25,7 @@ enum Step {
 
 /// A kind of message.
 #[derive(Clone, Copy, PartialEq, Eq)]
-pub(crate) enum Sent {
+enum Sent {
     Bind,
     Upload,
     Ask,
@@ -46,7 +46,7 @@ const CASES: [(Step, u32, Option<(Sent, u32)>); 9] = [
 ];
 
 /// Whether the client commits a transaction that adds a table.
-pub(crate) fn commits(alloc: Global, client: &mut Client<MemoryDisk>, table: &str) -> bool {
+fn commits(alloc: Global, client: &mut Client<MemoryDisk>, table: &str) -> bool {
     let Ok(table) = Name::new(table) else {
         return false;
     };
@@ -80,7 +80,7 @@ fn takes(alloc: Global, client: &mut Client<MemoryDisk>, step: &Step) -> bool {
     }
 }
 
-pub(crate) fn kind_of(message: &Message) -> Sent {
+fn kind_of(message: &Message) -> Sent {
     match message {
         Message::Bind { .. } => Sent::Bind,
         Message::Upload(_) => Sent::Upload,
@@ -106,7 +106,7 @@ fn is_told(alloc: Global, client: &mut Client<MemoryDisk>) -> bool {
     true
 }
 
-pub(crate) fn client(alloc: Global) -> Option<Client<MemoryDisk>> {
+fn client(alloc: Global) -> Option<Client<MemoryDisk>> {
     let Ok(disk) = MemoryDisk::new(alloc) else {
         return None;
     };
