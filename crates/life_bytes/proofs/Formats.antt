@@ -1,5 +1,5 @@
 -- Each part of a note and of a message with lives is spelled and read again.
-use Rattle.std.proofs.Common.{All, ◌≡◌, ℕ, ◌+◌, ◌<◌, ◌≤◌, ◌^◌, Bool, true, false, List, [], ◌∷◌, ◌++◌, length, Option, Some, leb, refl, sym, ap, subst, ◌∙◌, arith}
+use Rattle.std.proofs.Common.{All, ◌≡◌, ℕ, ◌+◌, ◌<◌, ◌≤◌, ◌^◌, Bool, true, false, List, [], ◌∷◌, ◌++◌, length, Option, Some, None, leb, refl, sym, ap, subst, ◌∙◌, arith}
 use Rattle.std.specs.Prelude.{◌&&◌}
 use Rattle.std.specs.List.{AllByRecursion}
 use Rattle.std.proofs.lemmas.Bool.{le-leb, leb-true, and_parts, and_from}
@@ -12,12 +12,12 @@ use Rattle.sync_io.specs.FormatLaws.{IsFormat, bind_some, bound, some_is, number
 use Rattle.life_bytes.specs.declared.run.Run.{Run}
 use Rattle.life_bytes.specs.declared.mark.Mark.{Mark}
 use Rattle.life_bytes.specs.declared.saves.Saving.{Saving}
-use Rattle.life_bytes.specs.Runs.{IsLife, Lives, AreWholeLives, most_runs, most_numbers, lives_of, runs_of, count_of, are_apart, are_runs}
+use Rattle.life_bytes.specs.Runs.{IsLife, Lives, AreLives, AreWholeLives, most_runs, most_numbers, lives_of, runs_of, count_of, are_apart, are_runs}
 use Rattle.life_bytes.specs.Parts.{TokenParts, SavesParts, NumbersParts, GiveUpParts, GivenUpParts, most_tokens, most_saves, most_uuids, most_lives}
 use Rattle.life_bytes.specs.Spelling.{run_spelling, lives_spelling, token_spelling, saves_spelling, saving_spelling, mark_spelling, numbers_spelling, give_up_spelling, given_up_spelling}
 use Rattle.life_bytes.specs.Reading.{run_as, run_in, lives_in, token_as, is_token, token_in, saves_as, saves_in, saving_as, saving_in, mark_as, mark_in, is_named, ident_in, numbers_as, numbers_in, give_up_as, give_up_in, given_up_as, given_up_in}
 use Rattle.life_bytes.specs.Whole.{IsIdent, IsUuid, IsNumber, IsWholeRun, IsWholeToken, IsWholeSaves, IsWholeSaving, AreWholeSaves, IsWholeMark, IsWholeNumbers, IsWholeGiveUp, IsWholeGivenUp}
-use Rattle.life_bytes.proofs.Runs.{runs_again, lives_again, runs_are_apart, count_is, lives_are, runs_have_lives}
+use Rattle.life_bytes.proofs.RunLaws.{lives_again, runs_are_apart, count_is, are_back, are_lives, lives_are, runs_have_lives}
 
 module _ {A : Type 0} {a : A → List ℕ} {read : List ℕ → Option (A × List ℕ)} {Fits : A → Type 0} (is : IsFormat a read Fits) where
   -- the same values, said in another way
@@ -67,12 +67,10 @@ counts_fit (run ∷ runs) few all =
     ((omega (arith, sum, few), all.0), counts_fit runs (omega (arith, sum, few)) all.1)
 
 lives_whole : (runs : List Run) → ((length runs ≤ most_runs) × All IsWholeRun runs) × (are_runs runs ≡ true) → AreWholeLives (lives_of runs)
-lives_whole runs f =
-    let p = and_parts (are_apart None runs) (leb (count_of runs) most_numbers) f.1 in
-    (
-      record { few = rw (runs_again None runs p.0) f.0.0; within = rw (count_is runs) (leb-true (count_of runs) most_numbers p.1) },
-      lives_are runs (All-weaker IsWholeRun (λ run. IsLife run.life) (λ run is. is.1) runs f.0.1),
-    )
+lives_whole runs f = (are_lives runs (f.0.0, f.1), lives_are runs (All-weaker IsWholeRun (λ run. IsLife run.life) (λ run is. is.1) runs f.0.1))
+
+pub put_whole : (lives : Lives) (runs : List Run) → lives ≡ lives_of runs → AreLives lives → All IsWholeRun runs → AreWholeLives lives
+put_whole lives runs is are all = (are, subst (All IsLife) (sym is) (lives_are runs (All-weaker IsWholeRun (λ run. IsLife run.life) (λ run is. is.1) runs all)))
 
 lives_fit : (lives : Lives) → AreWholeLives lives → ((length (runs_of lives) ≤ most_runs) × All IsWholeRun (runs_of lives)) × (are_runs (runs_of lives) ≡ true)
 lives_fit lives are =
@@ -82,12 +80,9 @@ lives_fit lives are =
       and_from (are_apart None (runs_of lives)) (leb (count_of (runs_of lives)) most_numbers) (runs_are_apart lives) (le-leb (count_of (runs_of lives)) most_numbers few),
     )
 
-runs_back : (runs : List Run) → ((length runs ≤ most_runs) × All IsWholeRun runs) × (are_runs runs ≡ true) → runs_of (lives_of runs) ≡ runs
-runs_back runs f = runs_again None runs (and_parts (are_apart None runs) (leb (count_of runs) most_numbers) f.1).0
-
 pub lives_is : IsFormat lives_spelling lives_in AreWholeLives
 unfolding lives_in
-lives_is = seen_where (only_is (list_is run_is most_runs (omega arith)) are_runs) lives_of runs_of AreWholeLives runs_back lives_whole (λ lives are. (lives_fit lives are, lives_again lives))
+lives_is = seen_where (only_is (list_is run_is most_runs (omega arith)) are_runs) lives_of runs_of AreWholeLives (λ runs f. are_back runs (f.0.0, f.1)) lives_whole (λ lives are. (lives_fit lives are, lives_again lives))
 
 -- ---- tokens and what they save
 

@@ -167,7 +167,7 @@ answered_is = record { takes = answered_takes; again = answered_again }
 
 -- ---- Says and Answers
 
-says_back : SaysParts → (((List ℕ × Mark) × Lives) × List Saving) × Said
+abbrev says_back : SaysParts → (((List ℕ × Mark) × Lives) × List Saving) × Said
 says_back says = ((((says.uuid, says.cursor), says.lives), says.saves), says.inner)
 
 says_is : IsWhole says_spelling says_in IsWholeSays
@@ -182,7 +182,7 @@ says_is =
       again = λ x is. all.again x (((((is.1, is.2), is.3), is.4), is.5), is.0);
     }
 
-answers_back : AnswersParts → (((List ℕ × List ℕ) × Mark) × Lives) × Answered
+abbrev answers_back : AnswersParts → (((List ℕ × List ℕ) × Mark) × Lives) × Answered
 answers_back answers = ((((answers.uuid, answers.birth), answers.last), answers.lives), answers.inner)
 
 answers_is : IsWhole answers_spelling answers_in IsWholeAnswers

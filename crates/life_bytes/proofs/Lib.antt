@@ -1,4 +1,4 @@
-pub mod Runs
+pub mod RunLaws
 pub mod Formats
 pub mod Notes
 pub mod Letters

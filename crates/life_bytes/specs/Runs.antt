@@ -1,5 +1,5 @@
 -- Lists of lives, one life for each number, and the runs that spell them.
-use Rattle.std.specs.Prelude.{◌≡◌, ℕ, ◌+◌, ◌≤◌, Bool, true, not, ◌&&◌, List, [], ◌∷◌, length, All, Option, None, Some, replicate, bytes_eq, flat_map, nat_le, sum_by, if◌then◌else◌}
+use Rattle.std.specs.Prelude.{◌≡◌, ℕ, ◌+◌, ◌≤◌, Bool, true, false, not, ◌&&◌, List, [], ◌∷◌, length, All, Option, None, Some, replicate, bytes_eq, flat_map, nat_le, sum_by, if◌then◌else◌}
 use Rattle.life_bytes.specs.declared.run.Run.{Run}
 
 -- a life is 16 bytes
@@ -66,6 +66,12 @@ AreRuns runs = (length runs ≤ most_runs) × (are_runs runs ≡ true)
 pub record HoldsRuns (runs : List Run) (count : ℕ) : Type 0 where
   pub are : AreRuns runs
   pub counted : count ≡ count_of runs
+
+-- the last run has this life
+abbrev pub ends_with : List ℕ → List Run → Bool
+ends_with life [] = false
+ends_with life (run ∷ []) = bytes_eq run.life life
+ends_with life (run ∷ next ∷ runs) = ends_with life (next ∷ runs)
 
 -- one more number behind runs
 abbrev pub pushed : List ℕ → List Run → List Run

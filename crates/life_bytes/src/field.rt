@@ -1,4 +1,4 @@
-ghost use Rattle.std.specs.Prelude.{◌≡◌, ◌≤◌, ◌++◌, length, All, IfOk, OnOk};
+ghost use Rattle.std.specs.Prelude.{◌≡◌, ◌<◌, ◌≤◌, ◌^◌, ◌++◌, ℕ, List, Option, length, All, IfOk, OnOk};
 ghost use Rattle.sync_io.specs.Formats.{listed, listed_in, many_in};
 ghost use Rattle.sync_messages.specs.Reading.{Gives};
 
@@ -9,8 +9,6 @@ use sync_messages::MessageRefusal;
 
 /// A value of which lists are made: how it is spelled and read.
 pub(crate) trait Field: Drop {
-    ghost use Rattle.std.specs.Prelude.{ℕ, List, Option};
-
     ghost spelling: { Self → List ℕ };
     ghost field_in: { List ℕ → Option (Self × List ℕ) };
     ghost IsWhole: { Self → Type 0 };

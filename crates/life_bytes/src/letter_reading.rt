@@ -12,7 +12,9 @@ use crate::field::listed_of;
 use crate::give_up::GiveUp;
 use crate::given_up::GivenUp;
 use crate::letter::Letter;
-use crate::parts::{alone, id_of, ident_of, life_of, mark_of, runs_of};
+use crate::life::Life;
+use crate::mark::Mark;
+use crate::parts::{alone, id_of, ident_of, number_of, runs_of};
 use crate::said::Said;
 use crate::says::Says;
 use std::alloc::Global;
@@ -66,31 +68,41 @@ fn answered_of(alloc: Global, bytes: &[u8]) -> Result<Answered, MessageRefusal>
     }
 }
 
-#[tactic(auto, unfolding(crate::specs::Reading::says_in))]
+#[tactic(auto, unfolding(crate::specs::Reading::says_in, crate::specs::Reading::mark_in))]
 fn says_of(alloc: Global, bytes: &[u8]) -> Result<Says, MessageRefusal>
     ensures { Gives (λ x. x) result (says_in bytes.now) }
 {
     let (uuid, rest) = id_of(bytes)?;
-    let (cursor, rest) = mark_of(rest)?;
+    let (number, rest) = number_of(rest)?;
+    let (life, rest) = id_of(rest)?;
     let (runs, rest) = runs_of(alloc, rest)?;
     let (saves, rest) = listed_of(alloc, MOST_SAVES, rest)?;
     let inner = said_of(alloc, rest)?;
+    let cursor = Mark {
+        number,
+        life: Life::new(life),
+    };
     match Says::new(uuid, cursor, runs, saves, inner) {
         Ok(says) => Ok(says),
         Err(_) => Err(MessageRefusal::BadMessage),
     }
 }
 
-#[tactic(auto, unfolding(crate::specs::Reading::answers_in))]
+#[tactic(auto, unfolding(crate::specs::Reading::answers_in, crate::specs::Reading::mark_in))]
 fn answers_of(alloc: Global, bytes: &[u8]) -> Result<Answers, MessageRefusal>
     ensures { Gives (λ x. x) result (answers_in bytes.now) }
 {
     let (uuid, rest) = id_of(bytes)?;
-    let (birth, rest) = life_of(rest)?;
-    let (last, rest) = mark_of(rest)?;
+    let (birth, rest) = id_of(rest)?;
+    let (number, rest) = number_of(rest)?;
+    let (life, rest) = id_of(rest)?;
     let (runs, rest) = runs_of(alloc, rest)?;
     let inner = answered_of(alloc, rest)?;
-    match Answers::new(uuid, birth, last, runs, inner) {
+    let last = Mark {
+        number,
+        life: Life::new(life),
+    };
+    match Answers::new(uuid, Life::new(birth), last, runs, inner) {
         Ok(answers) => Ok(answers),
         Err(_) => Err(MessageRefusal::BadMessage),
     }

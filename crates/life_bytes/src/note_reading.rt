@@ -10,7 +10,7 @@ ghost use Rattle.life_bytes.specs.declared.note.Note.{Note};
 use crate::life::Life;
 use crate::note::Note;
 use crate::numbers::Numbers;
-use crate::parts::{alone, ident_of, life_of, runs_of, saves_of, token_of};
+use crate::parts::{alone, id_of, ident_of, runs_of, saves_of, token_of};
 use crate::refusal::NoteRefusal;
 use crate::runs::Runs;
 use crate::saves::Saves;
@@ -22,8 +22,8 @@ use sync_records::Named;
 fn one_life(bytes: &[u8]) -> Result<Life, MessageRefusal>
     ensures { Gives (λ x. x) result (all_in (bytes_in 16) bytes.now) }
 {
-    let (life, rest) = life_of(bytes)?;
-    alone(life, rest)
+    let (life, rest) = id_of(bytes)?;
+    alone(Life::new(life), rest)
 }
 
 fn one_saves(alloc: Global, bytes: &[u8]) -> Result<Saves, MessageRefusal>
@@ -45,15 +45,17 @@ fn one_numbers(bytes: &[u8]) -> Result<Numbers, MessageRefusal>
     ensures { Gives (λ x. x) result (all_in numbers_in bytes.now) }
 {
     let (ident, rest) = ident_of(bytes)?;
-    let (life, rest) = life_of(rest)?;
-    alone(Numbers::new(ident, life), rest)
+    let (life, rest) = id_of(rest)?;
+    alone(Numbers::new(ident, Life::new(life)), rest)
 }
 
 fn one_token(bytes: &[u8]) -> Result<Token, MessageRefusal>
     ensures { Gives (λ x. x) result (all_in token_in bytes.now) }
 {
-    let (token, rest) = token_of(bytes)?;
-    alone(token, rest)
+    match token_of(bytes) {
+        Ok((token, rest)) => alone(token, rest),
+        Err(why) => Err(why),
+    }
 }
 
 fn all_runs(alloc: Global, bytes: &[u8]) -> Result<Runs, MessageRefusal>

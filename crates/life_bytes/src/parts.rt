@@ -78,15 +78,6 @@ pub(crate) fn put_life(out: &mut Vec<u8>, life: Life) -> Result<(), NoMemory>
     put_id(out, &life.bytes())
 }
 
-#[tactic(auto, unfolding(crate::specs::Reading::mark_in))]
-pub(crate) fn mark_of(bytes: &[u8]) -> Result<(Mark, &[u8]), MessageRefusal>
-    ensures { Gives (λ x. (x.0, x.1.now)) result (mark_in bytes.now) }
-{
-    let (number, rest) = number_of(bytes)?;
-    let (life, rest) = life_of(rest)?;
-    Ok((Mark { number, life }, rest))
-}
-
 pub(crate) fn put_mark(out: &mut Vec<u8>, mark: Mark) -> Result<(), NoMemory>
     ensures spelled { OnOk result (out.new.items ≡ out.old.items ++ mark_spelling mark) }
     ensures is { OnOk result (IsWholeMark mark) }
@@ -99,12 +90,12 @@ pub(crate) fn put_mark(out: &mut Vec<u8>, mark: Mark) -> Result<(), NoMemory>
 pub(crate) fn token_of(bytes: &[u8]) -> Result<(Token, &[u8]), MessageRefusal>
     ensures { Gives (λ x. (x.0, x.1.now)) result (token_in bytes.now) }
 {
-    let (life, rest) = life_of(bytes)?;
+    let (life, rest) = id_of(bytes)?;
     let (number, rest) = number_of(rest)?;
     if number == 0 {
         return Err(MessageRefusal::BadMessage);
     }
-    Ok((Token::new(life, number), rest))
+    Ok((Token::new(Life::new(life), number), rest))
 }
 
 pub(crate) fn put_token(out: &mut Vec<u8>, token: &Token) -> Result<(), NoMemory>
@@ -119,9 +110,13 @@ pub(crate) fn put_token(out: &mut Vec<u8>, token: &Token) -> Result<(), NoMemory
 pub(crate) fn saves_of(alloc: Global, bytes: &[u8]) -> Result<(Saves, &[u8]), MessageRefusal>
     ensures { Gives (λ x. (x.0, x.1.now)) result (saves_in bytes.now) }
 {
-    let (token, rest) = token_of(bytes)?;
-    let (frontier, rest) = listed_of(alloc, MOST_TOKENS, rest)?;
-    Ok((Saves::new(token, frontier), rest))
+    match token_of(bytes) {
+        Ok((token, rest)) => {
+            let (frontier, rest) = listed_of(alloc, MOST_TOKENS, rest)?;
+            Ok((Saves::new(token, frontier), rest))
+        }
+        Err(why) => Err(why),
+    }
 }
 
 pub(crate) fn put_saves(out: &mut Vec<u8>, saves: &Saves) -> Result<(), NoMemory>
@@ -170,7 +165,8 @@ impl Field for Run {
     #[tactic(auto, unfolding(crate::specs::Reading::run_in))]
     fn field_of(_alloc: Global, bytes: &[u8]) -> Result<(Run, &[u8]), MessageRefusal> {
         let (count, rest) = number_of(bytes)?;
-        let (life, rest) = life_of(rest)?;
+        let (life, rest) = id_of(rest)?;
+        let life = Life::new(life);
         Ok((Run { count, life }, rest))
     }
 

@@ -1,5 +1,5 @@
-ghost use Rattle.std.specs.Prelude.{◌≡◌, ◌<◌, ◌≤◌, ◌++◌, ◌∷◌, [], not, Err, None, length, slice_get, IfOk, IsOk, OnOk, OnErr, ◌↔◌};
-ghost use Rattle.life_bytes.specs.Runs.{AreRuns, AreLives, most_runs, most_numbers, lives_of, runs_of, count_of, is_other, are_apart, pushed};
+ghost use Rattle.std.specs.Prelude.{◌≡◌, ◌<◌, ◌≤◌, ◌++◌, ◌∷◌, [], true, false, not, Err, None, length, slice_get, IfOk, IsOk, OnOk, OnErr, ◌↔◌};
+ghost use Rattle.life_bytes.specs.Runs.{AreRuns, AreLives, most_runs, most_numbers, lives_of, runs_of, count_of, is_other, are_apart, ends_with, pushed};
 ghost use Rattle.life_bytes.specs.declared.runs.RunsRefusal.TheVariants.{Full};
 
 use crate::life::Life;
@@ -99,9 +99,13 @@ impl Runs {
         if self.count == u32::MAX {
             return Err(RunsRefusal::Full);
         }
-        push_life(&mut self.runs, life)?;
-        self.count += 1;
-        Ok(())
+        match push_life(&mut self.runs, life) {
+            Ok(()) => {
+                self.count += 1;
+                Ok(())
+            }
+            Err(why) => Err(why),
+        }
     }
 
     /// The fewest runs that have these lives.
@@ -161,23 +165,55 @@ fn life_at(runs: &[Run], place: u32) -> Option<Life>
     None
 }
 
+/// Whether there is a last run, and it has that life.
+fn ends_with(runs: &[Run], life: Life) -> bool
+    ensures { result ≡ ends_with life runs.now }
+{
+    let count = runs.len();
+    if count == 0 {
+        return false;
+    }
+    runs[count - 1].life == life
+}
+
 /// One more number behind the runs, which have less than 4,294,967,295.
 fn push_life(runs: &mut Vec<Run>, life: Life) -> Result<(), RunsRefusal>
-    requires { count_of runs.old.items < most_numbers }
+    requires within { count_of runs.old.items < most_numbers }
+    requires few { length runs.old.items ≤ most_runs }
     ensures ok { OnOk result (runs.new.items ≡ pushed life runs.old.items) }
+    ensures few { OnOk result (length runs.new.items ≤ most_runs) }
     ensures err { OnErr result (runs.new.items ≡ runs.old.items) }
     ensures full { result ≡ Err Full → most_runs < length (pushed life runs.old.items) }
 {
-    let count = runs.len();
-    if count > 0 && runs[count - 1].life == life {
-        let run = runs[count - 1];
-        runs[count - 1] = Run {
-            count: run.count + 1,
-            life,
-        };
+    if ends_with(runs.as_slice(), life) {
+        make_longer(runs, life);
         return Ok(());
     }
-    if count >= MOST_RUNS {
+    push_run(runs, life)
+}
+
+/// The last run has one number more.
+fn make_longer(runs: &mut Vec<Run>, life: Life)
+    requires within { count_of runs.old.items < most_numbers }
+    requires ends { ends_with life runs.old.items ≡ true }
+    ensures after { runs.new.items ≡ pushed life runs.old.items }
+    ensures len { length runs.new.items ≡ length runs.old.items }
+{
+    let last = runs.len() - 1;
+    let count = runs[last].count + 1;
+    runs[last] = Run { count, life };
+}
+
+/// One more run, of one number.
+fn push_run(runs: &mut Vec<Run>, life: Life) -> Result<(), RunsRefusal>
+    requires few { length runs.old.items ≤ most_runs }
+    requires ends { ends_with life runs.old.items ≡ false }
+    ensures ok { OnOk result (runs.new.items ≡ pushed life runs.old.items) }
+    ensures few { OnOk result (length runs.new.items ≤ most_runs) }
+    ensures err { OnErr result (runs.new.items ≡ runs.old.items) }
+    ensures full { result ≡ Err Full → most_runs < length (pushed life runs.old.items) }
+{
+    if runs.len() >= MOST_RUNS {
         return Err(RunsRefusal::Full);
     }
     match runs.push(Run { count: 1, life }) {

@@ -1,5 +1,5 @@
 -- Runs and the lives that they have: those of lives are the fewest, and lives are those of their runs.
-use Rattle.std.proofs.Common.{◌≡◌, ℕ, zero, suc, ◌+◌, ◌-◌, ◌<◌, ◌≤◌, Bool, true, false, cond, leb, List, [], ◌∷◌, ◌++◌, length, get_or, set, replicate, Option, Some, None, refl, sym, ap, ◌∙◌, add-one, append_assoc, arith, length-append, All}
+use Rattle.std.proofs.Common.{◌≡◌, ℕ, zero, suc, ◌+◌, ◌-◌, ◌<◌, ◌≤◌, Bool, true, false, cond, leb, List, [], ◌∷◌, ◌++◌, length, get_or, set, drop, replicate, drop-cons, Option, Some, None, refl, sym, ap, ◌∙◌, add-one, append_assoc, arith, length-append, All}
 use Rattle.std.specs.Prelude.{not, ◌&&◌, bytes_eq, slice_get}
 use Rattle.std.specs.List.{AllByRecursion}
 use Rattle.std.proofs.lemmas.Bool.{and_parts, and_from, not-true, le-leb, leb-true}
@@ -8,7 +8,7 @@ use Rattle.std.proofs.lemmas.List.Elements.{All-nil, All-append, All-replicate, 
 use Rattle.std.proofs.lemmas.List.Sums.{sum_by-cons}
 use Rattle.std.proofs.lemmas.Slice.Eq.{bytes_eq-Decides}
 use Rattle.life_bytes.specs.declared.run.Run.{Run}
-use Rattle.life_bytes.specs.Runs.{IsLife, Lives, most_numbers, lives_of, run_of, in_front, runs_of, count_of, is_other, are_apart, pushed}
+use Rattle.life_bytes.specs.Runs.{IsLife, Lives, most_numbers, lives_of, run_of, in_front, runs_of, count_of, is_other, are_apart, AreLives, AreRuns, HoldsRuns, most_runs, ends_with, pushed}
 
 same_is : (a b : List ℕ) → bytes_eq a b ≡ true → a ≡ b
 same_is a b e = (bytes_eq-Decides a b).0 e
@@ -135,23 +135,67 @@ pub pushed_apart : (life : List ℕ) (runs : List Run) → are_apart None runs �
 pushed_apart life [] apart = refl
 pushed_apart life (run ∷ runs) apart = more_apart None life run runs apart
 
--- where the last run has this life it is one longer, and else there is one more run
-pub pushed_same : (life : List ℕ) (runs : List Run) (k : ℕ) (d : Run) → k + 1 ≡ length runs → bytes_eq (get_or runs k d).life life ≡ true
-    → set runs k (run_of ((get_or runs k d).count + 1) life) ≡ pushed life runs
-pushed_same life [] k d last same = absurd (omega arith)
-pushed_same life (run ∷ []) zero d last same =
-    ap (λ (x : List ℕ). run_of (run.count + 1) x ∷ []) (sym (same_is run.life life same))
-    ∙ ap (λ b. cond b (run_of (run.count + 1) run.life ∷ []) (run ∷ run_of 1 life ∷ [])) (sym same)
-pushed_same life (run ∷ []) (suc k) d last same = absurd (omega arith)
-pushed_same life (run ∷ next ∷ runs) zero d last same = absurd (omega arith)
-pushed_same life (run ∷ next ∷ runs) (suc k) d last same =
-    ap (λ (xs : List Run). run ∷ xs) (pushed_same life (next ∷ runs) k d (omega arith) same)
+pub ends_is : (life : List ℕ) (runs : List Run) (k : ℕ) (x : Run) → k + 1 ≡ length runs → x ≡ get_or runs k x → ends_with life runs ≡ bytes_eq x.life life
+ends_is life [] k x last is = absurd (omega arith)
+ends_is life (run ∷ []) zero x last is = ap (λ (y : Run). bytes_eq y.life life) (sym is)
+ends_is life (run ∷ []) (suc k) x last is = absurd (omega arith)
+ends_is life (run ∷ next ∷ runs) zero x last is = absurd (omega arith)
+ends_is life (run ∷ next ∷ runs) (suc k) x last is = ends_is life (next ∷ runs) k x (omega arith) is
 
-pub pushed_other : (life : List ℕ) (runs : List Run) (d : Run) → ((k : ℕ) → k + 1 ≡ length runs → bytes_eq (get_or runs k d).life life ≡ false) → runs ++ run_of 1 life ∷ [] ≡ pushed life runs
-pushed_other life [] d other = refl
-pushed_other life (run ∷ []) d other = ap (λ b. cond b (run_of (run.count + 1) run.life ∷ []) (run ∷ run_of 1 life ∷ [])) (sym (other 0 refl))
-pushed_other life (run ∷ next ∷ runs) d other =
-    ap (λ (xs : List Run). run ∷ xs) (pushed_other life (next ∷ runs) d (λ k last. other (suc k) (omega arith)))
+pub ends_some : (life : List ℕ) (runs : List Run) → ends_with life runs ≡ true → 1 ≤ length runs
+ends_some life [] e = absurd cc
+ends_some life (run ∷ runs) e = omega arith
+
+-- where the last run has this life it is one longer, and else there is one more run
+pub made_longer : (life : List ℕ) (runs : List Run) (k : ℕ) (x : Run) → k + 1 ≡ length runs → x ≡ get_or runs k x → ends_with life runs ≡ true → set runs k (run_of (x.count + 1) life) ≡ pushed life runs
+made_longer life [] k x last is same = absurd (omega arith)
+made_longer life (run ∷ []) zero x last is same =
+    ap (λ (y : Run). run_of (y.count + 1) life ∷ []) is
+    ∙ ap (λ (y : List ℕ). run_of (run.count + 1) y ∷ []) (sym (same_is run.life life same))
+    ∙ ap (λ b. cond b (run_of (run.count + 1) run.life ∷ []) (run ∷ run_of 1 life ∷ [])) (sym same)
+made_longer life (run ∷ []) (suc k) x last is same = absurd (omega arith)
+made_longer life (run ∷ next ∷ runs) zero x last is same = absurd (omega arith)
+made_longer life (run ∷ next ∷ runs) (suc k) x last is same =
+    ap (λ (xs : List Run). run ∷ xs) (made_longer life (next ∷ runs) k x (omega arith) is same)
+
+pub run_pushed : (life : List ℕ) (runs : List Run) → ends_with life runs ≡ false → runs ++ run_of 1 life ∷ [] ≡ pushed life runs
+run_pushed life [] other = refl
+run_pushed life (run ∷ []) other = ap (λ b. cond b (run_of (run.count + 1) run.life ∷ []) (run ∷ run_of 1 life ∷ [])) (sym other)
+run_pushed life (run ∷ next ∷ runs) other = ap (λ (xs : List Run). run ∷ xs) (run_pushed life (next ∷ runs) other)
+
+-- ---- what a value of runs holds
+
+pub are_back : (runs : List Run) → AreRuns runs → runs_of (lives_of runs) ≡ runs
+are_back runs are = runs_again None runs (and_parts (are_apart None runs) (leb (count_of runs) most_numbers) are.1).0
+
+pub are_lives : (runs : List Run) → AreRuns runs → AreLives (lives_of runs)
+are_lives runs are =
+    let p = and_parts (are_apart None runs) (leb (count_of runs) most_numbers) are.1 in
+    record { few = rw (runs_again None runs p.0) are.0; within = rw (count_is runs) (leb-true (count_of runs) most_numbers p.1) }
+
+pub holds_more : (runs more : List Run) (life : List ℕ) (count : ℕ) → more ≡ pushed life runs → length more ≤ most_runs → count < most_numbers → HoldsRuns runs count → HoldsRuns more (count + 1)
+holds_more runs more life count is few room holds =
+    let p = and_parts (are_apart None runs) (leb (count_of runs) most_numbers) holds.are.1 in
+    let sum : count_of more ≡ count_of runs + 1 = ap count_of is ∙ pushed_count life runs in
+    let apart : are_apart None more ≡ true = ap (are_apart None) is ∙ pushed_apart life runs p.0 in
+    let counted : count ≡ count_of runs = holds.counted in
+    record {
+      are = (few, and_from (are_apart None more) (leb (count_of more) most_numbers) apart (le-leb (count_of more) most_numbers (omega (arith, sum, counted, room))));
+      counted = omega (arith, sum, counted);
+    }
+
+pub no_number_more : (runs : List Run) (life : List ℕ) (lives : Lives) → lives_of runs ≡ lives → count_of runs ≡ most_numbers → AreLives (lives ++ life ∷ []) → ⊥
+no_number_more runs life lives is full are =
+    let within : length (lives ++ life ∷ []) ≤ most_numbers = are.within in
+    omega (arith, within, length-append lives (life ∷ []), ap length is, count_is runs, full)
+
+pub no_run_more : (runs : List Run) (life : List ℕ) (lives : Lives) → lives_of runs ≡ lives → AreRuns runs → most_runs < length (pushed life runs) → AreLives (lives ++ life ∷ []) → ⊥
+no_run_more runs life lives is holds full are =
+    let p = and_parts (are_apart None runs) (leb (count_of runs) most_numbers) holds.1 in
+    let more : lives_of (pushed life runs) ≡ lives ++ life ∷ [] = pushed_lives life runs ∙ ap (λ (xs : Lives). xs ++ life ∷ []) is in
+    let back : runs_of (lives ++ life ∷ []) ≡ pushed life runs = ap runs_of (sym more) ∙ runs_again None (pushed life runs) (pushed_apart life runs p.0) in
+    let few : length (runs_of (lives ++ life ∷ [])) ≤ most_runs = are.few in
+    omega (arith, few, ap length back, full)
 
 -- ---- the life of a number
 
@@ -161,9 +205,24 @@ get_within (suc n) zero x xs lt = refl
 get_within (suc n) (suc i) x xs lt = get_within n i x xs (omega arith)
 
 pub get_behind : (n i : ℕ) (x : List ℕ) (xs : Lives) → n ≤ i → slice_get (replicate n x ++ xs) i ≡ slice_get xs (i - n)
-get_behind zero i x xs le = refl
+get_behind zero i x xs le = ap (slice_get xs) (omega arith)
 get_behind (suc n) zero x xs le = absurd (omega arith)
-get_behind (suc n) (suc i) x xs le = get_behind n i x xs (omega arith)
+get_behind (suc n) (suc i) x xs le = get_behind n i x xs (omega arith) ∙ ap (slice_get xs) (omega arith)
+
+-- what is left begins with this run
+left_is : (runs : List Run) (i : ℕ) (run : Run) → i < length runs → run ≡ get_or runs i run → lives_of (drop i runs) ≡ replicate run.count run.life ++ lives_of (drop (i + 1) runs)
+left_is runs i run lt is =
+    ap lives_of (drop-cons runs i run lt)
+    ∙ ap (λ (x : Run). replicate x.count x.life ++ lives_of (drop (suc i) runs)) (sym is)
+    ∙ ap (λ (k : ℕ). replicate run.count run.life ++ lives_of (drop k runs)) (sym (add-one i))
+
+pub get_first : (runs : List Run) (i : ℕ) (run : Run) (k : ℕ) → i < length runs → run ≡ get_or runs i run → k < run.count → slice_get (lives_of (drop i runs)) k ≡ Some run.life
+get_first runs i run k lt is within =
+    ap (λ (xs : Lives). slice_get xs k) (left_is runs i run lt is) ∙ get_within run.count k run.life (lives_of (drop (i + 1) runs)) within
+
+pub get_later : (runs : List Run) (i : ℕ) (run : Run) (k : ℕ) → i < length runs → run ≡ get_or runs i run → run.count ≤ k → slice_get (lives_of (drop i runs)) k ≡ slice_get (lives_of (drop (i + 1) runs)) (k - run.count)
+get_later runs i run k lt is behind =
+    ap (λ (xs : Lives). slice_get xs k) (left_is runs i run lt is) ∙ get_behind run.count k run.life (lives_of (drop (i + 1) runs)) behind
 
 -- ---- each life is one
 
