@@ -135,12 +135,13 @@ pub pushed_apart : (life : List ℕ) (runs : List Run) → are_apart None runs �
 pushed_apart life [] apart = refl
 pushed_apart life (run ∷ runs) apart = more_apart None life run runs apart
 
-pub ends_is : (life : List ℕ) (runs : List Run) (k : ℕ) (x : Run) → k + 1 ≡ length runs → x ≡ get_or runs k x → ends_with life runs ≡ bytes_eq x.life life
-ends_is life [] k x last is = absurd (omega arith)
-ends_is life (run ∷ []) zero x last is = ap (λ (y : Run). bytes_eq y.life life) (sym is)
-ends_is life (run ∷ []) (suc k) x last is = absurd (omega arith)
-ends_is life (run ∷ next ∷ runs) zero x last is = absurd (omega arith)
-ends_is life (run ∷ next ∷ runs) (suc k) x last is = ends_is life (next ∷ runs) k x (omega arith) is
+-- whatever stands for an element behind the last
+pub last_is : (life : List ℕ) (runs : List Run) (k : ℕ) (d : Run) → k + 1 ≡ length runs → ends_with life runs ≡ bytes_eq (get_or runs k d).life life
+last_is life [] k d last = absurd (omega arith)
+last_is life (run ∷ []) zero d last = refl
+last_is life (run ∷ []) (suc k) d last = absurd (omega arith)
+last_is life (run ∷ next ∷ runs) zero d last = absurd (omega arith)
+last_is life (run ∷ next ∷ runs) (suc k) d last = last_is life (next ∷ runs) k d (omega arith)
 
 pub ends_some : (life : List ℕ) (runs : List Run) → ends_with life runs ≡ true → 1 ≤ length runs
 ends_some life [] e = absurd cc
