@@ -1,22 +1,19 @@
 -- Each part of a note and of a message with lives is spelled and read again.
-use Rattle.std.proofs.Common.{All, ◌≡◌, ℕ, ◌+◌, ◌<◌, ◌≤◌, ◌^◌, Bool, true, false, List, [], ◌∷◌, ◌++◌, length, Option, Some, None, leb, refl, sym, ap, subst, ◌∙◌, arith}
-use Rattle.std.specs.Prelude.{◌&&◌}
+use Rattle.std.proofs.Common.{All, ◌≡◌, ℕ, ◌<◌, ◌≤◌, ◌^◌, true, List, [], ◌∷◌, ◌++◌, length, Option, Some, None, leb, refl, sym, ap, subst, ◌∙◌, arith}
 use Rattle.std.specs.List.{AllByRecursion}
-use Rattle.std.proofs.lemmas.Bool.{le-leb, leb-true, and_parts, and_from}
+use Rattle.std.proofs.lemmas.Bool.{le-leb, leb-true, and_from}
 use Rattle.std.proofs.lemmas.List.Elements.{All-from_recursion, recursion_from_All, All-weaker}
 use Rattle.std.proofs.lemmas.List.Sums.{sum_by-cons}
 use Rattle.sync_io.specs.Varints.{varint}
-use Rattle.sync_io.specs.Formats.{number_in, bytes_in, seen_in, listed, listed_in}
+use Rattle.sync_io.specs.Formats.{seen_in, listed, listed_in}
 use Rattle.sync_io.specs.VarintLaws.{Takes}
 use Rattle.sync_io.specs.FormatLaws.{IsFormat, bind_some, bound, some_is, number_is, bytes_is, both_is, only_is, listed_is}
 use Rattle.life_bytes.specs.declared.run.Run.{Run}
-use Rattle.life_bytes.specs.declared.mark.Mark.{Mark}
-use Rattle.life_bytes.specs.declared.saves.Saving.{Saving}
 use Rattle.life_bytes.specs.Runs.{IsLife, Lives, AreLives, AreWholeLives, most_runs, most_numbers, lives_of, runs_of, count_of, are_apart, are_runs}
-use Rattle.life_bytes.specs.Parts.{TokenParts, SavesParts, NumbersParts, GiveUpParts, GivenUpParts, most_tokens, most_saves, most_uuids, most_lives}
+use Rattle.life_bytes.specs.Parts.{most_tokens, most_saves, most_uuids, most_lives}
 use Rattle.life_bytes.specs.Spelling.{run_spelling, lives_spelling, token_spelling, saves_spelling, saving_spelling, mark_spelling, numbers_spelling, give_up_spelling, given_up_spelling}
 use Rattle.life_bytes.specs.Reading.{run_as, run_in, lives_in, token_as, is_token, token_in, saves_as, saves_in, saving_as, saving_in, mark_as, mark_in, is_named, ident_in, numbers_as, numbers_in, give_up_as, give_up_in, given_up_as, given_up_in}
-use Rattle.life_bytes.specs.Whole.{IsIdent, IsUuid, IsNumber, IsWholeRun, IsWholeToken, IsWholeSaves, IsWholeSaving, AreWholeSaves, IsWholeMark, IsWholeNumbers, IsWholeGiveUp, IsWholeGivenUp}
+use Rattle.life_bytes.specs.Whole.{IsIdent, IsNumber, IsWholeRun, IsWholeToken, IsWholeSaves, IsWholeSaving, AreWholeSaves, IsWholeMark, IsWholeNumbers, IsWholeGiveUp, IsWholeGivenUp}
 use Rattle.life_bytes.proofs.RunLaws.{lives_again, runs_are_apart, count_is, are_back, are_lives, lives_are, runs_have_lives}
 
 module _ {A : Type 0} {a : A → List ℕ} {read : List ℕ → Option (A × List ℕ)} {Fits : A → Type 0} (is : IsFormat a read Fits) where
@@ -74,8 +71,7 @@ put_whole lives runs is are all = (are, subst (All IsLife) (sym is) (lives_are r
 
 lives_fit : (lives : Lives) → AreWholeLives lives → ((length (runs_of lives) ≤ most_runs) × All IsWholeRun (runs_of lives)) × (are_runs (runs_of lives) ≡ true)
 lives_fit lives are =
-    let few : count_of (runs_of lives) ≤ most_numbers = subst (λ n. n ≤ most_numbers) (sym (ap length (lives_again lives)) ∙ count_is (runs_of lives)) are.0.within in
-    (
+    let few : count_of (runs_of lives) ≤ most_numbers = subst (λ n. n ≤ most_numbers) (sym (ap length (lives_again lives)) ∙ count_is (runs_of lives)) are.0.within in (
       (are.0.few, All-from_recursion IsWholeRun (runs_of lives) (counts_fit (runs_of lives) few (runs_have_lives lives (recursion_from_All IsLife lives are.1)))),
       and_from (are_apart None (runs_of lives)) (leb (count_of (runs_of lives)) most_numbers) (runs_are_apart lives) (le-leb (count_of (runs_of lives)) most_numbers few),
     )

@@ -3,7 +3,7 @@ use Rattle.std.proofs.Common.{◌≡◌, ℕ, suc, ◌<◌, ◌≤◌, Bool, tru
 use Rattle.std.specs.Prelude.{IfOk}
 use Rattle.std.proofs.lemmas.Bool.{eqb-true, ne_eqb}
 use Rattle.sync_io.specs.VarintLaws.{IsBytes}
-use Rattle.sync_io.specs.Formats.{◌>>=◌, both_in, bytes_in, listed_in, all_in}
+use Rattle.sync_io.specs.Formats.{◌>>=◌, all_in}
 use Rattle.sync_io.specs.FormatLaws.{IsFormat, bind_some, bound, some_is, guard_some, bytes_is, both_is}
 use Rattle.sync_records.specs.Reading.{seen}
 use Rattle.sync_records.proofs.Whole.{IsWhole, all_is}

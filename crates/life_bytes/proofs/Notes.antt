@@ -1,10 +1,9 @@
 -- The two laws of notes: what is read is spelled so, and what is spelled so is read.
-use Rattle.std.proofs.Common.{◌≡◌, List, Option, Some, None, Result, Ok, Err, refl, ap, ◌∙◌}
+use Rattle.std.proofs.Common.{◌≡◌, List, Some, Result, Ok, Err, refl, ap, ◌∙◌}
 use Rattle.std.specs.Prelude.{ℕ, IfOk}
 use Rattle.std.specs.List.{AllByRecursion}
 use Rattle.sync_io.specs.VarintLaws.{IsBytes}
 use Rattle.sync_io.specs.FormatLaws.{bytes_is}
-use Rattle.sync_records.specs.Reading.{record_in}
 use Rattle.sync_records.proofs.Whole.{all_is, IsForm, form_is, form_again, record_takes}
 use Rattle.life_bytes.specs.declared.note.Note.{Note}
 use Rattle.life_bytes.specs.declared.note.Note.TheVariants as notes

@@ -71,7 +71,7 @@ front_apart life run runs true e apart =
 front_apart life run runs false e apart =
     let p = and_parts (leb 1 run.count) (are_apart (Some run.life) runs) apart in
     and_from (leb 1 run.count) (not (bytes_eq life run.life) && are_apart (Some run.life) runs) p.0 (
-      and_from (not (bytes_eq life run.life)) (are_apart (Some run.life) runs) (ap not e) p.1
+    and_from (not (bytes_eq life run.life)) (are_apart (Some run.life) runs) (ap not e) p.1
     )
 
 in_front_apart : (life : List ℕ) (runs : List Run) → are_apart None runs ≡ true → are_apart None (in_front life runs) ≡ true
@@ -119,7 +119,7 @@ last_apart before life run false e apart =
     let p = and_parts (leb 1 run.count) (is_other before run.life && true) apart in
     let q = and_parts (is_other before run.life) true p.1 in
     and_from (leb 1 run.count) (is_other before run.life && (not (bytes_eq run.life life) && true)) p.0 (
-      and_from (is_other before run.life) (not (bytes_eq run.life life) && true) q.0 (and_from (not (bytes_eq run.life life)) true (ap not e) refl)
+    and_from (is_other before run.life) (not (bytes_eq run.life life) && true) q.0 (and_from (not (bytes_eq run.life life)) true (ap not e) refl)
     )
 
 more_apart : (before : Option (List ℕ)) (life : List ℕ) (run : Run) (runs : List Run) → are_apart before (run ∷ runs) ≡ true → are_apart before (pushed life (run ∷ runs)) ≡ true
@@ -128,7 +128,7 @@ more_apart before life run (next ∷ runs) apart =
     let p = and_parts (leb 1 run.count) (is_other before run.life && are_apart (Some run.life) (next ∷ runs)) apart in
     let q = and_parts (is_other before run.life) (are_apart (Some run.life) (next ∷ runs)) p.1 in
     and_from (leb 1 run.count) (is_other before run.life && are_apart (Some run.life) (pushed life (next ∷ runs))) p.0 (
-      and_from (is_other before run.life) (are_apart (Some run.life) (pushed life (next ∷ runs))) q.0 (more_apart (Some run.life) life next runs q.1)
+    and_from (is_other before run.life) (are_apart (Some run.life) (pushed life (next ∷ runs))) q.0 (more_apart (Some run.life) life next runs q.1)
     )
 
 pub pushed_apart : (life : List ℕ) (runs : List Run) → are_apart None runs ≡ true → are_apart None (pushed life runs) ≡ true

@@ -97,7 +97,7 @@ abbrev pub go_with : List ChangeParts → Lives → List Saving → Bool
 go_with changes lives saves =
     follow (first_number changes) changes
     && ((length lives == lives_beside changes)
-        && rise_within (first_number changes) (first_number changes + length changes) saves)
+    && rise_within (first_number changes) (first_number changes + length changes) saves)
 
 abbrev pub is_says : SaysParts → Bool
 is_says says =

@@ -1,5 +1,5 @@
 -- How notes and messages with lives are read.
-use Rattle.std.specs.Prelude.{◌≡◌, ℕ, Bool, ◌&&◌, ◌==◌, if◌then◌else◌, List, [], ◌∷◌, nat_le, Option, None, Some, Result, Ok, Err}
+use Rattle.std.specs.Prelude.{◌≡◌, ℕ, Bool, ◌==◌, if◌then◌else◌, List, [], ◌∷◌, nat_le, Option, None, Some, Result, Ok, Err}
 use Rattle.sync_io.specs.Formats.{◌>>=◌, number_in, bytes_in, both_in, only_in, seen_in, listed_in, all_in}
 use Rattle.sync_records.specs.Reading.{seen, record_in}
 use Rattle.sync_messages.specs.Reading.{message_in}

@@ -10,7 +10,9 @@ use sync_messages::MessageRefusal;
 /// A value of which lists are made: how it is spelled and read.
 pub(crate) trait Field: Drop {
     ghost spelling: { Self → List ℕ };
+
     ghost field_in: { List ℕ → Option (Self × List ℕ) };
+
     ghost IsWhole: { Self → Type 0 };
 
     /// The value that the bytes begin with, and the bytes behind it.
@@ -23,7 +25,11 @@ pub(crate) trait Field: Drop {
         ensures is { OnOk result (IsWhole self.now) };
 }
 
-fn many_of<T: Field>(alloc: Global, count: u32, bytes: &[u8]) -> Result<(Vec<T>, &[u8]), MessageRefusal>
+fn many_of<T: Field>(
+    alloc: Global,
+    count: u32,
+    bytes: &[u8],
+) -> Result<(Vec<T>, &[u8]), MessageRefusal>
     ensures read { Gives (λ x. (x.0.items, x.1.now)) result (many_in T.field_in count bytes.now) }
     ensures count { IfOk result (λ x. length x.0.items ≡ count) }
 {

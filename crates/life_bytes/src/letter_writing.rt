@@ -62,7 +62,11 @@ fn put_said(out: &mut Vec<u8>, alloc: Global, said: &Said) -> Result<(), sync_io
     }
 }
 
-fn put_answered(out: &mut Vec<u8>, alloc: Global, answered: &Answered) -> Result<(), sync_io::NoMemory>
+fn put_answered(
+    out: &mut Vec<u8>,
+    alloc: Global,
+    answered: &Answered,
+) -> Result<(), sync_io::NoMemory>
     ensures spelled { OnOk result (out.new.items ≡ out.old.items ++ answered_spelling answered.now) }
     ensures is { OnOk result (IsWholeAnswered answered.now) }
 {

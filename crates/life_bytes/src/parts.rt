@@ -159,7 +159,9 @@ pub(crate) fn alone<T: Drop>(value: T, rest: &[u8]) -> Result<T, MessageRefusal>
 
 impl Field for Run {
     ghost spelling = { run_spelling };
+
     ghost field_in = { run_in };
+
     ghost IsWhole = { IsWholeRun };
 
     #[tactic(auto, unfolding(crate::specs::Reading::run_in))]
@@ -178,7 +180,9 @@ impl Field for Run {
 
 impl Field for Token {
     ghost spelling = { token_spelling };
+
     ghost field_in = { token_in };
+
     ghost IsWhole = { IsWholeToken };
 
     fn field_of(_alloc: Global, bytes: &[u8]) -> Result<(Token, &[u8]), MessageRefusal> {
@@ -192,7 +196,9 @@ impl Field for Token {
 
 impl Field for Saving {
     ghost spelling = { saving_spelling };
+
     ghost field_in = { saving_in };
+
     ghost IsWhole = { IsWholeSaving };
 
     #[tactic(auto, unfolding(crate::specs::Reading::saving_in))]
@@ -210,7 +216,9 @@ impl Field for Saving {
 
 impl Field for Id {
     ghost spelling = { λ uuid. uuid };
+
     ghost field_in = { bytes_in 16 };
+
     ghost IsWhole = { IsUuid };
 
     fn field_of(_alloc: Global, bytes: &[u8]) -> Result<(Id, &[u8]), MessageRefusal> {
@@ -224,7 +232,9 @@ impl Field for Id {
 
 impl Field for Life {
     ghost spelling = { λ life. life };
+
     ghost field_in = { bytes_in 16 };
+
     ghost IsWhole = { IsLife };
 
     fn field_of(_alloc: Global, bytes: &[u8]) -> Result<(Life, &[u8]), MessageRefusal> {
@@ -238,7 +248,9 @@ impl Field for Life {
 
 impl Field for u32 {
     ghost spelling = { varint };
+
     ghost field_in = { number_in };
+
     ghost IsWhole = { IsNumber };
 
     fn field_of(_alloc: Global, bytes: &[u8]) -> Result<(u32, &[u8]), MessageRefusal> {

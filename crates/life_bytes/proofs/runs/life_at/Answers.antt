@@ -1,7 +1,4 @@
-use Rattle.std.proofs.Common.{◌+◌, ◌-◌, ◌++◌, drop, replicate, Option, sym, ap, ◌∙◌, add-one, drop-cons, arith}
-use Rattle.std.specs.Prelude.{List, ℕ, slice_get}
-use Rattle.life_bytes.specs.declared.run.Run.{Run}
-use Rattle.life_bytes.specs.Runs.{Lives, lives_of}
+use Rattle.std.proofs.Common.{sym, ◌∙◌, arith}
 use Rattle.life_bytes.proofs.RunLaws.{get_first, get_later}
 use Rattle.life_bytes.proofs.runs.life_at.Goals as goal
 

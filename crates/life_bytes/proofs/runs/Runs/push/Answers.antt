@@ -1,4 +1,4 @@
-use Rattle.std.proofs.Common.{ap, sym, ◌∙◌, [], ◌∷◌, ◌++◌, arith}
+use Rattle.std.proofs.Common.{ap, ◌∙◌, [], ◌∷◌, ◌++◌, arith}
 use Rattle.life_bytes.specs.Runs.{Lives, lives_of}
 use Rattle.life_bytes.proofs.RunLaws.{pushed_lives, holds_more, no_number_more, no_run_more}
 use Rattle.life_bytes.proofs.runs.Runs.push.Goals as goal

@@ -1,5 +1,5 @@
 use Rattle.std.proofs.Common.{sym, ap, subst, ◌∙◌}
-use Rattle.life_bytes.specs.Runs.{AreLives, runs_of, lives_of}
+use Rattle.life_bytes.specs.Runs.{AreLives, runs_of}
 use Rattle.life_bytes.proofs.RunLaws.{are_back, are_lives}
 use Rattle.life_bytes.proofs.runs.Runs.runs.Goals as goal
 
