@@ -8,7 +8,7 @@ use std::alloc::Global;
 /// The case of one line:
 /// `is HEX FIELDS`: the bytes are that note, which has no other bytes;
 /// `read HEX WHY`: they are one;
-/// `later HEX WHY`: they are none, but a record that is passed over;
+/// `later HEX WHY`: they are none, but may be one of a later program;
 /// `none HEX WHY`: they are neither.
 pub fn holds(alloc: Global, word: &str, rest: &str) -> Result<bool, Failure> {
     let (hex, fields) = columns_of(rest)?;

@@ -82,7 +82,7 @@ note_fields (notes.Saved token) = token_spelling token
 note_fields (notes.Reached token) = token_spelling token
 note_fields (notes.Lives lives) = lives_spelling lives
 
--- a record of a journal that is a note, which may be one of a later program
+-- a record of a journal that is a note, of this program or a later one
 abbrev pub is_note : List ℕ → Bool
 is_note [] = false
 is_note (tag ∷ bytes) = nat_le 18 tag && nat_le tag 31

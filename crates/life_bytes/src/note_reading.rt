@@ -117,7 +117,7 @@ pub fn note_of(alloc: Global, bytes: &[u8]) -> Result<Note, NoteRefusal>
     any_of(alloc, bytes)
 }
 
-/// Whether a record of a journal is a note, which a node without lives passes over: its first byte is 18 to 31.
+/// Whether a record of a journal is a note, of this program or a later one: its first byte is 18 to 31.
 pub fn is_note(bytes: &[u8]) -> bool
     ensures { result ≡ is_note bytes.now }
 {

@@ -66,7 +66,7 @@ pub fn note_bytes(alloc: Global, note: &Note) -> Result<Vec<u8>, NoMemory>
     ensures spelled { IfOk result (λ bytes. bytes.items ≡ note_spelling note.now) }
     // So they are read as the note again.
     ensures is { OnOk result (IsNote note.now) }
-    // A node without lives passes them over.
+    // They are told from today's records by their first byte.
     ensures passed { IfOk result (λ bytes. is_note bytes.items ≡ true) }
 {
     let mut out = Vec::new(alloc);

@@ -3,7 +3,7 @@ use thiserror::Error;
 /// Why bytes were not read as a note.
 #[derive(Clone, Copy, Debug, PartialEq, Eq, Error)]
 pub enum NoteRefusal {
-    /// They are no note's spelling. Another program may have written it: a record of which `is_note` holds is passed over.
+    /// They are no note's spelling. Where `is_note` holds of them, a later program may know them.
     #[error("the bytes are no note")]
     BadNote,
     /// Memory ran out.
