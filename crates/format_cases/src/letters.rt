@@ -3,7 +3,9 @@ use crate::bytes::{bytes_of, columns_of};
 use crate::failure::Failure;
 use crate::lives::{life_text, runs_text, saves_text};
 use crate::messages;
-use life_bytes::{Answered, Answers, GiveUp, GivenUp, Letter, Mark, Said, Says, letter_bytes, letter_of};
+use life_bytes::{
+    Answered, Answers, GiveUp, GivenUp, Letter, Mark, Said, Says, letter_bytes, letter_of,
+};
 use std::alloc::Global;
 
 /// The case of one line:

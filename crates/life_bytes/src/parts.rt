@@ -11,16 +11,13 @@ use crate::field::{Field, listed_of, put_listed};
 use crate::life::Life;
 use crate::mark::Mark;
 use crate::run::Run;
-use crate::runs::Runs;
+use crate::runs::{MOST_RUNS, Runs};
 use crate::saves::{Saves, Saving};
 use crate::token::Token;
 use std::alloc::Global;
 use sync_data::{Id, Ident};
 use sync_io::{NoMemory, put_varint32, varint32_of};
 use sync_messages::MessageRefusal;
-
-/// The most runs.
-const MOST_RUNS: u32 = 4_097;
 
 /// The most tokens of a frontier.
 const MOST_TOKENS: u32 = 4_096;

@@ -8,7 +8,7 @@ use std::alloc::Global;
 use std::marker::Model;
 
 /// The most runs.
-const MOST_RUNS: usize = 4_097;
+pub(crate) const MOST_RUNS: u32 = 4_097;
 
 /// The most numbers that they have together.
 const MOST_NUMBERS: u64 = 4_294_967_295;
@@ -60,7 +60,7 @@ impl Runs {
         ensures ok { IfOk result (λ made. made ≡ lives_of runs.items) }
         ensures good { IsOk result ↔ AreRuns runs.items }
     {
-        if runs.len() > MOST_RUNS || !are_apart(runs.as_slice()) {
+        if runs.len() > MOST_RUNS as usize || !are_apart(runs.as_slice()) {
             drop(runs);
             return Err(BadRuns);
         }
@@ -213,7 +213,7 @@ fn push_run(runs: &mut Vec<Run>, life: Life) -> Result<(), RunsRefusal>
     ensures err { OnErr result (runs.new.items ≡ runs.old.items) }
     ensures full { result ≡ Err Full → most_runs < length (pushed life runs.old.items) }
 {
-    if runs.len() >= MOST_RUNS {
+    if runs.len() >= MOST_RUNS as usize {
         return Err(RunsRefusal::Full);
     }
     match runs.push(Run { count: 1, life }) {

@@ -11,15 +11,12 @@ use std::marker::Model;
 use sync_data::Id;
 use sync_messages::Change;
 
-/// The most saves.
-const MOST_SAVES: usize = 4_096;
-
 /// The most tokens of their frontiers together.
 const MOST_TOKENS: u64 = 65_536;
 
 /// These are no Says: the message isn't one that a client sends; the numbers of an Upload don't follow each other; the runs
-/// don't have the life of the number before the first change and of each change, or there are runs without a change; or the
-/// saves aren't at most 4,096 of its changes in rising order, with at most 65,536 tokens in their frontiers together.
+/// don't have the life of the number before the first change and of each change, or there are runs without a change; the saves
+/// aren't of its changes in rising order; or their frontiers have more than 65,536 tokens together.
 #[derive(Clone, Copy, Debug, PartialEq, Eq)]
 pub struct BadSays;
 
@@ -45,7 +42,7 @@ impl Model for Says {
 }
 
 impl Says {
-    /// That message with these lives and saves. It takes no memory.
+    /// That message with these lives, and at most 4,096 saves. It takes no memory.
     pub fn new(
         uuid: Id,
         cursor: Mark,
