@@ -6,8 +6,11 @@ mod changesets;
 mod failure;
 mod inputs;
 mod journals;
+mod letters;
 mod lines;
+mod lives;
 mod messages;
+mod notes;
 mod numbers;
 mod records;
 mod strings;
@@ -24,20 +27,24 @@ enum Topic {
     Changesets,
     Inputs,
     Journals,
+    Letters,
     Lines,
     Messages,
+    Notes,
     Numbers,
     Records,
     Strings,
     Values,
 }
 
-const FILES: [(&str, Topic); 9] = [
+const FILES: [(&str, Topic); 11] = [
     ("formats/changesets.txt", Topic::Changesets),
     ("formats/inputs.txt", Topic::Inputs),
     ("formats/journals.txt", Topic::Journals),
+    ("formats/letters.txt", Topic::Letters),
     ("formats/lines.txt", Topic::Lines),
     ("formats/messages.txt", Topic::Messages),
+    ("formats/notes.txt", Topic::Notes),
     ("formats/numbers.txt", Topic::Numbers),
     ("formats/records.txt", Topic::Records),
     ("formats/strings.txt", Topic::Strings),
@@ -51,8 +58,10 @@ fn holds(alloc: Global, topic: Topic, line: &str) -> Result<bool, Failure> {
         Topic::Changesets => changesets::holds(alloc, word, rest),
         Topic::Inputs => inputs::holds(alloc, word, rest),
         Topic::Journals => journals::holds(alloc, word, rest),
+        Topic::Letters => letters::holds(alloc, word, rest),
         Topic::Lines => lines::holds(alloc, word, rest),
         Topic::Messages => messages::holds(alloc, word, rest),
+        Topic::Notes => notes::holds(alloc, word, rest),
         Topic::Numbers => numbers::holds(alloc, word, rest),
         Topic::Records => records::holds(alloc, word, rest),
         Topic::Strings => strings::holds(alloc, word, rest),

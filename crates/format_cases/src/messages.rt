@@ -51,7 +51,7 @@ fn any_beginning(alloc: Global, bytes: &[u8]) -> bool {
 }
 
 /// The message's word and its fields, in the order of docs/FORMATS.md, "Messages"; a change or an entry stands in brackets.
-fn fields_of(alloc: Global, message: &Message) -> Result<String, Failure> {
+pub fn fields_of(alloc: Global, message: &Message) -> Result<String, Failure> {
     let text = match message {
         Message::Bind { uuid } => format!(in alloc;
             "Bind {}",

@@ -1,0 +1,5 @@
+pub mod RunLaws
+pub mod Formats
+pub mod Notes
+pub mod Letters
+pub mod Tagged

@@ -1,0 +1,251 @@
+-- Runs and the lives that they have: those of lives are the fewest, and lives are those of their runs.
+use Rattle.std.proofs.Common.{◌≡◌, ℕ, zero, suc, ◌+◌, ◌-◌, ◌<◌, ◌≤◌, Bool, true, false, cond, leb, List, [], ◌∷◌, ◌++◌, length, get_or, set, drop, replicate, drop-cons, Option, Some, None, refl, sym, ap, ◌∙◌, add-one, append_assoc, arith, length-append, All}
+use Rattle.std.specs.Prelude.{not, ◌&&◌, bytes_eq, slice_get}
+use Rattle.std.specs.List.{AllByRecursion}
+use Rattle.std.proofs.lemmas.Bool.{and_parts, and_from, not-true, le-leb, leb-true}
+use Rattle.std.proofs.lemmas.List.{append-nil, length-replicate, replicate_more}
+use Rattle.std.proofs.lemmas.List.Elements.{All-nil, All-append, All-replicate, All-head, All-tail}
+use Rattle.std.proofs.lemmas.List.Sums.{sum_by-cons}
+use Rattle.std.proofs.lemmas.Slice.Eq.{bytes_eq-Decides}
+use Rattle.life_bytes.specs.declared.run.Run.{Run}
+use Rattle.life_bytes.specs.Runs.{IsLife, Lives, most_numbers, lives_of, run_of, in_front, runs_of, count_of, is_other, are_apart, AreLives, AreRuns, HoldsRuns, most_runs, ends_with, pushed}
+
+same_is : (a b : List ℕ) → bytes_eq a b ≡ true → a ≡ b
+same_is a b e = (bytes_eq-Decides a b).0 e
+
+same_self : (a : List ℕ) → bytes_eq a a ≡ true
+same_self a = (bytes_eq-Decides a a).1 refl
+
+-- ---- the lives of the runs of lives
+
+front_lives : (life : List ℕ) (run : Run) (runs : List Run) (b : Bool) → bytes_eq life run.life ≡ b
+    → lives_of (cond b (run_of (run.count + 1) run.life ∷ runs) (run_of 1 life ∷ run ∷ runs)) ≡ life ∷ lives_of (run ∷ runs)
+front_lives life run runs true e = rw (add-one, same_is life run.life e) refl
+front_lives life run runs false e = refl
+
+in_front_lives : (life : List ℕ) (runs : List Run) → lives_of (in_front life runs) ≡ life ∷ lives_of runs
+in_front_lives life [] = refl
+in_front_lives life (run ∷ runs) = front_lives life run runs (bytes_eq life run.life) refl
+
+pub lives_again : (lives : Lives) → lives_of (runs_of lives) ≡ lives
+lives_again [] = refl
+lives_again (life ∷ lives) = in_front_lives life (runs_of lives) ∙ ap (λ (xs : Lives). life ∷ xs) (lives_again lives)
+
+-- ---- the runs of the lives of runs
+
+front_other : (life : List ℕ) (runs : List Run) → are_apart (Some life) runs ≡ true → in_front life runs ≡ run_of 1 life ∷ runs
+front_other life [] e = refl
+front_other life (run ∷ runs) e =
+    let p = and_parts (leb 1 run.count) (not (bytes_eq life run.life) && are_apart (Some run.life) runs) e in
+    let q = and_parts (not (bytes_eq life run.life)) (are_apart (Some run.life) runs) p.1 in
+    ap (λ b. cond b (run_of (run.count + 1) run.life ∷ runs) (run_of 1 life ∷ run ∷ runs)) (not-true (bytes_eq life run.life) q.0)
+
+front_same : (life : List ℕ) (n : ℕ) (runs : List Run) → in_front life (run_of n life ∷ runs) ≡ run_of (n + 1) life ∷ runs
+front_same life n runs = ap (λ b. cond b (run_of (n + 1) life ∷ runs) (run_of 1 life ∷ run_of n life ∷ runs)) (same_self life)
+
+many_again : (life : List ℕ) (n : ℕ) (lives : Lives) (runs : List Run) → 1 ≤ n → runs_of lives ≡ runs → are_apart (Some life) runs ≡ true → runs_of (replicate n life ++ lives) ≡ run_of n life ∷ runs
+many_again life zero lives runs some e apart = absurd (omega arith)
+many_again life (suc zero) lives runs some e apart = ap (in_front life) e ∙ front_other life runs apart
+many_again life (suc (suc n)) lives runs some e apart =
+    ap (in_front life) (many_again life (suc n) lives runs (omega arith) e apart)
+    ∙ front_same life (suc n) runs
+    ∙ ap (λ k. run_of k life ∷ runs) (add-one (suc n))
+
+pub runs_again : (before : Option (List ℕ)) (runs : List Run) → are_apart before runs ≡ true → runs_of (lives_of runs) ≡ runs
+runs_again before [] e = refl
+runs_again before (run ∷ runs) e =
+    let p = and_parts (leb 1 run.count) (is_other before run.life && are_apart (Some run.life) runs) e in
+    let q = and_parts (is_other before run.life) (are_apart (Some run.life) runs) p.1 in
+    many_again run.life run.count (lives_of runs) runs (leb-true 1 run.count p.0) (runs_again (Some run.life) runs q.1) q.1
+
+-- ---- the runs of lives are apart
+
+one_or_more : (n : ℕ) → leb 1 (n + 1) ≡ true
+one_or_more n = le-leb 1 (n + 1) (omega arith)
+
+front_apart : (life : List ℕ) (run : Run) (runs : List Run) (b : Bool) → bytes_eq life run.life ≡ b → are_apart None (run ∷ runs) ≡ true
+    → are_apart None (cond b (run_of (run.count + 1) run.life ∷ runs) (run_of 1 life ∷ run ∷ runs)) ≡ true
+front_apart life run runs true e apart =
+    let p = and_parts (leb 1 run.count) (are_apart (Some run.life) runs) apart in
+    and_from (leb 1 (run.count + 1)) (are_apart (Some run.life) runs) (one_or_more run.count) p.1
+front_apart life run runs false e apart =
+    let p = and_parts (leb 1 run.count) (are_apart (Some run.life) runs) apart in
+    and_from (leb 1 run.count) (not (bytes_eq life run.life) && are_apart (Some run.life) runs) p.0 (
+    and_from (not (bytes_eq life run.life)) (are_apart (Some run.life) runs) (ap not e) p.1
+    )
+
+in_front_apart : (life : List ℕ) (runs : List Run) → are_apart None runs ≡ true → are_apart None (in_front life runs) ≡ true
+in_front_apart life [] apart = refl
+in_front_apart life (run ∷ runs) apart = front_apart life run runs (bytes_eq life run.life) refl apart
+
+pub runs_are_apart : (lives : Lives) → are_apart None (runs_of lives) ≡ true
+runs_are_apart [] = refl
+runs_are_apart (life ∷ lives) = in_front_apart life (runs_of lives) (runs_are_apart lives)
+
+-- ---- how many numbers there are
+
+pub count_is : (runs : List Run) → length (lives_of runs) ≡ count_of runs
+count_is [] = refl
+count_is (run ∷ runs) = omega (arith, length-append (replicate run.count run.life) (lives_of runs), length-replicate run.count run.life, count_is runs, sum_by-cons (λ (run : Run). run.count) run runs)
+
+-- ---- one more number behind runs
+
+pushed_last : (life : List ℕ) (run : Run) (b : Bool) → bytes_eq run.life life ≡ b
+    → lives_of (cond b (run_of (run.count + 1) run.life ∷ []) (run ∷ run_of 1 life ∷ [])) ≡ lives_of (run ∷ []) ++ life ∷ []
+pushed_last life run true e =
+    append-nil (replicate (run.count + 1) run.life)
+    ∙ sym (replicate_more run.count run.life)
+    ∙ ap (λ (x : List ℕ). replicate run.count run.life ++ x ∷ []) (same_is run.life life e)
+    ∙ ap (λ (xs : Lives). xs ++ life ∷ []) (sym (append-nil (replicate run.count run.life)))
+pushed_last life run false e = ap (λ (xs : Lives). xs ++ life ∷ []) (sym (append-nil (replicate run.count run.life)))
+
+pub pushed_lives : (life : List ℕ) (runs : List Run) → lives_of (pushed life runs) ≡ lives_of runs ++ life ∷ []
+pushed_lives life [] = refl
+pushed_lives life (run ∷ []) = pushed_last life run (bytes_eq run.life life) refl
+pushed_lives life (run ∷ next ∷ runs) =
+    ap (λ (xs : Lives). replicate run.count run.life ++ xs) (pushed_lives life (next ∷ runs))
+    ∙ sym (append_assoc (replicate run.count run.life) (lives_of (next ∷ runs)) (life ∷ []))
+
+pub pushed_count : (life : List ℕ) (runs : List Run) → count_of (pushed life runs) ≡ count_of runs + 1
+pushed_count life runs =
+    omega (arith, count_is (pushed life runs), count_is runs, ap length (pushed_lives life runs), length-append (lives_of runs) (life ∷ []))
+
+last_apart : (before : Option (List ℕ)) (life : List ℕ) (run : Run) (b : Bool) → bytes_eq run.life life ≡ b → are_apart before (run ∷ []) ≡ true
+    → are_apart before (cond b (run_of (run.count + 1) run.life ∷ []) (run ∷ run_of 1 life ∷ [])) ≡ true
+last_apart before life run true e apart =
+    let p = and_parts (leb 1 run.count) (is_other before run.life && true) apart in
+    and_from (leb 1 (run.count + 1)) (is_other before run.life && true) (one_or_more run.count) p.1
+last_apart before life run false e apart =
+    let p = and_parts (leb 1 run.count) (is_other before run.life && true) apart in
+    let q = and_parts (is_other before run.life) true p.1 in
+    and_from (leb 1 run.count) (is_other before run.life && (not (bytes_eq run.life life) && true)) p.0 (
+    and_from (is_other before run.life) (not (bytes_eq run.life life) && true) q.0 (and_from (not (bytes_eq run.life life)) true (ap not e) refl)
+    )
+
+more_apart : (before : Option (List ℕ)) (life : List ℕ) (run : Run) (runs : List Run) → are_apart before (run ∷ runs) ≡ true → are_apart before (pushed life (run ∷ runs)) ≡ true
+more_apart before life run [] apart = last_apart before life run (bytes_eq run.life life) refl apart
+more_apart before life run (next ∷ runs) apart =
+    let p = and_parts (leb 1 run.count) (is_other before run.life && are_apart (Some run.life) (next ∷ runs)) apart in
+    let q = and_parts (is_other before run.life) (are_apart (Some run.life) (next ∷ runs)) p.1 in
+    and_from (leb 1 run.count) (is_other before run.life && are_apart (Some run.life) (pushed life (next ∷ runs))) p.0 (
+    and_from (is_other before run.life) (are_apart (Some run.life) (pushed life (next ∷ runs))) q.0 (more_apart (Some run.life) life next runs q.1)
+    )
+
+pub pushed_apart : (life : List ℕ) (runs : List Run) → are_apart None runs ≡ true → are_apart None (pushed life runs) ≡ true
+pushed_apart life [] apart = refl
+pushed_apart life (run ∷ runs) apart = more_apart None life run runs apart
+
+-- whatever stands for an element behind the last
+pub last_is : (life : List ℕ) (runs : List Run) (k : ℕ) (d : Run) → k + 1 ≡ length runs → ends_with life runs ≡ bytes_eq (get_or runs k d).life life
+last_is life [] k d last = absurd (omega arith)
+last_is life (run ∷ []) zero d last = refl
+last_is life (run ∷ []) (suc k) d last = absurd (omega arith)
+last_is life (run ∷ next ∷ runs) zero d last = absurd (omega arith)
+last_is life (run ∷ next ∷ runs) (suc k) d last = last_is life (next ∷ runs) k d (omega arith)
+
+pub ends_some : (life : List ℕ) (runs : List Run) → ends_with life runs ≡ true → 1 ≤ length runs
+ends_some life [] e = absurd cc
+ends_some life (run ∷ runs) e = omega arith
+
+-- where the last run has this life it is one longer, and else there is one more run
+pub made_longer : (life : List ℕ) (runs : List Run) (k : ℕ) (x : Run) → k + 1 ≡ length runs → x ≡ get_or runs k x → ends_with life runs ≡ true → set runs k (run_of (x.count + 1) life) ≡ pushed life runs
+made_longer life [] k x last is same = absurd (omega arith)
+made_longer life (run ∷ []) zero x last is same =
+    ap (λ (y : Run). run_of (y.count + 1) life ∷ []) is
+    ∙ ap (λ (y : List ℕ). run_of (run.count + 1) y ∷ []) (sym (same_is run.life life same))
+    ∙ ap (λ b. cond b (run_of (run.count + 1) run.life ∷ []) (run ∷ run_of 1 life ∷ [])) (sym same)
+made_longer life (run ∷ []) (suc k) x last is same = absurd (omega arith)
+made_longer life (run ∷ next ∷ runs) zero x last is same = absurd (omega arith)
+made_longer life (run ∷ next ∷ runs) (suc k) x last is same =
+    ap (λ (xs : List Run). run ∷ xs) (made_longer life (next ∷ runs) k x (omega arith) is same)
+
+pub run_pushed : (life : List ℕ) (runs : List Run) → ends_with life runs ≡ false → runs ++ run_of 1 life ∷ [] ≡ pushed life runs
+run_pushed life [] other = refl
+run_pushed life (run ∷ []) other = ap (λ b. cond b (run_of (run.count + 1) run.life ∷ []) (run ∷ run_of 1 life ∷ [])) (sym other)
+run_pushed life (run ∷ next ∷ runs) other = ap (λ (xs : List Run). run ∷ xs) (run_pushed life (next ∷ runs) other)
+
+-- ---- what a value of runs holds
+
+pub are_back : (runs : List Run) → AreRuns runs → runs_of (lives_of runs) ≡ runs
+are_back runs are = runs_again None runs (and_parts (are_apart None runs) (leb (count_of runs) most_numbers) are.1).0
+
+pub are_lives : (runs : List Run) → AreRuns runs → AreLives (lives_of runs)
+are_lives runs are =
+    let p = and_parts (are_apart None runs) (leb (count_of runs) most_numbers) are.1 in
+    record { few = rw (runs_again None runs p.0) are.0; within = rw (count_is runs) (leb-true (count_of runs) most_numbers p.1) }
+
+pub holds_more : (runs more : List Run) (life : List ℕ) (count : ℕ) → more ≡ pushed life runs → length more ≤ most_runs → count < most_numbers → HoldsRuns runs count → HoldsRuns more (count + 1)
+holds_more runs more life count is few room holds =
+    let p = and_parts (are_apart None runs) (leb (count_of runs) most_numbers) holds.are.1 in
+    let sum : count_of more ≡ count_of runs + 1 = ap count_of is ∙ pushed_count life runs in
+    let apart : are_apart None more ≡ true = ap (are_apart None) is ∙ pushed_apart life runs p.0 in
+    let counted : count ≡ count_of runs = holds.counted in
+    record {
+      are = (few, and_from (are_apart None more) (leb (count_of more) most_numbers) apart (le-leb (count_of more) most_numbers (omega (arith, sum, counted, room))));
+      counted = omega (arith, sum, counted);
+    }
+
+pub no_number_more : (runs : List Run) (life : List ℕ) (lives : Lives) → lives_of runs ≡ lives → count_of runs ≡ most_numbers → AreLives (lives ++ life ∷ []) → ⊥
+no_number_more runs life lives is full are =
+    let within : length (lives ++ life ∷ []) ≤ most_numbers = are.within in
+    omega (arith, within, length-append lives (life ∷ []), ap length is, count_is runs, full)
+
+pub no_run_more : (runs : List Run) (life : List ℕ) (lives : Lives) → lives_of runs ≡ lives → AreRuns runs → most_runs < length (pushed life runs) → AreLives (lives ++ life ∷ []) → ⊥
+no_run_more runs life lives is holds full are =
+    let p = and_parts (are_apart None runs) (leb (count_of runs) most_numbers) holds.1 in
+    let more : lives_of (pushed life runs) ≡ lives ++ life ∷ [] = pushed_lives life runs ∙ ap (λ (xs : Lives). xs ++ life ∷ []) is in
+    let back : runs_of (lives ++ life ∷ []) ≡ pushed life runs = ap runs_of (sym more) ∙ runs_again None (pushed life runs) (pushed_apart life runs p.0) in
+    let few : length (runs_of (lives ++ life ∷ [])) ≤ most_runs = are.few in
+    omega (arith, few, ap length back, full)
+
+-- ---- the life of a number
+
+pub get_within : (n i : ℕ) (x : List ℕ) (xs : Lives) → i < n → slice_get (replicate n x ++ xs) i ≡ Some x
+get_within zero i x xs lt = absurd (omega arith)
+get_within (suc n) zero x xs lt = refl
+get_within (suc n) (suc i) x xs lt = get_within n i x xs (omega arith)
+
+pub get_behind : (n i : ℕ) (x : List ℕ) (xs : Lives) → n ≤ i → slice_get (replicate n x ++ xs) i ≡ slice_get xs (i - n)
+get_behind zero i x xs le = ap (slice_get xs) (omega arith)
+get_behind (suc n) zero x xs le = absurd (omega arith)
+get_behind (suc n) (suc i) x xs le = get_behind n i x xs (omega arith) ∙ ap (slice_get xs) (omega arith)
+
+-- what is left begins with this run
+left_is : (runs : List Run) (i : ℕ) (run : Run) → i < length runs → run ≡ get_or runs i run → lives_of (drop i runs) ≡ replicate run.count run.life ++ lives_of (drop (i + 1) runs)
+left_is runs i run lt is =
+    ap lives_of (drop-cons runs i run lt)
+    ∙ ap (λ (x : Run). replicate x.count x.life ++ lives_of (drop (suc i) runs)) (sym is)
+    ∙ ap (λ (k : ℕ). replicate run.count run.life ++ lives_of (drop k runs)) (sym (add-one i))
+
+pub get_first : (runs : List Run) (i : ℕ) (run : Run) (k : ℕ) → i < length runs → run ≡ get_or runs i run → k < run.count → slice_get (lives_of (drop i runs)) k ≡ Some run.life
+get_first runs i run k lt is within =
+    ap (λ (xs : Lives). slice_get xs k) (left_is runs i run lt is) ∙ get_within run.count k run.life (lives_of (drop (i + 1) runs)) within
+
+pub get_later : (runs : List Run) (i : ℕ) (run : Run) (k : ℕ) → i < length runs → run ≡ get_or runs i run → run.count ≤ k → slice_get (lives_of (drop i runs)) k ≡ slice_get (lives_of (drop (i + 1) runs)) (k - run.count)
+get_later runs i run k lt is behind =
+    ap (λ (xs : Lives). slice_get xs k) (left_is runs i run lt is) ∙ get_behind run.count k run.life (lives_of (drop (i + 1) runs)) behind
+
+-- ---- each life is one
+
+pub lives_are : (runs : List Run) → All (λ run. IsLife run.life) runs → All IsLife (lives_of runs)
+lives_are [] all = All-nil IsLife
+lives_are (run ∷ runs) all =
+    All-append IsLife (replicate run.count run.life) (lives_of runs)
+    (All-replicate IsLife run.count run.life (All-head (λ (run : Run). IsLife run.life) run runs all))
+    (lives_are runs (All-tail (λ (run : Run). IsLife run.life) run runs all))
+
+abbrev HasLife : Run → Type 0
+HasLife run = IsLife run.life
+
+front_is : (life : List ℕ) (run : Run) (runs : List Run) (b : Bool) → IsLife life → AllByRecursion HasLife (run ∷ runs)
+    → AllByRecursion HasLife (cond b (run_of (run.count + 1) run.life ∷ runs) (run_of 1 life ∷ run ∷ runs))
+front_is life run runs true is all = all
+front_is life run runs false is all = (is, all)
+
+in_front_are : (life : List ℕ) (runs : List Run) → IsLife life → AllByRecursion HasLife runs → AllByRecursion HasLife (in_front life runs)
+in_front_are life [] is all = (is, tt)
+in_front_are life (run ∷ runs) is all = front_is life run runs (bytes_eq life run.life) is all
+
+pub runs_have_lives : (lives : Lives) → AllByRecursion IsLife lives → AllByRecursion (λ run. IsLife run.life) (runs_of lives)
+runs_have_lives [] all = tt
+runs_have_lives (life ∷ lives) all = in_front_are life (runs_of lives) all.0 (runs_have_lives lives all.1)
