@@ -4,7 +4,6 @@
 
 mod arguments;
 mod end;
-mod replacing;
 mod running;
 
 pub use arguments::words;
