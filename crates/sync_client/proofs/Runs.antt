@@ -9,7 +9,7 @@ use Rattle.sync_model.specs.Bytes.{Bytes}
 use Rattle.sync_model.specs.Files.{bodies_ahead, body_and, part_body}
 use Rattle.sync_records.specs.declared.client.ClientRecord.{ClientRecord as CodeRecord}
 use Rattle.sync_records.specs.declared.client.ClientRecord.TheVariants as codes
-use Rattle.sync_records.specs.Reading.{id_in, ident_in, made_in, made_of, took_in, took_of, form_in, names_in, version_in}
+use Rattle.sync_records.specs.Reading.{id_in, ident_in, made_in, made_of, took_in, took_of, form_in, names_in, version_in, pair_in, resumed_of, waits_in, waits_of}
 use Rattle.sync_exchange.specs.Profile.{the_profile}
 use Rattle.sync_exchange.specs.Seen.{client_seen, read_client}
 use Rattle.sync_client.specs.declared.beginning.Found.{Found}
@@ -36,7 +36,9 @@ other_tag tag fields h =
     (unless (tag == 7) _ _ (λ e. not_part (form_in fields) (λ _. codes.Form) (λ x. refl))
     (unless (tag == 9) _ _ (λ e. not_part (names_in fields) codes.Subset (λ x. refl))
     (unless (tag == 11) _ _ (λ e. absurd (h (Rattle.std.proofs.Common.eqb-true tag 11 e)))
-    (unless (tag == 12) _ _ (λ e. not_part (version_in fields) codes.Floor (λ x. refl)) refl)))))))
+    (unless (tag == 12) _ _ (λ e. not_part (version_in fields) codes.Floor (λ x. refl))
+    (unless (tag == 16) _ _ (λ e. not_part (pair_in fields) resumed_of (λ x. refl))
+    (unless (tag == 17) _ _ (λ e. not_part (waits_in fields) waits_of (λ x. refl)) refl)))))))))
 
 pub no_part : (bytes : List ℕ) → ¬ (get_or bytes 0 0 ≡ 11) → part_body (read_client bytes) ≡ None
 no_part [] h = refl

@@ -5,6 +5,7 @@ mod beginning;
 mod client;
 mod entries;
 mod files;
+mod front;
 mod opening;
 mod refusal;
 mod replica;
