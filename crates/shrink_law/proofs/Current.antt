@@ -9,13 +9,12 @@ use Rattle.sync_model.specs.Messages.{Change, Sent, Stored, Upload}
 use Rattle.sync_model.specs.Each.{Each, no_more, and_each}
 use Rattle.sync_model.specs.Clients.{Client, ClientRecord, Born, Named, Made, Took, Form, Subset, Part, Floor, Resumed, Waits, blanks, Original, Unsent, as_made, changeset_of, carried_to, ok_list, waits_too, Forked, OldEntry, sent_changeset, own_refusal, crossed_refusal, read_refusal, entry_refusal, takes_entry, crossed, makes, tooks_of, change_of, to_upload, no_client, client_of, after_record, after_records}
 use Rattle.sync_model.specs.Servers.{Server, ServerRecord, no_server, server_of, count, sent_of, NoSuchIdent, is_given, refuses, replies, serve}
-use Rattle.sync_model.specs.Files.{client_admits, client_opens, is_blank, is_empty, is_growing, made_acts, server_opens, some_come}
+use Rattle.sync_model.specs.Files.{IsLong, client_admits, client_opens, is_blank, is_empty, is_growing, made_acts, server_opens, some_come}
 use Rattle.sync_model.specs.Recovery.{numbers_from, numbers_of, whole_history}
 use Rattle.sync_model.specs.Worlds.{is_there}
 use Rattle.sync_model.proofs.Settling.{length_blanks}
 use Rattle.sync_model.proofs.Alone.{opened_first, opened_more}
 use Rattle.sync_model.proofs.Final.{history_numbers}
-use Rattle.shrink_law.specs.Openings.{IsLong}
 use Rattle.shrink_law.specs.Short.{taken}
 use Rattle.std.specs.Prelude.{bytes_eq}
 use Rattle.shrink_law.specs.Current.{own_numbers, own_stamps, stamps_of, stamp_of, Follow, none_follows, one_follows, HasWhole, HasPart, HasTold}
@@ -189,7 +188,7 @@ module _ {I S : Type 0} (p : Profile I S) where
   resumed_next n c number waiting blank h =
       let none = none_yet c.made (both (c.ident == 0) (is_empty c.made) (both (not (is_there c.floor)) _ (both (not (is_there c.subset)) _ (both (is_there c.id) _ blank).1).1).1).1 in
       let long = len_append c.made (blanks {I = I} (suc (length c.made)) number) in
-      let many = length_blanks {I = I} (suc (length c.made)) number in
+      let many = length_blanks I (suc (length c.made)) number in
       let m = h.made in
       record { follow = on c.unsent (omega (arith, m, none)); made = omega (arith, m, none, long, many) }
     where

@@ -8,14 +8,13 @@ use Rattle.sync_model.specs.Profile.{Profile, Lawful, restricted, fitting}
 use Rattle.sync_model.specs.Messages.{Sent, Ask2, Download}
 use Rattle.sync_model.specs.Each.{Each, and_each}
 use Rattle.sync_model.specs.Clients.{ClientRecord, no_client, client_of, tooks_of}
-use Rattle.sync_model.specs.Files.{client_opens, server_opens}
+use Rattle.sync_model.specs.Files.{IsLong, client_opens, server_opens}
 use Rattle.sync_model.specs.Progress.{IsRoomy}
 use Rattle.sync_model.specs.Recovery.{whole_history}
 use Rattle.sync_model.specs.Servers.{Server, ServerRecord, NoSuchIdent, AheadOfHistory, no_server, server_of, history_of, entries_from, sent_of, download, is_given, marking, refuses, serve}
 use Rattle.sync_model.proofs.Progress.Serves.{fits_some}
 use Rattle.sync_model.proofs.Small.{SmallSets, entries_small, server_lists}
 use Rattle.shrink_law.specs.Current.{HasTold}
-use Rattle.shrink_law.specs.Openings.{IsLong}
 use Rattle.shrink_law.proofs.Current.{has_told}
 
 module _ {I S : Type 0} (p : Profile I S) where

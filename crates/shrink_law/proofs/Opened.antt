@@ -7,12 +7,12 @@ use Rattle.sync_model.specs.Profile.{Profile, Lawful, is_small, needs, all_admit
 use Rattle.sync_model.specs.Snapshots.{Buildable, grown}
 use Rattle.sync_model.specs.Each.{Each, no_more, and_each}
 use Rattle.sync_model.specs.Clients.{Client, ClientRecord, Born, Named, Made, Took, Form, Subset, Part, Floor, Resumed, Waits, blanks, waits_too, Original, Unsent, grown_or, ok_list, entry_refusal, is_late, no_client, client_of, after_record, after_records, changeset_of, crossed, takes_entry}
-use Rattle.sync_model.specs.Files.{is_fine, is_empty, is_place, is_blank, is_growing, all_came, all_behind, closes, tables_fit, readable, read_parts, part_and, part_fits, bodies_ahead, parts_grow, made_acts, client_admits, client_opens}
+use Rattle.sync_model.specs.Files.{IsLong, is_fine, is_empty, is_place, is_blank, is_growing, all_came, all_behind, closes, tables_fit, readable, read_parts, part_and, part_fits, bodies_ahead, parts_grow, made_acts, client_admits, client_opens}
 use Rattle.sync_model.specs.Worlds.{is_there}
 use Rattle.sync_model.proofs.Settling.{length_blanks, no_front}
 use Rattle.sync_model.proofs.Starting.{grown_build}
 use Rattle.shrink_law.specs.Short.{Alike, has_begun, taken, id_records, form_records, tables_records, ident_records, waits, count_records, state_records, short_records}
-use Rattle.shrink_law.specs.Openings.{IsLong, has_parts, long_part, long_admits, long_opens}
+use Rattle.shrink_law.specs.Openings.{has_parts, long_part, long_admits, long_opens}
 use Rattle.shrink_law.specs.Current.{Follow, none_follows, one_follows}
 use Rattle.shrink_law.proofs.Answering.{IsPlain, record_alike, refusal_alike}
 use Rattle.shrink_law.proofs.Staying.{ArePlain}
@@ -276,7 +276,7 @@ module _ {I S : Type 0} (p : Profile I S) where
             let d0 : Client I S = record (no_client p) { id = c.id; second = c.second; subset = c.subset; front = Some n; made = blanks 1 (taken c) } in
             let d : Client I S = record d0 { made = blanks 1 (taken c) ++ map (λ u. u.original) c.unsent; unsent = c.unsent } in
             let e3 : client_opens p (record d { front = Some 0 }) (parts ++ Floor c.cursor ∷ more) ≡ true = parts_open c.cursor c.objects w.fits w.bounded (p.build c.objects) [] refl (built.small c.objects w.fits w.bounded) d w.behind more e2 in
-            let follow : Follow (length d0.made) c.unsent = subst (λ k. Follow k c.unsent) (sym (length_blanks {I = I} 1 (taken c))) w.follow in
+            let follow : Follow (length d0.made) c.unsent = subst (λ k. Follow k c.unsent) (sym (length_blanks I 1 (taken c))) w.follow in
             let e4 : client_opens p d0 (map (waits p) c.unsent ++ (parts ++ Floor c.cursor ∷ more)) ≡ true = waits_open c.unsent w.lists d0 follow (parts ++ Floor c.cursor ∷ more) (some_floor (p.build c.objects) more) e3 in
             let same : state_records p c ++ more ≡ map (waits p) c.unsent ++ (parts ++ Floor c.cursor ∷ more) = append_assoc (map (waits p) c.unsent) (parts ++ Floor c.cursor ∷ []) more ∙ ap (λ l. map (waits p) c.unsent ++ l) (append_assoc parts (Floor c.cursor ∷ []) more) in
             let e5 : client_opens p d0 (state_records p c ++ more) ≡ true = ap (client_opens p d0) same ∙ e4 in

@@ -104,7 +104,7 @@ module _ {I S : Type 0} (p : Profile I S) where
         objects = refl;
         last =
             let f = len_append (blanks {I = I} 1 (taken c)) (map (λ u. u.original) c.unsent) in
-            let g = length_blanks {I = I} 1 (taken c) in
+            let g = length_blanks I 1 (taken c) in
             let k = len_map (λ (u : Unsent I). u.original) c.unsent in
             omega arith;
         begun = sym e;

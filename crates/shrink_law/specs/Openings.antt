@@ -2,15 +2,9 @@
 use Rattle.std.specs.Prelude.{ℕ, suc, Bool, true, false, ◌&&◌, not, List, [], ◌∷◌, Option, Some, None, nat_lt, ◌==◌, map, length}
 use Rattle.sync_model.specs.Profile.{Profile}
 use Rattle.sync_model.specs.Snapshots.{grown}
-use Rattle.sync_model.specs.Clients.{Client, ClientRecord, Born, Named, Made, Took, Form, Subset, Part, Floor, Resumed, Waits, is_late, after_record, entry_refusal}
+use Rattle.sync_model.specs.Clients.{Client, ClientRecord, Born, Named, Made, Took, Form, Subset, Part, Floor, is_late, after_record, entry_refusal}
 use Rattle.sync_model.specs.Worlds.{is_there}
 use Rattle.sync_model.specs.Files.{is_fine, is_empty, is_blank, readable, read_parts, bodies_ahead, parts_grow, made_acts}
-
--- a record that a file without a short front may have
-abbrev pub IsLong : ClientRecord → Type 0
-IsLong (Resumed number waiting) = ⊥
-IsLong (Waits number base ms body current) = ⊥
-IsLong r = Unit {0}
 
 -- the parts with which a file began aren't complete yet
 abbrev pub has_parts : {I S : Type 0} → Client I S → Bool

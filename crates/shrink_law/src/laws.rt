@@ -2,12 +2,12 @@
 ghost use Rattle.shrink_law.specs.Current.{HasPart, HasTold, HasWhole};
 ghost use Rattle.shrink_law.specs.Exchanges.{AnswersAlike, IsSame, ShrinkEvent, StaysAlike, all_shrinking, first_shrinking, said, shrinking, without_shrinks};
 ghost use Rattle.shrink_law.specs.Forked.{IsSavedOrRefused, verified};
-ghost use Rattle.shrink_law.specs.Openings.{IsLong, long_opens};
+ghost use Rattle.shrink_law.specs.Openings.{long_opens};
 ghost use Rattle.shrink_law.specs.Short.{Alike, IsPlain, short_records, shrunk, taken};
 ghost use Rattle.std.specs.Prelude.{List, None, Some, [], length, map, true, ◌++◌, ◌-◌, ◌<◌, ◌≡◌, ◌≢◌, ℕ};
 ghost use Rattle.sync_model.specs.Clients.{Client, ClientRecord, client_of, no_client, to_upload, tooks_of};
 ghost use Rattle.sync_model.specs.Each.{Each};
-ghost use Rattle.sync_model.specs.Files.{client_opens, server_opens};
+ghost use Rattle.sync_model.specs.Files.{IsLong, client_opens, server_opens};
 ghost use Rattle.sync_model.specs.Later.{IsLater, all_later, first_later};
 ghost use Rattle.sync_model.specs.Limits.{IsClientRecord};
 ghost use Rattle.sync_model.specs.Messages.{Ask2, Download, Stored, Upload};

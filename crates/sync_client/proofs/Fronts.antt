@@ -1,5 +1,5 @@
 -- The front of a short file: what opening makes of it.
-use Rattle.std.proofs.Common.{◌≡◌, ℕ, zero, suc, ◌+◌, ◌≤◌, ◌<◌, Bool, true, false, not, ◌&&◌, ◌||◌, ◌==◌, List, [], ◌∷◌, ◌++◌, length, map, drop, Option, Some, None, Result, Ok, Err, refl, ap, ap₂, ◌∙◌, sym, subst, append_assoc, append-nil, length-append, arith, nat_le, eqb-true, add-one}
+use Rattle.std.proofs.Common.{◌≡◌, ℕ, zero, suc, ◌+◌, ◌-◌, ◌≤◌, ◌<◌, Bool, true, false, not, ◌&&◌, ◌||◌, ◌==◌, List, [], ◌∷◌, ◌++◌, length, map, drop, Option, Some, None, Result, Ok, Err, refl, ap, ap₂, ◌∙◌, sym, subst, append_assoc, append-nil, length-append, arith, nat_le, eqb-true, add-one}
 use Rattle.std.proofs.lemmas.Bool.{eq-eqb, le-leb}
 use Rattle.sync_theory.proofs.Server.{test_false}
 use Rattle.sync_data.specs.declared.instr.Instr.{Instr}
@@ -147,3 +147,300 @@ went_one a b r s bytes rest x read spelled admits fits after some = record {
     noted : (l : List ClientRecord) → is_empty l ≡ false → is_empty (map (λ (q : ClientRecord). Some q) l) ≡ false
     noted [] e = e
     noted (y ∷ l) e = refl
+
+-- ---- the first record of a front
+
+none_made : {A : Type 0} (xs : List A) → is_empty xs ≡ true → length xs ≡ 0
+none_made [] e = refl
+none_made (x ∷ xs) e = cc
+
+blank_made : (c : Seen) → is_blank c ≡ true → length c.made ≡ 0
+blank_made c e = go (is_there c.id) (not (is_there c.subset)) (not (is_there c.floor)) (c.ident == 0) e
+  where
+    go : (a b f i : Bool) → (a && (b && (f && (i && is_empty c.made)))) ≡ true → length c.made ≡ 0
+    go true true true true h = none_made c.made h
+    go true true true false h = cc
+    go true true false i h = cc
+    go true false f i h = cc
+    go false b f i h = cc
+
+-- what is past once the counts were read
+abbrev pub resumed_past : Past → ℕ → ℕ → Past
+resumed_past past number waiting = record past { made = past.made ++ blanks (suc (length past.made)) number; front = Some waiting }
+
+abbrev pub counted : Replica → ℕ → Replica
+counted r number = record r { count = number }
+
+pub resumed_within : (before : List ClientRecord) (r : Replica) (k : Keeps before r) (number waiting : ℕ) → is_blank (seen k.past r) ≡ true → WithinFront waiting (resumed_past k.past number waiting) (counted r number)
+resumed_within before r k number waiting blank =
+    let g = blank_grows before r k blank in
+    let none = blank_made (seen k.past r) blank in
+    let long = length-append k.past.made (blanks {I = Instr} (suc (length k.past.made)) number) in
+    let many = length_blanks Instr (suc (length k.past.made)) number in
+    record { parts = g.parts; front = refl; count = omega (arith, none, long, many); born = g.born; unnamed = g.unnamed }
+
+resumed_admits : (before : List ClientRecord) (r : Replica) (k : Keeps before r) (number waiting : ℕ) → is_blank (seen k.past r) ≡ true → number + waiting ≤ 4294967295 → (ahead : List (Option ClientRecord)) → is_empty ahead ≡ false
+    → client_admits the_profile (seen k.past r) ahead (ClientRecord.Resumed number waiting) ≡ true
+resumed_admits before r k number waiting blank small ahead some = both blank (both (ap not (past_of before r k).settled) (both (ap not some) (le-leb (number + waiting) 4294967295 small)))
+
+-- the front behind a client's records
+pub front_on : (before : List ClientRecord) (r new : Replica) (k : Keeps before r) (number waiting : ℕ) (records : List (List ℕ)) (place : ℕ) (bytes : List ℕ) (result : Result ℕ ReadRefusal) → is_blank (seen k.past r) ≡ true → IsResumed bytes (number, waiting) → number + waiting ≤ 4294967295
+    → drop place records ≡ bytes ∷ drop (place + 1) records → is_empty (drop (place + 1) records) ≡ false
+    → GrowsOn (resumed_past k.past number waiting) (counted r number) new (drop (place + 1) records) (λ n. drop (place + 1 + n) records) (place + 1) result → ReadsOn before new (drop place records) (λ n. drop (place + n) records) place result
+front_on before r new k number waiting records place bytes result blank is small left some g =
+    let one = went_one k.past (resumed_past k.past number waiting) r (counted r number) bytes (drop (place + 1) records) (ClientRecord.Resumed number waiting) is.read is.spelled (resumed_admits before r k number waiting blank small) (is.number, is.waiting) refl some in
+    grown_on before r new k (drop place records) (λ n. drop (place + n) records) place result
+    (went_grows k.past (resumed_past k.past number waiting) r (counted r number) new (drop place records) (drop (place + 1) records) (λ n. drop (place + n) records) (λ n. drop (place + 1 + n) records) 1 place (place + 1) result
+    (subst (λ l. WentSome k.past r (resumed_past k.past number waiting) (counted r number) l (drop (place + 1) records) 1) (sym left) one) refl (λ n. let e : place + 1 + n ≡ place + (1 + n) = omega arith in ap (λ i. drop i records) e) g)
+
+-- a record that isn't admitted, or none
+stops_here : (c : Seen) (bytes : List ℕ) (rest : List (List ℕ)) (x : ClientRecord) → read_client bytes ≡ Some x → client_admits the_profile c (map read_client rest) x ≡ false → reading c (bytes ∷ rest) ≡ Err 0
+stops_here c bytes rest x read declines =
+    ap (λ o. read_one o (client_admits the_profile c (map read_client rest)) (λ q. reading (after_record the_profile c q) rest)) read ∙ if_false (client_admits the_profile c (map read_client rest) x) _ _ declines
+
+stops_none : (c : Seen) (bytes : List ℕ) (rest : List (List ℕ)) → read_client bytes ≡ None → reading c (bytes ∷ rest) ≡ Err 0
+stops_none c bytes rest read = ap (λ o. read_one o (client_admits the_profile c (map read_client rest)) (λ q. reading (after_record the_profile c q) rest)) read
+
+abbrev Refused : List ClientRecord → List (List ℕ) → ℕ → Type 0
+Refused before records place = (count : ℕ) × (place ≡ place + count) × (reading (client_of the_profile before) (drop place records) ≡ Err count)
+
+-- its bytes are no record of counts
+pub front_unread : (before : List ClientRecord) (records : List (List ℕ)) (place : ℕ) (bytes : List ℕ) → drop place records ≡ bytes ∷ drop (place + 1) records → IsOfFront (read_client bytes) → IsNoFront (read_client bytes) → Refused before records place
+front_unread before records place bytes left of_front none = (0, omega arith, ap (reading (client_of the_profile before)) left ∙ go (read_client bytes) refl of_front none)
+  where
+    go : (o : Option ClientRecord) → read_client bytes ≡ o → IsOfFront o → IsNoFront o → reading (client_of the_profile before) (bytes ∷ drop (place + 1) records) ≡ Err 0
+    go None is a b = stops_none (client_of the_profile before) bytes (drop (place + 1) records) is
+    go (Some (ClientRecord.Resumed number waiting)) is a b = absurd b
+    go (Some (ClientRecord.Born id)) is a b = absurd a
+    go (Some (ClientRecord.Named ident)) is a b = absurd a
+    go (Some (ClientRecord.Made number ms body)) is a b = absurd a
+    go (Some (ClientRecord.Took origin number ms body)) is a b = absurd a
+    go (Some ClientRecord.Form) is a b = absurd a
+    go (Some (ClientRecord.Subset tables)) is a b = absurd a
+    go (Some (ClientRecord.Part body)) is a b = absurd a
+    go (Some (ClientRecord.Floor version)) is a b = absurd a
+    go (Some (ClientRecord.Waits number base ms body current)) is a b = absurd a
+
+-- the client isn't blank, the counts are too large, or nothing follows
+pub front_refused : (before : List ClientRecord) (r : Replica) (k : Keeps before r) (number waiting : ℕ) (records : List (List ℕ)) (place : ℕ) (bytes : List ℕ) → drop place records ≡ bytes ∷ drop (place + 1) records → IsResumed bytes (number, waiting)
+    → ((is_blank (seen k.past r) ≡ true) → (number + waiting ≤ 4294967295) → is_empty (drop (place + 1) records) ≡ false → ⊥) → Refused before records place
+front_refused before r k number waiting records place bytes left is no = (
+  0,
+  omega arith,
+  ap (reading (client_of the_profile before)) left ∙ ap (λ (c : Seen). reading c (bytes ∷ drop (place + 1) records)) k.stands_for
+      ∙ stops_here (seen k.past r) bytes (drop (place + 1) records) (ClientRecord.Resumed number waiting) is.read
+      (go (is_blank (seen k.past r)) (is_growing (seen k.past r)) (drop (place + 1) records) refl refl no),
+)
+  where
+    go : (b g : Bool) (rest : List (List ℕ)) → is_blank (seen k.past r) ≡ b → rest ≡ drop (place + 1) records → ((b ≡ true) → (number + waiting ≤ 4294967295) → is_empty rest ≡ false → ⊥) → (b && (not g && (not (is_empty (map read_client rest)) && nat_le (number + waiting) 4294967295))) ≡ false
+    go false g rest e f no = refl
+    go true true rest e f no = refl
+    go true false [] e f no = refl
+    go true false (x ∷ rest) e f no = large (nat_le (number + waiting) 4294967295) refl
+      where
+        large : (t : Bool) → nat_le (number + waiting) 4294967295 ≡ t → t ≡ false
+        large false z = refl
+        large true z = absurd (no refl (Rattle.std.proofs.lemmas.Bool.leb-true (number + waiting) 4294967295 z) refl)
+
+-- ---- behind it
+
+-- so far, from a place on
+pub record WaitsSoFar (first : Past) (old now : Replica) (owed : ℕ) (records : List (List ℕ)) (from place : ℕ) : Type 0 where
+  pub past : Past
+  pub within : WithinFront owed past now
+  pub count : ℕ
+  pub place_is : place ≡ from + count
+  pub went : WentSome first old past now (drop from records) (drop place records) count
+
+pub waits_first : (past : Past) (r : Replica) (owed : ℕ) (records : List (List ℕ)) (from : ℕ) → WithinFront owed past r → WaitsSoFar past r r owed records from from
+waits_first past r owed records from w = record { past = past; within = w; count = 0; place_is = omega arith; went = went_none past r (drop from records) }
+
+pub waits_next : (first : Past) (old now new : Replica) (owed left : ℕ) (records : List (List ℕ)) (from place : ℕ) (bytes : List ℕ) (s : WaitsSoFar first old now owed records from place) → drop place records ≡ bytes ∷ drop (place + 1) records → is_empty (drop (place + 1) records) ≡ false
+    → Took s.past now new bytes left → WaitsSoFar first old new left records from (place + 1)
+waits_next first old now new owed left records from place bytes s is some t =
+    let place_is = s.place_is in
+    let one = went_one s.past t.then_past now new bytes (drop (place + 1) records) t.next t.read t.spelled t.admitted t.fits t.after some in
+    record {
+      past = t.then_past;
+      within = t.within;
+      count = s.count + 1;
+      place_is = omega (arith, place_is);
+      went = went_both first s.past t.then_past old now new (drop from records) (drop place records) (drop (place + 1) records) s.count 1 s.went (subst (λ l. WentSome s.past now t.then_past new l (drop (place + 1) records) 1) (sym is) one);
+    }
+
+-- and what is read then
+pub waits_then : (first : Past) (old now new : Replica) (owed : ℕ) (records : List (List ℕ)) (from place : ℕ) (result : Result ℕ ReadRefusal) (s : WaitsSoFar first old now owed records from place) → GrowsOn s.past now new (drop place records) (λ n. drop (place + n) records) place result
+    → GrowsOn first old new (drop from records) (λ n. drop (from + n) records) from result
+waits_then first old now new owed records from place result s g =
+    let place_is = s.place_is in
+    went_grows first s.past old now new (drop from records) (drop place records) (λ n. drop (from + n) records) (λ n. drop (place + n) records) s.count from place result s.went s.place_is
+    (λ n. let e : place + n ≡ from + (s.count + n) = omega (arith, place_is) in ap (λ i. drop i records) e) g
+
+-- a place of the front that is refused
+abbrev Stops : Past → Replica → List (List ℕ) → ℕ → Type 0
+Stops past r records place = (count : ℕ) × (place ≡ place + count) × (reading (seen past r) (drop place records) ≡ Err count)
+
+module _ (past : Past) (r : Replica) (owed : ℕ) (w : WithinFront owed past r) where
+  growing : is_growing (seen past r) ≡ true
+  growing = ap (λ (o : Option ℕ). is_there o || (not (is_empty past.parts) && not (is_there r.floor))) w.front
+
+  waits_on : (rest : Bool) → (is_there r.id && (not (is_growing (seen past r)) && rest)) ≡ false
+  waits_on rest = second_false (is_there r.id) _ (ap (λ b. not b && rest) growing)
+
+  tables_by : (more x : Bool) → tables_fit (seen past r) more past.front x ≡ ((r.ident == 0) && (not (is_there r.subset) && (is_empty r.unsent && (is_empty past.parts && more))))
+  tables_by more x = ap (λ o. tables_fit (seen past r) more o x) w.front
+
+  -- nothing follows, and it isn't of the state
+  last_admits : (x : ClientRecord) → IsNoState (Some x) → client_admits the_profile (seen past r) [] x ≡ false
+  last_admits (ClientRecord.Born id) h = ap not w.born
+  last_admits (ClientRecord.Named ident) h = waits_on _
+  last_admits (ClientRecord.Made number ms body) h = waits_on _
+  last_admits (ClientRecord.Took origin number ms body) h = ap (λ b. not b && _) w.unnamed
+  last_admits ClientRecord.Form h = waits_on _
+  last_admits (ClientRecord.Subset tables) h = tables_by false _ ∙ second_false (r.ident == 0) _ (second_false (not (is_there r.subset)) _ (second_false (is_empty r.unsent) _ (second_false (is_empty past.parts) false refl)))
+  last_admits (ClientRecord.Part body) h = absurd h
+  last_admits (ClientRecord.Floor version) h = absurd h
+  last_admits (ClientRecord.Resumed number waiting) h = second_false (is_blank (seen past r)) _ (ap (λ b. not b && (false && nat_le (number + waiting) 4294967295)) growing)
+  last_admits (ClientRecord.Waits number base ms body current) h = second_false (some_come past.front) _ (second_false (number == suc (length past.made)) _ refl)
+
+  pub last_stops : (records : List (List ℕ)) (place : ℕ) (bytes : List ℕ) → drop place records ≡ bytes ∷ drop (place + 1) records → drop (place + 1) records ≡ [] → IsNoState (read_client bytes) → Stops past r records place
+  last_stops records place bytes left none h = (0, omega arith, ap (reading (seen past r)) (left ∙ ap (λ l. bytes ∷ l) none) ∙ go (read_client bytes) refl h)
+    where
+      go : (o : Option ClientRecord) → read_client bytes ≡ o → IsNoState o → reading (seen past r) (bytes ∷ []) ≡ Err 0
+      go None is h = stops_none (seen past r) bytes [] is
+      go (Some x) is h = stops_here (seen past r) bytes [] x is (last_admits x h)
+
+  pub other_stops : (records : List (List ℕ)) (place : ℕ) (bytes : List ℕ) → drop place records ≡ bytes ∷ drop (place + 1) records
+      → ((ahead : List (Option ClientRecord)) (go : ClientRecord → Result (List ClientRecord) ℕ) → read_one (read_client bytes) (client_admits the_profile (seen past r) ahead) go ≡ Err 0) → Stops past r records place
+  other_stops records place bytes left stop = (0, omega arith, ap (reading (seen past r)) left ∙ stop (map read_client (drop (place + 1) records)) (λ q. reading (after_record the_profile (seen past r) q) (drop (place + 1) records)))
+
+  -- some are still to come
+  pub owed_stops : (records : List (List ℕ)) (place : ℕ) → place < length records → OfState records place → (owed ≡ 0 → ⊥) → Stops past r records place
+  owed_stops records place there of_state some = none_refused (seen past r) records place there (ap (λ o. all_came o (is_blank (seen past r))) w.front ∙ go owed some) of_state
+    where
+      go : (n : ℕ) → (n ≡ 0 → ⊥) → all_came (Some n) (is_blank (seen past r)) ≡ false
+      go zero h = absurd (h refl)
+      go (suc n) h = refl
+
+  pub all_came_now : owed ≡ 0 → MayGrow true past r
+  all_came_now none = record {
+    parts = w.parts;
+    front = w.front ∙ ap (λ n. Some n) none;
+    count = w.count;
+    ready = ap (λ o. all_came o (is_blank (seen past r))) (w.front ∙ ap (λ n. Some n) none);
+    born = w.born;
+    unnamed = w.unnamed;
+    floorless = λ e. cc;
+  }
+
+  -- ---- one record behind the first
+  abbrev Declines : List ℕ → Type 0
+  Declines bytes = (ahead : List (Option ClientRecord)) (go : ClientRecord → Result (List ClientRecord) ℕ) → read_one (read_client bytes) (client_admits the_profile (seen past r) ahead) go ≡ Err 0
+
+  declined : (bytes : List ℕ) (x : ClientRecord) → read_client bytes ≡ Some x → ((ahead : List (Option ClientRecord)) → client_admits the_profile (seen past r) ahead x ≡ false) → Declines bytes
+  declined bytes x read no ahead go = ap (λ o. read_one o (client_admits the_profile (seen past r) ahead) go) read ∙ if_false (client_admits the_profile (seen past r) ahead x) _ _ (no ahead)
+
+  pub declined_none : (bytes : List ℕ) → read_client bytes ≡ None → Declines bytes
+  declined_none bytes read ahead go = ap (λ o. read_one o (client_admits the_profile (seen past r) ahead) go) read
+
+  -- records that a front never has behind its first
+  abbrev pub IsStrange : ClientRecord → Type 0
+  IsStrange (ClientRecord.Subset tables) = ⊥
+  IsStrange (ClientRecord.Part body) = ⊥
+  IsStrange (ClientRecord.Floor version) = ⊥
+  IsStrange (ClientRecord.Waits number base ms body current) = ⊥
+  IsStrange x = Unit {0}
+
+  strange : (x : ClientRecord) → IsStrange x → (ahead : List (Option ClientRecord)) → client_admits the_profile (seen past r) ahead x ≡ false
+  strange (ClientRecord.Born id) h ahead = ap not w.born
+  strange (ClientRecord.Named ident) h ahead = waits_on _
+  strange (ClientRecord.Made number ms body) h ahead = waits_on _
+  strange (ClientRecord.Took origin number ms body) h ahead = ap (λ b. not b && _) w.unnamed
+  strange ClientRecord.Form h ahead = waits_on _
+  strange (ClientRecord.Resumed number waiting) h ahead = second_false (is_blank (seen past r)) _ (ap (λ b. not b && (not (is_empty ahead) && nat_le (number + waiting) 4294967295)) growing)
+  strange (ClientRecord.Subset tables) h ahead = absurd h
+  strange (ClientRecord.Part body) h ahead = absurd h
+  strange (ClientRecord.Floor version) h ahead = absurd h
+  strange (ClientRecord.Waits number base ms body current) h ahead = absurd h
+
+  pub strange_declined : (bytes : List ℕ) (x : ClientRecord) → read_client bytes ≡ Some x → IsStrange x → Declines bytes
+  strange_declined bytes x read h = declined bytes x read (strange x h)
+
+  pub tables_taken : (new : Replica) (bytes : List ℕ) (tables : Names) → read_client bytes ≡ Some (ClientRecord.Subset tables) → bytes ≡ client_bytes (ClientRecord.Subset tables) → TablesNow tables r new → Took past r new bytes owed
+  tables_taken new bytes tables read spelled t = record {
+    next = ClientRecord.Subset tables;
+    read = read;
+    spelled = spelled;
+    admitted = λ ahead some. tables_by (not (is_empty ahead)) _ ∙ both w.unnamed (both (ap (λ (o : Option Names). not (is_there o)) t.none) (both (ap is_empty t.bare) (both (ap is_empty w.parts) (ap not some))));
+    fits = tt;
+    then_past = past;
+    within = record {
+      parts = w.parts;
+      front = w.front;
+      count = w.count ∙ sym (ap (λ (q : Replica). q.count) t.is);
+      born = ap (λ (q : Replica). is_there q.id) t.is ∙ w.born;
+      unnamed = ap (λ (q : Replica). q.ident == 0) t.is ∙ w.unnamed;
+    };
+    after = sym (ap (seen past) t.is);
+  }
+
+  pub tables_declined : (bytes : List ℕ) (tables : Names) → read_client bytes ≡ Some (ClientRecord.Subset tables) → (r.subset ≡ None → r.unsent ≡ [] → ⊥) → Declines bytes
+  tables_declined bytes tables read no = declined bytes (ClientRecord.Subset tables) read (λ ahead. tables_by (not (is_empty ahead)) _ ∙ second_false (r.ident == 0) _ (go r.subset r.unsent no))
+    where
+      go : {more : Bool} (o : Option Names) (us : List (Unsent Instr)) → (o ≡ None → us ≡ [] → ⊥) → (not (is_there o) && (is_empty us && more)) ≡ false
+      go None [] h = absurd (h refl refl)
+      go None (u ∷ us) h = refl
+      go (Some t) us h = refl
+
+  abbrev wait : ℕ → ℕ → ℕ → Bytes → Bytes → ClientRecord
+  wait number base ms body current = ClientRecord.Waits number base ms body current
+
+  pub waits_taken : (new : Replica) (bytes : List ℕ) (number base ms : ℕ) (body current : Bytes) → read_client bytes ≡ Some (ClientRecord.Waits number base ms body current) → bytes ≡ client_bytes (ClientRecord.Waits number base ms body current) → IsClientRecord the_profile (ClientRecord.Waits number base ms body current)
+      → (owed ≡ 0 → ⊥) → WaitsNow number base ms body current r new → Took past r new bytes (owed - 1)
+  waits_taken new bytes number base ms body current read spelled fits some t = go owed refl some
+    where
+      o : Original Instr
+      o = record { base = base; number = number; ms = ms; instrs = t.original.instrs }
+
+      next_is : number ≡ suc (length past.made)
+      next_is = t.next ∙ ap suc (sym w.count)
+
+      go : (n : ℕ) → owed ≡ n → (n ≡ 0 → ⊥) → Took past r new bytes (n - 1)
+      go zero is no = absurd (no refl)
+      go (suc n) is no =
+          let front : past.front ≡ Some (suc n) = w.front ∙ ap (λ k. Some k) is in
+          let less : suc n - 1 ≡ n = omega arith in
+          record {
+            next = ClientRecord.Waits number base ms body current;
+            read = read;
+            spelled = spelled;
+            admitted = λ ahead more. both (ap some_come front) (both (eq-eqb number (suc (length past.made)) next_is) (both (ap not more) (both (ap is_fine t.read.read) (ap is_fine t.read_current.read))));
+            fits = fits;
+            then_past = record past { front = Some n; made = past.made ++ o ∷ [] };
+            within = record {
+              parts = w.parts;
+              front = ap (λ k. Some k) (sym less);
+              count = length-append past.made (o ∷ []) ∙ add-one (length past.made) ∙ sym next_is ∙ sym (ap (λ (q : Replica). q.count) t.is);
+              born = ap (λ (q : Replica). is_there q.id) t.is ∙ w.born;
+              unnamed = ap (λ (q : Replica). q.ident == 0) t.is ∙ w.unnamed;
+            };
+            after =
+                (λ i. record (seen past r) {
+                  front = Rattle.sync_model.specs.Clients.one_less (front i);
+                  made = past.made ++ record { base = base; number = number; ms = ms; instrs = ok_list (t.read.read i) } ∷ [];
+                  unsent = r.unsent ++ record { original = record { base = base; number = number; ms = ms; instrs = ok_list (t.read.read i) }; current = ok_list (t.read_current.read i) } ∷ [];
+                })
+                ∙ sym (ap (seen (record past { front = Some n; made = past.made ++ o ∷ [] })) t.is);
+          }
+
+  pub waits_declined : (bytes : List ℕ) (number base ms : ℕ) (body current : Bytes) → read_client bytes ≡ Some (ClientRecord.Waits number base ms body current) → NoWaits number body current r → Declines bytes
+  waits_declined bytes number base ms body current read no = declined bytes (ClientRecord.Waits number base ms body current) read (λ ahead. second_false (some_come past.front) _ (go no))
+    where
+      go : {more : Bool} → NoWaits number body current r → ((number == suc (length past.made)) && (more && (is_fine (unspell body) && is_fine (unspell current)))) ≡ false
+      go (other_number h) = ap (λ b. b && _) (test_false number (suc (length past.made)) (λ e. h (e ∙ ap suc w.count)))
+      go {more} (bad_body h) = second_false (number == suc (length past.made)) _ (second_false more _ (ap (λ b. b && is_fine (unspell current)) h))
+      go {more} (bad_current h) = second_false (number == suc (length past.made)) _ (second_false more _ (second_false (is_fine (unspell body)) _ h))
+
+  pub waits_none : (bytes : List ℕ) (number base ms : ℕ) (body current : Bytes) → read_client bytes ≡ Some (ClientRecord.Waits number base ms body current) → owed ≡ 0 → Declines bytes
+  waits_none bytes number base ms body current read none =
+      declined bytes (ClientRecord.Waits number base ms body current) read (λ ahead. ap (λ o. some_come o && ((number == suc (length past.made)) && (not (is_empty ahead) && (is_fine (unspell body) && is_fine (unspell current))))) (w.front ∙ ap (λ n. Some n) none))

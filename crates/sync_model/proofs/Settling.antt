@@ -7,9 +7,9 @@ use Rattle.sync_model.specs.Clients.{Client, ClientRecord, Born, Named, Made, To
 use Rattle.sync_model.specs.Worlds.{is_there}
 use Rattle.sync_model.specs.Files.{is_empty, is_growing, is_blank, all_came, some_come, may_grow, tables_fit, client_admits, client_opens}
 
-pub length_blanks : {I : Type 0} (k n : ℕ) → length (blanks {I = I} k n) ≡ n
-length_blanks k zero = refl
-length_blanks {I = I} k (suc n) = ap suc (length_blanks {I = I} (suc k) n)
+pub length_blanks : (I : Type 0) (k n : ℕ) → length (blanks {I = I} k n) ≡ n
+length_blanks I k zero = refl
+length_blanks I k (suc n) = ap suc (length_blanks I (suc k) n)
 
 first : (x y : Bool) → (x && y) ≡ true → x ≡ true
 first true y f = refl

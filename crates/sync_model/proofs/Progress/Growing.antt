@@ -1,5 +1,5 @@
 -- Whatever happens, the history, cursors and what clients made only grow, and a uuid and its ident stay.
-use Rattle.std.proofs.Common.{append-nil, append_assoc, ◌≡◌, ◌≢◌, ℕ, ◌≤◌, Bool, true, false, ◌&&◌, ◌||◌, not, List, [], ◌∷◌, ◌++◌, Option, Some, None, Result, Ok, Err, refl, sym, ap, ◌∙◌, subst, arith, if◌then◌else◌, length, length-append, eqb-true, ◌==◌, map}
+use Rattle.std.proofs.Common.{append-nil, append_assoc, ◌≡◌, ◌≢◌, ℕ, zero, suc, ◌≤◌, Bool, true, false, ◌&&◌, ◌||◌, not, List, [], ◌∷◌, ◌++◌, Option, Some, None, Result, Ok, Err, refl, sym, ap, ◌∙◌, subst, arith, if◌then◌else◌, length, length-append, eqb-true, ◌==◌, map}
 use Rattle.std.specs.Prelude.{bytes_eq, ⊤}
 use Rattle.sync_theory.specs.Changesets.{Changeset}
 use Rattle.sync_theory.specs.Logs.{Entry as LogEntry, of_origin}
