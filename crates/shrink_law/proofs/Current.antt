@@ -154,11 +154,11 @@ module _ {I S : Type 0} (p : Profile I S) where
   -- ---- all records
 
   -- how many transactions the front of a short file counts
-  resumed_by : ClientRecord → ℕ
+  abbrev resumed_by : ClientRecord → ℕ
   resumed_by (Resumed number waiting) = number
   resumed_by r = 0
 
-  resumed : List ClientRecord → ℕ
+  abbrev resumed : List ClientRecord → ℕ
   resumed [] = 0
   resumed (r ∷ rs) = resumed_by r + resumed rs
 

@@ -110,22 +110,25 @@ impl Replica {
         ensures { (past : Past) → WithinFront waiting past self.old → GrowsOn past self.old self.new (drop place records.now) (λ n. drop (place + n) records.now) place result }
     {
         let mut owed = waiting;
-        let mut next = place;
-        while !is_of_state(records.at(next)) {
+        for next in place..records.len() {
+            let bytes = records.at(next);
+            if is_of_state(bytes) {
+                if owed != 0 {
+                    return Err(ReadRefusal::BadRecord { place: next });
+                }
+                return self.admit_parts(alloc, records, next, true);
+            }
             if next + 1 == records.len() {
                 return Err(ReadRefusal::BadRecord { place: next });
             }
-            match self.admit_behind(alloc, records.at(next), owed) {
+            match self.admit_behind(alloc, bytes, owed) {
                 Ok(Some(left)) => owed = left,
                 Ok(None) => return Err(ReadRefusal::BadRecord { place: next }),
                 Err(NoMemory) => return Err(ReadRefusal::NoMemory),
             }
-            next += 1;
         }
-        if owed != 0 {
-            return Err(ReadRefusal::BadRecord { place: next });
-        }
-        self.admit_parts(alloc, records, next, true)
+        // No record is left only where none was there.
+        Err(ReadRefusal::NoMemory)
     }
 
     /// Takes a record of the front that isn't of its state: how many unsent changesets are to come then, or none where a
