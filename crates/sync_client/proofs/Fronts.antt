@@ -107,7 +107,7 @@ went_grows a b r s new file mid behind behind2 m place place2 (Ok next) x there 
       m + g.0,
       omega (arith, g_is, there),
       omega (arith, some),
-      subst (λ l. GrewSome a r new file l (m + g.0)) (same g.0) record {
+      subst (λ l. GrewSome a r new file l (m + g.0)) (same g.0) (record {
         next = x.next ++ y.next;
         count_is = omega (arith, x_is, y_is, long);
         spelled = x.spelled ∙ ap (λ l. map client_bytes x.next ++ l) y.spelled ∙ sym (append_assoc (map client_bytes x.next) (map client_bytes y.next) (behind2 g.0)) ∙ ap (λ l. l ++ behind2 g.0) (sym (map_both x.next y.next));
@@ -117,7 +117,7 @@ went_grows a b r s new file mid behind behind2 m place place2 (Ok next) x there 
         goes_on = x.goes_on ∙ ap (read_puts x.next) y.goes_on ∙ sym (puts_both x.next y.next (reading (seen y.then_past new) (behind2 g.0)));
         opens = x.opens y.next (nonempty y.next (omega (arith, some, y_is))) y.opens;
         each = each_append x.each y.each;
-      },
+      }),
     )
   where
     nonempty : (ts : List ClientRecord) → 1 ≤ length ts → is_empty ts ≡ false
@@ -287,6 +287,9 @@ module _ (past : Past) (r : Replica) (owed : ℕ) (w : WithinFront owed past r) 
   waits_on : (rest : Bool) → (is_there r.id && (not (is_growing (seen past r)) && rest)) ≡ false
   waits_on rest = second_false (is_there r.id) _ (ap (λ b. not b && rest) growing)
 
+  waits_for_ident : (rest : Bool) → (not (r.ident == 0) && rest) ≡ false
+  waits_for_ident rest = ap (λ b. not b && rest) w.unnamed
+
   tables_by : (more x : Bool) → tables_fit (seen past r) more past.front x ≡ ((r.ident == 0) && (not (is_there r.subset) && (is_empty r.unsent && (is_empty past.parts && more))))
   tables_by more x = ap (λ o. tables_fit (seen past r) more o x) w.front
 
@@ -295,7 +298,7 @@ module _ (past : Past) (r : Replica) (owed : ℕ) (w : WithinFront owed past r) 
   last_admits (ClientRecord.Born id) h = ap not w.born
   last_admits (ClientRecord.Named ident) h = waits_on _
   last_admits (ClientRecord.Made number ms body) h = waits_on _
-  last_admits (ClientRecord.Took origin number ms body) h = ap (λ b. not b && _) w.unnamed
+  last_admits (ClientRecord.Took origin number ms body) h = waits_for_ident _
   last_admits ClientRecord.Form h = waits_on _
   last_admits (ClientRecord.Subset tables) h = tables_by false _ ∙ second_false (r.ident == 0) _ (second_false (not (is_there r.subset)) _ (second_false (is_empty r.unsent) _ (second_false (is_empty past.parts) false refl)))
   last_admits (ClientRecord.Part body) h = absurd h
@@ -355,7 +358,7 @@ module _ (past : Past) (r : Replica) (owed : ℕ) (w : WithinFront owed past r) 
   strange (ClientRecord.Born id) h ahead = ap not w.born
   strange (ClientRecord.Named ident) h ahead = waits_on _
   strange (ClientRecord.Made number ms body) h ahead = waits_on _
-  strange (ClientRecord.Took origin number ms body) h ahead = ap (λ b. not b && _) w.unnamed
+  strange (ClientRecord.Took origin number ms body) h ahead = waits_for_ident _
   strange ClientRecord.Form h ahead = waits_on _
   strange (ClientRecord.Resumed number waiting) h ahead = second_false (is_blank (seen past r)) _ (ap (λ b. not b && (not (is_empty ahead) && nat_le (number + waiting) 4294967295)) growing)
   strange (ClientRecord.Subset tables) h ahead = absurd h
@@ -391,9 +394,6 @@ module _ (past : Past) (r : Replica) (owed : ℕ) (w : WithinFront owed past r) 
       go None [] h = absurd (h refl refl)
       go None (u ∷ us) h = refl
       go (Some t) us h = refl
-
-  abbrev wait : ℕ → ℕ → ℕ → Bytes → Bytes → ClientRecord
-  wait number base ms body current = ClientRecord.Waits number base ms body current
 
   pub waits_taken : (new : Replica) (bytes : List ℕ) (number base ms : ℕ) (body current : Bytes) → read_client bytes ≡ Some (ClientRecord.Waits number base ms body current) → bytes ≡ client_bytes (ClientRecord.Waits number base ms body current) → IsClientRecord the_profile (ClientRecord.Waits number base ms body current)
       → (owed ≡ 0 → ⊥) → WaitsNow number base ms body current r new → Took past r new bytes (owed - 1)
@@ -437,7 +437,7 @@ module _ (past : Past) (r : Replica) (owed : ℕ) (w : WithinFront owed past r) 
   waits_declined bytes number base ms body current read no = declined bytes (ClientRecord.Waits number base ms body current) read (λ ahead. second_false (some_come past.front) _ (go no))
     where
       go : {more : Bool} → NoWaits number body current r → ((number == suc (length past.made)) && (more && (is_fine (unspell body) && is_fine (unspell current)))) ≡ false
-      go (other_number h) = ap (λ b. b && _) (test_false number (suc (length past.made)) (λ e. h (e ∙ ap suc w.count)))
+      go {more} (other_number h) = ap (λ b. b && (more && (is_fine (unspell body) && is_fine (unspell current)))) (test_false number (suc (length past.made)) (λ e. h (e ∙ ap suc w.count)))
       go {more} (bad_body h) = second_false (number == suc (length past.made)) _ (second_false more _ (ap (λ b. b && is_fine (unspell current)) h))
       go {more} (bad_current h) = second_false (number == suc (length past.made)) _ (second_false more _ (second_false (is_fine (unspell body)) _ h))
 

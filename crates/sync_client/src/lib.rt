@@ -10,6 +10,7 @@ mod opening;
 mod refusal;
 mod replica;
 mod sending;
+mod standing;
 mod tables;
 mod taking;
 mod transactions;
