@@ -72,7 +72,7 @@ tables_admitted past r t tables was born none early is = record {
     no_tables (Some t) e = cc
 
 pub tables_declined : (past : Past) (r : Replica) (tables : Tables) → IsPast past r → (is_some r.id ≡ true → is_some r.subset ≡ false → is_late (seen past r) ≡ false → ⊥) → (ahead : List (Option ClientRecord)) → client_admits the_profile (seen past r) ahead (Subset tables) ≡ false
-tables_declined past r tables was no ahead = tables_are past r tables was ahead ∙ go r.id r.subset (is_late (seen past r)) (not (is_growing (seen past r))) no
+tables_declined past r tables was never_so ahead = tables_are past r tables was ahead ∙ go r.id r.subset (is_late (seen past r)) (not (is_growing (seen past r))) never_so
   where
     go : (a : Option (List ℕ)) (b : Option Tables) (l g : Bool) → (is_some a ≡ true → is_some b ≡ false → l ≡ false → ⊥) → (is_there a && (g && (not (is_there b) && not l))) ≡ false
     go None b l g h = refl

@@ -18,4 +18,4 @@ pub behind_not : (version : ℕ) (us : List (Unsent Instr)) (place : ℕ) (u : U
 behind_not version us place u s there is high = s ∙ ap (all_behind version) (drop_at us place u there is) ∙ ap (λ b. b && all_behind version (drop (place + 1) us)) (lt-leb u.original.base version high)
 
 pub behind_end : (version : ℕ) (us : List (Unsent Instr)) (place : ℕ) → BehindSoFar version us place → length us ≤ place → all_behind version us ≡ true
-behind_end version us place s end_ = s ∙ ap (all_behind version) (drop_of_length-le us place end_)
+behind_end version us place s end_ = s ∙ ap (all_behind version) (drop_of_length-le us end_)

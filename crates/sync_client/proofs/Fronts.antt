@@ -14,18 +14,25 @@ use Rattle.sync_model.specs.Worlds.{is_there}
 use Rattle.sync_model.proofs.Limits.{each_append}
 use Rattle.sync_model.proofs.Own.{after_append, if_true, if_false}
 use Rattle.sync_model.proofs.Settling.{blank_waiting, length_blanks, no_front}
+use Rattle.std.specs.Option.{option_map}
+use Rattle.sync_records.specs.declared.client.ClientRecord.{ClientRecord as CodeRecord}
+use Rattle.sync_records.specs.declared.client.ClientRecord.TheVariants as codes
+use Rattle.sync_records.specs.Limits.{IsClientRecord as IsSpelled}
+use Rattle.sync_records.specs.Reading.{client_forms, record_in}
+use Rattle.sync_records.specs.Spelling.{client_spelling}
 use Rattle.sync_exchange.specs.Profile.{the_profile, unspell}
-use Rattle.sync_exchange.specs.Seen.{client_bytes, read_client}
+use Rattle.sync_exchange.specs.Seen.{client_bytes, client_seen, read_client}
 use Rattle.sync_journal.specs.declared.opening.ReadRefusal.{ReadRefusal}
 use Rattle.sync_journal.specs.declared.opening.ReadRefusal.TheVariants as reads
 use Rattle.sync_client.specs.declared.replica.Replica.{Replica}
-use Rattle.sync_client.specs.Fronts.{IsNoFront, IsOfFront, IsResumed, NoWaits, other_number, bad_body, bad_current, Tables, TablesNow, Took, Waits, WaitsNow, WithinFront}
+use Rattle.sync_client.specs.Fronts.{Behind, FindsResumed, IsNoFront, IsOfFront, IsResumed, NoWaits, other_number, bad_body, bad_current, Tables, TablesNow, Took, Waits, WaitsNow, WithinFront}
 use Rattle.sync_client.specs.Keeping.{Keeps}
 use Rattle.sync_client.specs.Parts.{IsNoState, IsOfState, OfState}
 use Rattle.sync_client.specs.Reading.{GrewSome, GrowsOn, MayGrow, ReadSome, ReadsOn, read_puts}
 use Rattle.sync_client.specs.Seen.{Past, seen}
 use Rattle.sync_client.proofs.Records.{past_of}
-use Rattle.sync_client.proofs.States.{blank_grows, grown_on, none_refused}
+use Rattle.std.proofs.Math.ListN.{drop_of_length-le}
+use Rattle.sync_client.proofs.States.{blank_grows, grown_on, none_refused, some_left}
 
 abbrev Seen : Type 0
 Seen = Client Instr State
@@ -224,23 +231,23 @@ front_unread before records place bytes left of_front none = (0, omega arith, ap
 -- the client isn't blank, the counts are too large, or nothing follows
 pub front_refused : (before : List ClientRecord) (r : Replica) (k : Keeps before r) (number waiting : ℕ) (records : List (List ℕ)) (place : ℕ) (bytes : List ℕ) → drop place records ≡ bytes ∷ drop (place + 1) records → IsResumed bytes (number, waiting)
     → ((is_blank (seen k.past r) ≡ true) → (number + waiting ≤ 4294967295) → is_empty (drop (place + 1) records) ≡ false → ⊥) → Refused before records place
-front_refused before r k number waiting records place bytes left is no = (
+front_refused before r k number waiting records place bytes left is never_so = (
   0,
   omega arith,
   ap (reading (client_of the_profile before)) left ∙ ap (λ (c : Seen). reading c (bytes ∷ drop (place + 1) records)) k.stands_for
       ∙ stops_here (seen k.past r) bytes (drop (place + 1) records) (ClientRecord.Resumed number waiting) is.read
-      (go (is_blank (seen k.past r)) (is_growing (seen k.past r)) (drop (place + 1) records) refl refl no),
+      (go (is_blank (seen k.past r)) (is_growing (seen k.past r)) (drop (place + 1) records) refl refl never_so),
 )
   where
     go : (b g : Bool) (rest : List (List ℕ)) → is_blank (seen k.past r) ≡ b → rest ≡ drop (place + 1) records → ((b ≡ true) → (number + waiting ≤ 4294967295) → is_empty rest ≡ false → ⊥) → (b && (not g && (not (is_empty (map read_client rest)) && nat_le (number + waiting) 4294967295))) ≡ false
-    go false g rest e f no = refl
-    go true true rest e f no = refl
-    go true false [] e f no = refl
-    go true false (x ∷ rest) e f no = large (nat_le (number + waiting) 4294967295) refl
+    go false g rest e f h = refl
+    go true true rest e f h = refl
+    go true false [] e f h = refl
+    go true false (x ∷ rest) e f h = large (nat_le (number + waiting) 4294967295) refl
       where
         large : (t : Bool) → nat_le (number + waiting) 4294967295 ≡ t → t ≡ false
         large false z = refl
-        large true z = absurd (no refl (Rattle.std.proofs.lemmas.Bool.leb-true (number + waiting) 4294967295 z) refl)
+        large true z = absurd (h refl (Rattle.std.proofs.lemmas.Bool.leb-true (number + waiting) 4294967295 z) refl)
 
 -- ---- behind it
 
@@ -284,8 +291,8 @@ module _ (past : Past) (r : Replica) (owed : ℕ) (w : WithinFront owed past r) 
   growing : is_growing (seen past r) ≡ true
   growing = ap (λ (o : Option ℕ). is_there o || (not (is_empty past.parts) && not (is_there r.floor))) w.front
 
-  waits_on : (rest : Bool) → (is_there r.id && (not (is_growing (seen past r)) && rest)) ≡ false
-  waits_on rest = second_false (is_there r.id) _ (ap (λ b. not b && rest) growing)
+  waits_more : (rest : Bool) → (is_there r.id && (not (is_growing (seen past r)) && rest)) ≡ false
+  waits_more rest = second_false (is_there r.id) _ (ap (λ b. not b && rest) growing)
 
   waits_for_ident : (rest : Bool) → (not (r.ident == 0) && rest) ≡ false
   waits_for_ident rest = ap (λ b. not b && rest) w.unnamed
@@ -296,10 +303,10 @@ module _ (past : Past) (r : Replica) (owed : ℕ) (w : WithinFront owed past r) 
   -- nothing follows, and it isn't of the state
   last_admits : (x : ClientRecord) → IsNoState (Some x) → client_admits the_profile (seen past r) [] x ≡ false
   last_admits (ClientRecord.Born id) h = ap not w.born
-  last_admits (ClientRecord.Named ident) h = waits_on _
-  last_admits (ClientRecord.Made number ms body) h = waits_on _
+  last_admits (ClientRecord.Named ident) h = waits_more _
+  last_admits (ClientRecord.Made number ms body) h = waits_more _
   last_admits (ClientRecord.Took origin number ms body) h = waits_for_ident _
-  last_admits ClientRecord.Form h = waits_on _
+  last_admits ClientRecord.Form h = waits_more _
   last_admits (ClientRecord.Subset tables) h = tables_by false _ ∙ second_false (r.ident == 0) _ (second_false (not (is_there r.subset)) _ (second_false (is_empty r.unsent) _ (second_false (is_empty past.parts) false refl)))
   last_admits (ClientRecord.Part body) h = absurd h
   last_admits (ClientRecord.Floor version) h = absurd h
@@ -341,7 +348,7 @@ module _ (past : Past) (r : Replica) (owed : ℕ) (w : WithinFront owed past r) 
   Declines bytes = (ahead : List (Option ClientRecord)) (go : ClientRecord → Result (List ClientRecord) ℕ) → read_one (read_client bytes) (client_admits the_profile (seen past r) ahead) go ≡ Err 0
 
   declined : (bytes : List ℕ) (x : ClientRecord) → read_client bytes ≡ Some x → ((ahead : List (Option ClientRecord)) → client_admits the_profile (seen past r) ahead x ≡ false) → Declines bytes
-  declined bytes x read no ahead go = ap (λ o. read_one o (client_admits the_profile (seen past r) ahead) go) read ∙ if_false (client_admits the_profile (seen past r) ahead x) _ _ (no ahead)
+  declined bytes x read declines ahead go = ap (λ o. read_one o (client_admits the_profile (seen past r) ahead) go) read ∙ if_false (client_admits the_profile (seen past r) ahead x) _ _ (declines ahead)
 
   pub declined_none : (bytes : List ℕ) → read_client bytes ≡ None → Declines bytes
   declined_none bytes read ahead go = ap (λ o. read_one o (client_admits the_profile (seen past r) ahead) go) read
@@ -356,10 +363,10 @@ module _ (past : Past) (r : Replica) (owed : ℕ) (w : WithinFront owed past r) 
 
   strange : (x : ClientRecord) → IsStrange x → (ahead : List (Option ClientRecord)) → client_admits the_profile (seen past r) ahead x ≡ false
   strange (ClientRecord.Born id) h ahead = ap not w.born
-  strange (ClientRecord.Named ident) h ahead = waits_on _
-  strange (ClientRecord.Made number ms body) h ahead = waits_on _
+  strange (ClientRecord.Named ident) h ahead = waits_more _
+  strange (ClientRecord.Made number ms body) h ahead = waits_more _
   strange (ClientRecord.Took origin number ms body) h ahead = waits_for_ident _
-  strange ClientRecord.Form h ahead = waits_on _
+  strange ClientRecord.Form h ahead = waits_more _
   strange (ClientRecord.Resumed number waiting) h ahead = second_false (is_blank (seen past r)) _ (ap (λ b. not b && (not (is_empty ahead) && nat_le (number + waiting) 4294967295)) growing)
   strange (ClientRecord.Subset tables) h ahead = absurd h
   strange (ClientRecord.Part body) h ahead = absurd h
@@ -388,12 +395,12 @@ module _ (past : Past) (r : Replica) (owed : ℕ) (w : WithinFront owed past r) 
   }
 
   pub tables_declined : (bytes : List ℕ) (tables : Names) → read_client bytes ≡ Some (ClientRecord.Subset tables) → (r.subset ≡ None → r.unsent ≡ [] → ⊥) → Declines bytes
-  tables_declined bytes tables read no = declined bytes (ClientRecord.Subset tables) read (λ ahead. tables_by (not (is_empty ahead)) _ ∙ second_false (r.ident == 0) _ (go r.subset r.unsent no))
+  tables_declined bytes tables read never_so = declined bytes (ClientRecord.Subset tables) read (λ ahead. tables_by (not (is_empty ahead)) _ ∙ second_false (r.ident == 0) _ (go _ r.subset r.unsent never_so))
     where
-      go : {more : Bool} (o : Option Names) (us : List (Unsent Instr)) → (o ≡ None → us ≡ [] → ⊥) → (not (is_there o) && (is_empty us && more)) ≡ false
-      go None [] h = absurd (h refl refl)
-      go None (u ∷ us) h = refl
-      go (Some t) us h = refl
+      go : (more : Bool) (o : Option Names) (us : List (Unsent Instr)) → (o ≡ None → us ≡ [] → ⊥) → (not (is_there o) && (is_empty us && more)) ≡ false
+      go more None [] h = absurd (h refl refl)
+      go more None (u ∷ us) h = refl
+      go more (Some t) us h = refl
 
   pub waits_taken : (new : Replica) (bytes : List ℕ) (number base ms : ℕ) (body current : Bytes) → read_client bytes ≡ Some (ClientRecord.Waits number base ms body current) → bytes ≡ client_bytes (ClientRecord.Waits number base ms body current) → IsClientRecord the_profile (ClientRecord.Waits number base ms body current)
       → (owed ≡ 0 → ⊥) → WaitsNow number base ms body current r new → Took past r new bytes (owed - 1)
@@ -406,8 +413,8 @@ module _ (past : Past) (r : Replica) (owed : ℕ) (w : WithinFront owed past r) 
       next_is = t.next ∙ ap suc (sym w.count)
 
       go : (n : ℕ) → owed ≡ n → (n ≡ 0 → ⊥) → Took past r new bytes (n - 1)
-      go zero is no = absurd (no refl)
-      go (suc n) is no =
+      go zero is h = absurd (h refl)
+      go (suc n) is h =
           let front : past.front ≡ Some (suc n) = w.front ∙ ap (λ k. Some k) is in
           let less : suc n - 1 ≡ n = omega arith in
           record {
@@ -434,13 +441,63 @@ module _ (past : Past) (r : Replica) (owed : ℕ) (w : WithinFront owed past r) 
           }
 
   pub waits_declined : (bytes : List ℕ) (number base ms : ℕ) (body current : Bytes) → read_client bytes ≡ Some (ClientRecord.Waits number base ms body current) → NoWaits number body current r → Declines bytes
-  waits_declined bytes number base ms body current read no = declined bytes (ClientRecord.Waits number base ms body current) read (λ ahead. second_false (some_come past.front) _ (go no))
+  waits_declined bytes number base ms body current read why = declined bytes (ClientRecord.Waits number base ms body current) read (λ ahead. second_false (some_come past.front) _ (go _ why))
     where
-      go : {more : Bool} → NoWaits number body current r → ((number == suc (length past.made)) && (more && (is_fine (unspell body) && is_fine (unspell current)))) ≡ false
-      go {more} (other_number h) = ap (λ b. b && (more && (is_fine (unspell body) && is_fine (unspell current)))) (test_false number (suc (length past.made)) (λ e. h (e ∙ ap suc w.count)))
-      go {more} (bad_body h) = second_false (number == suc (length past.made)) _ (second_false more _ (ap (λ b. b && is_fine (unspell current)) h))
-      go {more} (bad_current h) = second_false (number == suc (length past.made)) _ (second_false more _ (second_false (is_fine (unspell body)) _ h))
+      go : (more : Bool) → NoWaits number body current r → ((number == suc (length past.made)) && (more && (is_fine (unspell body) && is_fine (unspell current)))) ≡ false
+      go more (other_number h) = ap (λ b. b && (more && (is_fine (unspell body) && is_fine (unspell current)))) (test_false number (suc (length past.made)) (λ e. h (e ∙ ap suc w.count)))
+      go more (bad_body h) = second_false (number == suc (length past.made)) _ (second_false more _ (ap (λ b. b && is_fine (unspell current)) h))
+      go more (bad_current h) = second_false (number == suc (length past.made)) _ (second_false more _ (second_false (is_fine (unspell body)) _ h))
 
   pub waits_none : (bytes : List ℕ) (number base ms : ℕ) (body current : Bytes) → read_client bytes ≡ Some (ClientRecord.Waits number base ms body current) → owed ≡ 0 → Declines bytes
   waits_none bytes number base ms body current read none =
       declined bytes (ClientRecord.Waits number base ms body current) read (λ ahead. ap (λ o. some_come o && ((number == suc (length past.made)) && (not (is_empty ahead) && (is_fine (unspell body) && is_fine (unspell current))))) (w.front ∙ ap (λ n. Some n) none))
+
+-- ---- what was found, of the record that was read
+pub tables_true : (tables : Names) (old new : Replica) (b : Bool) → b ≡ true → Tables tables old new (Ok b) → TablesNow tables old new
+tables_true tables old new true e t = t
+tables_true tables old new false e t = cc
+
+pub waits_true : (number base ms : ℕ) (body current : Bytes) (old new : Replica) (b : Bool) → b ≡ true → Waits number base ms body current old new (Ok b) → WaitsNow number base ms body current old new
+waits_true number base ms body current old new true e t = t
+waits_true number base ms body current old new false e t = cc
+
+pub tables_on : (past : Past) (r : Replica) (owed : ℕ) → WithinFront owed past r → (new : Replica) (bytes : List ℕ) (x : CodeRecord) (tables : Names) → record_in client_forms bytes ≡ Some x → bytes ≡ client_spelling x → x ≡ codes.Subset tables → TablesNow tables r new → Took past r new bytes owed
+tables_on past r owed w new bytes x tables read spelled is t = tables_taken past r owed w new bytes tables (ap (option_map client_seen) (read ∙ ap (λ q. Some q) is)) (spelled ∙ ap client_spelling is) t
+
+pub waits_on : (past : Past) (r : Replica) (owed : ℕ) → WithinFront owed past r → (new : Replica) (bytes : List ℕ) (x : CodeRecord) (number base ms : ℕ) (body current : Bytes) → record_in client_forms bytes ≡ Some x → bytes ≡ client_spelling x → IsSpelled x → x ≡ codes.Waits number base ms body current
+    → (owed ≡ 0 → ⊥) → WaitsNow number base ms body current r new → Took past r new bytes (owed - 1)
+waits_on past r owed w new bytes x number base ms body current read spelled fits is some t =
+    let f = subst IsSpelled is fits in
+    let f0 = f.0 in
+    let f1 = f.1 in
+    waits_taken past r owed w new bytes number base ms body current (ap (option_map client_seen) (read ∙ ap (λ q. Some q) is)) (spelled ∙ ap client_spelling is) (omega (arith, f0), omega (arith, f1), f.4) some t
+
+pub behind_none : (past : Past) (old new : Replica) (bytes : List ℕ) (f : Option ℕ) → f ≡ None → Behind past old new bytes (Ok f) → (ahead : List (Option ClientRecord)) (go : ClientRecord → Result (List ClientRecord) ℕ) → read_one (read_client bytes) (client_admits the_profile (seen past old) ahead) go ≡ Err 0
+behind_none past old new bytes None e b = b
+behind_none past old new bytes (Some n) e b = cc
+
+pub behind_some : (past : Past) (old new : Replica) (bytes : List ℕ) (f : Option ℕ) (left : ℕ) → f ≡ Some left → Behind past old new bytes (Ok f) → Took past old new bytes left
+behind_some past old new bytes f left e b = subst (λ o. Behind past old new bytes (Ok o)) e b
+
+pub finds_none : (bytes : List ℕ) (f : Option (ℕ × ℕ)) → f ≡ None → FindsResumed bytes (Ok f) → IsNoFront (read_client bytes)
+finds_none bytes f e b = subst (λ o. FindsResumed bytes (Ok o)) e b
+
+pub finds_some : (bytes : List ℕ) (f : Option (ℕ × ℕ)) (counts : ℕ × ℕ) → f ≡ Some counts → FindsResumed bytes (Ok f) → IsResumed bytes counts
+finds_some bytes f counts e b = subst (λ o. FindsResumed bytes (Ok o)) e b
+
+-- ---- places
+pub of_state_at : (records : List (List ℕ)) (place : ℕ) (bytes : List ℕ) → drop place records ≡ bytes ∷ drop (place + 1) records → IsOfState (read_client bytes) → OfState records place
+of_state_at records place bytes left is b l e =
+    let same : b ≡ bytes = (let both_are = sym e ∙ left in cc) in
+    subst (λ x. IsOfState (read_client x)) (sym same) is
+
+pub some_more_left : (records : List (List ℕ)) (place : ℕ) → place < length records → is_empty (drop place records) ≡ false
+some_more_left records place h = let t = some_left records place h in ap is_empty t.2
+
+pub none_more_left : (records : List (List ℕ)) (place : ℕ) → is_empty (drop place records) ≡ false → length records ≤ place → ⊥
+none_more_left records place some h = (let e : is_empty (drop place records) ≡ true = ap is_empty (drop_of_length-le records h) in cc)
+
+-- a place behind some records that is refused
+pub waits_stop : (first : Past) (old now : Replica) (owed : ℕ) (records : List (List ℕ)) (from place : ℕ) (s : WaitsSoFar first old now owed records from place) → Stops s.past now records place
+    → (count : ℕ) × (place ≡ from + count) × (reading (seen first old) (drop from records) ≡ Err count)
+waits_stop first old now owed records from place s stop = waits_then first old now now owed records from place (Err (reads.BadRecord place)) s stop

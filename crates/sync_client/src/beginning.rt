@@ -1,4 +1,4 @@
-ghost use Rattle.std.specs.Prelude.{◌≡◌, ◌⊎◌, ◌≤◌, ◌<◌, ◌+◌, ◌∷◌, List, ℕ, length, drop, Ok, Some, IfOk, IfSome, false, true};
+ghost use Rattle.std.specs.Prelude.{◌≡◌, ◌⊎◌, ◌≤◌, ◌<◌, ◌+◌, ◌∷◌, ◌||◌, List, ℕ, length, drop, Ok, Some, IfOk, IfSome, false, true};
 ghost use Rattle.sync_model.specs.Clients as model;
 ghost use Rattle.sync_model.specs.Files as files;
 ghost use Rattle.sync_exchange.specs.Seen.{read_client};
@@ -162,6 +162,13 @@ impl Replica {
             && self.count == 0
     }
 
+    /// Whether a part may need the second form, in the front of a short file or not.
+    fn allows(&self, within: bool) -> bool
+        ensures { result ≡ (within || self.now.second) }
+    {
+        within || self.second
+    }
+
     /// Whether no unsent changeset is of a base beyond that version.
     fn is_behind(&self, version: u32) -> bool
         ensures { result ≡ files.all_behind version self.now.unsent }
@@ -245,7 +252,8 @@ impl Replica {
         requires of_state { OfState records.now place }
         ensures { (past : Past) → MayGrow within past self.old → GrowsOn past self.old self.new (drop place records.now) (λ n. drop (place + n) records.now) place result }
     {
-        let run = run_from(alloc, records, place, within || self.second)?;
+        let second = self.allows(within);
+        let run = run_from(alloc, records, place, second)?;
         let (count, behind) = (records.len(), place + run.len());
         if behind == count {
             match end_of(alloc, run.as_slice()) {

@@ -83,6 +83,7 @@ impl Replica {
         place: usize,
     ) -> Result<usize, ReadRefusal>
         requires there { place < length records.now }
+        requires few { place + 1 < 18446744073709551616 }
         requires of_front { (bytes : List ℕ) (rest : List (List ℕ)) → drop place records.now ≡ bytes ∷ rest → IsOfFront (read_client bytes) }
         ensures { (before : List model.ClientRecord) → Keeps before self.old → ReadsOn before self.new (drop place records.now) (λ n. drop (place + n) records.now) place result }
     {
