@@ -468,9 +468,11 @@ pub waits_on : (past : Past) (r : Replica) (owed : ℕ) → WithinFront owed pas
     → (owed ≡ 0 → ⊥) → WaitsNow number base ms body current r new → Took past r new bytes (owed - 1)
 waits_on past r owed w new bytes x number base ms body current read spelled fits is some t =
     let f = subst IsSpelled is fits in
-    let f0 = f.0 in
-    let f1 = f.1 in
-    waits_taken past r owed w new bytes number base ms body current (ap (option_map client_seen) (read ∙ ap (λ q. Some q) is)) (spelled ∙ ap client_spelling is) (omega (arith, f0), omega (arith, f1), f.4) some t
+    let f0 : number < 4294967296 = f.0 in
+    let f1 : base < 4294967296 = f.1 in
+    let small : number ≤ 4294967295 = omega (arith, f0) in
+    let low : base ≤ 4294967295 = omega (arith, f1) in
+    waits_taken past r owed w new bytes number base ms body current (ap (option_map client_seen) (read ∙ ap (λ q. Some q) is)) (spelled ∙ ap client_spelling is) (small, low, f.4) some t
 
 pub behind_none : (past : Past) (old new : Replica) (bytes : List ℕ) (f : Option ℕ) → f ≡ None → Behind past old new bytes (Ok f) → (ahead : List (Option ClientRecord)) (go : ClientRecord → Result (List ClientRecord) ℕ) → read_one (read_client bytes) (client_admits the_profile (seen past old) ahead) go ≡ Err 0
 behind_none past old new bytes None e b = b

@@ -28,8 +28,10 @@ returns c = λ before k.
     let there = c.requires.there in
     let left = left_at c.args.records.now c.args.place c.at.result.now there c.at.ensures in
     let blank = sym (c.is_blank.ensures k.past k.count) ∙ c.if-not-is_blank.false in
+    let is = finds_some c.at.result.now c.in-Ok-Some.field-0 counts c.in-Ok-Some.field-0-is c.in-Ok-Some.ensures in
+    let number = is.number in
     let small = c.if-waiting-number.false in
     front_on before c.args.self.now c.admit_waiting.new.self k counts.0 counts.1 c.args.records.now c.args.place c.at.result.now c.admit_waiting.result blank
-    (finds_some c.at.result.now c.in-Ok-Some.field-0 counts c.in-Ok-Some.field-0-is c.in-Ok-Some.ensures) (omega (arith, small)) left
+    is (omega (arith, number, small)) left
     (some_more_left c.args.records.now (c.args.place + 1) (let t = c.if-place-len.false in let e = c.len.ensures in omega (arith, there, t, e)))
     (c.admit_waiting.ensures (resumed_past k.past counts.0 counts.1) (resumed_within before c.args.self.now k counts.0 counts.1 blank))
