@@ -44,15 +44,15 @@ module _ {I S : Type 0} (p : Profile I S) where
   one_keeps c ahead Form e ne = (refl, refl)
   one_keeps c ahead (Subset tables) e ne = absurd (early c.front e)
     where
+      named : (b : Bool) → (c.ident == 0) ≡ b → (f : Bool) → not (not b || f) ≡ true → ⊥
+      named true is f g = ne (eqb-true c.ident 0 is)
+      named false is f g = cc
+
       early : (o : Option ℕ) → tables_fit c (not (is_empty ahead)) o (is_there c.id && (not (is_growing c) && (not (is_there c.subset) && not (is_late c)))) ≡ true → ⊥
       early (Some n) h = ne (eqb-true c.ident 0 (both (c.ident == 0) _ h).0)
       early None h =
           let late = (both (not (is_there c.subset)) (not (is_late c)) (both (not (is_growing c)) _ (both (is_there c.id) _ h).1).1).1 in
           named (c.ident == 0) refl (has_floor c.floor || (not (length c.made == 0) || not (c.cursor == 0))) late
-
-      named : (b : Bool) → (c.ident == 0) ≡ b → (f : Bool) → not (not b || f) ≡ true → ⊥
-      named true is f g = ne (eqb-true c.ident 0 is)
-      named false is f g = cc
   one_keeps c ahead (ClientRecord.Part body) e ne = (refl, refl)
   one_keeps c ahead (ClientRecord.Floor version) e ne = (refl, refl)
   one_keeps c ahead (Resumed number waiting) e ne = (refl, refl)

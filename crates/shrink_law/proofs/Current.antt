@@ -154,20 +154,20 @@ module _ {I S : Type 0} (p : Profile I S) where
   -- ---- all records
 
   -- how many transactions the front of a short file counts
-  abbrev resumed_by : ClientRecord → ℕ
-  resumed_by (Resumed number waiting) = number
-  resumed_by r = 0
+  abbrev resumed_by : ClientRecord → ℕ → ℕ
+  resumed_by (Resumed number waiting) rest = number + rest
+  resumed_by r rest = rest
 
   abbrev resumed : List ClientRecord → ℕ
   resumed [] = 0
-  resumed (r ∷ rs) = resumed_by r + resumed rs
+  resumed (r ∷ rs) = resumed_by r (resumed rs)
 
   -- a file without one counts none
   long_none : (rs : List ClientRecord) → Each IsLong rs → resumed rs ≡ 0
   long_none [] no_more = refl
   long_none (r ∷ rs) (and_each h f) = one r h (long_none rs f)
     where
-      one : (r : ClientRecord) → IsLong r → resumed rs ≡ 0 → resumed_by r + resumed rs ≡ 0
+      one : (r : ClientRecord) → IsLong r → resumed rs ≡ 0 → resumed_by r (resumed rs) ≡ 0
       one (Born id) h e = e
       one (Named ident) h e = e
       one (Made number ms body) h e = e
@@ -212,7 +212,7 @@ module _ {I S : Type 0} (p : Profile I S) where
     where
       on : (r : ClientRecord) → (client_admits p c (map (λ q. Some q) rs) r ≡ true) × (client_opens p (after_record p c r) rs ≡ true) → (after_records p (after_record p c r) rs).ident ≡ d
           → ((m : ℕ) → Next m (after_record p c r) → Next (m + resumed rs + length (own_numbers d (tooks_of rs))) (after_records p (after_record p c r) rs))
-          → Next (n + (resumed_by r + resumed rs) + length (own_numbers d (tooks_of (r ∷ rs)))) (after_records p (after_record p c r) rs)
+          → Next (n + resumed_by r (resumed rs) + length (own_numbers d (tooks_of (r ∷ rs)))) (after_records p (after_record p c r) rs)
       on (Born id) b i go = go n (record { follow = h.follow; made = h.made })
       on (Named ident) b i go = go n (record { follow = h.follow; made = h.made })
       on (Made number ms body) b i go =
