@@ -25,18 +25,18 @@ pub fn shortened<D: Disk>(
 ) -> Result<Vec<ClientRecord>, NoMemory>
     ensures { (of : List model.ClientRecord) → IsClientOf of client.now → IfOk result (λ records. map client_seen records.items ≡ short_records the_profile (model.client_of the_profile of)) }
 {
-    let begun = client.has_begun();
     let mut records = Vec::new(alloc);
     put_id(&mut records, client)?;
     put_form(&mut records, client)?;
-    if begun {
-        put_counts(&mut records, client)?;
+    if !client.has_begun() {
+        put_tables(&mut records, client)?;
+        put_ident(&mut records, client)?;
+        return Ok(records);
     }
+    put_counts(&mut records, client)?;
     put_tables(&mut records, client)?;
-    if begun {
-        put_waits(alloc, &mut records, client.waiting())?;
-        put_objects(alloc, &mut records, client)?;
-    }
+    put_waits(alloc, &mut records, client.waiting())?;
+    put_objects(alloc, &mut records, client)?;
     put_ident(&mut records, client)?;
     Ok(records)
 }
