@@ -28,9 +28,17 @@ usage: bench/exchanges.py [--only NAME,..] [--sizes N,..] [--turns N,..] [--time
   bulk_added   two clients add to one cell N times in one transaction each
   bulk_mixed   as `words`, but all letters of a client are in one transaction, in turn with updates of objects
   hundreds     as `words`, but a transaction has a hundred letters
+  many_lists   as `words`, but in fifty lists in turn
+  erased       two clients erase N drawn elements each of one list of 4 N
+  updated      two clients update drawn elements of one list of 100, N times each
+  small_large  one client makes N transactions, in turn a letter as in `words` and an update of an object; the other the same N steps
+               in one transaction
+  columns      two clients add N columns each to one table, one in a transaction
+  hundred      a hundred clients type the N letters together, as in `eight`
+  drawn        two clients make N transactions each of one to six drawn instructions of all forms, over few objects
   gen          `gen 1 N`, for the turns N
 
-In all from `apart` to `hundreds` the clients write while they are apart, with stamps that take turns where nothing else is said.
+In all from `apart` to `drawn` the clients write while they are apart, with stamps that take turns where nothing else is said.
 Then the last one uploads, each before it takes that and uploads, and all take what is there. Places and priors are those of the
 client's own list.
 Sizes are numbers, or FIRST..LAST, doubled from one to the other. Each size is run T times (2 where it is left out), and
@@ -56,6 +64,9 @@ LETTERS = "abcdefghijklmnopqrstuvwxyz"
 WORD = 6  # letters that are typed one behind the other
 LONG_AFTER = 10_000_000  # milliseconds
 PASTE = 100  # letters of one transaction
+LISTS = 50  # of `many_lists`
+CLIENTS = 100  # of `hundred`
+OBJECTS = 6  # of `drawn`
 
 
 def instruction(op, **fields):
@@ -139,10 +150,14 @@ def objects(size):
     return script
 
 
+def name_of(number):
+    return NAMES[number] if number < len(NAMES) else f"client {number + 1}"
+
+
 def meeting(keys, *written, before=(), in_turn=True):
     """Clients with these objects make these transactions while they are apart, a list for each of them, and then meet. The first
     one made those before. The stamps take turns, or each client's are later than all of the one before."""
-    script, devices = Script(), [Device(NAMES[number], number + 1) for number in range(len(written))]
+    script, devices = Script(), [Device(name_of(number), number + 1) for number in range(len(written))]
     for device in devices:
         script.comes_in(device)
         script.there_and_back("bind", device)
@@ -395,9 +410,114 @@ def hundreds(size):
     return meeting(1, of_one(1), of_one(2))
 
 
+def many_lists(size):
+    names = [f"l{number}" for number in range(LISTS)]
+
+    def of_one(seed):
+        typists = [Typist(seed + 10 * number, column=name).words(size) for number, name in enumerate(names)]
+        for step in range(size):
+            yield next(typists[step % LISTS])
+
+    return meeting(1, of_one(1), of_one(2), before=[[column(name, "Text", False, "List") for name in names]])
+
+
+def erased(size):
+    def of_one(seed):
+        typist = Typist(seed, length=4 * size)
+        for _ in range(size):
+            yield typist.step("ListErase", typist.draw.randrange(typist.length))
+
+    return meeting(1, of_one(1), of_one(2), before=filled(4 * size))
+
+
+def filled(size):
+    """Transactions that insert so many elements into the list."""
+    letters = list(insertions(size, True))
+    return [letters[at : at + 1000] for at in range(0, size, 1000)]
+
+
+def updated(size):
+    def of_one(seed):
+        typist = Typist(seed, length=100)
+        for _ in range(size):
+            yield typist.step("ListUpdate", typist.draw.randrange(100), value=typist.draw.choice(LETTERS))
+
+    return meeting(1, of_one(1), of_one(2), before=filled(100))
+
+
+def small_large(size):
+    def of_one(seed):
+        typist = Typist(seed)
+        for number in range(1, size + 1):
+            if number % 2:
+                yield typist.letter(typist.anywhere())
+            else:
+                yield [on_cell("Update", "n", number, value=seed)]
+
+    return meeting(size, of_one(1), [[each for step in of_one(2) for each in step]])
+
+
+def columns(size):
+    def of_one(number):
+        for place in range(size):
+            yield [column(f"c{number}_{place}", "Int", False, "One")]
+
+    return meeting(0, of_one(0), of_one(1))
+
+
+def hundred(size):
+    return meeting(1, *(Typist(number).words(max(1, size // CLIENTS)) for number in range(CLIENTS)))
+
+
+class Maker:
+    """Drawn instructions of all forms over few objects, as one client has them."""
+
+    def __init__(self, seed):
+        self.draw = random.Random(seed)
+        self.lengths = {(key, name): 0 for key in range(1, OBJECTS + 1) for name in "lm"}
+        self.there = set(range(1, OBJECTS + 1))
+
+    def instruction(self):
+        key, draw = self.draw.randint(1, OBJECTS), self.draw
+        if key not in self.there:
+            self.there.add(key)
+            return instruction("CreateObject", key=key)
+        form = draw.choices(("list", "Update", "AddInteger", "SetInsert", "SetErase", "Clear", "EraseObject"), (50, 15, 15, 10, 5, 1, 1))[0]
+        if form == "list":
+            return self.of_a_list(key, draw.choice("lm"))
+        if form == "EraseObject":
+            self.there.discard(key)
+            self.lengths.update({(key, name): 0 for name in "lm"})
+            return instruction(form, key=key)
+        if form == "Clear":
+            self.lengths[key, "m"] = 0
+            return on_cell(form, "m", key)
+        if form in ("Update", "AddInteger"):
+            return on_cell(form, "n", key, **{"value" if form == "Update" else "amount": draw.randrange(100)})
+        return on_cell(form, "u", key, value=draw.randrange(20))
+
+    def of_a_list(self, key, name):
+        draw, length = self.draw, self.lengths[key, name]
+        op = draw.choices(("ListInsert", "ListErase", "ListUpdate"), (6, 3, 1))[0] if length else "ListInsert"
+        self.lengths[key, name] += {"ListInsert": 1, "ListErase": -1, "ListUpdate": 0}[op]
+        place = draw.randint(0, length) if op == "ListInsert" else draw.randrange(length)
+        value = {} if op == "ListErase" else {"value": draw.choice(LETTERS)}
+        return on_cell(op, name, key, place=place, prior=length, **value)
+
+
+def drawn(size):
+    def of_one(seed):
+        maker = Maker(seed)
+        for _ in range(size):
+            yield [maker.instruction() for _ in range(maker.draw.randint(1, 6))]
+
+    return meeting(OBJECTS, of_one(1), of_one(2), before=[[column("m", "Text", False, "List")]])
+
+
 ONE_INSTRUCTION = (objects, apart, counter, ends, one_cell, two_blocks, words, places, revised, one_place, members, eight)
 OF_APPLICATIONS = (stamped, counted, linked, added_later, two_lists, bulk, bulk_added, bulk_mixed, hundreds)
-EXCHANGES = {each.__name__: each for each in (*ONE_INSTRUCTION, twin_first, over_updates, times, *OF_APPLICATIONS)}
+OF_MANY = (many_lists, erased, updated, small_large, columns, hundred, drawn)
+EXCHANGES = {each.__name__: each for each in (*ONE_INSTRUCTION, twin_first, over_updates, times, *OF_APPLICATIONS, *OF_MANY)}
 
 
 class Run:
