@@ -1,11 +1,11 @@
 -- A barrier drops each list instruction of its cell.
-use Rattle.std.proofs.Common.{◌≡◌, ℕ, Bool, true, false, cond, List, [], ◌∷◌, ◌++◌, Option, Some, None, Result, Ok, refl, sym, ap, ◌∙◌}
+use Rattle.std.proofs.Common.{◌≡◌, ℕ, Bool, true, cond, List, [], ◌∷◌, ◌++◌, Option, Some, None, Ok, refl, ap}
 use Rattle.std.specs.Ordering.{eq_by_cmp}
 use Rattle.std.specs.Cmp.{eq_by_cmp_equiv}
 use Rattle.sync_data.specs.declared.value.Value.{Value}
 use Rattle.sync_data.specs.declared.instr.CellName.{CellName}
 use Rattle.sync_data.specs.declared.instr.Instr.{Instr}
-use Rattle.sync_base.specs.Effects.{ObjectName, CellPath, path_of, Edit, Effect, Erase, Change, Empty, effect_of}
+use Rattle.sync_base.specs.Effects.{ObjectName, CellPath, path_of, Edit, Erase, Change, Empty}
 use Rattle.sync_base.specs.States.{object_cmp}
 use Rattle.sync_base.specs.Merged.{path_cmp}
 use Rattle.sync_base.specs.Rules.{rule, kept, only_left, only_right, outcome_of}

@@ -1,5 +1,5 @@
 -- An instruction of a list goes through the slots of its lane.
-use Rattle.std.proofs.Common.{◌≡◌, ℕ, ◌+◌, ◌<◌, ◌≤◌, Bool, true, false, not, List, [], ◌∷◌, Option, Some, None, Result, Ok, refl, sym, ap, ◌∙◌, subst, length, arith}
+use Rattle.std.proofs.Common.{◌≡◌, ℕ, ◌+◌, ◌<◌, ◌≤◌, Bool, true, false, not, List, [], ◌∷◌, Option, Some, None, refl, sym, ap, ◌∙◌, subst, length, arith}
 use Rattle.std.specs.Prelude.{IfSome, ◌&&◌, ◌==◌}
 use Rattle.std.proofs.lemmas.Bool.Decides.{nat_tests}
 use Rattle.sync_data.specs.declared.value.Value.{Value}
@@ -7,8 +7,7 @@ use Rattle.sync_data.specs.declared.entry.Stamp.{Stamp}
 use Rattle.sync_data.specs.declared.instr.CellName.{CellName}
 use Rattle.sync_data.specs.declared.instr.Instr.{Instr}
 use Rattle.sync_base.specs.Rules.{top}
-use Rattle.sync_theory.specs.Lists.{and_then}
-use Rattle.sync_theory.specs.Changesets.{Changeset, is_later, later_stamp}
+use Rattle.sync_theory.specs.Changesets.{Changeset, later_stamp}
 use Rattle.sync_law.specs.Instrs.{meet}
 use Rattle.list_places.specs.Places.{longer, Within, place_after}
 use Rattle.list_places.specs.Moves.{instr_at, instr_left}
@@ -17,12 +16,12 @@ use Rattle.list_places.specs.declared.places.Does.TheVariants.{Inserts, Erases, 
 use Rattle.list_places.proofs.Rows.{grows, pair}
 use Rattle.list_places.proofs.Stands.{within_after}
 use Rattle.list_lane.specs.Ops.{moved, op_after, lane_later}
-use Rattle.list_lane.specs.Lanes.{LaneOf, Crossed, crossed, length_after, length_at_end, Chains}
+use Rattle.list_lane.specs.Lanes.{Crossed, crossed, length_after, length_at_end, Chains}
 use Rattle.list_lane.specs.Told.{stamp_of}
 use Rattle.list_lane.specs.declared.op.Op.{Op}
 use Rattle.list_lane.proofs.Chain.{crossed_none, if_some, not_not, both_lengths}
 use Rattle.list_lane.proofs.Lengths.{Lengths}
-use Rattle.slot_law.specs.Slots.{Slot, Meets, meets_in, through, ok_pair, turned, on_left, on_right}
+use Rattle.slot_law.specs.Slots.{Meets, meets_in, ok_pair, turned, on_left, on_right}
 use Rattle.slot_law.proofs.Through.{Through, end, next, none_left, through_is}
 use Rattle.slot_law.specs.Lanes.{told_by, told_slots, Owned, Goes, StillOwned}
 
@@ -71,8 +70,7 @@ left_told c v n a (Some p) = refl
 
 module _ (c : CellName) (w : Value) (e : Changeset Instr) (side : Meets (Changeset Instr) Instr) (l : Stamp → Stamp → Bool)
     (meets : (t : Changeset Instr) (v : Value) (n : ℕ) (a b : Op) → stamp_of t ≡ a.stamp → stamp_of e ≡ b.stamp → n < top
-      → meets_in side t (told_by c v n (Some a)) (told_by c w n (Some b)) ≡ Some (told_by c v (longer b.does n) (op_after (l a.stamp b.stamp) a b), told_by c w (longer a.does n) (op_after (not (l a.stamp b.stamp)) b a))) where
-
+    → meets_in side t (told_by c v n (Some a)) (told_by c w n (Some b)) ≡ Some (told_by c v (longer b.does n) (op_after (l a.stamp b.stamp) a b), told_by c w (longer a.does n) (op_after (not (l a.stamp b.stamp)) b a))) where
   abbrev GoesOn : ℕ → List (Option Op) → List (Changeset Instr × Value) → Op → Type 0
   GoesOn n ss vs b = Through side (told_slots c n ss vs) (told_by c w n (Some b)) (told_slots c (longer b.does n) (crossed l ss (Some b)).slots vs) (told_by c w (length_at_end n ss) (crossed l ss (Some b)).left)
 

@@ -1,9 +1,9 @@
 -- Items and what goes through all their slots.
-use Rattle.std.proofs.Common.{◌≡◌, ℕ, suc, Bool, List, [], ◌∷◌, ◌++◌, Option, Some, None, Result, Ok, Err, refl, sym, ap, ◌∙◌, subst, length, append-nil}
+use Rattle.std.proofs.Common.{◌≡◌, ℕ, suc, Bool, List, [], ◌∷◌, ◌++◌, Option, Some, None, Result, Ok, Err, refl, sym, ap, ◌∙◌, subst, length}
 use Rattle.std.specs.Prelude.{map}
-use Rattle.sync_theory.specs.Lists.{kept, cross, Crossing, no_left, no_right, one, beside, below}
-use Rattle.sync_theory.specs.Changesets.{Changeset, is_later, with_lists, cross_sets}
-use Rattle.sync_theory.specs.Grid.{rebase, rebase_one, rebase_put, carry, carry_one, carry_put}
+use Rattle.sync_theory.specs.Lists.{kept, Crossing, no_left, no_right, one, beside, below}
+use Rattle.sync_theory.specs.Changesets.{Changeset, is_later, cross_sets}
+use Rattle.sync_theory.specs.Grid.{rebase, carry}
 use Rattle.sync_theory.proofs.Cross.{cross_is}
 use Rattle.slot_law.specs.Slots.{Slot, Meets, meets_in, alive, Item, set_of, slots_of, flat, fill, refilled, SameItems, with_instrs, ok_pair, turned, on_left, on_right}
 use Rattle.slot_law.specs.Laws.{Rebases, Carries}

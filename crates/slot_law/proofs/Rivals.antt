@@ -1,5 +1,5 @@
 -- What finds no rival passes.
-use Rattle.std.proofs.Common.{◌≡◌, ℕ, Bool, true, false, not, ◌||◌, List, [], ◌∷◌, Option, Some, None, Result, Ok, Err, refl, sym, ap, ◌∙◌, subst}
+use Rattle.std.proofs.Common.{◌≡◌, Bool, true, false, not, ◌||◌, List, [], ◌∷◌, Option, Some, None, Result, Ok, Err, refl, sym, ap, subst}
 use Rattle.std.specs.Prelude.{IfOk}
 use Rattle.sync_data.specs.declared.instr.Instr.{Instr}
 use Rattle.sync_base.specs.declared.answers.Mismatch.{Mismatch}
@@ -12,7 +12,7 @@ use Rattle.sync_rivals.specs.Homes.{Place, eraser, first_rival, second_rival}
 use Rattle.sync_rivals.specs.Strangers.{place_of, IsFoundBy, FindsNoRival, IsAt}
 use Rattle.sync_rivals.specs.Lemmas.Strangers.{strangers_stay}
 use Rattle.sync_rivals.specs.Lemmas.Homes.{homes_stay}
-use Rattle.slot_law.specs.Slots.{Slot, Meets, meets_in, Passes, PassesOthers, InClass, StaysInClass, ok_pair, turned, on_left, on_right}
+use Rattle.slot_law.specs.Slots.{Slot, Meets, meets_in, Passes, PassesOthers, InClass, ok_pair, turned, on_left, on_right}
 use Rattle.slot_law.specs.Steps.{finds_none, IsFoundIn, OthersFound, RivalsPass}
 
 some_is : {A : Type 0} {x y : A} → Some x ≡ Some y → x ≡ y

@@ -1,9 +1,9 @@
 -- What an index passes over stays.
-use Rattle.std.proofs.Common.{◌≡◌, ℕ, Bool, List, [], ◌∷◌, Option, Some, None, Result, Ok, Err, refl, sym, ap, ◌∙◌}
+use Rattle.std.proofs.Common.{◌≡◌, ℕ, Bool, List, [], ◌∷◌, Option, Some, None, Result, Ok, Err, refl, ap}
 use Rattle.std.specs.Prelude.{IfSome}
 use Rattle.sync_theory.specs.Lists.{row, met, rowed, cross}
 use Rattle.sync_theory.specs.Changesets.{Changeset, is_later}
-use Rattle.slot_law.specs.Slots.{Slot, Meets, meets_in, ok_pair, turned, on_left, on_right}
+use Rattle.slot_law.specs.Slots.{Slot, meets_in, ok_pair, turned, on_left, on_right}
 use Rattle.slot_law.specs.Laws.{SingleStays, AllStay, Skips}
 use Rattle.slot_law.proofs.Through.{Through, end, next, through_is}
 

@@ -1,5 +1,5 @@
 -- One or several instructions go through slots.
-use Rattle.std.proofs.Common.{◌≡◌, ℕ, Bool, true, false, List, [], ◌∷◌, ◌++◌, Option, Some, None, refl, sym, ap, ◌∙◌, subst}
+use Rattle.std.proofs.Common.{◌≡◌, Bool, true, false, List, [], ◌∷◌, ◌++◌, Option, Some, None, refl, sym, ap, subst}
 use Rattle.sync_theory.specs.Lists.{and_then}
 use Rattle.slot_law.specs.Slots.{Slot, Meets, meets_in, through, all_through, pick, put, Passes, PassesOthers, InClass, StaysInClass}
 use Rattle.slot_law.specs.Laws.{Picks, Parts, Ends}

@@ -1,5 +1,5 @@
 -- What crossing instruction by instruction gives.
-use Rattle.std.specs.Prelude.{◌≡◌, ℕ, Bool, List, [], ◌∷◌, ◌++◌, Option, Some, None, Result, Ok, IsErr, IfSome, map}
+use Rattle.std.specs.Prelude.{◌≡◌, Bool, List, [], ◌∷◌, ◌++◌, Option, Some, None, Result, Ok, IsErr, IfSome, map}
 use Rattle.sync_theory.specs.Lists.{cross}
 use Rattle.sync_theory.specs.Changesets.{Changeset, cross_sets}
 use Rattle.sync_theory.specs.Grid.{rebase, carry}

@@ -1,5 +1,5 @@
 -- One incoming instruction and all slots: it meets its lane, or its rivals, and passes all others.
-use Rattle.std.specs.Prelude.{◌≡◌, ◌+◌, ◌<◌, ℕ, Bool, true, false, not, ◌||◌, List, [], ◌∷◌, ◌++◌, Option, Some, None, length}
+use Rattle.std.specs.Prelude.{◌≡◌, ◌+◌, ◌<◌, Bool, true, false, not, ◌||◌, List, [], ◌∷◌, ◌++◌, Option, Some, None, length}
 use Rattle.sync_data.specs.declared.value.Value.{Value}
 use Rattle.sync_data.specs.declared.instr.CellName.{CellName}
 use Rattle.sync_data.specs.declared.instr.Instr.{Instr}
