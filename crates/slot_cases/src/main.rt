@@ -6,12 +6,27 @@ mod model;
 mod run;
 
 use run::{Tally, run_seed};
+use std::env;
 use std::process::ExitCode;
 
 fn main(rt: HostRuntime) -> ExitCode {
     let mut tally = Tally::new();
-    for seed in 0..400u64 {
-        if run_seed(rt.alloc(), seed, &mut tally).is_none() {
+    let mut first = 0u64;
+    let mut count = 20u64;
+    let (mut items, mut steps) = (20u64, 60u64);
+    if let Ok(words) = env::args(&rt) {
+        for (place, word) in words.skip(1).enumerate() {
+            let number = word.as_str().parse().unwrap_or(0u64);
+            match place {
+                0 => first = number,
+                1 => count = number,
+                2 => items = number,
+                _ => steps = number,
+            }
+        }
+    }
+    for seed in first..first.saturating_add(count) {
+        if run_seed(rt.alloc(), seed, items, steps, &mut tally).is_none() {
             tally.failed += 1;
         }
     }

@@ -256,7 +256,7 @@ impl World {
     }
 }
 
-pub fn run_seed(alloc: Global, seed: u64, tally: &mut Tally) -> Option<()> {
+pub fn run_seed(alloc: Global, seed: u64, most_items: u64, steps: u64, tally: &mut Tally) -> Option<()> {
     let mut draw = Draw::new(seed);
     let left = draw.below(2) == 0;
     let pays = match draw.below(3) {
@@ -276,7 +276,7 @@ pub fn run_seed(alloc: Global, seed: u64, tally: &mut Tally) -> Option<()> {
             many: 16,
         },
     };
-    let size = 1 + draw.below(60);
+    let size = 1 + draw.below(most_items);
     let most = 1 + draw.below(6);
     let mut world = World {
         alloc,
@@ -292,7 +292,7 @@ pub fn run_seed(alloc: Global, seed: u64, tally: &mut Tally) -> Option<()> {
     for _ in 0..size {
         world.push()?;
     }
-    for _ in 0..150 {
+    for _ in 0..steps {
         let same = match world.draw.below(12) {
             0 | 1 => {
                 world.push()?;
