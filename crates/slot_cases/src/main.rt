@@ -1,6 +1,7 @@
 //! Drawn crossings of pending changesets, by a list of slots and by pairs.
 #![tactic(auto)]
 
+mod bench;
 mod draw;
 mod model;
 mod run;
@@ -24,6 +25,16 @@ fn main(rt: HostRuntime) -> ExitCode {
                 _ => steps = number,
             }
         }
+    }
+    if first == 999_999 {
+        let left = bench::run(rt.alloc(), count, items, true, steps == 1);
+        let right = bench::run(rt.alloc(), count, items, false, steps == 1);
+        let _ = println!(rt;
+            "kind {count} size {items}: {} {}",
+            left.unwrap_or(0),
+            right.unwrap_or(0)
+        );
+        return ExitCode::SUCCESS;
     }
     for seed in first..first.saturating_add(count) {
         if run_seed(rt.alloc(), seed, items, steps, &mut tally).is_none() {

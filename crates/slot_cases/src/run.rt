@@ -227,8 +227,7 @@ impl World {
         };
         let mut carried = self.list.carry(from, own, stamp, incoming.instrs());
         if let (Some(_), Err(Stop::Mismatch)) = (&pairs, &carried) {
-            self.list.part();
-            carried = self.list.carry(from, own, stamp, incoming.instrs());
+            carried = self.list.carry_apart(from, own, stamp, incoming.instrs());
         }
         match (pairs, carried) {
             (None, Err(Stop::Mismatch)) => {
@@ -256,7 +255,13 @@ impl World {
     }
 }
 
-pub fn run_seed(alloc: Global, seed: u64, most_items: u64, steps: u64, tally: &mut Tally) -> Option<()> {
+pub fn run_seed(
+    alloc: Global,
+    seed: u64,
+    most_items: u64,
+    steps: u64,
+    tally: &mut Tally,
+) -> Option<()> {
     let mut draw = Draw::new(seed);
     let left = draw.below(2) == 0;
     let pays = match draw.below(3) {

@@ -1,12 +1,13 @@
 use super::head::Head;
 use super::list::SlotList;
-use super::meet::{Met, Sides, meet_one};
+use super::meet::{Met, Pending, Sides, meet_one};
 use super::plan::{Across, Plan};
 use super::slot::State;
 use list_lane::{action_of, op_of, prior_of};
 use list_places::{ListAction, action_at, put_action};
 use sync_base::{CellName, Ident, Instr, NoMemory, Stamp, cell_of, same_cell};
 use sync_rivals::Pace;
+use sync_transform::both_stay;
 
 /// Why what comes doesn't cross.
 #[derive(Clone, Copy, Debug, PartialEq, Eq)]
@@ -37,7 +38,7 @@ enum Through {
 
 impl<H: Head> SlotList<H> {
     /// What is left of instructions of an incoming changeset with that stamp, behind the changesets from a place on. The list
-    /// stays as it is until `settle`.
+    /// stays as it is until `settle`. Where instructions mismatch the changesets do, unless all that a lane has fell.
     pub fn carry(
         &mut self,
         from: usize,
@@ -45,19 +46,44 @@ impl<H: Head> SlotList<H> {
         stamp: Stamp,
         instrs: &[Instr],
     ) -> Result<Vec<Instr>, Stop> {
+        self.tell_for(own);
+        self.carry_by(from, stamp, instrs, true)
+    }
+
+    /// The same without lanes: where instructions mismatch, the changesets do.
+    pub fn carry_apart(
+        &mut self,
+        from: usize,
+        own: Ident,
+        stamp: Stamp,
+        instrs: &[Instr],
+    ) -> Result<Vec<Instr>, Stop> {
+        self.write_all();
+        self.own = own;
+        self.carry_by(from, stamp, instrs, false)
+    }
+
+    fn carry_by(
+        &mut self,
+        from: usize,
+        stamp: Stamp,
+        instrs: &[Instr],
+        by_lanes: bool,
+    ) -> Result<Vec<Instr>, Stop> {
         self.turn += 1;
         self.plan = None;
         let way = Way {
             start: self.start_at(from),
             stamp,
         };
-        self.tell_for(own);
         self.list_more(way.start, instrs.len());
         let Ok(codes) = self.index.rivals_of(self.alloc, instrs) else {
             return Err(Stop::NoMemory);
         };
-        self.join_more(way.start, instrs, codes.as_slice());
-        let mut plan = Plan::new(self.alloc);
+        if by_lanes {
+            self.join_more(way.start, instrs, codes.as_slice());
+        }
+        let mut plan = Plan::new(self.alloc, instrs.len() == 1);
         let left = self.cross_all(&mut plan, way, codes.as_slice(), instrs)?;
         self.plan = Some(plan);
         Ok(left)
@@ -193,6 +219,9 @@ impl<H: Head> SlotList<H> {
         instr: &mut Instr,
     ) -> Result<bool, Stop> {
         if let State::InLane(code) = self.slots[place].state {
+            if both_stay(&self.written_at(place)[0], instr) {
+                return Ok(true);
+            }
             noted(self.dissolve(code, plan))?;
         }
         let number = self.first + place as u64;
@@ -218,22 +247,30 @@ impl<H: Head> SlotList<H> {
             pending: self.held_at(place).head.stamp(self.own),
             incoming: way.stamp,
         };
-        let state = match plan.ones.get(&number) {
+        let state = match plan.state(number) {
             Some(state) => state,
             None => &self.slots[place].state,
         };
-        let (pending, action) = match state {
+        let (pending, action, more) = match state {
             State::Fell | State::InLane(_) => {
                 return Ok(Met {
                     state: None,
                     stays: true,
                 });
             }
-            State::Stands => (written, action_at(written)),
-            State::Moved(action) => (written, Some(*action)),
-            State::Changed(now) => (&**now, action_at(now)),
+            State::Stands => (written, action_at(written), 0),
+            State::Moved(action) => (written, Some(*action), 0),
+            State::Raised(more) => (written, None, *more),
+            State::Changed(now) => (&**now, action_at(now), 0),
         };
-        let met = meet_one(sides, pending, action, instr)?;
+        let raises = !matches!(state, State::Changed(_));
+        let pending = Pending {
+            instr: pending,
+            action,
+            more,
+            raises,
+        };
+        let met = meet_one(sides, pending, instr)?;
         if action.is_some() && met.state.is_some() {
             self.met = self.met.saturating_add(1);
         }

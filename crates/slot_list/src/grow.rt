@@ -65,6 +65,9 @@ impl<H: Head> SlotList<H> {
     /// The lane of the list of an instruction takes the slots behind it that are of the list.
     fn grow(&mut self, start: u64, codes: &[u64], instr: &Instr) {
         let code = codes[1];
+        if !self.begins_behind(code, start) {
+            self.leave(code, start);
+        }
         let mut lane = None;
         let mut place = (start - self.first) as usize;
         if let Some(found) = self.lanes.remove(&code) {
@@ -90,6 +93,14 @@ impl<H: Head> SlotList<H> {
         }
     }
 
+    /// Whether the lane under a code begins behind that slot.
+    fn begins_behind(&self, code: u64, start: u64) -> bool {
+        match self.lanes.get(&code) {
+            Some(lane) => lane.start > start,
+            None => false,
+        }
+    }
+
     /// Whether a slot is in the lane, or nothing that meets an instruction of the list.
     fn joins(
         &mut self,
@@ -102,7 +113,7 @@ impl<H: Head> SlotList<H> {
         let written = &self.written_at(place)[0];
         let action = match &self.slots[place].state {
             State::Fell => return true,
-            State::InLane(_) | State::Changed(_) => return false,
+            State::InLane(_) | State::Changed(_) | State::Raised(_) => return false,
             State::Stands => action_at(written),
             State::Moved(action) => Some(*action),
         };

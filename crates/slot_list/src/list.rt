@@ -1,12 +1,13 @@
 use super::head::Head;
 use super::lane::CellLane;
+use super::meet::{pass, with_more};
 use super::plan::Plan;
 use super::slot::{Held, Slot, State};
 use list_places::{ListAction, put_action};
 use std::alloc::Global;
 use std::collections::{BTreeMap, VecDeque};
 use std::mem;
-use sync_data::{Ident, Instr, NoMemory};
+use sync_data::{Ident, Instr, NoMemory, Value};
 use sync_rivals::RivalIndex;
 
 /// When making what makes crossing fast has paid.
@@ -188,6 +189,7 @@ impl<H: Head> SlotList<H> {
             State::Stands => Ok(Some(written.copy()?)),
             State::Fell => Ok(None),
             State::Moved(action) => Ok(Some(moved(written, *action)?)),
+            State::Raised(more) => Ok(Some(with_more(written.copy()?, *more))),
             State::Changed(instr) => Ok(Some(instr.copy()?)),
             State::InLane(code) => match self.told_at(*code, place) {
                 Some(action) => Ok(Some(moved(written, action)?)),
@@ -225,6 +227,7 @@ impl<H: Head> SlotList<H> {
             State::Stands => written == instr,
             State::Changed(now) => **now == *instr,
             State::Moved(action) => is_moved(written, *action, instr),
+            State::Raised(more) => is_raised(written, *more, instr),
             State::Fell | State::InLane(_) => false,
         }
     }
@@ -248,13 +251,7 @@ impl<H: Head> SlotList<H> {
                 (Some(ahead), _, _) => Some(standing(ahead)),
                 (None, Some((op, action)), Some(mine)) => {
                     let stamp = self.held_at(place).head.stamp(self.own);
-                    let (stays, on) = super::meet::pass(
-                        self.lane_left,
-                        stamp,
-                        &mine,
-                        op.stamp,
-                        &action,
-                    );
+                    let (stays, on) = pass(self.lane_left, stamp, &mine, op.stamp, &action);
                     passing = match on {
                         Some(action) => Some((op, action)),
                         None => None,
@@ -287,11 +284,6 @@ impl<H: Head> SlotList<H> {
         self.plan = None;
     }
 
-    /// All slots stand by themselves. It takes no memory.
-    pub fn part(&mut self) {
-        self.write_all();
-    }
-
     /// All lanes are gone.
     pub(crate) fn write_all(&mut self) {
         while let Some(code) = first_code(&self.lanes) {
@@ -322,6 +314,19 @@ pub(crate) fn moved(instr: &Instr, action: ListAction) -> Result<Instr, NoMemory
     let mut copy = instr.copy()?;
     put_action(&mut copy, action);
     Ok(copy)
+}
+
+/// Whether an update to which so much more was added is that one.
+fn is_raised(instr: &Instr, more: i64, other: &Instr) -> bool {
+    match (instr, other) {
+        (Instr::Update(one), Instr::Update(two)) => match (&one.value, &two.value) {
+            (Value::Int(number), Value::Int(wanted)) => {
+                one.cell == two.cell && number.wrapping_add(more) == *wanted
+            }
+            _ => false,
+        },
+        _ => false,
+    }
 }
 
 /// Whether a list instruction that does this now is that one.

@@ -5,7 +5,9 @@ use list_lane::{action_left, prior_of};
 use list_places::{ListAction, action_at, is_later, put_action};
 use std::alloc::Global;
 use std::mem;
-use sync_base::{AddTable, Instr, KeyKind, Mismatch, Name, Outcome, Stamp, cell_of, same_cell};
+use sync_base::{
+    AddTable, Instr, KeyKind, Mismatch, Name, Outcome, Stamp, Value, cell_of, same_cell,
+};
 use sync_transform::{both_stay, meet};
 
 /// Whether the pending one of two is the later, as it is on its side: of two equal stamps the left isn't.
@@ -47,25 +49,70 @@ pub(crate) struct Sides {
     pub(crate) incoming: Stamp,
 }
 
-/// A pending instruction, which does that if it is of a list, meets an incoming one, which stands as it is then.
-pub(crate) fn meet_one(
-    sides: Sides,
-    pending: &Instr,
-    action: Option<ListAction>,
-    instr: &mut Instr,
-) -> Result<Met, Stop> {
-    if let (Some(mine), Some(other)) = (action, action_at(instr)) {
-        if is_same_cell(pending, instr) {
+/// A pending instruction as it is written, and how it stands: what it does if it is of a list, and what was added to its number.
+#[derive(Clone, Copy)]
+pub(crate) struct Pending<'a> {
+    pub(crate) instr: &'a Instr,
+    pub(crate) action: Option<ListAction>,
+    pub(crate) more: i64,
+    /// Whether it may be told by what is added to its number.
+    pub(crate) raises: bool,
+}
+
+/// A pending instruction meets an incoming one, which stands as it is then.
+pub(crate) fn meet_one(sides: Sides, pending: Pending<'_>, instr: &mut Instr) -> Result<Met, Stop> {
+    if let (Some(mine), Some(other)) = (pending.action, action_at(instr)) {
+        if is_same_cell(pending.instr, instr) {
             return meet_in_list(sides, mine, other, instr);
         }
     }
-    if both_stay(pending, instr) {
+    if both_stay(pending.instr, instr) {
         return Ok(Met {
             state: None,
             stays: true,
         });
     }
-    meet_copied(sides, pending, action, instr)
+    if let Some(met) = raised(sides, pending, instr) {
+        return Ok(met);
+    }
+    meet_copied(sides, pending, instr)
+}
+
+/// An addition to the number of a pending update of its cell.
+fn raised(sides: Sides, pending: Pending<'_>, instr: &Instr) -> Option<Met> {
+    let Instr::AddInteger(add) = instr else {
+        return None;
+    };
+    let Instr::Update(update) = pending.instr else {
+        return None;
+    };
+    let Value::Int(_) = &update.value else {
+        return None;
+    };
+    if !pending.raises || !same_cell(&update.cell, &add.cell) {
+        return None;
+    }
+    if pending_later(sides.lane_left, sides.pending, sides.incoming) {
+        return Some(Met {
+            state: None,
+            stays: false,
+        });
+    }
+    Some(Met {
+        state: Some(State::Raised(pending.more.wrapping_add(add.amount))),
+        stays: true,
+    })
+}
+
+/// A copy of an update to which so much more was added.
+pub(crate) fn with_more(instr: Instr, more: i64) -> Instr {
+    let mut instr = instr;
+    if let Instr::Update(update) = &mut instr {
+        if let Value::Int(number) = &mut update.value {
+            *number = number.wrapping_add(more);
+        }
+    }
+    instr
 }
 
 pub(crate) fn is_same_cell(one: &Instr, other: &Instr) -> bool {
@@ -102,14 +149,9 @@ fn meet_in_list(
 }
 
 /// Any two instructions, by a copy of the pending one.
-fn meet_copied(
-    sides: Sides,
-    pending: &Instr,
-    action: Option<ListAction>,
-    instr: &mut Instr,
-) -> Result<Met, Stop> {
-    let mut mine = copied(pending)?;
-    if let Some(action) = action {
+fn meet_copied(sides: Sides, pending: Pending<'_>, instr: &mut Instr) -> Result<Met, Stop> {
+    let mut mine = with_more(copied(pending.instr)?, pending.more);
+    if let Some(action) = pending.action {
         put_action(&mut mine, action);
     }
     let incoming = mem::replace(instr, hole());
@@ -126,7 +168,7 @@ fn meet_copied(
         *instr = right;
     }
     Ok(Met {
-        state: became(sides.alloc, pending, action, left)?,
+        state: became(sides.alloc, pending, left)?,
         stays,
     })
 }
@@ -142,16 +184,11 @@ fn turned(outcome: Result<Outcome, Mismatch>) -> Result<Outcome, Mismatch> {
 }
 
 /// The state of a slot whose instruction became this.
-fn became(
-    alloc: Global,
-    pending: &Instr,
-    action: Option<ListAction>,
-    left: Option<Instr>,
-) -> Result<Option<State>, Stop> {
+fn became(alloc: Global, pending: Pending<'_>, left: Option<Instr>) -> Result<Option<State>, Stop> {
     let Some(left) = left else {
         return Ok(Some(State::Fell));
     };
-    if action.is_none() && left == *pending {
+    if pending.action.is_none() && pending.more == 0 && left == *pending.instr {
         return Ok(None);
     }
     match Box::new(alloc, left) {

@@ -12,7 +12,15 @@ impl<H: Head> SlotList<H> {
         let Some(plan) = self.plan.take() else {
             return;
         };
-        let Plan { ones, lanes } = plan;
+        let Plan {
+            lone: _,
+            row,
+            ones,
+            lanes,
+        } = plan;
+        for (number, state) in row {
+            self.settle_one(number, state);
+        }
         for (number, state) in ones {
             self.settle_one(number, state);
         }

@@ -10,6 +10,8 @@ pub(crate) enum State {
     Fell,
     /// It is a list instruction, and does this now.
     Moved(ListAction),
+    /// It is an update to a number, and so much was added to that.
+    Raised(i64),
     /// It is this one now.
     Changed(Box<Instr>),
     /// The lane under this code tells.

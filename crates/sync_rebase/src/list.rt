@@ -110,19 +110,24 @@ impl PendingList {
                 changes: entry.changes,
             });
         }
-        match self.crossed(own, &entry) {
+        match self.crossed(own, &entry, true) {
             Ok(changes) => Ok(Carried { changes }),
             Err(Stop::NoMemory) => Err(RebaseRefusal::NoMemory),
             Err(Stop::Mismatch) => self.by_pairs(own, &entry),
         }
     }
 
-    fn crossed(&mut self, own: Ident, entry: &Entry) -> Result<Changeset, Stop> {
+    fn crossed(&mut self, own: Ident, entry: &Entry, by_lanes: bool) -> Result<Changeset, Stop> {
         let stamp = Stamp {
             ms: entry.changes.ms(),
             ident: entry.origin,
         };
-        let left = self.list.carry(0, own, stamp, entry.changes.instrs())?;
+        let instrs = entry.changes.instrs();
+        let left = if by_lanes {
+            self.list.carry(0, own, stamp, instrs)?
+        } else {
+            self.list.carry_apart(0, own, stamp, instrs)?
+        };
         match Changeset::checked(stamp.ms, left) {
             Ok(changes) => Ok(changes),
             Err(_) => Err(Stop::NoMemory),
@@ -132,8 +137,7 @@ impl PendingList {
     /// Where the changesets can't cross it, the first one tells; else they cross it one by one.
     fn by_pairs(&mut self, own: Ident, entry: &Entry) -> Result<Carried, RebaseRefusal> {
         self.tell_stuck(own, entry)?;
-        self.list.part();
-        match self.crossed(own, entry) {
+        match self.crossed(own, entry, false) {
             Ok(changes) => Ok(Carried { changes }),
             Err(_) => Err(RebaseRefusal::NoMemory),
         }

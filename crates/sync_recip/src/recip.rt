@@ -120,19 +120,30 @@ impl Recip {
             self.list.part_from_plan();
             return Ok(Carried { base, changes });
         }
-        match self.crossed(from, own, &changes) {
+        match self.crossed(from, own, &changes, true) {
             Ok(changes) => Ok(Carried { base, changes }),
             Err(Stop::NoMemory) => Err(RecipRefusal::NoMemory),
             Err(Stop::Mismatch) => self.by_pairs(from, own, base, &changes),
         }
     }
 
-    fn crossed(&mut self, from: usize, own: Ident, changes: &Changeset) -> Result<Changeset, Stop> {
+    fn crossed(
+        &mut self,
+        from: usize,
+        own: Ident,
+        changes: &Changeset,
+        by_lanes: bool,
+    ) -> Result<Changeset, Stop> {
         let stamp = Stamp {
             ms: changes.ms(),
             ident: own,
         };
-        let left = self.list.carry(from, 0, stamp, changes.instrs())?;
+        let instrs = changes.instrs();
+        let left = if by_lanes {
+            self.list.carry(from, 0, stamp, instrs)?
+        } else {
+            self.list.carry_apart(from, 0, stamp, instrs)?
+        };
         match Changeset::checked(stamp.ms, left) {
             Ok(changes) => Ok(changes),
             Err(_) => Err(Stop::NoMemory),
@@ -148,8 +159,7 @@ impl Recip {
         changes: &Changeset,
     ) -> Result<Carried, RecipRefusal> {
         self.tell_stuck(from, own, changes)?;
-        self.list.part();
-        match self.crossed(from, own, changes) {
+        match self.crossed(from, own, changes, false) {
             Ok(changes) => Ok(Carried { base, changes }),
             Err(_) => Err(RecipRefusal::NoMemory),
         }
