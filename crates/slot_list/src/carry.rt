@@ -128,6 +128,22 @@ impl<H: Head> SlotList<H> {
         sole: bool,
         instr: &mut Instr,
     ) -> Result<bool, Stop> {
+        let met = self.met;
+        let stays = self.cross_rivals(plan, way, codes, sole, instr)?;
+        if self.met.saturating_sub(met) >= self.pays.looks && codes.len() > 1 {
+            let _ = self.due.insert(codes[1]);
+        }
+        Ok(stays)
+    }
+
+    fn cross_rivals(
+        &mut self,
+        plan: &mut Plan,
+        way: Way,
+        codes: &[u64],
+        sole: bool,
+        instr: &mut Instr,
+    ) -> Result<bool, Stop> {
         let mut place = (way.start - self.first) as usize;
         match self.cross_lane(plan, way, codes, sole, instr)? {
             Through::Apart => {}

@@ -47,10 +47,10 @@ impl<H: Head> SlotList<H> {
 
     /// Lanes of the lists of these instructions begin or grow, once that pays.
     pub(crate) fn join_more(&mut self, start: u64, instrs: &[Instr], codes: &[u64]) {
-        if codes.is_empty() || self.met < self.pays.looks && count_lists(instrs) < self.pays.many {
+        let many = count_lists(instrs) >= self.pays.many;
+        if codes.is_empty() || !many && self.due.is_empty() {
             return;
         }
-        self.met = 0;
         let mut last = None;
         for place in 0..instrs.len() {
             let codes = codes_at(codes, place);
@@ -58,7 +58,9 @@ impl<H: Head> SlotList<H> {
                 continue;
             }
             last = Some(codes[1]);
-            self.grow(start, codes, &instrs[place]);
+            if self.due.remove(&codes[1]) || many {
+                self.grow(start, codes, &instrs[place]);
+            }
         }
     }
 

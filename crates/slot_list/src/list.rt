@@ -5,7 +5,7 @@ use super::plan::Plan;
 use super::slot::{Held, Slot, State};
 use list_places::{ListAction, put_action};
 use std::alloc::Global;
-use std::collections::{BTreeMap, VecDeque};
+use std::collections::{BTreeMap, BTreeSet, VecDeque};
 use std::mem;
 use sync_data::{Ident, Instr, NoMemory, Value};
 use sync_rivals::RivalIndex;
@@ -15,7 +15,7 @@ use sync_rivals::RivalIndex;
 pub struct Pays {
     /// So many looks at slots from a base on, and some of them are listed.
     pub least: usize,
-    /// After so many looks at a slot it is listed, and after so many meetings in lists slots are joined.
+    /// After so many looks at a slot it is listed; where one instruction met so many of its list one by one, these are joined.
     pub looks: usize,
     /// For so many instructions of lists at once slots are joined.
     pub many: usize,
@@ -39,8 +39,10 @@ pub struct SlotList<H: Head> {
     pub(crate) lanes: BTreeMap<u64, CellLane>,
     /// Whose stamps the lanes have.
     pub(crate) own: Ident,
-    /// How many list instructions met one by one since a lane was made or grew.
+    /// How many list instructions met one by one, and the codes of lists for which a lane is to be made, or to grow, once they are
+    /// crossed again.
     pub(crate) met: usize,
+    pub(crate) due: BTreeSet<u64>,
     /// How many incoming changesets crossed it.
     pub(crate) turn: u64,
     pub(crate) plan: Option<Plan>,
@@ -61,6 +63,7 @@ impl<H: Head> SlotList<H> {
             lanes: BTreeMap::new(alloc),
             own: 0,
             met: 0,
+            due: BTreeSet::new(alloc),
             turn: 0,
             plan: None,
         }

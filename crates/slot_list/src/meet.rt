@@ -66,14 +66,14 @@ pub(crate) fn meet_one(sides: Sides, pending: Pending<'_>, instr: &mut Instr) ->
             return meet_in_list(sides, mine, other, instr);
         }
     }
+    if let Some(met) = raised(sides, pending, instr) {
+        return Ok(met);
+    }
     if both_stay(pending.instr, instr) {
         return Ok(Met {
             state: None,
             stays: true,
         });
-    }
-    if let Some(met) = raised(sides, pending, instr) {
-        return Ok(met);
     }
     meet_copied(sides, pending, instr)
 }
