@@ -3,7 +3,9 @@ use super::draw::{Draw, LISTS, list_cell, list_instr, other_instr};
 use super::model::{One, cross_pairs};
 use slot_list::{Pays, SlotList, Stop};
 use std::alloc::Global;
-use sync_base::{Changeset, Instr, Stamp, cell_of, same_cell};
+use sync_base::{Changeset, Entry, Instr, Stamp, cell_of, same_cell};
+use sync_rebase::{PendingList, RebaseRefusal, Unsent};
+use sync_recip::{Recip, RecipRefusal};
 
 /// What came of runs.
 #[derive(Clone, Copy)]
@@ -38,6 +40,8 @@ struct World {
     left: bool,
     draw: Draw,
     list: SlotList<One>,
+    pending: PendingList,
+    recip: Recip,
     items: Vec<One>,
     lengths: [u32; LISTS],
     base: usize,
@@ -52,6 +56,8 @@ impl Drop for World {
             left: _,
             draw: _,
             list,
+            pending,
+            recip,
             items,
             lengths: _,
             base: _,
@@ -59,6 +65,8 @@ impl Drop for World {
             most: _,
         } = self;
         drop(list);
+        drop(pending);
+        drop(recip);
         drop(items);
     }
 }
@@ -157,6 +165,22 @@ impl World {
             3 + self.draw.below(2) as u32
         };
         let copy = changes.copy().ok()?;
+        let third = changes.copy().ok()?;
+        if self.left {
+            self.pending.push(Unsent::made(1, 0, third).ok()?).ok()?;
+        } else {
+            let version = self.items.len() as u32;
+            self.recip
+                .push(
+                    version,
+                    Entry {
+                        origin,
+                        number: 1,
+                        changes: third,
+                    },
+                )
+                .ok()?;
+        }
         self.list.push(One { changes, origin }).ok()?;
         self.items
             .push(One {
@@ -170,8 +194,20 @@ impl World {
         if self.items.len() == 0 {
             return Some(true);
         }
+        if !self.left {
+            return Some(true);
+        }
         let same = self.list.first_is(self.items[0].changes.instrs());
         self.list.drop_first();
+        let changes = self.items[0].changes.copy().ok()?;
+        if !self.pending.is_head(&Entry {
+            origin: OWN,
+            number: 1,
+            changes,
+        }) {
+            return Some(false);
+        }
+        self.pending.drop_head();
         let _ = self.items.remove(0);
         self.base = self.base.saturating_sub(1);
         Some(same)
@@ -184,6 +220,15 @@ impl World {
         for place in 0..self.items.len() {
             let current = self.list.current(place).ok()?;
             if current.as_slice() != self.items[place].changes.instrs() {
+                return Some(false);
+            }
+            let thin = if self.left {
+                self.pending.current(place)?.ok()?
+            } else {
+                let (_, entry) = self.recip.get(place).ok()??;
+                entry.changes
+            };
+            if thin != self.items[place].changes {
                 return Some(false);
             }
         }
@@ -202,6 +247,45 @@ impl World {
             self.base = (self.base + self.draw.below(3) as usize).min(self.items.len());
         }
         self.base
+    }
+
+    /// The same by the types of a client and of a server: what is left of what came, or None where it is refused.
+    fn thin(
+        &mut self,
+        from: usize,
+        incoming: &Changeset,
+        settles: bool,
+    ) -> Option<Option<Changeset>> {
+        let changes = incoming.copy().ok()?;
+        if self.left {
+            let entry = Entry {
+                origin: OTHER,
+                number: 1,
+                changes,
+            };
+            return match self.pending.carry(self.alloc, OWN, entry) {
+                Ok(carried) => {
+                    let left = carried.changes().copy().ok()?;
+                    if settles {
+                        let _ = self.pending.settle(carried);
+                    }
+                    Some(Some(left))
+                }
+                Err(RebaseRefusal::Mismatch { number: _, kind: _ }) => Some(None),
+                Err(RebaseRefusal::NoMemory) => None,
+            };
+        }
+        match self.recip.carry(self.alloc, OTHER, from as u32, changes) {
+            Ok(carried) => {
+                let left = carried.changes().copy().ok()?;
+                if settles {
+                    let _ = self.recip.settle(carried);
+                }
+                Some(Some(left))
+            }
+            Err(RecipRefusal::Mismatch { place: _, kind: _ }) => Some(None),
+            Err(RecipRefusal::NoMemory) => None,
+        }
     }
 
     fn cross(&mut self, tally: &mut Tally) -> Option<bool> {
@@ -229,18 +313,27 @@ impl World {
         if let (Some(_), Err(Stop::Mismatch)) = (&pairs, &carried) {
             carried = self.list.carry_apart(from, own, stamp, incoming.instrs());
         }
+        let settles = self.draw.below(5) != 0;
+        let thin = self.thin(from, &incoming, settles)?;
+        let wanted = match &pairs {
+            Some((left, _)) => Some(left.copy().ok()?),
+            None => None,
+        };
+        if thin != wanted {
+            return Some(false);
+        }
         match (pairs, carried) {
             (None, Err(Stop::Mismatch)) => {
                 tally.refused += 1;
                 self.is_same()
             }
             (Some((left, items)), Ok(instrs)) => {
-                if instrs.as_slice() != left.instrs() || !self.is_same()? {
+                if instrs.as_slice() != left.instrs() {
                     return Some(false);
                 }
-                if self.draw.below(5) == 0 {
+                if !settles {
                     tally.abandoned += 1;
-                    return Some(true);
+                    return self.is_same();
                 }
                 tally.crossed += 1;
                 self.list.settle();
@@ -288,6 +381,8 @@ pub fn run_seed(
         left,
         draw,
         list: SlotList::new(alloc, left, pays),
+        pending: PendingList::new(alloc),
+        recip: Recip::new(alloc),
         items: Vec::new(alloc),
         lengths: [10; LISTS],
         base: 0,
