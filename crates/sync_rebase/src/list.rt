@@ -1,16 +1,25 @@
+ghost use Rattle.std.specs.Prelude.{◌≡◌, ◌≢◌, ◌<◌, ◌↔◌, ◌++◌, ◌∷◌, [], IsTrue, IsSome, IfOk, IfErr, IfSome, OnOk, OnErr, length};
+ghost use Rattle.sync_data.specs.declared.instr.Instr.{Instr};
+ghost use Rattle.sync_model.specs.Clients as clients;
+ghost use Rattle.sync_rebase.specs.Settling.{settled, Fits};
+ghost use Rattle.sync_rebase.specs.Taking.{Crosses, IsHead, Refuses};
+ghost use Rattle.sync_rebase.specs.Unsents.{IsAt};
+ghost use Rattle.sync_theory.specs.Grid.{tail};
+
 use super::carried::Carried;
 use super::original::Original;
 use super::refusal::RebaseRefusal;
 use super::unsent::Unsent;
 use slot_list::{Head, Pays, SlotList, Stop};
 use std::alloc::Global;
+use std::marker::Model;
 use sync_data::{Changeset, Entry, Ident, NoMemory, Stamp};
 use sync_transform::cross_sets;
 
 /// A list of fewer looks isn't indexed.
 const PAYS: Pays = Pays {
     least: 64,
-    looks: 64,
+    looks: 16,
     many: 16,
 };
 
@@ -21,9 +30,23 @@ pub struct PendingList {
     list: SlotList<Unsent>,
 }
 
+impl Model for PendingList {
+    ghost use Rattle.std.specs.Prelude.{List};
+    ghost use Rattle.sync_data.specs.declared.instr.Instr.{Instr};
+    ghost use Rattle.sync_model.specs.Clients as clients;
+
+    ghost Value = { List (clients.Unsent Instr) };
+
+    ghost use Rattle.sync_rebase.specs.Unsents.{unsents};
+
+    ghost view = { λ a. unsents a.list };
+}
+
 impl PendingList {
     /// The empty list. It takes no memory.
-    pub fn new(alloc: Global) -> PendingList {
+    pub fn new(alloc: Global) -> PendingList
+        ensures { result ≡ [] }
+    {
         PendingList {
             alloc,
             list: SlotList::new(alloc, true, PAYS),
@@ -31,22 +54,32 @@ impl PendingList {
     }
 
     /// Puts a changeset at the end.
-    pub fn push(&mut self, unsent: Unsent) -> Result<(), NoMemory> {
+    pub fn push(&mut self, unsent: Unsent) -> Result<(), NoMemory>
+        ensures ok { OnOk result (self.new ≡ self.old ++ unsent ∷ []) }
+        ensures unchanged { OnErr result (self.new ≡ self.old) }
+    {
         self.list.push(unsent)
     }
 
     /// The number of changesets.
-    pub fn len(&self) -> usize {
+    pub fn len(&self) -> usize
+        ensures { result ≡ length self.now }
+    {
         self.list.len()
     }
 
     /// Whether there is none.
-    pub fn is_empty(&self) -> bool {
+    pub fn is_empty(&self) -> bool
+        ensures { IsTrue result ↔ (self.now ≡ []) }
+    {
         self.list.len() == 0
     }
 
     /// The changeset at a place as it was made, counted from the oldest, or None past the end.
-    pub fn get(&self, place: usize) -> Option<&Original> {
+    pub fn get(&self, place: usize) -> Option<&Original>
+        ensures there { IsSome result ↔ (place < length self.now) }
+        ensures value { IfSome result (λ o. (u : clients.Unsent Instr) → IsAt place self.now u → o.now ≡ u.original) }
+    {
         if place >= self.list.len() {
             return None;
         }
@@ -54,7 +87,10 @@ impl PendingList {
     }
 
     /// A copy of the changeset at a place as it was rebased since, or None past the end.
-    pub fn current(&self, place: usize) -> Option<Result<Changeset, NoMemory>> {
+    pub fn current(&self, place: usize) -> Option<Result<Changeset, NoMemory>>
+        ensures there { IsSome result ↔ (place < length self.now) }
+        ensures value { IfSome result (λ r. IfOk r (λ c. (u : clients.Unsent Instr) → IsAt place self.now u → c ≡ record { ms = u.original.ms; instrs = u.current })) }
+    {
         if place < self.list.len() {
             Some(self.current_at(place))
         } else {
@@ -72,7 +108,10 @@ impl PendingList {
     }
 
     /// Whether the entry is the oldest changeset: its number, its time and its instructions as rebased. It needs no memory.
-    pub fn is_head(&mut self, entry: &Entry) -> bool {
+    pub fn is_head(&mut self, entry: &Entry) -> bool
+        ensures same { self.new ≡ self.old }
+        ensures told { IsTrue result ↔ IsHead entry.now self.old }
+    {
         if self.list.len() == 0 {
             return false;
         }
@@ -84,12 +123,18 @@ impl PendingList {
     }
 
     /// Takes the oldest changeset out, where there is one. It needs no memory.
-    pub fn drop_head(&mut self) {
+    pub fn drop_head(&mut self)
+        ensures { self.new ≡ tail self.old }
+    {
         self.list.drop_first();
     }
 
     /// The changesets stand as they crossed an entry that was carried over them, and the entry is answered as carried.
-    pub fn settle(&mut self, carried: Carried) -> Changeset {
+    pub fn settle(&mut self, carried: Carried) -> Changeset
+        requires { Fits carried self.old }
+        ensures list { self.new ≡ settled carried self.old }
+        ensures entry { result ≡ carried.changes }
+    {
         let Carried { changes } = carried;
         self.list.settle();
         changes
@@ -103,7 +148,13 @@ impl PendingList {
         alloc: Global,
         own: Ident,
         entry: Entry,
-    ) -> Result<Carried, RebaseRefusal> {
+    ) -> Result<Carried, RebaseRefusal>
+        requires { own ≢ entry.origin }
+        ensures same { self.new ≡ self.old }
+        ensures crosses { IfOk result (λ carried. Crosses own self.old entry (settled carried self.old) carried.changes) }
+        ensures fits { IfOk result (λ carried. Fits carried self.old) }
+        ensures refused { IfErr result (Refuses own self.old entry) }
+    {
         if self.list.len() == 0 {
             self.list.part_from_plan();
             return Ok(Carried {
