@@ -154,12 +154,14 @@ def name_of(number):
     return NAMES[number] if number < len(NAMES) else f"client {number + 1}"
 
 
-def meeting(keys, *written, before=(), in_turn=True):
+def meeting(keys, *written, before=(), in_turn=True, upgraded=False):
     """Clients with these objects make these transactions while they are apart, a list for each of them, and then meet. The first
-    one made those before. The stamps take turns, or each client's are later than all of the one before."""
+    one made those before. The stamps take turns, or each client's are later than all of the one before. Upgraded ones may clear."""
     script, devices = Script(), [Device(name_of(number), number + 1) for number in range(len(written))]
     for device in devices:
         script.comes_in(device)
+        if upgraded:
+            script.event("upgrade", client=device.name)
         script.there_and_back("bind", device)
     script.commits(devices[0], 1, schema())
     for start in range(1, keys + 1, 250):
@@ -511,7 +513,7 @@ def drawn(size):
         for _ in range(size):
             yield [maker.instruction() for _ in range(maker.draw.randint(1, 6))]
 
-    return meeting(OBJECTS, of_one(1), of_one(2), before=[[column("m", "Text", False, "List")]])
+    return meeting(OBJECTS, of_one(1), of_one(2), before=[[column("m", "Text", False, "List")]], upgraded=True)
 
 
 ONE_INSTRUCTION = (objects, apart, counter, ends, one_cell, two_blocks, words, places, revised, one_place, members, eight)
