@@ -25,11 +25,18 @@ pub(crate) fn copy_of(alloc: Global, bursts: &VecDeque<Burst>) -> Result<VecDequ
     let mut copy = VecDeque::new(alloc);
     for i in 0..bursts.len() {
         let burst = bursts[i].copy(alloc)?;
-        if copy.push_back(burst).is_err() {
-            return Err(NoMemory);
-        }
+        keep(&mut copy, burst)?;
     }
     Ok(copy)
+}
+
+fn keep(bursts: &mut VecDeque<Burst>, burst: Burst) -> Result<(), NoMemory>
+    ensures { OnOk result (bursts.new.items ≡ bursts.old.items ++ burst ∷ []) }
+{
+    match bursts.push_back(burst) {
+        Ok(()) => Ok(()),
+        Err(_) => Err(NoMemory),
+    }
 }
 
 /// What is left of an instruction that crosses all bursts in turn. They stand as crossed.
