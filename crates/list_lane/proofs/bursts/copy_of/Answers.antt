@@ -1,4 +1,4 @@
-use Rattle.std.proofs.Common.{◌<◌, ◌∷◌, [], ◌++◌, length, sym, ap, ◌∙◌, append-nil, arith}
+use Rattle.std.proofs.Common.{◌<◌, ◌∷◌, [], ◌++◌, length, ap, ◌∙◌, append-nil, arith}
 use Rattle.list_lane.specs.Flat.{joined}
 use Rattle.list_lane.proofs.Joins.{joined_append}
 use Rattle.list_lane.proofs.Listing.{burst_turn, burst_end}
