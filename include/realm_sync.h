@@ -733,6 +733,82 @@ REALM_SYNC_API int realm_object(realm_node *node, const char *name) {
  * elements, as the least of each says. */
 REALM_SYNC_API int realm_changed(realm_node *node) { return realm_ask_client(node, 'C', NULL, 0, NULL); }
 
+/* ---- messages, as a host looks at them */
+
+/* What a message is about, in places that are the same for each kind; what a message hasn't got is 0. docs/FORMATS.md, "Messages for a
+ * host", says what each number is. */
+typedef struct realm_message {
+    uint8_t tag;
+    uint8_t uuid[16];
+    uint32_t ident;
+    uint32_t by;
+    uint32_t count;
+    uint32_t first;
+    uint32_t second;
+    uint32_t third;
+    const uint8_t *tables; /* of a question for some tables: as the message spells them, until the next call */
+    size_t tables_len;
+} realm_message;
+
+/* Looks at a message: what it is about. The node does nothing. */
+REALM_SYNC_API int realm_look(realm_node *node, const void *message, size_t len, realm_message *out) {
+    int status = realm_told(node, realm_ask_of(node, 'H', message, len), "message: expected the bytes of a message, as docs/FORMATS.md, \"Messages\", has them");
+    memset(out, 0, sizeof *out);
+    if (status != REALM_DONE || node->reply_len < 42) return status;
+    const uint8_t *head = node->reply + 1;
+    out->tag = head[0];
+    memcpy(out->uuid, head + 1, sizeof out->uuid);
+    uint32_t *numbers[] = {&out->ident, &out->by, &out->count, &out->first, &out->second, &out->third};
+    for (int i = 0; i < 6; i++) *numbers[i] = (uint32_t)realm_number_at(head + 17 + 4 * i, 4);
+    out->tables = head + 41;
+    out->tables_len = node->reply_len - 42;
+    return status;
+}
+
+/* A change of an Upload: its number, the version at which it was made, its time, and the bytes of its changeset. Of an entry of a
+ * Download number is the ident that made it, and base its number of that ident. */
+typedef struct realm_change {
+    uint32_t number;
+    uint32_t base;
+    uint64_t ms;
+    const uint8_t *body; /* until the next call */
+    size_t len;
+} realm_change;
+
+/* Asks for what a message bears: realm_next_change tells one after the other. The node does nothing. */
+REALM_SYNC_API int realm_borne(realm_node *node, const void *message, size_t len) {
+    return realm_told(node, realm_ask_of(node, 'P', message, len), "message: expected the bytes of a message, as docs/FORMATS.md, \"Messages\", has them");
+}
+
+/* The change or entry at a place of the last call's bytes, which goes behind it; false at their end. */
+REALM_SYNC_API bool realm_next_change(const realm_node *node, size_t *at, realm_change *out) {
+    size_t len;
+    const uint8_t *bytes = realm_bytes(node, &len);
+    if (*at > len || len - *at < 20) return false;
+    const uint8_t *row = bytes + *at;
+    out->number = (uint32_t)realm_number_at(row, 4);
+    out->base = (uint32_t)realm_number_at(row + 4, 4);
+    out->ms = realm_number_at(row + 8, 8);
+    out->len = (size_t)realm_number_at(row + 16, 4);
+    out->body = row + 20;
+    if (out->len > len - *at - 20) return false;
+    *at += 20 + out->len;
+    return true;
+}
+
+/* ---- the whole life of a history */
+
+/* The bytes of the file that may stand in place of the server's (realm_bytes): without the history that no client needs. The host puts
+ * it there while no node has the file open, and opens it. */
+REALM_SYNC_API int realm_trim(realm_node *server) {
+    return realm_told(server, realm_ask_of(server, 'F', NULL, 0), "node: expected a server, and this is a client");
+}
+
+/* The bytes of the file of a new client with that uuid, of 16 bytes, that begins with the server's objects (realm_bytes). */
+REALM_SYNC_API int realm_start(realm_node *server, const uint8_t *uuid) {
+    return realm_told(server, realm_ask_of(server, 'S', uuid, 16), "node: expected a server, and this is a client");
+}
+
 /* Where it stands. */
 REALM_SYNC_API int realm_standing(realm_node *node, realm_place *out) {
     int status = realm_ask_of(node, 'I', NULL, 0);

@@ -3,3 +3,5 @@ pub mod Untold
 pub mod Floats
 pub mod NodeKinds
 pub mod Objects
+pub mod Files
+pub mod Lasting

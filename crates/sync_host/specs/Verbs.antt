@@ -19,6 +19,10 @@ verb_of byte =
     else if byte == 79 then Some verbs.Object
     else if byte == 67 then Some verbs.Changed
     else if byte == 73 then Some verbs.Standing
+    else if byte == 70 then Some verbs.Trim
+    else if byte == 83 then Some verbs.Start
+    else if byte == 72 then Some verbs.Head
+    else if byte == 80 then Some verbs.Borne
     else if byte == 82 then Some verbs.Again
     else if byte == 87 then Some verbs.Outbox
     else if byte == 86 then Some verbs.Done
@@ -44,6 +48,10 @@ is_to_node verbs.Dump = true
 is_to_node verbs.Object = true
 is_to_node verbs.Changed = true
 is_to_node verbs.Standing = true
+is_to_node verbs.Trim = true
+is_to_node verbs.Start = true
+is_to_node verbs.Head = false
+is_to_node verbs.Borne = false
 is_to_node verbs.Again = false
 is_to_node verbs.Outbox = false
 is_to_node verbs.Done = false
@@ -64,6 +72,10 @@ is_new verbs.Dump = true
 is_new verbs.Object = true
 is_new verbs.Changed = true
 is_new verbs.Standing = true
+is_new verbs.Trim = true
+is_new verbs.Start = true
+is_new verbs.Head = true
+is_new verbs.Borne = true
 is_new verbs.Again = false
 is_new verbs.Outbox = false
 is_new verbs.Done = true

@@ -11,6 +11,7 @@ use crate::answers::{dump, send};
 use crate::object::object;
 use crate::places::{changed_by_line, tell};
 use crate::reply::Reply;
+use crate::trimming::{started, trimmed};
 use crate::verb::Verb;
 use crate::{client, server};
 use outbox_disk::OutboxDisk;
@@ -57,13 +58,15 @@ fn stored_by(message: &Message) -> Option<u32>
 }
 
 impl HostedClient {
-    ghost use Rattle.sync_host.specs.Hosting.{ClientAnswers};
-    ghost use Rattle.sync_host.specs.Outboxes.{EmptiedClient};
+    ghost use Rattle.sync_host.specs.Hosting.{ClientAnswers, ClientLasts};
+    ghost use Rattle.sync_host.specs.Outboxes.{EmptiedClient, client_start};
 
     /// Does what a node line says, and keeps what it may change.
     fn line(&mut self, alloc: Global, bytes: &[u8]) -> Reply
         ensures step { (records : List clients.ClientRecord) → ClientStands records self.old.client
             → IfTold result (Answers (option_map (line_answer records) (node_form_of_line bytes.now)) records result self.old.client self.new.client) }
+        ensures lasts { (records : List clients.ClientRecord) → ClientStands records self.old.client → ClientLasts (option_map (line_answer records) (node_form_of_line bytes.now)) records self.old self.new }
+        ensures begun { client_start self.new ≡ client_start self.old }
         ensures stored { self.new.stored ≡ self.old.stored }
         ensures told { (records : List clients.ClientRecord) → IfTold result (Tells self.new.changed.items records (option_map (line_answer records) (node_form_of_line bytes.now))) }
         ensures ends { (records : List clients.ClientRecord) → IfTold result (Spares self.new.changed.items records (option_map (line_answer records) (node_form_of_line bytes.now))) }
@@ -85,6 +88,8 @@ impl HostedClient {
     fn take(&mut self, alloc: Global, bytes: &[u8]) -> Reply
         ensures step { (records : List clients.ClientRecord) → ClientStands records self.old.client
             → IfTold result (Answers (option_map (take_answer records) (message_read bytes.now)) records result self.old.client self.new.client) }
+        ensures lasts { (records : List clients.ClientRecord) → ClientStands records self.old.client → ClientLasts (option_map (take_answer records) (message_read bytes.now)) records self.old self.new }
+        ensures begun { client_start self.new ≡ client_start self.old }
         ensures stored { self.new.stored ≡ stored_after result (message_in bytes.now) self.old.stored }
         ensures told { (records : List clients.ClientRecord) → IfTold result (Tells self.new.changed.items records (option_map (take_answer records) (message_read bytes.now))) }
         ensures ends { (records : List clients.ClientRecord) → ClientStands records self.old.client → IfTold result (Spares self.new.changed.items records (option_map (take_answer records) (message_read bytes.now))) }
@@ -186,6 +191,8 @@ impl HostedServer {
             Verb::Dump => dump(alloc, self.server.objects()),
             Verb::Object => object(alloc, self.server.objects(), body),
             Verb::Standing => server::standing(&self.server),
+            Verb::Trim => trimmed(alloc, &self.server),
+            Verb::Start => started(alloc, &self.server, body),
             _ => Reply::BadRequest,
         }
     }

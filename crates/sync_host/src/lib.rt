@@ -4,6 +4,7 @@
 
 mod answers;
 mod client;
+mod head;
 mod host;
 mod hosted;
 mod node;
@@ -13,6 +14,7 @@ mod places;
 mod refusals;
 mod reply;
 mod server;
+mod trimming;
 mod verb;
 
 pub use host::Host;

@@ -14,6 +14,9 @@ returns-in-Line c = let call : is_call c.args.verb ≡ true = ap is_call c.in-Li
   changes_by_take = λ is. absurd (cc);
   ends_by_line = λ is records stands. c.line.ensures.ends records;
   ends_by_take = λ is. absurd (cc);
+  lasts_by_line = λ is. c.line.ensures.lasts;
+  lasts_by_take = λ is. absurd (cc);
+  begun = c.line.ensures.begun;
   unchanged = λ is. absurd (cc);
   stored = λ is. absurd (cc);
   stored_stays = λ is. c.line.ensures.stored;
@@ -32,6 +35,9 @@ returns-in-Take c = let call : is_call c.args.verb ≡ true = ap is_call c.in-Ta
   changes_by_take = λ is records stands. c.take.ensures.told records;
   ends_by_line = λ is. absurd (cc);
   ends_by_take = λ is. c.take.ensures.ends;
+  lasts_by_line = λ is. absurd (cc);
+  lasts_by_take = λ is. c.take.ensures.lasts;
+  begun = c.take.ensures.begun;
   unchanged = λ is. absurd (cc);
   stored = λ is. c.take.ensures.stored;
   stored_stays = λ is. absurd (cc);
