@@ -54,7 +54,7 @@ not_opened Bad Opens replies.Absent node bad none = absurd bad
 not_opened Bad Opens replies.Closed node bad none = absurd bad
 
 tells_so : (Bad : ℕ → Type 0) (reply : Reply) → ((p q : ℕ) → Bad p → Bad q → p ≡ q) → IsUnopened Bad reply → TellsBad Bad reply
-tells_so Bad (replies.BadFile place) one bad = λ p is. inl (ap replies.BadFile (one place p bad is))
+tells_so Bad (replies.BadFile place) one bad = λ p is. inl (ap (λ (n : ℕ). replies.BadFile n) (one place p bad is))
 tells_so Bad replies.NoMemory one bad = λ p is. inr refl
 tells_so Bad replies.Done one bad = absurd bad
 tells_so Bad (replies.Number n) one bad = absurd bad

@@ -44,3 +44,7 @@ module _ {D : Type 0} {G : Ghosts D} where
   pub server_still : ((disk : D) (c : List ℕ) → G.images_since disk (G.moment disk) c → G.images disk c) → (o : Option (Served Instr State)) (records : List ServerRecord) (s : Server D G) → ServerStands records s → ServerLasts o records s s
   server_still only_now None records s is = refl
   server_still only_now (Some did) records s is = at_rest G.content G.images G.moment G.images_since only_now (map server_bytes records) (map server_bytes did.records) s.journal.end s.journal.disk is.stored.settled
+
+  pub client_at_rest : ((disk : D) (c : List ℕ) → G.images_since disk (G.moment disk) c → G.images disk c) → (o : Option Answer) (records : List ClientRecord) (c : Client D G) → ClientStands records c → Lasts o records c c
+  client_at_rest only_now None records c is = refl
+  client_at_rest only_now (Some answer) records c is = leaves_none records answer.records (clients.journal_of c) (clients.journal_of c) only_now refl is.stored

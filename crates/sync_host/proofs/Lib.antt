@@ -5,3 +5,5 @@ pub mod NodeKinds
 pub mod Objects
 pub mod Files
 pub mod Lasting
+pub mod Heads
+pub mod Pieces

@@ -18,6 +18,13 @@ abbrev pub numbered : ℕ → ℕ → ℕ → ℕ → ℕ → Head
 numbered tag ident first second third = record { tag = tag; uuid = no_uuid; ident = ident; by = 0; count = 0; first = first; second = second; third = third }
 
 -- ---- heads
+-- of a change, where there is one
+abbrev pub number_or_none : Option ChangeParts → ℕ
+number_or_none h = unwrap_or (option_map (λ h. h.number) h) 0
+
+abbrev pub base_or_none : Option ChangeParts → ℕ
+base_or_none h = unwrap_or (option_map (λ h. h.base) h) 0
+
 -- an Upload: how many changes, the number of the first and of the last, and the version at which the first was made
 abbrev pub upload_head : UploadParts → Head
 upload_head u = record {
@@ -26,9 +33,9 @@ upload_head u = record {
   ident = u.ident;
   by = 0;
   count = length u.changes;
-  first = unwrap_or (option_map (λ h. h.number) (slice_get u.changes 0)) 0;
-  second = unwrap_or (option_map (λ h. h.number) (slice_get u.changes (length u.changes - 1))) 0;
-  third = unwrap_or (option_map (λ h. h.base) (slice_get u.changes 0)) 0;
+  first = number_or_none (slice_get u.changes 0);
+  second = number_or_none (slice_get u.changes (length u.changes - 1));
+  third = base_or_none (slice_get u.changes 0);
 }
 
 -- a question: the cursor, what is settled, and the form of the client's file

@@ -1,6 +1,5 @@
 -- What a host's place answers, and what stands there afterwards.
 use Rattle.std.specs.Prelude.{◌≡◌, ◌⊎◌, ℕ, List, [], true, false}
-use Rattle.sync_journal.specs.Stands.{disk_of}
 use Rattle.sync_client.specs.Clients as clients
 use Rattle.sync_client.specs.Files as client_files
 use Rattle.sync_server.specs.Files as server_files
@@ -29,10 +28,10 @@ pub record NodeAnswers (verb : Verb) (body : List ℕ) (old : Node) (reply : Rep
 
 -- the client of the records for which the bytes stand, of which the server said nothing yet, and nothing has changed
 abbrev pub OpensClient : List ℕ → Node → Type 0
-OpensClient bytes node = (h : HostedClient) × (node ≡ nodes.Client h) × (h.stored ≡ 0) × (h.changed.items ≡ []) × ClientOpens bytes h.client × Begins bytes (disk_of (clients.journal_of h.client))
+OpensClient bytes node = (h : HostedClient) × (node ≡ nodes.Client h) × (h.stored ≡ 0) × (h.changed.items ≡ []) × ClientOpens bytes h.client × Begins bytes (clients.journal_of h.client)
 
 abbrev pub OpensServer : List ℕ → Node → Type 0
-OpensServer bytes node = (h : HostedServer) × (node ≡ nodes.Server h) × ServerOpens bytes h.server × Begins bytes (disk_of (servers.journal_of h.server))
+OpensServer bytes node = (h : HostedServer) × (node ≡ nodes.Server h) × ServerOpens bytes h.server × Begins bytes (servers.journal_of h.server)
 
 -- a node was opened, or the place of what is bad is told, or memory ran out; then no node is open
 abbrev pub Opened : (ℕ → Type 0) → (Node → Type 0) → Reply → Node → Type 0

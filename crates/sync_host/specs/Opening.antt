@@ -1,5 +1,7 @@
 -- What a node over the bytes of a file stands for.
 use Rattle.std.specs.Prelude.{◌≡◌, ℕ, List}
+use Rattle.sync_journal.specs.declared.journal.Journal.{Journal}
+use Rattle.sync_journal.specs.Stands.{disk_of}
 use Rattle.sync_journal.specs.Records.{records_of}
 use Rattle.sync_journal.specs.Records.Reading.{Good}
 use Rattle.sync_disk.specs.declared.disk.Disk.{Ghosts}
@@ -21,9 +23,9 @@ module _ {D : Type 0} {G : Ghosts D} where
   ServerOpens bytes s = server_files.Opened bytes s
 
   -- its disk began with these bytes, and each crash since leaves the records for which they stand
-  pub record Begins (bytes : List ℕ) (disk : D) : Type 0 where
-    pub start : (G.origin disk).start ≡ bytes
-    pub any_moment : (file : List (List ℕ)) → records_of bytes ≡ Good file → (c : List ℕ) → G.images_since disk 0 c → records_of c ≡ Good file
+  pub record Begins (bytes : List ℕ) (journal : Journal D G) : Type 0 where
+    pub start : (G.origin (disk_of journal)).start ≡ bytes
+    pub any_moment : (file : List (List ℕ)) → records_of bytes ≡ Good file → (c : List ℕ) → G.images_since (disk_of journal) 0 c → records_of c ≡ Good file
 
 abbrev pub Unopened : OpenCause → Reply → Type 0
 Unopened causes.DiskFault reply = reply ≡ replies.Closed

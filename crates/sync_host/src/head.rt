@@ -1,8 +1,9 @@
 // What a host has to know of a message, and what a message bears.
-ghost use Rattle.std.specs.Prelude.{◌≡◌, ◌∷◌, ◌++◌, ◌≤◌, ℕ, length, flat_map, IfOk, OnOk};
+ghost use Rattle.std.specs.Prelude.{◌≡◌, ◌∷◌, ◌++◌, ◌≤◌, ◌-◌, length, flat_map, slice_get, IfOk, OnOk};
+ghost use Rattle.std.specs.Int.{w64, to_le_bytes};
 ghost use Rattle.sync_messages.specs.Parts.{most_bytes};
 ghost use Rattle.sync_messages.specs.Reading.{message_in};
-ghost use Rattle.sync_host.specs.Heads.{BorneTold, HeadTold, ask_head, borne, borne_by, change_bytes, download_head, entry_bytes, head_bytes, head_of, named_head, numbered, retire_head, tables_of, upload_head};
+ghost use Rattle.sync_host.specs.Heads.{BorneTold, HeadTold, ask_head, base_or_none, borne, borne_by, change_bytes, download_head, entry_bytes, head_bytes, head_of, named_head, number_or_none, numbered, retire_head, tables_of, upload_head};
 ghost use Rattle.sync_host.specs.Replies.{reply_bytes, word};
 ghost use Rattle.sync_host.specs.Steps.{IfTold};
 
@@ -88,27 +89,46 @@ fn asks(tag: u8, ask: &Ask, form: u32, count: u32) -> Head
     }
 }
 
+fn first_number(changes: &[Change]) -> u32
+    ensures { result ≡ number_or_none (slice_get changes.now 0) }
+{
+    match changes.first() {
+        Some(change) => change.number(),
+        None => 0,
+    }
+}
+
+fn last_number(changes: &[Change]) -> u32
+    ensures { result ≡ number_or_none (slice_get changes.now (length changes.now - 1)) }
+{
+    match changes.last() {
+        Some(change) => change.number(),
+        None => 0,
+    }
+}
+
+fn first_base(changes: &[Change]) -> u32
+    ensures { result ≡ base_or_none (slice_get changes.now 0) }
+{
+    match changes.first() {
+        Some(change) => change.base(),
+        None => 0,
+    }
+}
+
 fn uploads(upload: &Upload) -> Head
     ensures { result ≡ upload_head upload.now }
 {
     let changes = upload.changes();
-    let (first, base) = match changes.first() {
-        Some(change) => (change.number(), change.base()),
-        None => (0, 0),
-    };
-    let last = match changes.last() {
-        Some(change) => change.number(),
-        None => 0,
-    };
     Head {
         tag: 3,
         uuid: NO_UUID,
         ident: upload.ident(),
         by: 0,
         count: changes.len() as u32,
-        first,
-        second: last,
-        third: base,
+        first: first_number(changes),
+        second: last_number(changes),
+        third: first_base(changes),
     }
 }
 
@@ -224,6 +244,14 @@ pub(crate) fn tell_head(alloc: Global, bytes: &[u8]) -> Reply
     }
 }
 
+/// A number of eight bytes, the lowest first.
+fn put_wide(out: &mut Vec<u8>, number: u64) -> Result<(), AllocError>
+    ensures { OnOk result (out.new.items ≡ out.old.items ++ to_le_bytes w64 number) }
+{
+    out.extend_from_slice(&number.to_le_bytes())?;
+    Ok(())
+}
+
 /// A changeset behind two numbers, its time and how many bytes it has.
 fn put_borne(
     out: &mut Vec<u8>,
@@ -237,39 +265,69 @@ fn put_borne(
 {
     put_word(out, first)?;
     put_word(out, second)?;
-    out.extend_from_slice(&ms.to_le_bytes())?;
+    put_wide(out, ms)?;
     put_word(out, body.len() as u32)?;
     out.extend_from_slice(body)?;
     Ok(())
+}
+
+fn put_change(out: &mut Vec<u8>, change: &Change) -> Result<(), AllocError>
+    ensures { OnOk result (out.new.items ≡ out.old.items ++ change_bytes change.now) }
+{
+    put_borne(
+        out,
+        change.number(),
+        change.base(),
+        change.ms(),
+        change.body(),
+    )
 }
 
 fn put_changes(out: &mut Vec<u8>, changes: &[Change]) -> Result<(), AllocError>
     ensures { OnOk result (out.new.items ≡ out.old.items ++ flat_map change_bytes changes.now) }
 {
     for change in changes {
-        put_borne(out, change.number(), change.base(), change.ms(), change.body())?;
+        put_change(out, change)?;
     }
     Ok(())
+}
+
+fn put_sent(out: &mut Vec<u8>, entry: &Sent) -> Result<(), AllocError>
+    ensures { OnOk result (out.new.items ≡ out.old.items ++ entry_bytes entry.now) }
+{
+    put_borne(
+        out,
+        entry.origin(),
+        entry.number(),
+        entry.ms(),
+        entry.body(),
+    )
 }
 
 fn put_entries(out: &mut Vec<u8>, entries: &[Sent]) -> Result<(), AllocError>
     ensures { OnOk result (out.new.items ≡ out.old.items ++ flat_map entry_bytes entries.now) }
 {
     for entry in entries {
-        put_borne(out, entry.origin(), entry.number(), entry.ms(), entry.body())?;
+        put_sent(out, entry)?;
     }
     Ok(())
+}
+
+fn put_borne_by(out: &mut Vec<u8>, message: &Message) -> Result<(), AllocError>
+    ensures { OnOk result (out.new.items ≡ out.old.items ++ borne_by message.now) }
+{
+    match message {
+        Message::Upload(upload) => put_changes(out, upload.changes()),
+        Message::Download(download) => put_entries(out, download.entries()),
+        _ => Ok(()),
+    }
 }
 
 fn borne_by(alloc: Global, message: &Message) -> Result<Vec<u8>, AllocError>
     ensures { IfOk result (λ bytes. bytes.items ≡ borne_by message.now) }
 {
     let mut out = Vec::new(alloc);
-    match message {
-        Message::Upload(upload) => put_changes(&mut out, upload.changes())?,
-        Message::Download(download) => put_entries(&mut out, download.entries())?,
-        _ => {}
-    }
+    put_borne_by(&mut out, message)?;
     Ok(out)
 }
 

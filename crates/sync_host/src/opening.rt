@@ -4,7 +4,6 @@ ghost use Rattle.sync_client.specs.Files as client_files;
 ghost use Rattle.sync_server.specs.Files as server_files;
 ghost use Rattle.sync_client.specs.Clients as clients;
 ghost use Rattle.sync_server.specs.Serving as servers;
-ghost use Rattle.sync_journal.specs.Stands.{disk_of};
 ghost use Rattle.sync_host.specs.Opening.{Begins, ClientOpens, IsUnopened, ServerOpens, Unopened};
 
 use crate::reply::Reply;
@@ -29,7 +28,7 @@ fn unopened<D: Disk>(refusal: OpenRefusal<D>) -> Reply
 /// The client of a file with these bytes.
 pub(crate) fn open_client(alloc: Global, file: &[u8]) -> Result<Client<OutboxDisk>, Reply>
     ensures opened { IfOk result (λ made. ClientOpens file.now made) }
-    ensures begins { IfOk result (λ made. Begins file.now (disk_of (clients.journal_of made))) }
+    ensures begins { IfOk result (λ made. Begins file.now (clients.journal_of made)) }
     ensures refused { IfErr result (IsUnopened (client_files.BadPlace file.now)) }
 {
     let Ok(disk) = OutboxDisk::over(alloc, file) else {
@@ -44,7 +43,7 @@ pub(crate) fn open_client(alloc: Global, file: &[u8]) -> Result<Client<OutboxDis
 /// The server of a file with these bytes.
 pub(crate) fn open_server(alloc: Global, file: &[u8]) -> Result<Server<OutboxDisk>, Reply>
     ensures opened { IfOk result (λ made. ServerOpens file.now made) }
-    ensures begins { IfOk result (λ made. Begins file.now (disk_of (servers.journal_of made))) }
+    ensures begins { IfOk result (λ made. Begins file.now (servers.journal_of made)) }
     ensures refused { IfErr result (IsUnopened (server_files.BadPlace file.now)) }
 {
     let Ok(disk) = OutboxDisk::over(alloc, file) else {

@@ -20,3 +20,6 @@ returns-in-Ok-clause-step g c = λ records is.
       stands = record { server = did.server; stored = (c.in-Ok.ensures.survives records is.server is.stored).stored };
       asked = (c.in-Ok.ensures.survives records is.server is.stored).asked;
     }) c.spell.ensures
+
+pub returns-in-Ok-clause-lasts : goal.returns-in-Ok-clause-lasts
+returns-in-Ok-clause-lasts g c = λ records is. (c.in-Ok.ensures.survives records is.server is.stored).any_moment
