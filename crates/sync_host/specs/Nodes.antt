@@ -35,10 +35,10 @@ OpensServer bytes node = (h : HostedServer) × (node ≡ nodes.Server h) × Serv
 
 -- a node was opened, or the place of what is bad is told, or memory ran out; then no node is open
 abbrev pub Opened : (ℕ → Type 0) → (Node → Type 0) → Reply → Node → Type 0
-Opened Bad Opens replies.Done node = Opens node
-Opened Bad Opens (replies.BadFile place) node = Bad place × (node ≡ nodes.None)
-Opened Bad Opens replies.NoMemory node = node ≡ nodes.None
-Opened Bad Opens reply node = ⊥
+Opened Bad Opens replies.Done there = Opens there
+Opened Bad Opens (replies.BadFile place) there = Bad place × (there ≡ nodes.None)
+Opened Bad Opens replies.NoMemory there = there ≡ nodes.None
+Opened Bad Opens reply there = ⊥
 
 -- a file that is bad at a place is told so
 abbrev pub TellsBad : (ℕ → Type 0) → Reply → Type 0
