@@ -88,7 +88,9 @@ enum realm_refusal_number {
     REALM_NOT_APPLICABLE = 16, /* version, place, code */
     REALM_WAS_REFUSED = 17,    /* number, code */
     REALM_SUBSCRIBED = 18,
-    REALM_TOO_LATE = 19
+    REALM_TOO_LATE = 19,
+    REALM_SKIPS = 20,          /* the number that comes next, the one that came */
+    REALM_BAD_CHANGE = 21      /* the change's number, offset, code */
 };
 
 /* Why a client refuses: a number of those above, and what it says more of. */
@@ -807,6 +809,43 @@ REALM_SYNC_API int realm_trim(realm_node *server) {
 /* The bytes of the file of a new client with that uuid, of 16 bytes, that begins with the server's objects (realm_bytes). */
 REALM_SYNC_API int realm_start(realm_node *server, const uint8_t *uuid) {
     return realm_told(server, realm_ask_of(server, 'S', uuid, 16), "node: expected a server, and this is a client");
+}
+
+/* What became of a change that a client inherited. */
+enum realm_inherited {
+    REALM_INTEGRATED = 0, /* it is in the history */
+    REALM_KNOWN = 1,      /* it was saved before */
+    REALM_SAVED = 2       /* it is the client's transaction realm_saved_as now */
+};
+
+/* A client, the heir, takes a change of an ident that was given up for it: retired is the Retired message, looked at, and change one of those
+ * that the old client had unsent, which come one by one, in order. Then realm_inherited_of says what became of it. */
+REALM_SYNC_API int realm_inherit(realm_node *heir, const realm_message *retired, const realm_change *change) {
+    uint8_t *body = (uint8_t *)malloc(28 + change->len);
+    if (!body) {
+        heir->reply_len = 0;
+        return REALM_NO_MEMORY;
+    }
+    const uint32_t numbers[] = {retired->ident, retired->by, retired->first, change->number, change->base, (uint32_t)change->ms, (uint32_t)(change->ms >> 32)};
+    for (int i = 0; i < 7; i++) realm_put_number(body + 4 * i, numbers[i]);
+    if (change->len > 0) memcpy(body + 28, change->body, change->len);
+    int status = realm_ask_client(heir, 'K', body, 28 + change->len, "retired: expected a Retired message, and a change of an Upload");
+    free(body);
+    return status;
+}
+
+REALM_SYNC_API enum realm_inherited realm_inherited_of(const realm_node *heir) { return heir->reply_len > 1 ? (enum realm_inherited)heir->reply[1] : REALM_INTEGRATED; }
+
+/* As which transaction it was saved. */
+REALM_SYNC_API uint32_t realm_saved_as(const realm_node *heir) { return heir->reply_len >= 6 ? (uint32_t)realm_number_at(heir->reply + 2, 4) : 0; }
+
+/* How many of its instructions were dropped, since they broke; and of one of them its place in the change, and the code of the break. */
+REALM_SYNC_API size_t realm_dropped(const realm_node *heir) { return heir->reply_len >= 6 ? (heir->reply_len - 6) / 8 : 0; }
+
+REALM_SYNC_API uint32_t realm_dropped_at(const realm_node *heir, size_t index, uint32_t *code) {
+    const uint8_t *row = heir->reply + 6 + 8 * index;
+    *code = (uint32_t)realm_number_at(row + 4, 4);
+    return (uint32_t)realm_number_at(row, 4);
 }
 
 /* Where it stands. */

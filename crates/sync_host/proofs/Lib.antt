@@ -7,3 +7,4 @@ pub mod Files
 pub mod Lasting
 pub mod Heads
 pub mod Pieces
+pub mod Inheriting

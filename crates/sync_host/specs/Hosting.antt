@@ -14,6 +14,7 @@ use Rattle.sync_exchange.specs.Seen.{client_bytes, server_bytes}
 use Rattle.sync_messages.specs.Reading.{message_in}
 use Rattle.server_memory.specs.Kept.{parts}
 use Rattle.sync_server.specs.Serving.{kept_of}
+use Rattle.sync_host.specs.Heirs.{heir_answer, inherited_in}
 use Rattle.sync_host.specs.Objects.{ObjectTold, object_form_of_line}
 use Rattle.sync_host.specs.Outboxes.{CrashLeaves, client_start, client_strokes, server_start, server_strokes}
 use Rattle.sync_host.specs.Places.{place_lines}
@@ -43,6 +44,9 @@ pub record ClientAnswers (verb : Verb) (body : List ℕ) (old : HostedClient) (r
   -- a node line, or a message: the model's step
   pub line : verb ≡ verbs.Line → (records : List ClientRecord) → ClientStands records old.client → IfTold reply (Answers (option_map (line_answer records) (node_form_of_line body)) records reply old.client new.client)
   pub take : verb ≡ verbs.Take → (records : List ClientRecord) → ClientStands records old.client → IfTold reply (Answers (option_map (take_answer records) (message_read body)) records reply old.client new.client)
+  -- a change of an ident that was given up for it: the heir's step
+  pub inherits : verb ≡ verbs.Inherit → (records : List ClientRecord) → ClientStands records old.client → IfTold reply (Answers (option_map (heir_answer records) (inherited_in body)) records reply old.client new.client)
+  pub inherits_alone : verb ≡ verbs.Inherit → new ≡ record old { client = new.client }
   -- what none of the places that it then keeps covers is as it was
   pub changes_by_line : verb ≡ verbs.Line → (records : List ClientRecord) → ClientStands records old.client → IfTold reply (Tells new.changed.items records (option_map (line_answer records) (node_form_of_line body)))
   pub changes_by_take : verb ≡ verbs.Take → (records : List ClientRecord) → ClientStands records old.client → IfTold reply (Tells new.changed.items records (option_map (take_answer records) (message_read body)))
@@ -52,6 +56,7 @@ pub record ClientAnswers (verb : Verb) (body : List ℕ) (old : HostedClient) (r
   -- of any answer, also where memory ran out
   pub lasts_by_line : verb ≡ verbs.Line → (records : List ClientRecord) → ClientStands records old.client → ClientLasts (option_map (line_answer records) (node_form_of_line body)) records old new
   pub lasts_by_take : verb ≡ verbs.Take → (records : List ClientRecord) → ClientStands records old.client → ClientLasts (option_map (take_answer records) (message_read body)) records old new
+  pub lasts_by_inherit : verb ≡ verbs.Inherit → (records : List ClientRecord) → ClientStands records old.client → ClientLasts (option_map (heir_answer records) (inherited_in body)) records old new
   pub begun : client_start new ≡ client_start old
   -- nothing else changes it
   pub unchanged : is_call verb ≡ false → new ≡ old

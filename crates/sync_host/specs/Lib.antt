@@ -11,3 +11,4 @@ pub mod Nodes
 pub mod Hosts
 pub mod Heads
 pub mod Trimming
+pub mod Heirs

@@ -10,6 +10,7 @@ verb_of byte =
     else if byte == 120 then Some verbs.Close
     else if byte == 76 then Some verbs.Line
     else if byte == 84 then Some verbs.Take
+    else if byte == 75 then Some verbs.Inherit
     else if byte == 78 then Some verbs.Next
     else if byte == 66 then Some verbs.Bind
     else if byte == 85 then Some verbs.Upload
@@ -39,6 +40,7 @@ is_to_node verbs.OpenServer = false
 is_to_node verbs.Close = false
 is_to_node verbs.Line = true
 is_to_node verbs.Take = true
+is_to_node verbs.Inherit = true
 is_to_node verbs.Next = true
 is_to_node verbs.Bind = true
 is_to_node verbs.Upload = true
@@ -63,6 +65,7 @@ is_new verbs.OpenServer = true
 is_new verbs.Close = true
 is_new verbs.Line = true
 is_new verbs.Take = true
+is_new verbs.Inherit = true
 is_new verbs.Next = true
 is_new verbs.Bind = true
 is_new verbs.Upload = true
@@ -80,10 +83,11 @@ is_new verbs.Again = false
 is_new verbs.Outbox = false
 is_new verbs.Done = true
 
--- it is a node line or a message
+-- it is a node line, a message, or a change that a client inherits
 abbrev pub is_call : Verb → Bool
 is_call verbs.Line = true
 is_call verbs.Take = true
+is_call verbs.Inherit = true
 is_call verb = false
 
 -- it asks for nothing new: for nothing at all, or for the last reply or the outbox

@@ -178,7 +178,7 @@ fn head_of(message: &Message) -> Head
 }
 
 /// A number of four bytes, the lowest first.
-fn put_word(out: &mut Vec<u8>, number: u32) -> Result<(), AllocError>
+pub(crate) fn put_word(out: &mut Vec<u8>, number: u32) -> Result<(), AllocError>
     ensures { OnOk result (out.new.items ≡ out.old.items ++ word number) }
 {
     out.extend_from_slice(&number.to_le_bytes())?;

@@ -8,6 +8,7 @@ ghost use Rattle.sync_messages.specs.Reading.{message_in};
 ghost use Rattle.sync_host.specs.Steps.{Answers, ClientStands, IfTold, SentSo, Spares, Tells, errand, line_answer, message_read, number_in, retire_in, stored_after, stored_in, take_answer};
 
 use crate::answers::{dump, send};
+use crate::heir::inherit;
 use crate::object::object;
 use crate::places::{changed_by_line, tell};
 use crate::reply::Reply;
@@ -162,6 +163,7 @@ impl HostedClient {
         match verb {
             Verb::Line => self.line(alloc, body),
             Verb::Take => self.take(alloc, body),
+            Verb::Inherit => inherit(alloc, &mut self.client, body),
             Verb::Dump => dump(alloc, self.client.objects()),
             Verb::Object => object(alloc, self.client.objects(), body),
             Verb::Changed => tell(alloc, &self.changed),

@@ -5,6 +5,7 @@
 mod answers;
 mod client;
 mod head;
+mod heir;
 mod host;
 mod hosted;
 mod node;

@@ -14,6 +14,8 @@ pub enum Verb {
     Line,
     /// Takes a message.
     Take,
+    /// Takes a change of an ident that was given up for the client.
+    Inherit,
     /// Asks for the client's next message.
     Next,
     /// Asks for the message that asks for an ident.
@@ -59,6 +61,7 @@ impl Verb {
             b'x' => Some(Verb::Close),
             b'L' => Some(Verb::Line),
             b'T' => Some(Verb::Take),
+            b'K' => Some(Verb::Inherit),
             b'N' => Some(Verb::Next),
             b'B' => Some(Verb::Bind),
             b'U' => Some(Verb::Upload),
