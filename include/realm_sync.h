@@ -811,6 +811,41 @@ REALM_SYNC_API int realm_start(realm_node *server, const uint8_t *uuid) {
     return realm_told(server, realm_ask_of(server, 'S', uuid, 16), "node: expected a server, and this is a client");
 }
 
+/* Asks a server for so many entries of its history from a version on: realm_next_change tells one after the other. REALM_ABSENT where the
+ * server gave up the history there. */
+REALM_SYNC_API int realm_entries(realm_node *server, uint32_t version, uint32_t count) {
+    uint8_t body[8];
+    realm_put_number(body, version);
+    realm_put_number(body + 4, count);
+    return realm_told(server, realm_ask_of(server, 'E', body, sizeof body), "node: expected a server, and this is a client");
+}
+
+/* A client as its server knows it. */
+typedef struct realm_known {
+    uint8_t uuid[16];
+    uint32_t number;  /* how many of its changes are in the history */
+    uint32_t settled; /* up to which version it has settled */
+    bool given_up;
+} realm_known;
+
+/* Asks a server for its clients: realm_known_at tells one by its ident, and the number before them is the first version that the server
+ * still has. */
+REALM_SYNC_API int realm_clients(realm_node *server) {
+    return realm_told(server, realm_ask_of(server, 'Q', NULL, 0), "node: expected a server, and this is a client");
+}
+
+REALM_SYNC_API uint32_t realm_floor(const realm_node *server) { return server->reply_len >= 5 ? (uint32_t)realm_number_at(server->reply + 1, 4) : 0; }
+
+REALM_SYNC_API bool realm_known_at(const realm_node *server, uint32_t ident, realm_known *out) {
+    if (ident == 0 || server->reply_len < 5 || (server->reply_len - 5) / 28 < ident) return false;
+    const uint8_t *row = server->reply + 5 + 28 * (size_t)(ident - 1);
+    memcpy(out->uuid, row, sizeof out->uuid);
+    out->number = (uint32_t)realm_number_at(row + 16, 4);
+    out->settled = (uint32_t)realm_number_at(row + 20, 4);
+    out->given_up = realm_number_at(row + 24, 4) != 0;
+    return true;
+}
+
 /* What became of a change that a client inherited. */
 enum realm_inherited {
     REALM_INTEGRATED = 0, /* it is in the history */

@@ -8,3 +8,4 @@ pub mod Lasting
 pub mod Heads
 pub mod Pieces
 pub mod Inheriting
+pub mod Histories

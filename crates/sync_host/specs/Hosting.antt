@@ -15,6 +15,7 @@ use Rattle.sync_messages.specs.Reading.{message_in}
 use Rattle.server_memory.specs.Kept.{parts}
 use Rattle.sync_server.specs.Serving.{kept_of}
 use Rattle.sync_host.specs.Heirs.{heir_answer, inherited_in}
+use Rattle.sync_host.specs.Histories.{ClientsTold, EntriesTold, range_in}
 use Rattle.sync_host.specs.Objects.{ObjectTold, object_form_of_line}
 use Rattle.sync_host.specs.Outboxes.{CrashLeaves, client_start, client_strokes, server_start, server_strokes}
 use Rattle.sync_host.specs.Places.{place_lines}
@@ -80,6 +81,9 @@ pub record ServerAnswers (verb : Verb) (body : List ℕ) (old : HostedServer) (r
   pub unchanged : (verb ≡ verbs.Take → ⊥) → new ≡ old
   -- the files that it makes
   pub trims : verb ≡ verbs.Trim → IfTold reply (TellsTrimmed (parts (kept_of old.server)) reply)
+  -- what it tells of its history and of its clients
+  pub entries : verb ≡ verbs.Entries → IfTold reply (EntriesTold (range_in body) (parts (kept_of old.server)) reply)
+  pub clients : verb ≡ verbs.Clients → IfTold reply (ClientsTold (parts (kept_of old.server)) reply)
   pub starts : verb ≡ verbs.Start → IfTold reply (TellsStarted (id_in body) (parts (kept_of old.server)) reply)
   pub dumps : verb ≡ verbs.Dump → IfTold reply (reply_bytes reply ≡ 0 ∷ dump (parts (kept_of old.server)).objects)
   pub tells : verb ≡ verbs.Object → IfTold reply (ObjectTold (object_form_of_line body) (parts (kept_of old.server)).objects reply)

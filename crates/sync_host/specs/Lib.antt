@@ -12,3 +12,4 @@ pub mod Hosts
 pub mod Heads
 pub mod Trimming
 pub mod Heirs
+pub mod Histories

@@ -22,6 +22,8 @@ verb_of byte =
     else if byte == 73 then Some verbs.Standing
     else if byte == 70 then Some verbs.Trim
     else if byte == 83 then Some verbs.Start
+    else if byte == 69 then Some verbs.Entries
+    else if byte == 81 then Some verbs.Clients
     else if byte == 72 then Some verbs.Head
     else if byte == 80 then Some verbs.Borne
     else if byte == 82 then Some verbs.Again
@@ -52,6 +54,8 @@ is_to_node verbs.Changed = true
 is_to_node verbs.Standing = true
 is_to_node verbs.Trim = true
 is_to_node verbs.Start = true
+is_to_node verbs.Entries = true
+is_to_node verbs.Clients = true
 is_to_node verbs.Head = false
 is_to_node verbs.Borne = false
 is_to_node verbs.Again = false
@@ -77,6 +81,8 @@ is_new verbs.Changed = true
 is_new verbs.Standing = true
 is_new verbs.Trim = true
 is_new verbs.Start = true
+is_new verbs.Entries = true
+is_new verbs.Clients = true
 is_new verbs.Head = true
 is_new verbs.Borne = true
 is_new verbs.Again = false

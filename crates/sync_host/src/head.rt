@@ -253,7 +253,7 @@ fn put_wide(out: &mut Vec<u8>, number: u64) -> Result<(), AllocError>
 }
 
 /// A changeset behind two numbers, its time and how many bytes it has.
-fn put_borne(
+pub(crate) fn put_borne(
     out: &mut Vec<u8>,
     first: u32,
     second: u32,

@@ -9,6 +9,7 @@ ghost use Rattle.sync_host.specs.Steps.{Answers, ClientStands, IfTold, SentSo, S
 
 use crate::answers::{dump, send};
 use crate::heir::inherit;
+use crate::history::{clients, entries};
 use crate::object::object;
 use crate::places::{changed_by_line, tell};
 use crate::reply::Reply;
@@ -195,6 +196,8 @@ impl HostedServer {
             Verb::Standing => server::standing(&self.server),
             Verb::Trim => trimmed(alloc, &self.server),
             Verb::Start => started(alloc, &self.server, body),
+            Verb::Entries => entries(alloc, &self.server, body),
+            Verb::Clients => clients(alloc, &self.server),
             _ => Reply::BadRequest,
         }
     }

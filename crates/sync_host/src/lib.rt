@@ -6,6 +6,7 @@ mod answers;
 mod client;
 mod head;
 mod heir;
+mod history;
 mod host;
 mod hosted;
 mod node;

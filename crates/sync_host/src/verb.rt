@@ -38,6 +38,10 @@ pub enum Verb {
     Trim,
     /// Asks a server for the file of a client that begins with its objects.
     Start,
+    /// Asks a server for entries of its history.
+    Entries,
+    /// Asks a server for its clients.
+    Clients,
     /// Asks for the head of a message.
     Head,
     /// Asks for the changes or entries that a message bears.
@@ -73,6 +77,8 @@ impl Verb {
             b'I' => Some(Verb::Standing),
             b'F' => Some(Verb::Trim),
             b'S' => Some(Verb::Start),
+            b'E' => Some(Verb::Entries),
+            b'Q' => Some(Verb::Clients),
             b'H' => Some(Verb::Head),
             b'P' => Some(Verb::Borne),
             b'R' => Some(Verb::Again),
