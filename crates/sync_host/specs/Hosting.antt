@@ -19,7 +19,6 @@ use Rattle.sync_host.specs.Outboxes.{CrashLeaves, client_start, client_strokes, 
 use Rattle.sync_host.specs.Places.{place_lines}
 use Rattle.sync_host.specs.Replies.{reply_bytes}
 use Rattle.sync_host.specs.Steps.{Answer, Answers, ClientStands, IfTold, SentSo, Serves, ServerStands, Spares, Tells, errand, line_answer, message_read, server_standing, standing_of, stored_after, take_answer}
-use Rattle.sync_host.specs.Trimming.{TellsStarted, TellsTrimmed, id_in}
 use Rattle.sync_host.specs.Verbs.{is_call}
 use Rattle.sync_host.specs.declared.hosted.HostedClient.{HostedClient}
 use Rattle.sync_host.specs.declared.hosted.HostedServer.{HostedServer}
@@ -73,9 +72,6 @@ pub record ServerAnswers (verb : Verb) (body : List ℕ) (old : HostedServer) (r
   pub lasts : verb ≡ verbs.Take → (records : List ServerRecord) → ServerStands records old.server → ServerLasts (option_map (serve_by the_profile (parts (kept_of old.server))) (message_read body)) records old new
   pub begun : server_start new ≡ server_start old
   pub unchanged : (verb ≡ verbs.Take → ⊥) → new ≡ old
-  -- the files that it makes
-  pub trims : verb ≡ verbs.Trim → IfTold reply (TellsTrimmed (parts (kept_of old.server)) reply)
-  pub starts : verb ≡ verbs.Start → IfTold reply (TellsStarted (id_in body) (parts (kept_of old.server)) reply)
   pub dumps : verb ≡ verbs.Dump → IfTold reply (reply_bytes reply ≡ 0 ∷ dump (parts (kept_of old.server)).objects)
   pub tells : verb ≡ verbs.Object → IfTold reply (ObjectTold (object_form_of_line body) (parts (kept_of old.server)).objects reply)
   pub stands : verb ≡ verbs.Standing → reply ≡ replies.Standing (server_standing (parts (kept_of old.server)).len)

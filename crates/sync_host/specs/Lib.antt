@@ -10,4 +10,3 @@ pub mod Hosting
 pub mod Nodes
 pub mod Hosts
 pub mod Heads
-pub mod Trimming

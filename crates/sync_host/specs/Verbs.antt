@@ -19,8 +19,6 @@ verb_of byte =
     else if byte == 79 then Some verbs.Object
     else if byte == 67 then Some verbs.Changed
     else if byte == 73 then Some verbs.Standing
-    else if byte == 70 then Some verbs.Trim
-    else if byte == 83 then Some verbs.Start
     else if byte == 72 then Some verbs.Head
     else if byte == 80 then Some verbs.Borne
     else if byte == 82 then Some verbs.Again
@@ -48,8 +46,6 @@ is_to_node verbs.Dump = true
 is_to_node verbs.Object = true
 is_to_node verbs.Changed = true
 is_to_node verbs.Standing = true
-is_to_node verbs.Trim = true
-is_to_node verbs.Start = true
 is_to_node verbs.Head = false
 is_to_node verbs.Borne = false
 is_to_node verbs.Again = false
@@ -72,8 +68,6 @@ is_new verbs.Dump = true
 is_new verbs.Object = true
 is_new verbs.Changed = true
 is_new verbs.Standing = true
-is_new verbs.Trim = true
-is_new verbs.Start = true
 is_new verbs.Head = true
 is_new verbs.Borne = true
 is_new verbs.Again = false

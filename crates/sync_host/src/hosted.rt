@@ -11,7 +11,6 @@ use crate::answers::{dump, send};
 use crate::object::object;
 use crate::places::{changed_by_line, tell};
 use crate::reply::Reply;
-use crate::trimming::{started, trimmed};
 use crate::verb::Verb;
 use crate::{client, server};
 use outbox_disk::OutboxDisk;
@@ -191,8 +190,6 @@ impl HostedServer {
             Verb::Dump => dump(alloc, self.server.objects()),
             Verb::Object => object(alloc, self.server.objects(), body),
             Verb::Standing => server::standing(&self.server),
-            Verb::Trim => trimmed(alloc, &self.server),
-            Verb::Start => started(alloc, &self.server, body),
             _ => Reply::BadRequest,
         }
     }

@@ -14,7 +14,6 @@ mod places;
 mod refusals;
 mod reply;
 mod server;
-mod trimming;
 mod verb;
 
 pub use host::Host;

@@ -32,10 +32,6 @@ pub enum Verb {
     Changed,
     /// Asks where the node stands.
     Standing,
-    /// Asks a server for the file that may stand in place of its own.
-    Trim,
-    /// Asks a server for the file of a client that begins with its objects.
-    Start,
     /// Asks for the head of a message.
     Head,
     /// Asks for the changes or entries that a message bears.
@@ -68,8 +64,6 @@ impl Verb {
             b'O' => Some(Verb::Object),
             b'C' => Some(Verb::Changed),
             b'I' => Some(Verb::Standing),
-            b'F' => Some(Verb::Trim),
-            b'S' => Some(Verb::Start),
             b'H' => Some(Verb::Head),
             b'P' => Some(Verb::Borne),
             b'R' => Some(Verb::Again),

@@ -14,8 +14,6 @@ returns-in-Take c = record {
       server_lasts (option_map (serve_by the_profile (parts (kept_of c.args.self.now.server))) (message_read c.args.body.now)) records c.args.self.now _ (c.take.ensures.lasts records stands);
   begun = c.take.ensures.begun;
   unchanged = λ not. absurd (not c.in-Take.is);
-  trims = λ is. absurd (cc);
-  starts = λ is. absurd (cc);
   dumps = λ is. absurd (cc);
   tells = λ is. absurd (cc);
   stands = λ is. absurd (cc);
