@@ -19,7 +19,7 @@ use Rattle.sync_journal.specs.Records.Reading.{Good}
 use Rattle.sync_journal.proofs.Crash.{closed_file, torn_gate}
 
 -- BYTES
-module _ (olds all : List (List ℕ)) (gate : ℕ) (file shown : List ℕ) (j : IsJournal olds gate file) (reads : records_of shown ≡ Good all) where
+module _ (olds all : List (List ℕ)) (gate : ℕ) (file shown : List ℕ) (j : IsJournal false olds gate file) (reads : records_of shown ≡ Good all) where
   p : List ℕ
   p = magic ++ j.front
 
@@ -40,7 +40,7 @@ module _ (olds all : List (List ℕ)) (gate : ℕ) (file shown : List ℕ) (j : 
       ap (take (gate + 1)) (is ∙ sym (append_assoc p (j.gate ∷ []) j.rest)) ∙ take_at (p ++ j.gate ∷ []) j.rest (gate + 1) (omega (arith, long, length-append p (j.gate ∷ []))) in
       let rest = drop (gate + 1) c in
       let whole : c ≡ p ++ j.gate ∷ rest = sym (take-append-drop (gate + 1) c) ∙ ap (λ (l : List ℕ). l ++ rest) (same ∙ front) ∙ append_assoc p (j.gate ∷ []) rest in
-      ap records_of (whole ∙ sym (flat (j.gate ∷ rest))) ∙ closed_file olds j.front j.gate rest j.are j.shut
+      ap records_of (whole ∙ sym (flat (j.gate ∷ rest))) ∙ closed_file false olds j.front j.gate rest j.are j.shut
 
   let_in : (c : List ℕ) → IsLetIn file gate shown c → StandsForEither olds all c
   let_in c i =
@@ -51,7 +51,7 @@ module _ (olds all : List (List ℕ)) (gate : ℕ) (file shown : List ℕ) (j : 
       let torn : c ≡ p ++ get_or c gate 0 ∷ rest = torn_gate p gate long 1 rest c (subst (λ (f : List ℕ). Torn gate 1 f c) whole i.torn) in
       elim (cases_eq (get_or c gate 0) 1) [
         | inl open_ ↦ inr (ap records_of (torn ∙ ap (λ (g : ℕ). p ++ g ∷ rest) open_ ∙ sym whole) ∙ reads)
-        | inr shut ↦ inl (ap records_of (torn ∙ sym (flat (get_or c gate 0 ∷ rest))) ∙ closed_file olds j.front (get_or c gate 0) rest j.are shut)
+        | inr shut ↦ inl (ap records_of (torn ∙ sym (flat (get_or c gate 0 ∷ rest))) ∙ closed_file false olds j.front (get_or c gate 0) rest j.are shut)
       ]
 
   pub either : (c : List ℕ) → NoneOrAll file gate shown c → StandsForEither olds all c
@@ -85,6 +85,6 @@ module _ {D : Type 0} {G : Ghosts D} where
         file = holds.file;
         told = told;
         reads = holds.reads;
-        journal = subst (λ (n : ℕ). IsJournal records n holds.file) gate holds.journal;
+        journal = subst (λ (n : ℕ). IsJournal false records n holds.file) gate holds.journal;
         durable = only_below g holds.file idle told;
       }

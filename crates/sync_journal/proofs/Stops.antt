@@ -4,22 +4,21 @@ use Rattle.std.proofs.lemmas.List.{length-map}
 use Rattle.sync_disk.specs.Strokes.{Act, Stroke, done, AllDone, CutByFault}
 use Rattle.sync_disk.specs.declared.leaves.Leaves.{Leaves}
 use Rattle.sync_disk.proofs.Asking.{none_done, all_done, cut_later}
-use Rattle.sync_journal.specs.Records.{longest}
 use Rattle.sync_journal.specs.Journal.{strokes_of, strokes_of_all}
 use Rattle.sync_journal.specs.Several.{AsksAll, AsksPart}
-use Rattle.sync_journal.specs.Stopping.{AreShort, is_keep, standing}
+use Rattle.sync_journal.specs.Stopping.{CanStand, CanAllStand, is_keep, standing}
 use Rattle.sync_journal.proofs.Several.{size_append, strokes_append}
 
 -- ---- one run of appends behind another
-short_both : (a b : List (List ℕ)) → AreShort a → AreShort b → AreShort (a ++ b)
-short_both [] b s t = t
-short_both (r ∷ a) b s t = (s.0, short_both a b s.1 t)
+can_both : (a b : List (List ℕ)) → CanAllStand a → CanAllStand b → CanAllStand (a ++ b)
+can_both [] b s t = t
+can_both (r ∷ a) b s t = (s.0, can_both a b s.1 t)
 
 pub asks_none : (end : ℕ) (old : List Stroke) → AsksAll [] end end old old
-asks_none end old = record { place = omega arith; done = none_done old; short = tt }
+asks_none end old = record { place = omega arith; done = none_done old; can = tt }
 
-pub asks_one : (r : List ℕ) (end now : ℕ) (old new : List Stroke) → length r ≤ longest → now ≡ end + 5 + length r → AllDone (strokes_of end r) old new → AsksAll (r ∷ []) end now old new
-asks_one r end now old new short place all = record { place = omega (arith, place); done = subst (λ (acts : List Act). AllDone acts old new) (sym (append-nil (strokes_of end r))) all; short = (short, tt) }
+pub asks_one : (r : List ℕ) (end now : ℕ) (old new : List Stroke) → CanStand r → now ≡ end + 5 + length r → AllDone (strokes_of end r) old new → AsksAll (r ∷ []) end now old new
+asks_one r end now old new can place all = record { place = omega (arith, place); done = subst (λ (acts : List Act). AllDone acts old new) (sym (append-nil (strokes_of end r))) all; can = (can, tt) }
 
 pub asks_both : (a b : List (List ℕ)) (end mid now : ℕ) (old between new : List Stroke) → AsksAll a end mid old between → AsksAll b mid now between new → AsksAll (a ++ b) end now old new
 asks_both a b end mid now old between new first second = record {
@@ -27,11 +26,11 @@ asks_both a b end mid now old between new first second = record {
   done =
       subst (λ (acts : List Act). AllDone acts old new) (sym (strokes_append end a b ∙ ap (λ (n : ℕ). strokes_of_all end a ++ strokes_of_all n b) (sym first.place)))
       (all_done (strokes_of_all end a) (strokes_of_all mid b) old between new first.done second.done);
-  short = short_both a b first.short second.short;
+  can = can_both a b first.can second.can;
 }
 
-pub part_one : (r : List ℕ) (end : ℕ) (old new : List Stroke) → length r ≤ longest → CutByFault (strokes_of end r) old new → AsksPart (r ∷ []) end old new
-part_one r end old new short cut = record { count = 1; within = omega arith; cut = subst (λ (acts : List Act). CutByFault acts old new) (sym (append-nil (strokes_of end r))) cut; short = (short, tt) }
+pub part_one : (r : List ℕ) (end : ℕ) (old new : List Stroke) → CanStand r → CutByFault (strokes_of end r) old new → AsksPart (r ∷ []) end old new
+part_one r end old new can cut = record { count = 1; within = omega arith; cut = subst (λ (acts : List Act). CutByFault acts old new) (sym (append-nil (strokes_of end r))) cut; can = (can, tt) }
 
 take_first : (a b : List (List ℕ)) (n : ℕ) → n ≤ length a → take n (a ++ b) ≡ take n a
 take_first a b zero le = refl
@@ -54,7 +53,7 @@ part_before a b end old new part =
       count = part.count;
       within = omega (arith, part.within, length-append a b);
       cut = subst (λ (rs : List (List ℕ)). CutByFault (strokes_of_all end rs) old new) same part.cut;
-      short = subst AreShort same part.short;
+      can = subst CanAllStand same part.can;
     }
 
 pub part_later : (a b : List (List ℕ)) (end mid : ℕ) (old between new : List Stroke) → AsksAll a end mid old between → AsksPart b mid between new → AsksPart (a ++ b) end old new
@@ -67,7 +66,7 @@ part_later a b end mid old between new first part =
       cut =
           subst (λ (rs : List (List ℕ)). CutByFault (strokes_of_all end rs) old new) same
           (subst (λ (acts : List Act). CutByFault acts old new) (sym joined) (cut_later (strokes_of_all end a) (strokes_of_all mid (take part.count b)) old between new first.done part.cut));
-      short = subst AreShort same (short_both a (take part.count b) first.short part.short);
+      can = subst CanAllStand same (can_both a (take part.count b) first.can part.can);
     }
 
 -- ---- how many records stand

@@ -5,20 +5,20 @@ use Rattle.sync_disk.specs.Strokes.{Stroke, AllDone, CutByFault}
 use Rattle.sync_journal.specs.declared.journal.Journal.{Journal}
 use Rattle.sync_journal.specs.Journal.{strokes_of_all, size_of_all}
 use Rattle.sync_journal.specs.Stands.{disk_of, end_of}
-use Rattle.sync_journal.specs.Stopping.{AreShort}
+use Rattle.sync_journal.specs.Stopping.{CanAllStand}
 
 -- the strokes of the appends of these records, in order: all were asked for and done
 pub record AsksAll (next : List (List ℕ)) (end now : ℕ) (old new : List Stroke) : Type 0 where
   pub place : now ≡ end + size_of_all next
   pub done : AllDone (strokes_of_all end next) old new
-  pub short : AreShort next
+  pub can : CanAllStand next
 
 -- those of the first so many records were, up to one that failed
 pub record AsksPart (next : List (List ℕ)) (end : ℕ) (old new : List Stroke) : Type 0 where
   pub count : ℕ
   pub within : count ≤ length next
   pub cut : CutByFault (strokes_of_all end (take count next)) old new
-  pub short : AreShort (take count next)
+  pub can : CanAllStand (take count next)
 
 -- of journals
 module _ {D : Type 0} {G : Ghosts D} where

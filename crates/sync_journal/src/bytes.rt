@@ -1,10 +1,10 @@
 // The bytes of a journal that is made whole, in memory.
-ghost use Rattle.std.specs.Prelude.{◌≡◌, ◌↔◌, ◌++◌, ◌∷◌, [], ◌<◌, ◌≤◌, List, ℕ, length, IfOk, OnOk, IsErrOf};
+ghost use Rattle.std.specs.Prelude.{◌≡◌, ◌↔◌, ◌++◌, ◌∷◌, [], ◌<◌, ◌≤◌, List, ℕ, length, IfOk, IfErr, OnOk, IsErrOf, true};
 ghost use Rattle.sync_journal.specs.Files.{AreBytes, IsFile};
-ghost use Rattle.sync_journal.specs.Records.{behind_gate, longest};
+ghost use Rattle.sync_journal.specs.Records.{behind_gate, is_note, longest};
 
 use crate::journal::JournalRefusal;
-use crate::layout::{CLOSED, LONGEST, MAGIC, OPEN};
+use crate::layout::{CLOSED, LONGEST, MAGIC, OPEN, is_note};
 use byteorder::{BigEndian, ByteOrder};
 use std::alloc::{AllocError, Global};
 
@@ -17,7 +17,7 @@ pub struct JournalBytes {
 
 fn put(out: &mut Vec<u8>, bytes: &[u8]) -> Result<(), JournalRefusal>
     ensures put { OnOk result (out.new.items ≡ out.old.items ++ bytes.now) }
-    ensures long { ¬ IsErrOf result JournalRefusal.RecordTooLong }
+    ensures memory { IfErr result (λ why. why ≡ JournalRefusal.NoMemory) }
 {
     match out.extend_from_slice(bytes) {
         Ok(()) => Ok(()),
@@ -30,7 +30,7 @@ fn put(out: &mut Vec<u8>, bytes: &[u8]) -> Result<(), JournalRefusal>
 fn put_behind_gate(out: &mut Vec<u8>, bytes: &[u8]) -> Result<(), JournalRefusal>
     requires { length bytes.now ≤ longest }
     ensures put { OnOk result (out.new.items ≡ out.old.items ++ behind_gate bytes.now) }
-    ensures long { ¬ IsErrOf result JournalRefusal.RecordTooLong }
+    ensures memory { IfErr result (λ why. why ≡ JournalRefusal.NoMemory) }
 {
     let mut size = [0; 4];
     BigEndian::write_u32(&mut size, bytes.len() as u32);
@@ -49,13 +49,17 @@ impl JournalBytes {
         Ok(JournalBytes { out })
     }
 
-    /// Puts a record behind those so far. Errors: RecordTooLong, and nothing changed; or NoMemory.
+    /// Puts a record behind those so far. Errors: RecordTooLong, IsNote, and nothing changed; or NoMemory.
     pub fn put(&mut self, bytes: &[u8]) -> Result<(), JournalRefusal>
         ensures put { (records : List (List ℕ)) → AreBytes records self.old → OnOk result (AreBytes (records ++ bytes.now ∷ []) self.new) }
         ensures too_long { IsErrOf result JournalRefusal.RecordTooLong ↔ (longest < length bytes.now) }
+        ensures note { IsErrOf result JournalRefusal.IsNote ↔ ((length bytes.now ≤ longest) × (is_note bytes.now ≡ true)) }
     {
         if bytes.len() > LONGEST {
             return Err(JournalRefusal::RecordTooLong);
+        }
+        if is_note(bytes) {
+            return Err(JournalRefusal::IsNote);
         }
         put_behind_gate(&mut self.out, bytes)
     }

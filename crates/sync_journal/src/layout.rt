@@ -1,6 +1,7 @@
 // The bytes of a journal: docs/FORMATS.md, "The journal".
 ghost use Rattle.std.specs.Prelude.{◌≡◌};
 ghost use Rattle.sync_journal.specs.Gates.{gate_of, told};
+ghost use Rattle.sync_journal.specs.Records as records;
 
 use byte_lists::ByteLists;
 
@@ -25,8 +26,24 @@ pub const AROUND: usize = 5;
 /// The number of bytes that a record may have.
 pub const LONGEST: usize = 67_108_864;
 
+/// The first bytes that notes have, from this one.
+const FIRST_NOTE: u8 = 18;
+
+/// And to this one.
+const LAST_NOTE: u8 = 31;
+
+/// Whether the bytes are those of a note, which stands beside the records.
+pub fn is_note(bytes: &[u8]) -> bool
+    ensures { result ≡ records.is_note bytes.now }
+{
+    match bytes {
+        [tag, ..] => FIRST_NOTE <= *tag && *tag <= LAST_NOTE,
+        [] => false,
+    }
+}
+
 /// The place of the gate of the record of that number, counted from 0, or 2^64 - 1 where it would be above. From the
-/// last record on it is that of the gate behind it.
+/// last record on it is that of the gate behind it. Notes before it aren't counted.
 pub fn gate_of(records: &ByteLists, number: usize) -> u64
     ensures { result ≡ told (gate_of records.now number) }
 {

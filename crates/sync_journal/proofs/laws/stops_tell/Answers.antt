@@ -29,7 +29,7 @@ returns-clause-stopped g c records next end at old new b settled told same none 
     let D = g.D.Disk in
     let plan = g.met.D.Disk.as_planned new b told (ap (λ (o : Origin). o.listed) same ∙ none) ∙ ap (λ (o : Origin). planned o.stop 0 (acts_of (D.strokes new))) same in
     let left = left_stands (D.origin old) (D.strokes old) (D.strokes new) records (take part.count next) end at settled.file settled.journal
-    (λ f image. settled.durable f (g.met.D.Disk.by_strokes old settled.file f settled.told image)) part.short armed plan part.cut in
+    (λ f image. settled.durable f (g.met.D.Disk.by_strokes old settled.file f settled.told image)) part.can armed plan part.cut in
     let counted = taken_length next part.count part.within in
     let within : at < 4 * part.count = omega (arith, left.0, counted) in (
       omega (arith, within, part.within),

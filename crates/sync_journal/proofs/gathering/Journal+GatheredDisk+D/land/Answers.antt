@@ -34,7 +34,7 @@ returns-clause-landed g c records shows =
       file = s.file;
       told = l.landed s.file s.told;
       reads = s.reads;
-      journal = subst (λ (n : ℕ). IsJournal records n s.file) (sym l.gate) s.journal;
+      journal = subst (λ (n : ℕ). IsJournal false records n s.file) (sym l.gate) s.journal;
       durable = l.durable s.file s.told;
     } in
     record {
