@@ -1,5 +1,5 @@
 -- What a crash leaves of records that are added one after the other.
-use Rattle.std.proofs.Common.{◌≡◌, ℕ, List, ◌++◌, map, Some, sym, subst}
+use Rattle.std.proofs.Common.{◌≡◌, ℕ, false, List, ◌++◌, map, Some, sym, subst}
 use Rattle.std.proofs.lemmas.List.{map-append}
 use Rattle.sync_disk.specs.declared.disk.Disk.{Ghosts}
 use Rattle.sync_disk.specs.Disk.{LeavesOnly}
@@ -32,12 +32,12 @@ module _ {D : Type 0} {G : Ghosts D} where
   -- a call that leaves the disk as it is
   pub leaves_none : (records next : List ClientRecord) (old new : Journal D G) → ((disk : D) (c : List ℕ) → G.images_since disk (G.moment disk) c → G.images disk c) → disk_of new ≡ disk_of old → Stands (map client_bytes records) old → Leaves records next old new
   leaves_none records next old new only_now e s =
-      subst (λ d. LeavesOnly G.moment G.images_since (disk_of old) d (StandsForPrefix (map client_bytes records) (map client_bytes next))) (sym e) (at_rest G.content G.images G.moment G.images_since only_now (map client_bytes records) (map client_bytes next) old.end old.disk s.settled)
+      subst (λ d. LeavesOnly G.moment G.images_since (disk_of old) d (StandsForPrefix (map client_bytes records) (map client_bytes next))) (sym e) (at_rest G.content G.images G.moment G.images_since only_now false (map client_bytes records) (map client_bytes next) old.end old.disk s.settled)
 
   -- and so one that ends before it appends, for want of memory
   pub unadded : (next : List ClientRecord) (old new : Journal D G) → ((disk : D) (c : List ℕ) → G.images_since disk (G.moment disk) c → G.images disk c) → disk_of new ≡ disk_of old → JournalAppends next old new (Some codes.NoMemory)
   unadded next old new only_now e = record {
     stored = λ records s. tt;
-    any_moment = λ rs s. subst (λ d. LeavesOnly G.moment G.images_since (disk_of old) d (StandsForPrefix rs (map client_bytes next))) (sym e) (at_rest G.content G.images G.moment G.images_since only_now rs (map client_bytes next) old.end old.disk s.settled);
+    any_moment = λ rs s. subst (λ d. LeavesOnly G.moment G.images_since (disk_of old) d (StandsForPrefix rs (map client_bytes next))) (sym e) (at_rest G.content G.images G.moment G.images_since only_now false rs (map client_bytes next) old.end old.disk s.settled);
     asked = λ b told. tt;
   }

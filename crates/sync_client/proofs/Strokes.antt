@@ -1,16 +1,12 @@
 -- What the calls of a client ask of the disk.
-use Rattle.std.proofs.Common.{◌≡◌, ℕ, ◌≤◌, ◌<◌, Bool, true, false, List, [], ◌∷◌, ◌++◌, length, map, Some, Result, Err, refl, sym, ap, ◌∙◌, subst, inl, inr, append-nil}
-use Rattle.std.specs.Prelude.{◌↔◌, IsErrOf}
-use Rattle.std.proofs.lemmas.Bool.{cases_lt}
+use Rattle.std.proofs.Common.{◌≡◌, ℕ, List, [], ◌∷◌, ◌++◌, map, Some, sym, ap, ◌∙◌, subst, append-nil}
 use Rattle.std.proofs.lemmas.List.{map-append}
 use Rattle.sync_disk.specs.declared.disk.Disk.{Ghosts}
 use Rattle.sync_disk.specs.Strokes.{CutByFault}
 use Rattle.sync_journal.specs.Journal.{strokes_of}
-use Rattle.sync_journal.specs.Records.{longest}
 use Rattle.sync_journal.specs.Several.{Asks, AsksSome}
+use Rattle.sync_journal.specs.Stopping.{CanStand}
 use Rattle.sync_journal.specs.declared.journal.Journal.{Journal}
-use Rattle.sync_journal.specs.declared.journal.JournalRefusal.{JournalRefusal}
-use Rattle.sync_journal.specs.declared.journal.JournalRefusal.TheVariants as journals
 use Rattle.sync_journal.proofs.Stops.{asks_none, asks_both, part_one, part_before, part_later}
 use Rattle.sync_model.specs.Clients.{ClientRecord}
 use Rattle.sync_exchange.specs.Seen.{client_bytes}
@@ -18,20 +14,6 @@ use Rattle.sync_client.specs.Clients.{AskedFor}
 use Rattle.sync_client.specs.Refusals.{refusal_seen, IfSeen, IsPlain}
 use Rattle.sync_client.specs.declared.refusal.ClientRefusal.{ClientRefusal as CodeRefusal}
 use Rattle.sync_client.specs.declared.refusal.ClientRefusal.TheVariants as codes
-
--- a record that the journal took isn't too long
-pub short : (r : Result (Unit {0}) JournalRefusal) (closed : Bool) (n : ℕ) → IsErrOf r journals.Closed ↔ (closed ≡ true) → IsErrOf r journals.RecordTooLong ↔ ((closed ≡ false) × (longest < n)) → ¬ IsErrOf r journals.Closed → ¬ IsErrOf r journals.RecordTooLong → n ≤ longest
-short r true n shut long open_ fits = absurd (open_ (shut.1 refl))
-short r false n shut long open_ fits = elim (cases_lt longest n) [
-  | inl more ↦ absurd (fits (long.1 (refl, more)))
-  | inr less ↦ less
-]
-
-pub no_other : (r : Result (Unit {0}) JournalRefusal) (other : JournalRefusal) → r ≡ Err journals.DiskFault → ¬ (journals.DiskFault ≡ other) → ¬ (r ≡ Err other)
-no_other r other is differs e = differs (same_error (sym is ∙ e))
-  where
-    same_error : {a b : JournalRefusal} → ◌≡◌ {A = Result (Unit {0}) JournalRefusal} (Err a) (Err b) → a ≡ b
-    same_error e = cc
 
 module _ {D : Type 0} {G : Ghosts D} where
   -- ---- nothing is appended
@@ -46,8 +28,8 @@ module _ {D : Type 0} {G : Ghosts D} where
   refused_asked why next old new plain none same = none_asked next old new none same
 
   -- ---- one record
-  pub cut_asked : (next : ClientRecord) (bytes : List ℕ) (old new : Journal D G) → bytes ≡ client_bytes next → length bytes ≤ longest → CutByFault (strokes_of old.end bytes) (G.strokes old.disk) (G.strokes new.disk) → AsksSome (client_bytes next ∷ []) old new
-  cut_asked next bytes old new is fits cut = subst (λ (b : List ℕ). AsksSome (b ∷ []) old new) is (part_one bytes old.end (G.strokes old.disk) (G.strokes new.disk) fits cut)
+  pub cut_asked : (next : ClientRecord) (bytes : List ℕ) (old new : Journal D G) → bytes ≡ client_bytes next → CanStand bytes → CutByFault (strokes_of old.end bytes) (G.strokes old.disk) (G.strokes new.disk) → AsksSome (client_bytes next ∷ []) old new
+  cut_asked next bytes old new is can cut = subst (λ (b : List ℕ). AsksSome (b ∷ []) old new) is (part_one bytes old.end (G.strokes old.disk) (G.strokes new.disk) can cut)
 
   -- ---- some records behind others
   pub both_asked : (a b : List ClientRecord) (old mid new : Journal D G) → Asks (map client_bytes a) old mid → Asks (map client_bytes b) mid new → Asks (map client_bytes (a ++ b)) old new

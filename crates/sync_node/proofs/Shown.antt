@@ -77,7 +77,7 @@ pub long_node : (b : List ℕ) (place : ℕ) → node_file b ≡ Err place → 9
 long_node b place bad = elim (cases_lt 9 (length b)) [
   | inl lt ↦ lt
   | inr le ↦
-      let none = small b le in
+      let none = small false b le in
       let file : node_file b ≡ Ok (OfServer []) = ap node_in none in
       absurd (no_err (OfServer []) place (sym file ∙ bad))
 ]

@@ -1,5 +1,5 @@
 -- What a crash leaves of records that are added one after the other.
-use Rattle.std.proofs.Common.{◌≡◌, ℕ, List, ◌++◌, map, refl, sym, subst}
+use Rattle.std.proofs.Common.{◌≡◌, ℕ, false, List, ◌++◌, map, refl, sym, subst}
 use Rattle.std.proofs.lemmas.List.{map-append}
 use Rattle.sync_disk.specs.declared.disk.Disk.{Ghosts}
 use Rattle.sync_disk.specs.Disk.{LeavesOnly}
@@ -34,7 +34,7 @@ module _ {D : Type 0} {G : Ghosts D} where
   pub untouched : (next : List ServerRecord) (old new : Journal D G) → ((disk : D) (c : List ℕ) → G.images_since disk (G.moment disk) c → G.images disk c) → disk_of new ≡ disk_of old → LeavesPrefix next old new
   untouched next old new only_now e = λ rs s.
       subst (λ d. LeavesOnly G.moment G.images_since (disk_of old) d (StandsForPrefix rs (map server_bytes next))) (sym e)
-      (at_rest G.content G.images G.moment G.images_since only_now rs (map server_bytes next) old.end old.disk s.settled)
+      (at_rest G.content G.images G.moment G.images_since only_now false rs (map server_bytes next) old.end old.disk s.settled)
 
 pub bytes_back : (r : CodeRecord) → server_spelling r ≡ server_bytes (server_seen r)
 bytes_back (servers.Client id) = refl

@@ -3,8 +3,6 @@ use Rattle.std.proofs.Common.{◌≡◌, ℕ, ◌<◌, ◌≤◌, ◌↔◌, Boo
 use Rattle.std.proofs.lemmas.List.{map-append}
 use Rattle.sync_disk.specs.declared.disk.Disk.{Ghosts}
 use Rattle.sync_disk.specs.Disk.{Told}
-use Rattle.sync_journal.specs.declared.journal.JournalRefusal.{JournalRefusal}
-use Rattle.sync_journal.specs.Records.{longest}
 use Rattle.sync_journal.specs.Several.{Asks, AsksSome}
 use Rattle.sync_journal.specs.Stands.{disk_of, end_of}
 use Rattle.sync_journal.specs.declared.journal.Journal.{Journal}
@@ -18,14 +16,6 @@ use Rattle.sync_server.specs.declared.refusal.ServerRefusal.TheVariants as cause
 -- a content that is told before a call is told after two of them
 pub told_both : (old mid new : Option (List ℕ)) → Told old (λ b. (c : List ℕ) × (mid ≡ Some c)) → Told mid (λ b. (c : List ℕ) × (new ≡ Some c)) → Told old (λ b. (c : List ℕ) × (new ≡ Some c))
 told_both old mid new first second = λ b is. let m = first b is in second m.0 m.1
-
--- ---- one append
--- a record on which the disk fails is short
-pub is_short : (r : Result (Unit {0}) JournalRefusal) (closed : Bool) (n : ℕ) → r ≡ Err JournalRefusal.DiskFault → IsErrOf r JournalRefusal.Closed ↔ (closed ≡ true) → IsErrOf r JournalRefusal.RecordTooLong ↔ ((closed ≡ false) × (longest < n)) → n ≤ longest
-is_short r true n failed shut long = let other : r ≡ Err JournalRefusal.Closed = shut.1 refl in cc
-is_short r false n failed shut long =
-    let no_more : (longest < n) → ⊥ = λ h. let other : r ≡ Err JournalRefusal.RecordTooLong = long.1 (refl, h) in cc in
-    omega (arith, no_more)
 
 module _ {D : Type 0} {G : Ghosts D} where
   -- ---- several

@@ -1,13 +1,12 @@
-use Rattle.std.proofs.Common.{◌∷◌, [], length, Err, ◌∙◌, ap, sym, subst, arith, rules}
+use Rattle.std.proofs.Common.{◌∷◌, [], Err, ◌∙◌, ap, sym, subst, arith, rules}
 use Rattle.std.proofs.lemmas.Grind.{common_steps}
 use Rattle.sync_disk.specs.Disk.{LeavesOnly}
 use Rattle.sync_journal.specs.Records.{StandsForPrefix}
 use Rattle.sync_journal.specs.Stands.{disk_of}
 use Rattle.sync_journal.specs.declared.journal.JournalRefusal.{JournalRefusal}
-use Rattle.sync_journal.specs.declared.journal.JournalRefusal.TheVariants as journals
 use Rattle.sync_exchange.specs.Seen.{client_bytes, client_seen}
 use Rattle.sync_client.proofs.Records.{bytes_back}
-use Rattle.sync_client.proofs.Strokes.{cut_asked, no_other, short}
+use Rattle.sync_client.proofs.Strokes.{cut_asked}
 use Rattle.sync_client.proofs.client.Client.append.Goals as goal
 
 pub returns-in-Ok-append-clause-appends : goal.returns-in-Ok-append-clause-appends
@@ -24,14 +23,12 @@ pub returns-in-Err-DiskFault-clause-appends : goal.returns-in-Err-DiskFault-clau
 returns-in-Err-DiskFault-clause-appends g c =
     let D = g.D.Disk in
     let e = c.as_slice.ensures.value ∙ c.in-Ok.ensures.spelled ∙ bytes_back c.args.added.now in
-    let r = c.append.result in
     let fault = c.in-Err-DiskFault.is ∙ ap (λ (w : JournalRefusal). Err w) c.in-Err-DiskFault.field-0-is in
     record {
       stored = λ records s. tt;
       any_moment = λ rs s. subst (λ b. LeavesOnly D.moment D.images_since (disk_of c.args.self.now.journal) (disk_of c.append.new.self) (StandsForPrefix rs (b ∷ []))) e (c.append.ensures.any_moment rs s);
       asked = λ b told. cut_asked (client_seen c.args.added.now) c.as_slice.result.now c.args.self.now.journal c.append.new.self e
-          (short r c.args.self.now.journal.closed (length c.as_slice.result.now) c.append.ensures.closed c.append.ensures.too_long (no_other r journals.Closed fault (λ d. cc)) (no_other r journals.RecordTooLong fault (λ d. cc)))
-          (c.append.ensures.cut b told fault);
+          (c.append.ensures.can.1 fault) (c.append.ensures.cut b told fault);
     }
 
 pub returns-clause-appends : goal.returns-clause-appends

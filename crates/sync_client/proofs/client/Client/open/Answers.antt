@@ -1,4 +1,4 @@
-use Rattle.std.proofs.Common.{List, ℕ, ◌≡◌, ◌∙◌, Err, ap, inr, sym, subst}
+use Rattle.std.proofs.Common.{false, List, ℕ, ◌≡◌, ◌∙◌, Err, ap, inr, sym, subst}
 use Rattle.std.proofs.lemmas.Result.{err_from_is_err_and}
 use Rattle.sync_disk.specs.Disk.{LeavesOnly}
 use Rattle.sync_journal.specs.Opening.{unread_cause}
@@ -23,7 +23,7 @@ returns-clause-kept g c = λ b told place is.
     let read = c.in-Err.ensures in
     let cause = sym c.unread.ensures.cause ∙ is in
     let some = some_record file place (bad_at file c.in-Err.why place read cause) in
-    ap D.content c.unread.ensures.disk ∙ c.in_ok-journal.ensures.untouched b told (not_small b file (c.in_ok-journal.ensures.records b told) some)
+    ap D.content c.unread.ensures.disk ∙ c.in_ok-journal.ensures.untouched b told (not_small false b file (c.in_ok-journal.ensures.records b told) some)
 
 pub returns-clause-any_moment_err : goal.returns-clause-any_moment_err
 returns-clause-any_moment_err g c = λ records b told crash.

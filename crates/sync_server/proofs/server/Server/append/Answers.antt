@@ -1,13 +1,12 @@
-use Rattle.std.proofs.Common.{◌∷◌, [], length, Err, ap, sym, ◌∙◌, subst, arith, rules}
+use Rattle.std.proofs.Common.{◌∷◌, [], Err, ap, sym, ◌∙◌, subst, arith, rules}
 use Rattle.std.proofs.lemmas.Grind.{common_steps}
 use Rattle.sync_disk.specs.Disk.{LeavesOnly}
 use Rattle.sync_journal.specs.Records.{StandsForPrefix}
 use Rattle.sync_journal.specs.Several.{AsksPart}
-use Rattle.sync_journal.specs.Stands.{disk_of, end_of, is_closed}
+use Rattle.sync_journal.specs.Stands.{disk_of, end_of}
 use Rattle.sync_journal.proofs.Stops.{part_one}
 use Rattle.sync_exchange.specs.Seen.{server_bytes, server_seen}
 use Rattle.sync_server.proofs.Leaving.{bytes_back}
-use Rattle.sync_server.proofs.Strokes.{is_short}
 use Rattle.sync_server.proofs.server.Server.append.Goals as goal
 
 pub returns-in-Ok-append-clause-appends : goal.returns-in-Ok-append-clause-appends
@@ -27,12 +26,11 @@ returns-in-Err-DiskFault-clause-appends g c =
     let journal = c.args.self.now.journal in
     let bytes = c.as_slice.result.now in
     let failed = c.in-Err-DiskFault.is ∙ ap (λ why. Err why) c.in-Err-DiskFault.field-0-is in
-    let short = is_short c.append.result (is_closed journal) (length bytes) failed c.append.ensures.closed c.append.ensures.too_long in
     record {
       stored = tt;
       any_moment = λ rs s. subst (λ b. LeavesOnly D.moment D.images_since (disk_of journal) (disk_of c.append.new.self) (StandsForPrefix rs (b ∷ []))) e (c.append.ensures.any_moment rs s);
       asked = λ b told. subst (λ w. AsksPart (w ∷ []) (end_of journal) (D.strokes (disk_of journal)) (D.strokes (disk_of c.append.new.self))) e
-          (part_one bytes (end_of journal) (D.strokes (disk_of journal)) (D.strokes (disk_of c.append.new.self)) short (c.append.ensures.cut b told failed));
+          (part_one bytes (end_of journal) (D.strokes (disk_of journal)) (D.strokes (disk_of c.append.new.self)) (c.append.ensures.can.1 failed) (c.append.ensures.cut b told failed));
     }
 
 pub returns-clause-appends : goal.returns-clause-appends
