@@ -72,6 +72,20 @@ fn client_fields(alloc: Global, record: &ClientRecord) -> Result<String, Failure
             hex::encode(alloc, body.bytes())?
         ),
         ClientRecord::Floor { version } => format!(in alloc; "Floor {version}"),
+        ClientRecord::Resumed { number, waiting } => {
+            format!(in alloc; "Resumed {number} {waiting}")
+        }
+        ClientRecord::Waits {
+            number,
+            base,
+            ms,
+            body,
+            current,
+        } => {
+            let body = hex::encode(alloc, body.bytes())?;
+            let current = hex::encode(alloc, current.bytes())?;
+            format!(in alloc; "Waits {number} {base} {ms} {body} {current}")
+        }
     };
     Ok(text?)
 }

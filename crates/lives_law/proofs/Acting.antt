@@ -6,7 +6,7 @@ use Rattle.sync_model.specs.Bytes.{Uuid}
 use Rattle.sync_model.specs.Profile.{Profile}
 use Rattle.sync_model.specs.Each.{Each, no_more, and_each}
 use Rattle.sync_model.specs.Messages.{Sent, Download}
-use Rattle.sync_model.specs.Clients.{Client as ClientState, ClientRecord, ClientRefusal, Born, Named, Made, Took, Form, Subset, Part, Floor, Gap, NotMine, refuse, if_born, take_one, took, after_record, entry_refusal, take_entries, take as take_message}
+use Rattle.sync_model.specs.Clients.{Client as ClientState, ClientRecord, ClientRefusal, Born, Named, Made, Took, Form, Subset, Part, Floor, Resumed, Waits, Gap, NotMine, refuse, if_born, take_one, took, after_record, entry_refusal, take_entries, take as take_message}
 use Rattle.lives_law.specs.Lives.{Written, Files, Open, Among, here, there, Mark, grown_by, written, tally}
 use Rattle.lives_law.specs.Instances.{is_made}
 use Rattle.lives_law.specs.Roaming.{written_all}
@@ -32,6 +32,8 @@ module _ (label : ℕ → ℕ → Act) (is : IsLabel label) where
   counted_same l n (Subset tables) = refl
   counted_same l n (Part body) = refl
   counted_same l n (Floor version) = refl
+  counted_same l n (Resumed number waiting) = refl
+  counted_same l n (Waits number base ms body current) = refl
 
   pub acts_both : (f g : List (Written ClientRecord)) (n : ℕ) → acts_from label n (f ++ g) ≡ acts_from label n f ++ acts_from label (n + tally is_made f) g
   acts_both [] g n = let z : n ≡ n + 0 = omega arith in ap (λ m. acts_from label m g) z
@@ -56,6 +58,8 @@ module _ (label : ℕ → ℕ → Act) (is : IsLabel label) where
   made_act l n (Subset tables) e = cc
   made_act l n (Part body) e = cc
   made_act l n (Floor version) e = cc
+  made_act l n (Resumed number waiting) e = cc
+  made_act l n (Waits number base ms body current) e = cc
 
   -- a transaction's place, and what its label says
   pub record ActMark (f : List (Written ClientRecord)) (n l : ℕ) : Type 0 where
@@ -124,6 +128,8 @@ module _ (label : ℕ → ℕ → Act) (is : IsLabel label) where
   no_act l n (Subset tables) e = refl
   no_act l n (Part body) e = refl
   no_act l n (Floor version) e = refl
+  no_act l n (Resumed number waiting) e = refl
+  no_act l n (Waits number base ms body current) e = refl
 
   pub acts_written : (ns : List (Noted ClientRecord)) (w : Files (Noted ClientRecord)) (v : World) (n : ℕ) (o : Open (Noted ClientRecord)) → Comes v → SameBy (acts label) w v.files → w.nodes n ≡ Some o → Among o.file w.kept → Each NoMade (bare ns) → (u : World) × ActsOf (written_all w n o ns) v u
   acts_written [] w v n o c s e a none = (v, record { comes = c; same = s; hists = refl })

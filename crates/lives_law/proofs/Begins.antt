@@ -7,9 +7,9 @@ use Rattle.sync_model.specs.Profile.{Profile, Lawful}
 use Rattle.sync_model.specs.Snapshots.{Buildable}
 use Rattle.sync_model.specs.Each.{Each, no_more, and_each}
 use Rattle.sync_model.specs.Messages.{Message, Bind, Ident, Upload, Ask, Download, Refused, Stored, Ask2, Retire, Retired, AskTables}
-use Rattle.sync_model.specs.Clients.{Client, ClientRecord, Born, Named, Made, Took, Form, Subset, Part, Floor, no_client, client_of, after_record, after_records, commit, upgrade, subscribe, bind, upload, ask}
+use Rattle.sync_model.specs.Clients.{Client, ClientRecord, Born, Named, Made, Took, Form, Subset, Part, Floor, Resumed, Waits, no_client, client_of, after_record, after_records, commit, upgrade, subscribe, bind, upload, ask}
 use Rattle.sync_model.specs.Servers.{ServerRecord, server_of, server_objects, place_of, serve}
-use Rattle.sync_model.specs.Files.{FilesOpen, client_admits, client_opens}
+use Rattle.sync_model.specs.Files.{FilesOpen, all_came, client_admits, client_opens, is_blank, may_grow, some_come}
 use Rattle.sync_model.specs.Starts.{started}
 use Rattle.sync_model.specs.Worlds.{Node, World, Event, Joins, Starts, Edits, Binds, Uploads, Asks, Upgrades, Subscribes, Delivers, Restarts, Stops, Injects, Outcome, Joined, NameTaken, UuidTaken, says, at, seek, is_there, id_is, has_id, stopped, server_name, server_called, server_ends, message_words, made_words, upgrade_words, subscribe_words, is_node, message_at, named_by, names_own, happens, world_after, empty_world, IsReached}
 use Rattle.sync_model.proofs.Acknowledged.{events_grow}
@@ -23,7 +23,7 @@ use Rattle.sync_model.proofs.Sim.{uuid_of}
 use Rattle.sync_model.proofs.Starting.{started_is, objects_fit, objects_bounded}
 use Rattle.lives_law.specs.Pair.{IsWhole, Begun, Fit, IsActive}
 use Rattle.lives_law.proofs.Instances.{records_on}
-use Rattle.lives_law.proofs.Pair.{floor_stays, opens_after, ids_kept}
+use Rattle.lives_law.proofs.Pair.{floor_stays, front_stays, opens_after, ids_kept}
 use Rattle.lives_law.proofs.Converse.{fit_here, active_here}
 
 neither : (a b : Bool) → (a || b) ≡ false → (a ≡ false) × (b ≡ false)
@@ -103,18 +103,24 @@ module _ {I S : Type 0} (p : Profile I S) where
   after_both (x ∷ xs) ys w = after_both xs ys (happens p w x).world
 
   -- behind its floor a file that opens has no part
-  after_floor : (rs : List ClientRecord) (c : Client I S) (v : ℕ) → c.floor ≡ Some v → client_opens p c rs ≡ true → Each IsWhole rs
-  after_floor [] c v e opens = no_more
-  after_floor (r ∷ rs) c v e opens =
+  after_floor : (rs : List ClientRecord) (c : Client I S) (v : ℕ) → c.front ≡ None → c.floor ≡ Some v → client_opens p c rs ≡ true → Each IsWhole rs
+  after_floor [] c v none e opens = no_more
+  after_floor (r ∷ rs) c v none e opens =
       let b = both_true (client_admits p c (map (λ q. Some q) rs) r) (client_opens p (after_record p c r) rs) opens in
       let h = whole r b.0 in
-      and_each h (after_floor rs (after_record p c r) v (floor_stays p c r h (Some v) e) b.1)
+      and_each h (after_floor rs (after_record p c r) v (front_stays p c r h none) (floor_stays p c r h (Some v) e) b.1)
     where
       no_floor : (a b d : Bool) (o : Option ℕ) → o ≡ Some v → (a && (b && (not (is_there o) && d))) ≡ true → ⊥
       no_floor true true d None h k = cc
       no_floor true true d (Some x) h k = cc
       no_floor true false d o h k = cc
       no_floor false b d o h k = cc
+
+      floored : may_grow c ≡ true → ⊥
+      floored h = no_floor _ _ _ c.floor e (sym (ap (λ o. all_came o (is_blank c)) none) ∙ h)
+
+      unfronted : some_come c.front ≡ true → ⊥
+      unfronted h = let k : false ≡ true = sym (ap some_come none) ∙ h in cc
 
       whole : (r : ClientRecord) → client_admits p c (map (λ q. Some q) rs) r ≡ true → IsWhole r
       whole (Born id) a = tt
@@ -123,8 +129,10 @@ module _ {I S : Type 0} (p : Profile I S) where
       whole (Took origin number ms body) a = tt
       whole Form a = tt
       whole (Subset tables) a = tt
-      whole (Part body) a = absurd (no_floor _ _ _ c.floor e (both_true _ _ a).0)
-      whole (Floor version) a = absurd (no_floor _ _ _ c.floor e (both_true _ _ a).0)
+      whole (Part body) a = absurd (floored (both_true _ _ a).0)
+      whole (Floor version) a = absurd (floored (both_true _ _ a).0)
+      whole (Resumed number waiting) a = absurd (no_floor _ _ _ c.floor e (both_true _ _ a).0)
+      whole (Waits number base ms body current) a = absurd (unfronted (both_true _ _ a).0)
 
   module _ {Fits Bounded Old : S → Type 0} (law : Lawful p Fits) (built : Buildable p Fits Bounded Old) where
     abbrev begun_file : World → Uuid → List ClientRecord
@@ -196,7 +204,7 @@ module _ {I S : Type 0} (p : Profile I S) where
             let server : last.server ≡ w.server ++ long.more = long.is ∙ ap (λ v. v.server ++ long.more) here.is in
             let is = started_is p law built id (server_of p w.server).second (length (server_of p w.server).log) (server_objects p (server_of p w.server)) (objects_fit p law built (server_of p w.server) w.clients w.injected before.n before.sim) (objects_bounded p law built (server_of p w.server) w.clients w.injected before.n before.sim) in
             let open_ : client_opens p (no_client p) (begun_file w id ++ g.2.more) ≡ true = subst (λ l. client_opens p (no_client p) l ≡ true) records (opens.clients (length w.clients) nd there) in
-            let whole = after_floor g.2.more (client_of p (begun_file w id)) (length (server_of p w.server).log) (ap (λ c. c.floor) is) (opens_after p (begun_file w id) g.2.more (no_client p) open_) in
+            let whole = after_floor g.2.more (client_of p (begun_file w id)) (length (server_of p w.server).log) (ap (λ c. c.front) is) (ap (λ c. c.floor) is) (opens_after p (begun_file w id) g.2.more (no_client p) open_) in
             let kept = ids_kept p g.2.more (client_of p (begun_file w id)) (opens_after p (begun_file w id) g.2.more (no_client p) open_) id (ap (λ c. c.id) is) in
             let id_is_ : Some id ≡ Some u = sym kept ∙ sym (ap (λ c. c.id) (ap (client_of p) records ∙ records_on p (no_client p) (begun_file w id) g.2.more)) ∙ born in
             inr (record {

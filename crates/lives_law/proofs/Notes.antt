@@ -8,7 +8,7 @@ use Rattle.sync_theory.proofs.Server.{test_true}
 use Rattle.sync_theory.proofs.World.{same_or_not, put_same, put_other}
 use Rattle.sync_model.specs.Profile.{Profile}
 use Rattle.sync_model.specs.Worlds.{at}
-use Rattle.sync_model.specs.Clients.{ClientRecord, Born, Named, Made, Took, Form, Subset, Part, Floor, ok_list, tooks_of}
+use Rattle.sync_model.specs.Clients.{ClientRecord, Born, Named, Made, Took, Form, Subset, Part, Floor, Resumed, Waits, ok_list, tooks_of}
 use Rattle.sync_model.specs.Servers.{Server, ServerRecord, Client, Entry, Retired, Settled, Count, Carried, Past, entry_of, after_server, after_all, count}
 use Rattle.lives_law.specs.Lives.{Written, Files, Open, Among, here, there, grown_by, opened, written}
 use Rattle.lives_law.specs.Instances.{plain}
@@ -255,3 +255,5 @@ tooks_are (Form ∷ rs) = tooks_are rs
 tooks_are (Subset tables ∷ rs) = tooks_are rs
 tooks_are (Part body ∷ rs) = tooks_are rs
 tooks_are (Floor version ∷ rs) = tooks_are rs
+tooks_are (Resumed number waiting ∷ rs) = tooks_are rs
+tooks_are (Waits number base ms body current ∷ rs) = tooks_are rs

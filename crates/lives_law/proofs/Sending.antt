@@ -9,15 +9,17 @@ use Rattle.std.proofs.lemmas.Bool.Decides.{nat_tests}
 use Rattle.sync_model.specs.Bytes.{Uuid, Tables}
 use Rattle.sync_model.specs.Profile.{Profile, Lawful, Stuck, cross_changesets, fitting, needs, restricted}
 use Rattle.sync_model.specs.Messages.{Change, Sent, Message, Upload, Download, Refused, Bind, Ident, Ask, Ask2, AskTables, Stored, Retire, Retired as RetiredMessage}
-use Rattle.sync_model.specs.Clients.{Client, ClientRecord, NotNamed, Born, Named, Made, Took, Form, Subset, Part, Floor, Original, Unsent, as_made, carried_to, changeset_of, ok_list, refuse, answers, if_born, no_client, client_of, after_record, after_records, takes_entry, crossed, change_of, to_upload, upload}
+use Rattle.sync_model.specs.Clients.{Client, ClientRecord, NotNamed, Born, Named, Made, Took, Form, Subset, Part, Floor, Resumed, Waits, Original, Unsent, as_made, carried_to, changeset_of, ok_list, refuse, answers, if_born, no_client, client_of, after_record, after_records, takes_entry, crossed, change_of, to_upload, upload}
 use Rattle.sync_model.specs.Servers.{Server, ServerRecord, ServerStep, AheadOfHistory, NoSuchIdent, NeedsForm2, refuses, marking, if_there, no_server, server_of, is_given, entries_from, sent_of, download, download_first, download_tables, first_form, serve}
+use Rattle.sync_model.specs.Each.{Each, no_more, and_each}
 use Rattle.sync_model.specs.Worlds.{at, is_there}
-use Rattle.sync_model.specs.Files.{is_growing, made_acts, client_admits, client_opens, server_opens}
+use Rattle.sync_model.specs.Files.{IsLong, is_growing, made_acts, client_admits, client_opens, server_opens}
 use Rattle.sync_model.proofs.Alone.{both_true}
 use Rattle.sync_model.proofs.Lists.{at_map, at_of_map, at_there, map_snoc}
 use Rattle.lives_law.specs.Lives.{Written, Mark, tally}
 use Rattle.lives_law.specs.Instances.{plain, is_entry, is_made}
-use Rattle.lives_law.specs.Uploads.{InOrder, none, one}
+use Rattle.lives_law.specs.Uploads.{InOrder, none, one, changes_of}
+use Rattle.lives_law.proofs.Instances.{longs_all}
 use Rattle.lives_law.specs.Passing.{written_from, history_told}
 use Rattle.lives_law.specs.Stored.{HasLives}
 use Rattle.lives_law.specs.Sending.{lives_of, passage_of, Asks, UploadsTell, DownloadsTell}
@@ -185,10 +187,10 @@ module _ {I S : Type 0} (p : Profile I S) where
       on true r is = let l = less c.unsent m.split in record { sent = l.0; split = l.1; numbers = m.numbers }
       on false r is = other r is
 
-  one_made : (c : Client I S) (rs : List ClientRecord) (r : ClientRecord) → client_admits p c (map (λ q. Some q) rs) r ≡ true → InFile c → InFile (after_record p c r)
-  one_made c rs (Born id) a m = record { sent = m.sent; split = m.split; numbers = m.numbers }
-  one_made c rs (Named ident) a m = record { sent = m.sent; split = m.split; numbers = m.numbers }
-  one_made c rs (Made number ms body) a m =
+  one_made : (c : Client I S) (rs : List ClientRecord) (r : ClientRecord) → IsLong r → client_admits p c (map (λ q. Some q) rs) r ≡ true → InFile c → InFile (after_record p c r)
+  one_made c rs (Born id) l a m = record { sent = m.sent; split = m.split; numbers = m.numbers }
+  one_made c rs (Named ident) l a m = record { sent = m.sent; split = m.split; numbers = m.numbers }
+  one_made c rs (Made number ms body) l a m =
       let b = both_true (is_there c.id) _ a in
       let d = both_true (not (is_growing c)) _ b.1 in
       let h = both_true (number == suc (length c.made)) (made_acts p c (p.unspell body)) d.1 in
@@ -199,20 +201,22 @@ module _ {I S : Type 0} (p : Profile I S) where
         split = ap (λ l. l ++ o ∷ []) m.split ∙ append_assoc m.sent (map (λ (u : Unsent I). u.original) c.unsent) (o ∷ []) ∙ ap (λ l. m.sent ++ l) (sym (map_snoc (λ (u : Unsent I). u.original) c.unsent (as_made o)));
         numbers = λ k x e. ⊎_elim (λ old. m.numbers k x old) (λ new. ap (λ (o : Original I). o.number) (sym new.1) ∙ is ∙ ap suc (sym new.0)) (at_end c.made o k x e);
       }
-  one_made c rs (Took origin number ms body) a m = took_made c (record { origin = origin; number = number; ms = ms; instrs = ok_list (p.unspell body) }) m
-  one_made c rs Form a m = record { sent = m.sent; split = m.split; numbers = m.numbers }
-  one_made c rs (Subset tables) a m = record { sent = m.sent; split = m.split; numbers = m.numbers }
-  one_made c rs (Part body) a m = record { sent = m.sent; split = m.split; numbers = m.numbers }
-  one_made c rs (Floor version) a m = record { sent = m.sent; split = m.split; numbers = m.numbers }
+  one_made c rs (Took origin number ms body) l a m = took_made c (record { origin = origin; number = number; ms = ms; instrs = ok_list (p.unspell body) }) m
+  one_made c rs Form l a m = record { sent = m.sent; split = m.split; numbers = m.numbers }
+  one_made c rs (Subset tables) l a m = record { sent = m.sent; split = m.split; numbers = m.numbers }
+  one_made c rs (Part body) l a m = record { sent = m.sent; split = m.split; numbers = m.numbers }
+  one_made c rs (Floor version) l a m = record { sent = m.sent; split = m.split; numbers = m.numbers }
+  one_made c rs (Resumed number waiting) l a m = absurd l
+  one_made c rs (Waits number base ms body current) l a m = absurd l
 
-  all_made : (rs : List ClientRecord) (c : Client I S) → client_opens p c rs ≡ true → InFile c → InFile (after_records p c rs)
-  all_made [] c e m = m
-  all_made (r ∷ rs) c e m =
+  all_made : (rs : List ClientRecord) (c : Client I S) → Each IsLong rs → client_opens p c rs ≡ true → InFile c → InFile (after_records p c rs)
+  all_made [] c no_more e m = m
+  all_made (r ∷ rs) c (and_each l ls) e m =
       let b = both_true (client_admits p c (map (λ q. Some q) rs) r) (client_opens p (after_record p c r) rs) e in
-      all_made rs (after_record p c r) b.1 (one_made c rs r b.0 m)
+      all_made rs (after_record p c r) ls b.1 (one_made c rs r l b.0 m)
 
-  file_made : (f : List ClientRecord) → client_opens p (no_client p) f ≡ true → InFile (client_of p f)
-  file_made f e = all_made f (no_client p) e (record { sent = []; split = refl; numbers = λ k o h. cc })
+  file_made : (f : List ClientRecord) → Each IsLong f → client_opens p (no_client p) f ≡ true → InFile (client_of p f)
+  file_made f longs_ e = all_made f (no_client p) longs_ e (record { sent = []; split = refl; numbers = λ k o h. cc })
 
   -- changes of such numbers are in order
   ordered : (os : List (Original I)) (n : ℕ) → ((k : ℕ) (o : Original I) → at os k ≡ Some o → o.number ≡ suc (n + k)) → (hs : List Change) → First hs (map (change_of p) os) → InOrder (suc n) hs
@@ -229,9 +233,10 @@ module _ {I S : Type 0} (p : Profile I S) where
           one (ap (λ (x : Change). x.number) same ∙ numbers 0 o refl ∙ z) (on os (suc n) (λ k q t. let y : suc (n + suc k) ≡ suc (suc n + k) = omega arith in numbers (suc k) q t ∙ y) hs m rest)
 
   pub uploads_tell : UploadsTell p
-  uploads_tell f first c hs opens sent =
+  uploads_tell f first c hs longs_ opens sent =
       let x = client_of p (plain f) in
-      let m = file_made (plain f) opens in
+      let m = file_made (plain f) longs_ opens in
+      let same : map (change_of p) (client_of p (plain f)).made ≡ changes_of p f = ap (λ l. map (change_of p) (client_of p l).made) (sym (longs_all longs_)) in
       let from = length (client_of p (plain f)).made - length (client_of p (plain f)).unsent in
       let long : length m.sent ≡ from =
       (let a = ap length m.split in let b = length-append m.sent (map (λ (u : Unsent I). u.original) (client_of p (plain f)).unsent) in let d = long_map (λ (u : Unsent I). u.original) (client_of p (plain f)).unsent in omega arith) in
@@ -240,14 +245,14 @@ module _ {I S : Type 0} (p : Profile I S) where
       let bears : First hs (map (change_of p) (drop from (client_of p (plain f)).made)) = record { n = fits.n; is = body (client_of p (plain f)) sent ∙ fits.is ∙ ap (take fits.n) (two (client_of p (plain f)).unsent ∙ ap (map (change_of p)) (sym rest)) } in
       let both : First hs (drop from (map (change_of p) (client_of p (plain f)).made)) = record { n = bears.n; is = bears.is ∙ ap (take bears.n) (drop_map (change_of p) from (client_of p (plain f)).made) } in
       let told = first_long both in
-      let all = (changes_tell p).long f in
+      let all = ap length same ∙ (changes_tell p).long f in
       let made_long = long_map (change_of p) (client_of p (plain f)).made in
       let within = told.1 in
       let le : from ≤ length (map (change_of p) (client_of p (plain f)).made) = (let a = ap length m.split in let b = length-append m.sent (map (λ (u : Unsent I). u.original) (client_of p (plain f)).unsent) in omega arith) in
       let dropped = long_drop p from (map (change_of p) (client_of p (plain f)).made) le in
       record {
         lives = has_lives is_made first f from hs (omega arith);
-        tells = told.0;
+        tells = subst (λ l. hs ≡ take (length hs) (drop from l)) same told.0;
         ordered = ordered (drop from (client_of p (plain f)).made) from (λ k o e. m.numbers (from + k) o (at_dropped from (client_of p (plain f)).made k o e)) hs bears;
       }
     where

@@ -1,19 +1,21 @@
 -- Two files that pass the test by marks go together, also where the client's began with a state.
-use Rattle.std.proofs.Common.{refl, ◌≡◌, inr, ⊎_elim, ℕ, suc, ◌+◌, List, [], ◌∷◌, ◌++◌, Some, sym, ap, ◌∙◌, arith, append_assoc, append-nil, length, length-append}
+use Rattle.std.proofs.Common.{refl, ◌≡◌, inr, ⊎_elim, subst, map, Bool, true, false, ℕ, suc, ◌+◌, List, [], ◌∷◌, ◌++◌, Some, sym, ap, ◌∙◌, arith, append_assoc, append-nil, length, length-append}
 use Rattle.sync_theory.proofs.World.{same_or_not}
 use Rattle.sync_model.specs.Bytes.{Uuid}
 use Rattle.sync_model.specs.Profile.{Profile, Lawful}
 use Rattle.sync_model.specs.Messages.{Sent}
-use Rattle.sync_model.specs.Clients.{ClientRecord, client_of, start_of, tooks_of, state_or}
+use Rattle.sync_model.specs.Clients.{ClientRecord, Part, Floor, client_of, start_of, tooks_of, state_or}
 use Rattle.sync_model.specs.Servers.{Server, ServerRecord, no_server, server_of, server_objects, state_of, place_of}
 use Rattle.sync_model.specs.Starts.{started}
+use Rattle.sync_model.specs.Each.{Each, and_each}
+use Rattle.sync_model.specs.Files.{IsLong}
 use Rattle.sync_model.specs.Worlds.{at}
 use Rattle.sync_model.proofs.Lists.{place_old}
 use Rattle.lives_law.specs.Lives.{Written, Files, Reached, Mark, up_to}
 use Rattle.lives_law.specs.Instances.{plain, is_entry, log_of}
-use Rattle.lives_law.specs.Pair.{IsEntry, Begun, Fit, ident_at}
+use Rattle.lives_law.specs.Pair.{IsEntry, IsWhole, Begun, Fit, ident_at}
 use Rattle.lives_law.specs.Starts.{BeganFirst, BeganWith, StartPasses}
-use Rattle.lives_law.proofs.Instances.{plain_on, all_on, server_tells}
+use Rattle.lives_law.proofs.Instances.{plain_on, all_on, server_tells, wholes_long}
 use Rattle.lives_law.proofs.Lives.{tally_on, tally_one, marks_tell_all}
 use Rattle.lives_law.proofs.Growing.{server_grows}
 use Rattle.lives_law.proofs.Passing.{nothing_in, entry_here, made_by}
@@ -71,9 +73,27 @@ module _ {I S : Type 0} (p : Profile I S) where
         none : {A : Type 0} (k : ℕ) (x : A) → at [] k ≡ Some x → ⊥
         none k x e = cc
 
+    -- a file that began with a state has no short front
+    parts_long : (id : Uuid) (second : Bool) (version : ℕ) (s : S) (more : List ClientRecord) → Each IsWhole more → Each IsLong (started p id second version s ++ more)
+    parts_long id second version s more whole = form second
+      where
+        parts : (ps : List (List I)) → Each IsLong ((map (λ is. Part (p.spell is)) ps ++ Floor version ∷ []) ++ more)
+        parts [] = and_each tt (wholes_long whole)
+        parts (x ∷ ps) = and_each tt (parts ps)
+
+        form : (b : Bool) → Each IsLong (started p id b version s ++ more)
+        form true = and_each tt (and_each tt (parts (p.build s)))
+        form false = and_each tt (parts (p.build s))
+
+    begins_long : Each IsLong (plain g)
+    begins_long = ⊎_elim
+        (λ b. subst (λ l. Each IsLong l) b.starts (parts_long t.id b.second 0 p.empty b.more b.whole))
+        (λ h. let b = h.2 in subst (λ l. Each IsLong l) b.starts (parts_long t.id b.second (suc h.0) (server_objects p (server_of p (plain b.file))) b.more b.whole))
+        t.began
+
     pub start_fits : Fit p (plain f) (plain g)
     start_fits =
-        let line = made_by p law v rv f g t.client_kept t.id t.is_read in
+        let line = made_by p law v rv f g t.client_kept t.id begins_long t.is_read in
         record {
           server = t.server;
           client = t.client;

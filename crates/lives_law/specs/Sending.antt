@@ -5,7 +5,8 @@ use Rattle.sync_model.specs.Profile.{Profile}
 use Rattle.sync_model.specs.Messages.{Change, Sent, Message, Upload, Ask, Ask2, AskTables, Download}
 use Rattle.sync_model.specs.Clients.{ClientRecord, no_client, client_of, upload}
 use Rattle.sync_model.specs.Servers.{ServerRecord, no_server, server_of, serve}
-use Rattle.sync_model.specs.Files.{client_opens, server_opens}
+use Rattle.sync_model.specs.Files.{IsLong, client_opens, server_opens}
+use Rattle.sync_model.specs.Each.{Each}
 use Rattle.lives_law.specs.Lives.{Written}
 use Rattle.lives_law.specs.Instances.{plain, is_entry, is_made}
 use Rattle.lives_law.specs.Stored.{Passage, IsUploadOf, IsDownloadOf}
@@ -27,9 +28,9 @@ Asks o (AskTables c cursor settled second tables) = o ≡ Some tables
 Asks o m = ⊥
 
 module _ {I S : Type 0} (p : Profile I S) where
-  -- what a client uploads is an Upload of its file: from what it took of its own on
+  -- what a client uploads is an Upload of its file, which has no short front: from what it took of its own on
   abbrev pub UploadsTell : Type 0
-  UploadsTell = (f : List (Written ClientRecord)) (first c : ℕ) (hs : List Change) → client_opens p (no_client p) (plain f) ≡ true → (upload p (client_of p (plain f))).answer ≡ Ok (Upload c hs)
+  UploadsTell = (f : List (Written ClientRecord)) (first c : ℕ) (hs : List Change) → Each IsLong (plain f) → client_opens p (no_client p) (plain f) ≡ true → (upload p (client_of p (plain f))).answer ≡ Ok (Upload c hs)
       → IsUploadOf p f (passage_of is_made first f (length (client_of p (plain f)).made - length (client_of p (plain f)).unsent) hs)
 
   -- what a server answers to a question is a Download of its file, for a client that asks for its own tables

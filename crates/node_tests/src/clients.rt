@@ -21,6 +21,29 @@ const STARTED: &[u8] = &[
     3, 0, 0, 2, 1, 0, 0, 0, 2, 12, 1, 0,
 ];
 
+/// A client's short file: Born; Resumed 2 1; Waits 3 with base 1 at 5 ms, AddTable "q", which was carried to nothing; the
+/// same part; Floor 4.
+const SHORT: &[u8] = &[
+    0x52, 0x53, 0x59, 0x4e, 0x43, 0x4a, 0x30, 0x31, 1, 0, 0, 0, 17, 1, 1, 1, 1, 1, 1, 1, 1, 1, 1,
+    1, 1, 1, 1, 1, 1, 1, 1, 0, 0, 0, 3, 16, 2, 1, 1, 0, 0, 0, 16, 17, 3, 1, 5, 8, 1, 1, 1, 0x71, 1,
+    1, 0, 0, 1, 0, 0, 1, 0, 0, 0, 21, 11, 1, 2, 1, 0x74, 1, 0x6e, 3, 1, 0, 0, 2, 0, 1, 1, 0, 0, 3,
+    0, 0, 2, 1, 0, 0, 0, 2, 12, 4, 0,
+];
+
+/// In it: the place of how many wait, of the gate and the number and the base of that one, of the part's gate, and of the
+/// version's gate.
+const WAITING_AT: usize = 37;
+
+const WAITS_AT: u64 = 38;
+
+const NUMBER_AT: usize = 44;
+
+const BASE_AT: usize = 45;
+
+const SHORT_PART_AT: usize = 59;
+
+const SHORT_FLOOR_AT: u64 = 85;
+
 /// The places of the part's gate, of its second instruction, and of the version's gate.
 const PART_AT: u64 = 30;
 
@@ -176,4 +199,51 @@ pub fn a_file_that_begins_with_a_state(alloc: Global) -> bool {
     // With a part of which the state has another list: the object comes before the column.
     let other = is_bad_with(alloc, INSTRS_AT, &[3, 0, 0, 2, 2, 0, 1, 1, 0, 0], FLOOR_AT);
     without && other && started_holds(alloc) == Some(true)
+}
+
+/// A client of a short file goes on where it was: it has its cursor, its objects and what it made, asks from what is unsent
+/// and sends that as it was made.
+fn short_holds(alloc: Global) -> Option<bool> {
+    let mut client = client_of(alloc, SHORT)?;
+    let there = client.cursor() == 4 && client.last() == 3 && client.unsent() == 1;
+    let late = subscribes(alloc, &mut client)? == Err(ClientRefusal::TooLate);
+    let made = commits(alloc, &mut client, ADD_Q)? == Ok(4);
+    // Ident 3 for its uuid.
+    let named = takes(
+        alloc,
+        &mut client,
+        &[2, 1, 1, 1, 1, 1, 1, 1, 1, 1, 1, 1, 1, 1, 1, 1, 1, 3],
+    );
+    let asks = is_sent(alloc, client.ask(), &[4, 3, 4, 1]);
+    let sends = is_sent(
+        alloc,
+        client.upload(),
+        &[
+            3, 3, 2, 3, 1, 5, 8, 1, 1, 1, 0x71, 1, 1, 0, 0, 4, 4, 5, 8, 1, 1, 1, 0x71, 1, 1, 0, 0,
+        ],
+    );
+    // Its own entry of number 3 comes as it was carried: with no instruction.
+    let taken = takes(alloc, &mut client, &[5, 3, 4, 1, 3, 3, 5, 3, 1, 0, 0]);
+    Some(there && late && made && named && asks && sends && taken && client.unsent() == 1)
+}
+
+/// Whether the short file with another byte there is refused at this place.
+fn is_bad_short(alloc: Global, at: usize, byte: u8, place: u64) -> bool {
+    let (Some(front), Some(rest)) = (SHORT.get(..at), SHORT.get(at + 1..)) else {
+        return false;
+    };
+    let mut file = Vec::new(alloc);
+    file.extend_from_slice(front).is_ok()
+        && file.push(byte).is_ok()
+        && file.extend_from_slice(rest).is_ok()
+        && is_bad(alloc, file.as_slice(), place)
+}
+
+pub fn a_short_file(alloc: Global) -> bool {
+    // One more is to wait; the next number is left out; a base is beyond the cursor; the file ends within its front.
+    let missing = is_bad_short(alloc, WAITING_AT, 2, SHORT_PART_AT as u64);
+    let left_out = is_bad_short(alloc, NUMBER_AT, 4, WAITS_AT);
+    let beyond = is_bad_short(alloc, BASE_AT, 5, SHORT_FLOOR_AT);
+    let ends = is_bad_short(alloc, SHORT_PART_AT, 0, WAITS_AT);
+    missing && left_out && beyond && ends && short_holds(alloc) == Some(true)
 }

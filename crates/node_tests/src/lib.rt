@@ -19,7 +19,7 @@ pub use laws::the_instructions_can_be_exchanged;
 use std::alloc::Global;
 
 /// Each case of nodes by its name, and whether it comes out as it must.
-pub fn cases(alloc: Global) -> [(&'static str, bool); 9] {
+pub fn cases(alloc: Global) -> [(&'static str, bool); 10] {
     [
         (
             "a client of some tables",
@@ -29,6 +29,7 @@ pub fn cases(alloc: Global) -> [(&'static str, bool); 9] {
             "a file that begins with a state",
             clients::a_file_that_begins_with_a_state(alloc),
         ),
+        ("a short file", clients::a_short_file(alloc)),
         (
             "an exchange is answered and kept",
             servers::an_exchange_is_answered_and_kept(alloc),

@@ -1,13 +1,13 @@
 -- From a world to a later one: messages, a client's ident and all that grows.
-use Rattle.std.proofs.Common.{append_assoc, ◌≡◌, ◌≢◌, ℕ, ◌≤◌, Bool, true, false, ◌&&◌, ◌||◌, not, List, [], ◌∷◌, ◌++◌, Option, Some, refl, sym, ap, ◌∙◌, ◌==◌, length, map, eqb-true, arith}
+use Rattle.std.proofs.Common.{append_assoc, ◌≡◌, ◌≢◌, ℕ, ◌≤◌, Bool, true, false, ◌&&◌, ◌||◌, not, List, [], ◌∷◌, ◌++◌, Option, Some, None, refl, sym, ap, ◌∙◌, ◌==◌, length, map, eqb-true, arith}
 use Rattle.sync_theory.specs.Changesets.{Changeset}
 use Rattle.sync_theory.specs.Logs.{Entry as LogEntry}
 use Rattle.sync_model.specs.Profile.{Profile, Lawful}
 use Rattle.sync_model.specs.Snapshots.{Buildable}
 use Rattle.sync_model.specs.Messages.{Message}
-use Rattle.sync_model.specs.Clients.{Client, Original, is_late, has_floor, ClientRecord, Born, Named, Made, Took, Form, Subset, ok_list, no_client, client_of, after_record, after_records}
+use Rattle.sync_model.specs.Clients.{Client, Original, is_late, has_floor, ClientRecord, Born, Named, Made, Took, Form, Subset, Resumed, Waits, ok_list, no_client, client_of, after_record, after_records}
 use Rattle.sync_model.specs.Servers.{entries_from, server_of, count}
-use Rattle.sync_model.specs.Files.{client_admits, client_opens, is_growing}
+use Rattle.sync_model.specs.Files.{client_admits, client_opens, is_empty, is_growing, tables_fit}
 use Rattle.sync_model.specs.Worlds.{Node, World, Event, at, is_there, message_at, world_after}
 use Rattle.sync_model.specs.Log.{ident_of, log}
 use Rattle.sync_model.proofs.Own.{after_append}
@@ -42,15 +42,21 @@ module _ {I S : Type 0} (p : Profile I S) where
       let t = (takes_same p c (record { origin = origin; number = number; ms = ms; instrs = ok_list (p.unspell body) })).0 in
       (t.ident, t.subset)
   one_keeps c ahead Form e ne = (refl, refl)
-  one_keeps c ahead (Subset tables) e ne =
-      let late = (both (not (is_there c.subset)) (not (is_late c)) (both (not (is_growing c)) _ (both (is_there c.id) _ e).1).1).1 in
-      absurd (named (c.ident == 0) refl (has_floor c.floor || (not (length c.made == 0) || not (c.cursor == 0))) late)
+  one_keeps c ahead (Subset tables) e ne = absurd (early c.front e)
     where
       named : (b : Bool) → (c.ident == 0) ≡ b → (f : Bool) → not (not b || f) ≡ true → ⊥
       named true is f g = ne (eqb-true c.ident 0 is)
       named false is f g = cc
+
+      early : (o : Option ℕ) → tables_fit c (not (is_empty ahead)) o (is_there c.id && (not (is_growing c) && (not (is_there c.subset) && not (is_late c)))) ≡ true → ⊥
+      early (Some n) h = ne (eqb-true c.ident 0 (both (c.ident == 0) _ h).0)
+      early None h =
+          let late = (both (not (is_there c.subset)) (not (is_late c)) (both (not (is_growing c)) _ (both (is_there c.id) _ h).1).1).1 in
+          named (c.ident == 0) refl (has_floor c.floor || (not (length c.made == 0) || not (c.cursor == 0))) late
   one_keeps c ahead (ClientRecord.Part body) e ne = (refl, refl)
   one_keeps c ahead (ClientRecord.Floor version) e ne = (refl, refl)
+  one_keeps c ahead (Resumed number waiting) e ne = (refl, refl)
+  one_keeps c ahead (Waits number base ms body current) e ne = (refl, refl)
 
   all_keep : (rs : List ClientRecord) (c : Client I S) → client_opens p c rs ≡ true → c.ident ≢ 0 → Keeps c (after_records p c rs)
   all_keep [] c e ne = (refl, refl)

@@ -10,7 +10,7 @@ use Rattle.sync_theory.proofs.Server.{test_false}
 use Rattle.sync_model.specs.Bytes.{Uuid, Tables}
 use Rattle.sync_model.specs.Profile.{Profile, Stuck, act, apply_all, act_changeset, cross_changesets, is_small, needs, first_need, all_admitted, first_outside, fitting}
 use Rattle.sync_model.specs.Messages.{Sent, Message, Bind, Ident, Upload, Ask, Download, Refused, Stored, Ask2, Retire, Retired, AskTables}
-use Rattle.sync_model.specs.Clients.{Client, ClientRecord, Born, Named, Made, Took, Form, Subset, Part, Floor, Original, as_made, changeset_of, carried_to, state_or, ok_list, TooLarge, NumbersFull, OldForm, NotSubscribed, NotMine, NotNamed, TooLate, IdentDiffers, Gap, BadBody, OldEntry, Mismatch, WasRefused, refuse, answers, appends, if_born, born, born_once, subscribed_once, is_late, has_floor, settled_from, unsent_above, question, number_at, applied_refusal, sent_changeset, took, take_one, commit, commit_applied, upgrade, subscribe, bind, upload, upload_from, ask, own_refusal, crossed_refusal, read_refusal, entry_refusal, take_entries, take_born, take as take_message, change_of, makes, crossed, takes_entry, after_record}
+use Rattle.sync_model.specs.Clients.{Client, ClientRecord, Born, Named, Made, Took, Form, Subset, Part, Floor, Resumed, Waits, Original, as_made, changeset_of, carried_to, state_or, ok_list, TooLarge, NumbersFull, OldForm, NotSubscribed, NotMine, NotNamed, TooLate, IdentDiffers, Gap, BadBody, OldEntry, Mismatch, WasRefused, refuse, answers, appends, if_born, born, born_once, subscribed_once, is_late, has_floor, settled_from, unsent_above, question, number_at, applied_refusal, sent_changeset, took, take_one, commit, commit_applied, upgrade, subscribe, bind, upload, upload_from, ask, own_refusal, crossed_refusal, read_refusal, entry_refusal, take_entries, take_born, take as take_message, change_of, makes, crossed, takes_entry, after_record}
 use Rattle.shrink_law.specs.Short.{Alike}
 
 pub suc_not : (n : ℕ) → not (suc n == 0) ≡ true
@@ -139,6 +139,8 @@ module _ {I S : Type 0} (p : Profile I S) where
   record_alike c d a (Subset tables) h = record { id = a.id; ident = a.ident; second = a.second; subset = refl; cursor = a.cursor; unsent = a.unsent; objects = a.objects; last = a.last; begun = a.begun }
   record_alike c d a (Part body) h = absurd h
   record_alike c d a (Floor version) h = absurd h
+  record_alike c d a (Resumed number waiting) h = absurd h
+  record_alike c d a (Waits number base ms body current) h = absurd h
 
   -- ---- messages
 

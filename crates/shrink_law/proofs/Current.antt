@@ -7,11 +7,12 @@ use Rattle.sync_theory.proofs.Server.{test_true}
 use Rattle.sync_model.specs.Profile.{Profile, Stuck, Lawful, cross_changesets, needs, restricted, fitting}
 use Rattle.sync_model.specs.Messages.{Change, Sent, Stored, Upload}
 use Rattle.sync_model.specs.Each.{Each, no_more, and_each}
-use Rattle.sync_model.specs.Clients.{Client, ClientRecord, Born, Named, Made, Took, Form, Subset, Part, Floor, Original, Unsent, as_made, changeset_of, carried_to, ok_list, Forked, OldEntry, sent_changeset, own_refusal, crossed_refusal, read_refusal, entry_refusal, takes_entry, crossed, makes, tooks_of, change_of, to_upload, no_client, client_of, after_record, after_records}
+use Rattle.sync_model.specs.Clients.{Client, ClientRecord, Born, Named, Made, Took, Form, Subset, Part, Floor, Resumed, Waits, blanks, Original, Unsent, as_made, changeset_of, carried_to, ok_list, waits_too, Forked, OldEntry, sent_changeset, own_refusal, crossed_refusal, read_refusal, entry_refusal, takes_entry, crossed, makes, tooks_of, change_of, to_upload, no_client, client_of, after_record, after_records}
 use Rattle.sync_model.specs.Servers.{Server, ServerRecord, no_server, server_of, count, sent_of, NoSuchIdent, is_given, refuses, replies, serve}
-use Rattle.sync_model.specs.Files.{client_admits, client_opens, is_growing, made_acts, server_opens}
+use Rattle.sync_model.specs.Files.{IsLong, client_admits, client_opens, is_blank, is_empty, is_growing, made_acts, server_opens, some_come}
 use Rattle.sync_model.specs.Recovery.{numbers_from, numbers_of, whole_history}
 use Rattle.sync_model.specs.Worlds.{is_there}
+use Rattle.sync_model.proofs.Settling.{length_blanks}
 use Rattle.sync_model.proofs.Alone.{opened_first, opened_more}
 use Rattle.sync_model.proofs.Final.{history_numbers}
 use Rattle.shrink_law.specs.Short.{taken}
@@ -59,6 +60,10 @@ follow_snoc : {I : Type 0} {n : ℕ} {us : List (Unsent I)} (u : Unsent I) → F
 follow_snoc {n = n} u none_follows e = one_follows (let z : suc (n + 0) ≡ suc n = omega arith in e ∙ z) none_follows
 follow_snoc {n = n} u (one_follows {us = us} h f) e = one_follows h (follow_snoc u f (let z : suc (n + suc (length us)) ≡ suc (suc n + length us) = omega arith in e ∙ z))
 
+len_append : {A : Type 0} (xs ys : List A) → length (xs ++ ys) ≡ length xs + length ys
+len_append [] ys = omega arith
+len_append (x ∷ xs) ys = let r = len_append xs ys in omega arith
+
 len_map : {A B : Type 0} (f : A → B) (xs : List A) → length (map f xs) ≡ length xs
 len_map f [] = refl
 len_map f (x ∷ xs) = let r = len_map f xs in omega arith
@@ -91,6 +96,8 @@ module _ {I S : Type 0} (p : Profile I S) where
   one_keeps c ahead (Subset tables) e ne = refl
   one_keeps c ahead (Part body) e ne = refl
   one_keeps c ahead (Floor version) e ne = refl
+  one_keeps c ahead (Resumed number waiting) e ne = refl
+  one_keeps c ahead (Waits number base ms body current) e ne = refl
 
   all_keep : (rs : List ClientRecord) (c : Client I S) → client_opens p c rs ≡ true → c.ident ≢ 0 → (after_records p c rs).ident ≡ c.ident
   all_keep [] c e ne = refl
@@ -146,16 +153,66 @@ module _ {I S : Type 0} (p : Profile I S) where
 
   -- ---- all records
 
-  all_next : (rs : List ClientRecord) (c : Client I S) (n d : ℕ) → client_opens p c rs ≡ true → (after_records p c rs).ident ≡ d → Next n c → Next (n + length (own_numbers d (tooks_of rs))) (after_records p c rs)
+  -- how many transactions the front of a short file counts
+  abbrev resumed_by : ClientRecord → ℕ → ℕ
+  resumed_by (Resumed number waiting) rest = number + rest
+  resumed_by r rest = rest
+
+  abbrev resumed : List ClientRecord → ℕ
+  resumed [] = 0
+  resumed (r ∷ rs) = resumed_by r (resumed rs)
+
+  -- a file without one counts none
+  long_none : (rs : List ClientRecord) → Each IsLong rs → resumed rs ≡ 0
+  long_none [] no_more = refl
+  long_none (r ∷ rs) (and_each h f) = one r h (long_none rs f)
+    where
+      one : (r : ClientRecord) → IsLong r → resumed rs ≡ 0 → resumed_by r (resumed rs) ≡ 0
+      one (Born id) h e = e
+      one (Named ident) h e = e
+      one (Made number ms body) h e = e
+      one (Took origin number ms body) h e = e
+      one Form h e = e
+      one (Subset tables) h e = e
+      one (Part body) h e = e
+      one (Floor version) h e = e
+      one (Resumed number waiting) h e = absurd h
+      one (Waits number base ms body current) h e = absurd h
+
+  none_yet : {A : Type 0} (xs : List A) → is_empty xs ≡ true → length xs ≡ 0
+  none_yet [] h = refl
+  none_yet (x ∷ xs) h = cc
+
+  -- a blank client counts from the number of its front on
+  resumed_next : (n : ℕ) (c : Client I S) (number waiting : ℕ) → is_blank c ≡ true → Next n c → Next (n + number) (after_record p c (Resumed number waiting))
+  resumed_next n c number waiting blank h =
+      let none = none_yet c.made (both (c.ident == 0) (is_empty c.made) (both (not (is_there c.floor)) _ (both (not (is_there c.subset)) _ (both (is_there c.id) _ blank).1).1).1).1 in
+      let long = len_append c.made (blanks {I = I} (suc (length c.made)) number) in
+      let many = length_blanks I (suc (length c.made)) number in
+      let m = h.made in
+      record { follow = on c.unsent (omega (arith, m, none)); made = omega (arith, m, none, long, many) }
+    where
+      on : (us : List (Unsent I)) → length us ≡ 0 → Follow (n + number) us
+      on [] e = none_follows
+      on (u ∷ us) e = absurd (omega (arith, e))
+
+  waits_next : (n : ℕ) (c : Client I S) (u : Unsent I) → u.original.number ≡ suc (length c.made) → Next n c → Next n (waits_too c u)
+  waits_next n c u e h =
+      let l = length_snoc c.unsent u in
+      let k = length_snoc c.made u.original in
+      let m = h.made in
+      record { follow = follow_snoc u h.follow (let z : suc (length c.made) ≡ suc (n + length c.unsent) = omega arith in e ∙ z); made = omega arith }
+
+  all_next : (rs : List ClientRecord) (c : Client I S) (n d : ℕ) → client_opens p c rs ≡ true → (after_records p c rs).ident ≡ d → Next n c → Next (n + resumed rs + length (own_numbers d (tooks_of rs))) (after_records p c rs)
   all_next [] c n d e is h = subst (λ k. Next k c) zero_more h
     where
-      zero_more : n ≡ n + 0
+      zero_more : n ≡ n + 0 + 0
       zero_more = omega arith
   all_next (r ∷ rs) c n d e is h = on r (both (client_admits p c (map (λ q. Some q) rs) r) (client_opens p (after_record p c r) rs) e) is (λ m k. all_next rs (after_record p c r) m d (both (client_admits p c (map (λ q. Some q) rs) r) (client_opens p (after_record p c r) rs) e).1 is k)
     where
       on : (r : ClientRecord) → (client_admits p c (map (λ q. Some q) rs) r ≡ true) × (client_opens p (after_record p c r) rs ≡ true) → (after_records p (after_record p c r) rs).ident ≡ d
-          → ((m : ℕ) → Next m (after_record p c r) → Next (m + length (own_numbers d (tooks_of rs))) (after_records p (after_record p c r) rs))
-          → Next (n + length (own_numbers d (tooks_of (r ∷ rs)))) (after_records p (after_record p c r) rs)
+          → ((m : ℕ) → Next m (after_record p c r) → Next (m + resumed rs + length (own_numbers d (tooks_of rs))) (after_records p (after_record p c r) rs))
+          → Next (n + resumed_by r (resumed rs) + length (own_numbers d (tooks_of (r ∷ rs)))) (after_records p (after_record p c r) rs)
       on (Born id) b i go = go n (record { follow = h.follow; made = h.made })
       on (Named ident) b i go = go n (record { follow = h.follow; made = h.made })
       on (Made number ms body) b i go =
@@ -167,18 +224,23 @@ module _ {I S : Type 0} (p : Profile I S) where
           let fine = none_there (entry_refusal p c t) (both (not (number == 0)) _ (both (not (origin == 0)) _ (both (nat_lt c.cursor p.full) _ a.1).1).1).1 in
           let same : c.ident ≡ d = sym (all_keep rs (after_record p c (Took origin number ms body)) b.1 (λ z. named c.ident a.0 (sym (takes_ident c (sent_changeset t (ok_list (p.unspell body)))) ∙ z)) ∙ takes_ident c (sent_changeset t (ok_list (p.unspell body)))) ∙ i in
           let one = go (more (origin == c.ident) n) (read_next n c t (p.unspell body) fine h) in
-          subst (λ k. Next k (after_records p (after_record p c (Took origin number ms body)) rs)) (ap (λ z. more (origin == z) n + length (own_numbers d (tooks_of rs))) same ∙ tells (origin == d) number) one
+          subst (λ k. Next k (after_records p (after_record p c (Took origin number ms body)) rs)) (ap (λ z. more (origin == z) n + resumed rs + length (own_numbers d (tooks_of rs))) same ∙ tells (origin == d) number) one
         where
           named : (k : ℕ) → not (k == 0) ≡ true → k ≡ 0 → ⊥
           named k g z = let t = test_true k 0 z in cc
 
-          tells : (b : Bool) (number : ℕ) → more b n + length (own_numbers d (tooks_of rs)) ≡ n + length (if b then number ∷ own_numbers d (tooks_of rs) else own_numbers d (tooks_of rs))
+          tells : (b : Bool) (number : ℕ) → more b n + resumed rs + length (own_numbers d (tooks_of rs)) ≡ n + resumed rs + length (if b then number ∷ own_numbers d (tooks_of rs) else own_numbers d (tooks_of rs))
           tells true number = omega arith
           tells false number = refl
       on Form b i go = go n (record { follow = h.follow; made = h.made })
       on (Subset tables) b i go = go n (record { follow = h.follow; made = h.made })
       on (Part body) b i go = go n (record { follow = h.follow; made = h.made })
       on (Floor version) b i go = go n (record { follow = h.follow; made = h.made })
+      on (Resumed number waiting) b i go =
+          subst (λ k. Next k (after_records p (after_record p c (Resumed number waiting)) rs)) (let z : n + number + resumed rs + length (own_numbers d (tooks_of rs)) ≡ n + (number + resumed rs) + length (own_numbers d (tooks_of rs)) = omega arith in z)
+          (go (n + number) (resumed_next n c number waiting (both (is_blank c) _ b.0).0 h))
+      on (Waits number base ms body current) b i go =
+          go n (waits_next n c (record { original = record { base = base; number = number; ms = ms; instrs = ok_list (p.unspell body) }; current = ok_list (p.unspell current) }) (eqb-true number (suc (length c.made)) (both (number == suc (length c.made)) _ (both (some_come c.front) _ b.0).1).0) h)
 
   -- ---- what it made is in the history, or unsent
 
@@ -234,17 +296,17 @@ module _ {I S : Type 0} (p : Profile I S) where
       on false true g = own_told sent c e g k
       on false false g = crossed_told (rebase (cross_changesets p) (map (changeset_of c.ident) c.unsent) (sent_changeset e is)) (λ q u. rebase_long (cross_changesets p) (map (changeset_of c.ident) c.unsent) (sent_changeset e is) q u ∙ len_map (changeset_of c.ident) c.unsent) g
 
-  all_told : (rs : List ClientRecord) (c : Client I S) (sent : List (ℕ × ℕ)) (d : ℕ) → client_opens p c rs ≡ true → (after_records p c rs).ident ≡ d → Told sent c → Told (sent ++ own_stamps d (tooks_of rs)) (after_records p c rs)
-  all_told [] c sent d e is h = subst (λ l. Told l c) (sym (append-nil sent)) h
-  all_told (r ∷ rs) c sent d e is h = on r (both (client_admits p c (map (λ q. Some q) rs) r) (client_opens p (after_record p c r) rs) e) is (λ m k. all_told rs (after_record p c r) m d (both (client_admits p c (map (λ q. Some q) rs) r) (client_opens p (after_record p c r) rs) e).1 is k)
+  all_told : (rs : List ClientRecord) (c : Client I S) (sent : List (ℕ × ℕ)) (d : ℕ) → Each IsLong rs → client_opens p c rs ≡ true → (after_records p c rs).ident ≡ d → Told sent c → Told (sent ++ own_stamps d (tooks_of rs)) (after_records p c rs)
+  all_told [] c sent d no_more e is h = subst (λ l. Told l c) (sym (append-nil sent)) h
+  all_told (r ∷ rs) c sent d (and_each long longs) e is h = on r long (both (client_admits p c (map (λ q. Some q) rs) r) (client_opens p (after_record p c r) rs) e) is (λ m k. all_told rs (after_record p c r) m d longs (both (client_admits p c (map (λ q. Some q) rs) r) (client_opens p (after_record p c r) rs) e).1 is k)
     where
-      on : (r : ClientRecord) → (client_admits p c (map (λ q. Some q) rs) r ≡ true) × (client_opens p (after_record p c r) rs ≡ true) → (after_records p (after_record p c r) rs).ident ≡ d
+      on : (r : ClientRecord) → IsLong r → (client_admits p c (map (λ q. Some q) rs) r ≡ true) × (client_opens p (after_record p c r) rs ≡ true) → (after_records p (after_record p c r) rs).ident ≡ d
           → ((m : List (ℕ × ℕ)) → Told m (after_record p c r) → Told (m ++ own_stamps d (tooks_of rs)) (after_records p (after_record p c r) rs))
           → Told (sent ++ own_stamps d (tooks_of (r ∷ rs))) (after_records p (after_record p c r) rs)
-      on (Born id) b i go = go sent h
-      on (Named ident) b i go = go sent h
-      on (Made number ms body) b i go = go sent (made_told sent c (record { base = c.cursor; number = number; ms = ms; instrs = ok_list (p.unspell body) }) h)
-      on (Took origin number ms body) b i go =
+      on (Born id) l b i go = go sent h
+      on (Named ident) l b i go = go sent h
+      on (Made number ms body) l b i go = go sent (made_told sent c (record { base = c.cursor; number = number; ms = ms; instrs = ok_list (p.unspell body) }) h)
+      on (Took origin number ms body) l b i go =
           let t : Sent = record { origin = origin; number = number; ms = ms; body = body } in
           let a = both (not (c.ident == 0)) _ b.0 in
           let fine = none_there (entry_refusal p c t) (both (not (number == 0)) _ (both (not (origin == 0)) _ (both (nat_lt c.cursor p.full) _ a.1).1).1).1 in
@@ -258,10 +320,12 @@ module _ {I S : Type 0} (p : Profile I S) where
           tells : (b : Bool) (t : Sent) → and_sent b sent t ++ own_stamps d (tooks_of rs) ≡ sent ++ (if b then (t.number, t.ms) ∷ own_stamps d (tooks_of rs) else own_stamps d (tooks_of rs))
           tells true t = append_assoc sent ((t.number, t.ms) ∷ []) (own_stamps d (tooks_of rs))
           tells false t = refl
-      on Form b i go = go sent h
-      on (Subset tables) b i go = go sent h
-      on (Part body) b i go = go sent h
-      on (Floor version) b i go = go sent h
+      on Form l b i go = go sent h
+      on (Subset tables) l b i go = go sent h
+      on (Part body) l b i go = go sent h
+      on (Floor version) l b i go = go sent h
+      on (Resumed number waiting) l b i go = absurd l
+      on (Waits number base ms body current) l b i go = absurd l
 
   stamps_sent : (o : Option Tables) (c : ℕ) (xs : List (Changeset I)) → own_stamps c (map (λ x. sent_of p (restricted p o x)) xs) ≡ stamps_of c xs
   stamps_sent o c [] = refl
@@ -278,7 +342,7 @@ module _ {I S : Type 0} (p : Profile I S) where
       let nothing : Next 0 (no_client p) = record { follow = none_follows; made = omega arith } in
       let all = all_next rs (no_client p) 0 c.ident open_ refl nothing in
       let m = all.made in
-      let same : 0 + length (own_numbers c.ident (tooks_of rs)) ≡ taken c = omega arith in
+      let same : 0 + resumed rs + length (own_numbers c.ident (tooks_of rs)) ≡ taken c = omega arith in
       subst (λ k. Follow k c.unsent) same all.follow
 
   -- ---- the server's history
@@ -346,47 +410,49 @@ module _ {I S : Type 0} (p : Profile I S) where
         on false f rec = rec f
 
     -- a client that took a beginning of the history, where the server has as many of its changes as it took of its own
-    pub part_told : (rs : List ClientRecord) (ss : List ServerRecord) → client_opens p (no_client p) rs ≡ true → server_opens p no_server ss ≡ true → HasPart p rs (server_of p ss) → count (server_of p ss) (client_of p rs).ident ≡ taken (client_of p rs) → HasTold p rs (server_of p ss)
-    part_told rs ss open_ serves w same =
+    pub part_told : (rs : List ClientRecord) (ss : List ServerRecord) → Each IsLong rs → client_opens p (no_client p) rs ≡ true → server_opens p no_server ss ≡ true → HasPart p rs (server_of p ss) → count (server_of p ss) (client_of p rs).ident ≡ taken (client_of p rs) → HasTold p rs (server_of p ss)
+    part_told rs ss longs open_ serves w same =
         let c = client_of p rs in
         let s = server_of p ss in
         let d = c.ident in
         let nothing : Next 0 (no_client p) = record { follow = none_follows; made = omega arith } in
         let all = all_next rs (no_client p) 0 d open_ refl nothing in
+        let none_before = long_none rs longs in
         let own : length (own_numbers d (tooks_of rs)) ≡ length (numbers_of d w.front) = ap (λ l. length (own_numbers d l)) w.took ∙ ap length (own_sent c.subset d w.front) in
         let total : length (numbers_of d (whole_history p s)) ≡ count s d = ap length (history_numbers p law s (opened_more p law ss no_server serves (opened_first p)) d) ∙ long_numbers 1 (count s d) in
         let split : length (numbers_of d (whole_history p s)) ≡ length (numbers_of d w.front) + length (numbers_of d w.rest) = ap (λ l. length (numbers_of d l)) w.whole ∙ numbers_append d w.front w.rest in
         let m = all.made in
-        let zero_is : 0 + length (own_numbers d (tooks_of rs)) ≡ count s d = omega (arith, m, same) in
-        let none : length (numbers_of d w.rest) ≡ 0 = omega (arith, own, total, split, zero_is) in
+        let zero_is : 0 + resumed rs + length (own_numbers d (tooks_of rs)) ≡ count s d = omega (arith, m, same) in
+        let none : length (numbers_of d w.rest) ≡ 0 = omega (arith, own, total, split, zero_is, none_before) in
         let next : Next (count s d) c = subst (λ k. Next k c) zero_is all in
         let stamps : stamps_of d (whole_history p s) ≡ stamps_of d w.front = ap (stamps_of d) w.whole ∙ stamps_append d w.front w.rest ∙ ap (λ l. stamps_of d w.front ++ l) (no_stamps d w.rest none) ∙ append-nil (stamps_of d w.front) in
         record {
           kept =
-              all_told rs (no_client p) [] d open_ refl refl
+              all_told rs (no_client p) [] d longs open_ refl refl
               ∙ ap (λ l. l ++ map (λ u. stamp_of u.original) c.unsent) (ap (own_stamps d) w.took ∙ stamps_sent c.subset d w.front ∙ sym stamps);
           counted = next.made;
           next = next.follow;
           no_repeat = fitting_each (λ h. count s d < h.number) (λ h. length h.body) p.most p.room (map (λ u. change_of p u.original) c.unsent) (follow_above (omega arith) next.follow);
         }
 
-    pub has_told : (rs : List ClientRecord) (ss : List ServerRecord) → client_opens p (no_client p) rs ≡ true → server_opens p no_server ss ≡ true → HasWhole p rs (server_of p ss) → HasTold p rs (server_of p ss)
-    has_told rs ss open_ serves w =
+    pub has_told : (rs : List ClientRecord) (ss : List ServerRecord) → Each IsLong rs → client_opens p (no_client p) rs ≡ true → server_opens p no_server ss ≡ true → HasWhole p rs (server_of p ss) → HasTold p rs (server_of p ss)
+    has_told rs ss longs open_ serves w =
         let c = client_of p rs in
         let s = server_of p ss in
         let d = c.ident in
         let nothing : Next 0 (no_client p) = record { follow = none_follows; made = omega arith } in
         let all = all_next rs (no_client p) 0 d open_ refl nothing in
+        let none_before = long_none rs longs in
         let counted : length (own_numbers d (tooks_of rs)) ≡ count s d =
         ap (λ l. length (own_numbers d l)) w.took
         ∙ ap length (own_sent c.subset d (whole_history p s))
         ∙ ap length (history_numbers p law s (opened_more p law ss no_server serves (opened_first p)) d)
         ∙ long_numbers 1 (count s d) in
-        let zero_is : 0 + length (own_numbers d (tooks_of rs)) ≡ count s d = omega arith in
+        let zero_is : 0 + resumed rs + length (own_numbers d (tooks_of rs)) ≡ count s d = omega arith in
         let next : Next (count s d) c = subst (λ k. Next k c) zero_is all in
         record {
           kept =
-              all_told rs (no_client p) [] d open_ refl refl
+              all_told rs (no_client p) [] d longs open_ refl refl
               ∙ ap (λ l. l ++ map (λ u. stamp_of u.original) c.unsent) (ap (own_stamps d) w.took ∙ stamps_sent c.subset d (whole_history p s));
           counted = next.made;
           next = next.follow;

@@ -6,9 +6,9 @@ use Rattle.sync_theory.specs.Logs.{Entry as LogEntry}
 use Rattle.sync_theory.specs.Changesets.{Changeset}
 use Rattle.sync_model.specs.Profile.{Profile, Lawful, restricted, fitting}
 use Rattle.sync_model.specs.Messages.{Sent, Ask2, Download}
-use Rattle.sync_model.specs.Each.{and_each}
+use Rattle.sync_model.specs.Each.{Each, and_each}
 use Rattle.sync_model.specs.Clients.{ClientRecord, no_client, client_of, tooks_of}
-use Rattle.sync_model.specs.Files.{client_opens, server_opens}
+use Rattle.sync_model.specs.Files.{IsLong, client_opens, server_opens}
 use Rattle.sync_model.specs.Progress.{IsRoomy}
 use Rattle.sync_model.specs.Recovery.{whole_history}
 use Rattle.sync_model.specs.Servers.{Server, ServerRecord, NoSuchIdent, AheadOfHistory, no_server, server_of, history_of, entries_from, sent_of, download, is_given, marking, refuses, serve}
@@ -55,11 +55,11 @@ module _ {I S : Type 0} (p : Profile I S) where
         on true false z f = (nothing_fits (entries_from p s.log (length s.log - cursor) cursor) small (same f), let l = ltb-false (length s.log) cursor z in omega (arith, l))
 
     -- a client that took the history up to its cursor, and whose question is answered so, lost nothing
-    pub empty_tells : (rs : List ClientRecord) (ss : List ServerRecord) → client_opens p (no_client p) rs ≡ true → server_opens p no_server ss ≡ true → (client_of p rs).ident ≢ 0
+    pub empty_tells : (rs : List ClientRecord) (ss : List ServerRecord) → Each IsLong rs → client_opens p (no_client p) rs ≡ true → server_opens p no_server ss ≡ true → (client_of p rs).ident ≢ 0
         → tooks_of rs ≡ map (λ x. sent_of p (restricted p (client_of p rs).subset x)) (entries_from p (server_of p ss).log (client_of p rs).cursor 0)
         → (settled : ℕ) → (serve p (server_of p ss) (Ask2 (client_of p rs).ident (client_of p rs).cursor settled)).answer ≡ Download (client_of p rs).ident (client_of p rs).cursor []
         → HasTold p rs (server_of p ss)
-    empty_tells rs ss open_ serves named took settled e =
+    empty_tells rs ss longs open_ serves named took settled e =
         let c = client_of p rs in
         let s = server_of p ss in
         let m = length s.log - c.cursor in
@@ -72,4 +72,4 @@ module _ {I S : Type 0} (p : Profile I S) where
         ap (λ n. entries_from p s.log n 0) long ∙ from_append s.log c.cursor m 0
         ∙ ap (λ j. entries_from p s.log c.cursor 0 ++ entries_from p s.log m j) zero_is
         ∙ ap (λ l. entries_from p s.log c.cursor 0 ++ l) none.0 ∙ append-nil (entries_from p s.log c.cursor 0) in
-        has_told p law rs ss open_ serves (record { named = named; took = took ∙ ap (map (λ x. sent_of p (restricted p c.subset x))) (sym whole) })
+        has_told p law rs ss longs open_ serves (record { named = named; took = took ∙ ap (map (λ x. sent_of p (restricted p c.subset x))) (sym whole) })

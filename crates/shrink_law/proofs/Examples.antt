@@ -4,14 +4,13 @@ use Rattle.std.proofs.Common.{◌≡◌, inl, ℕ, Bool, true, false, Ok, Err, L
 use Rattle.sync_theory.specs.Toy.{Add, Sheet}
 use Rattle.sync_model.specs.Bytes.{Uuid}
 use Rattle.sync_model.specs.Messages.{Change, Upload, Download, Stored, Retired}
-use Rattle.sync_model.specs.Clients.{ClientRecord, Born, Named, Made, Took, Form, Subset, Part, Floor, TooLate, Forked, no_client, client_of, commit, subscribe, take, to_upload}
+use Rattle.sync_model.specs.Clients.{ClientRecord, Born, Named, Made, Took, Form, Subset, Part, Floor, Resumed, Waits, TooLate, Forked, no_client, client_of, commit, subscribe, take, to_upload}
 use Rattle.sync_model.specs.Files.{client_opens}
 use Rattle.sync_model.specs.Servers.{ServerRecord, server_of, server_objects, serve, count, entries_from, no_server}
 use Rattle.sync_model.specs.Rescues.{LivesOn}
 use Rattle.sync_model.specs.Resets.{recover, IsHeir, Handled, Integrated, SavedAs}
 use Rattle.sync_model.specs.Toy.{toy}
-use Rattle.shrink_law.specs.Openings.{Outside, short_opens}
-use Rattle.shrink_law.specs.Short.{ShortRecord, Plain, Resumed, Waits, short_records, short_of}
+use Rattle.shrink_law.specs.Short.{short_records}
 
 abbrev uuid : ℕ → Uuid
 uuid n = 0 ∷ 0 ∷ 0 ∷ 0 ∷ 0 ∷ 0 ∷ 64 ∷ 0 ∷ 128 ∷ 0 ∷ 0 ∷ 0 ∷ 0 ∷ 0 ∷ 0 ∷ n ∷ []
@@ -47,10 +46,10 @@ lost : serve toy (server_of toy two) (Upload 1 (to_upload toy (client_of toy (ob
 lost = refl
 
 -- the short file gives the next number
-short_of_whole : short_records toy (client_of toy whole) ≡ Plain (Born (uuid 1)) ∷ Resumed 2 0 ∷ Plain (Part (0 ∷ 7 ∷ [])) ∷ Plain (Floor 2) ∷ Plain (Named 1) ∷ []
+short_of_whole : short_records toy (client_of toy whole) ≡ Born (uuid 1) ∷ Resumed 2 0 ∷ Part (0 ∷ 7 ∷ []) ∷ Floor 2 ∷ Named 1 ∷ []
 short_of_whole = refl
 
-short_gives_on : (commit toy (short_of toy (short_records toy (client_of toy whole))) 9 (Add 1 ∷ [])).answer ≡ Ok 3
+short_gives_on : (commit toy (client_of toy (short_records toy (client_of toy whole))) 9 (Add 1 ∷ [])).answer ≡ Ok 3
 short_gives_on = refl
 
 -- a client that made nothing and took nothing may still name its tables; with its version at the beginning of its file it may not
@@ -60,7 +59,7 @@ still_early = refl
 too_late : (subscribe (client_of toy (Born (uuid 9) ∷ Floor 0 ∷ [])) []).answer ≡ Err TooLate
 too_late = refl
 
-short_of_early : short_records toy (client_of toy (Born (uuid 9) ∷ [])) ≡ Plain (Born (uuid 9)) ∷ []
+short_of_early : short_records toy (client_of toy (Born (uuid 9) ∷ [])) ≡ Born (uuid 9) ∷ []
 short_of_early = refl
 
 -- ---- an unsent changeset needs both its lists: as it was made, and as it was carried
@@ -86,76 +85,76 @@ server_has_five : server_objects toy (server_of toy (later_wins ++ (serve toy (s
 server_has_five = refl
 
 -- the short file: both lists, of which the second is empty, and the base
-short_of_waiting : short_records toy (client_of toy waiting) ≡ Plain (Born (uuid 1)) ∷ Resumed 0 1 ∷ Waits 1 0 10 (0 ∷ 5 ∷ []) [] ∷ Plain (Part (0 ∷ 9 ∷ [])) ∷ Plain (Floor 1) ∷ Plain (Named 1) ∷ []
+short_of_waiting : short_records toy (client_of toy waiting) ≡ Born (uuid 1) ∷ Resumed 0 1 ∷ Waits 1 0 10 (0 ∷ 5 ∷ []) [] ∷ Part (0 ∷ 9 ∷ []) ∷ Floor 1 ∷ Named 1 ∷ []
 short_of_waiting = refl
 
-server_has_nine : server_objects toy (server_of toy (later_wins ++ (serve toy (server_of toy later_wins) (Upload 1 (to_upload toy (short_of toy (short_records toy (client_of toy waiting)))))).records)) ≡ sheet 9 0
+server_has_nine : server_objects toy (server_of toy (later_wins ++ (serve toy (server_of toy later_wins) (Upload 1 (to_upload toy (client_of toy (short_records toy (client_of toy waiting)))))).records)) ≡ sheet 9 0
 server_has_nine = refl
 
 -- with the first list alone the client can't tell its own entry: the server's is empty
 forgot_current : (take toy (client_of toy (Born (uuid 1) ∷ Part (0 ∷ 9 ∷ []) ∷ Floor 1 ∷ Made 1 10 (0 ∷ 5 ∷ []) ∷ Named 1 ∷ [])) (Download 1 1 (record { origin = 1; number = 1; ms = 10; body = [] } ∷ []))).answer ≡ Err (Forked 1)
 forgot_current = refl
 
-own_entry_taken : (take toy (short_of toy (short_records toy (client_of toy waiting))) (Download 1 1 (record { origin = 1; number = 1; ms = 10; body = [] } ∷ []))).answer ≡ Ok 2
+own_entry_taken : (take toy (client_of toy (short_records toy (client_of toy waiting))) (Download 1 1 (record { origin = 1; number = 1; ms = 10; body = [] } ∷ []))).answer ≡ Ok 2
 own_entry_taken = refl
 
 -- ---- what is no short file
 
 -- opening accepts these records
-abbrev opens : List ShortRecord → Bool
-opens rs = short_opens toy Outside (no_client toy) rs
+abbrev opens : List ClientRecord → Bool
+opens rs = client_opens toy (no_client toy) rs
 
 -- the file above, and what may stand behind it
-abbrev short : List ShortRecord → List ShortRecord
-short rest = Plain (Born (uuid 1)) ∷ Resumed 0 1 ∷ Waits 1 0 10 (0 ∷ 5 ∷ []) [] ∷ Plain (Part (0 ∷ 9 ∷ [])) ∷ Plain (Floor 1) ∷ rest
+abbrev short : List ClientRecord → List ClientRecord
+short rest = Born (uuid 1) ∷ Resumed 0 1 ∷ Waits 1 0 10 (0 ∷ 5 ∷ []) [] ∷ Part (0 ∷ 9 ∷ []) ∷ Floor 1 ∷ rest
 
-is_one : opens (short (Plain (Named 1) ∷ Plain (Made 2 30 (1 ∷ 4 ∷ [])) ∷ [])) ≡ true
+is_one : opens (short (Named 1 ∷ Made 2 30 (1 ∷ 4 ∷ []) ∷ [])) ≡ true
 is_one = refl
 
 -- the next transaction has the next number
-number_again : opens (short (Plain (Named 1) ∷ Plain (Made 1 30 (1 ∷ 4 ∷ [])) ∷ [])) ≡ false
+number_again : opens (short (Named 1 ∷ Made 1 30 (1 ∷ 4 ∷ []) ∷ [])) ≡ false
 number_again = refl
 
 -- a front comes once, and right behind the uuid and the form
-second_front : opens (short (Resumed 0 0 ∷ Plain (Floor 1) ∷ [])) ≡ false
+second_front : opens (short (Resumed 0 0 ∷ Floor 1 ∷ [])) ≡ false
 second_front = refl
 
-front_without_uuid : opens (Resumed 0 0 ∷ Plain (Floor 1) ∷ []) ≡ false
+front_without_uuid : opens (Resumed 0 0 ∷ Floor 1 ∷ []) ≡ false
 front_without_uuid = refl
 
-front_behind_made : opens (Plain (Born (uuid 1)) ∷ Plain (Made 1 10 (0 ∷ 5 ∷ [])) ∷ Resumed 0 0 ∷ Plain (Floor 1) ∷ []) ≡ false
+front_behind_made : opens (Born (uuid 1) ∷ Made 1 10 (0 ∷ 5 ∷ []) ∷ Resumed 0 0 ∷ Floor 1 ∷ []) ≡ false
 front_behind_made = refl
 
-form_within : opens (Plain (Born (uuid 1)) ∷ Resumed 0 0 ∷ Plain Form ∷ Plain (Floor 1) ∷ []) ≡ false
+form_within : opens (Born (uuid 1) ∷ Resumed 0 0 ∷ Form ∷ Floor 1 ∷ []) ≡ false
 form_within = refl
 
 -- as many unsent changesets as were told, in order, and then the parts and the cursor
-one_missing : opens (Plain (Born (uuid 1)) ∷ Resumed 0 2 ∷ Waits 1 0 10 (0 ∷ 5 ∷ []) [] ∷ Plain (Part (0 ∷ 9 ∷ [])) ∷ Plain (Floor 1) ∷ []) ≡ false
+one_missing : opens (Born (uuid 1) ∷ Resumed 0 2 ∷ Waits 1 0 10 (0 ∷ 5 ∷ []) [] ∷ Part (0 ∷ 9 ∷ []) ∷ Floor 1 ∷ []) ≡ false
 one_missing = refl
 
-one_more : opens (Plain (Born (uuid 1)) ∷ Resumed 0 0 ∷ Waits 1 0 10 (0 ∷ 5 ∷ []) [] ∷ Plain (Part (0 ∷ 9 ∷ [])) ∷ Plain (Floor 1) ∷ []) ≡ false
+one_more : opens (Born (uuid 1) ∷ Resumed 0 0 ∷ Waits 1 0 10 (0 ∷ 5 ∷ []) [] ∷ Part (0 ∷ 9 ∷ []) ∷ Floor 1 ∷ []) ≡ false
 one_more = refl
 
-number_left_out : opens (Plain (Born (uuid 1)) ∷ Resumed 0 1 ∷ Waits 2 0 10 (0 ∷ 5 ∷ []) [] ∷ Plain (Part (0 ∷ 9 ∷ [])) ∷ Plain (Floor 1) ∷ []) ≡ false
+number_left_out : opens (Born (uuid 1) ∷ Resumed 0 1 ∷ Waits 2 0 10 (0 ∷ 5 ∷ []) [] ∷ Part (0 ∷ 9 ∷ []) ∷ Floor 1 ∷ []) ≡ false
 number_left_out = refl
 
-base_beyond : opens (Plain (Born (uuid 1)) ∷ Resumed 0 1 ∷ Waits 1 2 10 (0 ∷ 5 ∷ []) [] ∷ Plain (Part (0 ∷ 9 ∷ [])) ∷ Plain (Floor 1) ∷ []) ≡ false
+base_beyond : opens (Born (uuid 1) ∷ Resumed 0 1 ∷ Waits 1 2 10 (0 ∷ 5 ∷ []) [] ∷ Part (0 ∷ 9 ∷ []) ∷ Floor 1 ∷ []) ≡ false
 base_beyond = refl
 
-tables_between : opens (Plain (Born (uuid 1)) ∷ Resumed 0 1 ∷ Waits 1 0 10 (0 ∷ 5 ∷ []) [] ∷ Plain (Subset []) ∷ Plain (Part (0 ∷ 9 ∷ [])) ∷ Plain (Floor 1) ∷ []) ≡ false
+tables_between : opens (Born (uuid 1) ∷ Resumed 0 1 ∷ Waits 1 0 10 (0 ∷ 5 ∷ []) [] ∷ Subset [] ∷ Part (0 ∷ 9 ∷ []) ∷ Floor 1 ∷ []) ≡ false
 tables_between = refl
 
-waits_alone : opens (Plain (Born (uuid 1)) ∷ Waits 1 0 10 (0 ∷ 5 ∷ []) [] ∷ []) ≡ false
+waits_alone : opens (Born (uuid 1) ∷ Waits 1 0 10 (0 ∷ 5 ∷ []) [] ∷ []) ≡ false
 waits_alone = refl
 
 -- no file ends within a front
-ends_behind_counts : opens (Plain (Born (uuid 1)) ∷ Resumed 0 1 ∷ []) ≡ false
+ends_behind_counts : opens (Born (uuid 1) ∷ Resumed 0 1 ∷ []) ≡ false
 ends_behind_counts = refl
 
-ends_behind_waits : opens (Plain (Born (uuid 1)) ∷ Resumed 0 1 ∷ Waits 1 0 10 (0 ∷ 5 ∷ []) [] ∷ []) ≡ false
+ends_behind_waits : opens (Born (uuid 1) ∷ Resumed 0 1 ∷ Waits 1 0 10 (0 ∷ 5 ∷ []) [] ∷ []) ≡ false
 ends_behind_waits = refl
 
-ends_behind_parts : opens (Plain (Born (uuid 1)) ∷ Resumed 0 1 ∷ Waits 1 0 10 (0 ∷ 5 ∷ []) [] ∷ Plain (Part (0 ∷ 9 ∷ [])) ∷ []) ≡ false
+ends_behind_parts : opens (Born (uuid 1) ∷ Resumed 0 1 ∷ Waits 1 0 10 (0 ∷ 5 ∷ []) [] ∷ Part (0 ∷ 9 ∷ []) ∷ []) ≡ false
 ends_behind_parts = refl
 
 -- ---- a file that was put back from a backup

@@ -1,11 +1,12 @@
 -- What is left of a client answers as the client.
-use Rattle.std.proofs.Common.{◌≡◌, ℕ, zero, suc, ◌+◌, ◌≤◌, Bool, true, false, List, [], ◌∷◌, ◌++◌, Some, Result, Ok, Err, refl, sym, ap, ◌∙◌, arith, if◌then◌else◌, ◌==◌, length, map}
+use Rattle.std.proofs.Common.{◌≡◌, ℕ, zero, suc, ◌+◌, ◌≤◌, Bool, true, false, List, [], ◌∷◌, ◌++◌, Some, None, Result, Ok, Err, refl, sym, ap, ◌∙◌, arith, if◌then◌else◌, ◌==◌, length, map}
 use Rattle.sync_theory.specs.Grid.{rebase, tail}
 use Rattle.sync_theory.specs.Changesets.{Changeset}
 use Rattle.sync_theory.proofs.Logs.{length_snoc}
 use Rattle.sync_model.specs.Profile.{Profile, Stuck, cross_changesets}
-use Rattle.sync_model.specs.Clients.{Client, ClientRecord, Born, Named, Made, Took, Form, Subset, Part, Floor, Original, Unsent, as_made, changeset_of, carried_to, ok_list, crossed, takes_entry, no_client, client_of, after_record, after_records}
-use Rattle.shrink_law.specs.Short.{Alike, blanks, has_begun, taken, shrunk}
+use Rattle.sync_model.specs.Clients.{Client, ClientRecord, Born, Named, Made, Took, Form, Subset, Part, Floor, Resumed, Waits, blanks, Original, Unsent, as_made, changeset_of, carried_to, ok_list, crossed, takes_entry, no_client, client_of, after_record, after_records}
+use Rattle.sync_model.proofs.Settling.{length_blanks}
+use Rattle.shrink_law.specs.Short.{Alike, has_begun, taken, shrunk}
 
 pub len_append : {A : Type 0} (xs ys : List A) → length (xs ++ ys) ≡ length xs + length ys
 len_append [] ys = omega arith
@@ -14,10 +15,6 @@ len_append (x ∷ xs) ys = let r = len_append xs ys in omega arith
 pub len_map : {A B : Type 0} (f : A → B) (xs : List A) → length (map f xs) ≡ length xs
 len_map f [] = refl
 len_map f (x ∷ xs) = let r = len_map f xs in omega arith
-
-pub len_blanks : (I : Type 0) (k n : ℕ) → length (blanks {I = I} k n) ≡ n
-len_blanks I k zero = refl
-len_blanks I k (suc n) = let r = len_blanks I (suc k) n in omega arith
 
 len_tail : {A : Type 0} (xs : List A) → length (tail xs) ≤ length xs
 len_tail [] = omega arith
@@ -79,6 +76,12 @@ module _ {I S : Type 0} (p : Profile I S) where
   record_keeps c (Subset tables) h = h
   record_keeps c (Part body) h = h
   record_keeps c (Floor version) h = h
+  record_keeps c (Resumed number waiting) h = let l = len_append c.made (blanks {I = I} (suc (length c.made)) number) in omega arith
+  record_keeps c (Waits number base ms body current) h =
+      let o : Original I = record { base = base; number = number; ms = ms; instrs = ok_list (p.unspell body) } in
+      let l = length_snoc c.made o in
+      let k = length_snoc c.unsent (record { original = o; current = ok_list (p.unspell current) }) in
+      omega (arith, l, k, h)
 
   records_keep : (rs : List ClientRecord) (c : Client I S) → Keeps c → Keeps (after_records p c rs)
   records_keep [] c h = h
@@ -90,7 +93,7 @@ module _ {I S : Type 0} (p : Profile I S) where
   pub shrunk_alike : (c : Client I S) → Keeps c → Alike c (shrunk p c)
   shrunk_alike c h = go (has_begun c) refl
     where
-      go : (b : Bool) → has_begun c ≡ b → Alike c (if b then record c { parts = p.build c.objects; floor = Some c.cursor; made = blanks 1 (taken c) ++ map (λ u. u.original) c.unsent } else c)
+      go : (b : Bool) → has_begun c ≡ b → Alike c (if b then record c { parts = p.build c.objects; floor = Some c.cursor; front = None; made = blanks 1 (taken c) ++ map (λ u. u.original) c.unsent } else c)
       go true e = record {
         id = refl;
         ident = refl;
@@ -101,7 +104,7 @@ module _ {I S : Type 0} (p : Profile I S) where
         objects = refl;
         last =
             let f = len_append (blanks {I = I} 1 (taken c)) (map (λ u. u.original) c.unsent) in
-            let g = len_blanks I 1 (taken c) in
+            let g = length_blanks I 1 (taken c) in
             let k = len_map (λ (u : Unsent I). u.original) c.unsent in
             omega arith;
         begun = sym e;

@@ -5,15 +5,14 @@ use Rattle.sync_model.specs.Profile.{Profile, Lawful}
 use Rattle.sync_model.specs.Snapshots.{Buildable}
 use Rattle.sync_model.specs.Each.{Each, no_more, and_each}
 use Rattle.sync_model.specs.Clients.{Client, ClientRecord, Unsent, no_client, client_of, after_records, after_record}
-use Rattle.sync_model.specs.Files.{client_opens}
+use Rattle.sync_model.specs.Files.{all_behind, client_opens}
 use Rattle.sync_model.specs.Limits.{IsClientRecord, IsUnsent}
 use Rattle.sync_model.specs.Worlds.{is_there}
 use Rattle.sync_model.proofs.Limits.{numbers_first, numbers_records}
-use Rattle.sync_model.proofs.Opening.{calm}
+use Rattle.sync_model.proofs.Settling.{calm}
 use Rattle.sync_model.proofs.Own.{after_append}
 use Rattle.sync_model.proofs.Small.{client_lists}
-use Rattle.shrink_law.specs.Short.{ShortRecord, Plain, plains, IsPlain, Alike, taken, shrunk, short_records, after_all_short, short_of, after_short}
-use Rattle.shrink_law.specs.Openings.{all_behind}
+use Rattle.shrink_law.specs.Short.{IsPlain, Alike, taken, shrunk, short_records}
 use Rattle.shrink_law.proofs.Current.{made_and_next}
 use Rattle.shrink_law.proofs.Files.{fresh, short_gives}
 use Rattle.shrink_law.proofs.Opened.{Whole}
@@ -34,7 +33,7 @@ module _ {I S : Type 0} (p : Profile I S) where
     pub whole_of : (rs : List ClientRecord) → client_opens p (no_client p) rs ≡ true → Each (IsClientRecord p) rs → is_there (client_of p rs).id ≡ true → Whole p law built (client_of p rs)
     whole_of rs open_ each born =
         let c = client_of p rs in
-        let numbers = numbers_records p rs (no_client p) open_ each (numbers_first p) in
+        let numbers = numbers_records p rs (no_client p) refl open_ each (numbers_first p) in
         let stands = client_stands p law built rs in
         record {
           born = born;
@@ -49,20 +48,12 @@ module _ {I S : Type 0} (p : Profile I S) where
           fresh = fresh p rs open_;
         }
 
-    pub plains_are : (rs : List ClientRecord) (c : Client I S) → after_all_short p c (plains rs) ≡ after_records p c rs
-    plains_are [] c = refl
-    plains_are (r ∷ rs) c = plains_are rs (after_record p c r)
-
-    short_append : (xs ys : List ShortRecord) (c : Client I S) → after_all_short p c (xs ++ ys) ≡ after_all_short p (after_all_short p c xs) ys
-    short_append [] ys c = refl
-    short_append (x ∷ xs) ys c = short_append xs ys (after_short p c x)
-
     -- the file and what was appended to it since
-    pub goes_on : (rs more : List ClientRecord) → client_opens p (no_client p) rs ≡ true → ArePlain more → Alike (client_of p (rs ++ more)) (short_of p (short_records p (client_of p rs) ++ plains more))
+    pub goes_on : (rs more : List ClientRecord) → client_opens p (no_client p) rs ≡ true → ArePlain more → Alike (client_of p (rs ++ more)) (client_of p (short_records p (client_of p rs) ++ more))
     goes_on rs more open_ h =
         let c = client_of p rs in
         let stands = client_stands p law built rs in
-        let gives : short_of p (short_records p c) ≡ shrunk p c = short_gives p law built c stands.0 stands.1 (client_lists p law rs).unsent (fresh p rs open_) in
-        let file : short_of p (short_records p c ++ plains more) ≡ after_records p (shrunk p c) more = short_append (short_records p c) (plains more) (no_client p) ∙ ap (λ d. after_all_short p d (plains more)) gives ∙ plains_are more (shrunk p c) in
-        subst (λ d. Alike d (short_of p (short_records p c ++ plains more))) (sym (after_append p (no_client p) rs more))
+        let gives : client_of p (short_records p c) ≡ shrunk p c = short_gives p law built c stands.0 stands.1 (client_lists p law rs).unsent (fresh p rs open_) in
+        let file : client_of p (short_records p c ++ more) ≡ after_records p (shrunk p c) more = after_append p (no_client p) (short_records p c) more ∙ ap (λ d. after_records p d more) gives in
+        subst (λ d. Alike d (client_of p (short_records p c ++ more))) (sym (after_append p (no_client p) rs more))
         (subst (λ d. Alike (after_records p c more) d) (sym file) (records_alike p more c (shrunk p c) (shrunk_alike p c (client_keeps p rs)) h))

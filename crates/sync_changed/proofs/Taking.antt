@@ -6,7 +6,7 @@ use Rattle.sync_base.specs.Effects.{effect_of}
 use Rattle.sync_base.specs.Footprints.{Part, SameAt}
 use Rattle.sync_exchange.specs.Lemmas.Lawful.{real_lawful}
 use Rattle.sync_exchange.specs.Profile.{the_profile}
-use Rattle.sync_model.specs.Clients.{ClientRecord, Born, Named, Made, Took, Form, Subset, Part as PartRecord, Floor, after_record, after_records, changeset_of, client_of, commit, crossed, no_client, ok_list, take}
+use Rattle.sync_model.specs.Clients.{ClientRecord, Born, Named, Made, Took, Form, Subset, Part as PartRecord, Floor, Resumed, Waits, after_record, after_records, changeset_of, client_of, commit, crossed, no_client, ok_list, take}
 use Rattle.sync_model.specs.Messages.{Message, Sent, Bind, Ident, Upload, Ask, Download, Refused, Stored, Ask2, Retire, Retired, AskTables}
 use Rattle.sync_model.specs.Profile.{Stuck, cross_changesets, is_small}
 use Rattle.sync_model.proofs.Own.{after_append}
@@ -28,6 +28,8 @@ RecordLeaves x Form = Unit {0}
 RecordLeaves x (Subset tables) = Unit {0}
 RecordLeaves x (PartRecord body) = Unit {0}
 RecordLeaves x (Floor version) = ⊥
+RecordLeaves x (Resumed number waiting) = Unit {0}
+RecordLeaves x (Waits number base ms body current) = Unit {0}
 
 crossed_leaves : (x : Part) (c : Held) (r : Result (List (Changeset Instr) × Changeset Instr) (ℕ × Stuck)) → IfOk r (λ q. AllLeave x q.1.instrs) → SameAt (crossed the_profile c r).objects c.objects x
 crossed_leaves x c (Ok q) h = leaves x q.1.instrs c.objects h
@@ -47,6 +49,8 @@ record_leaves x c Form h = same_itself c.objects x
 record_leaves x c (Subset tables) h = same_itself c.objects x
 record_leaves x c (PartRecord body) h = same_itself c.objects x
 record_leaves x c (Floor version) h = absurd h
+record_leaves x c (Resumed number waiting) h = same_itself c.objects x
+record_leaves x c (Waits number base ms body current) h = same_itself c.objects x
 
 records_leave : (x : Part) (c : Held) (rs : List ClientRecord) → AllAre (RecordLeaves x) rs → SameAt (after_records the_profile c rs).objects c.objects x
 records_leave x c [] h = same_itself c.objects x

@@ -7,8 +7,10 @@ use Rattle.sync_data.specs.declared.instr.Instr.{Instr}
 use Rattle.sync_data.specs.Payload.{Changes}
 use Rattle.sync_base.specs.Checks.{act_all}
 use Rattle.sync_model.specs.Profile.{act, all_admitted, apply_all, needs}
-use Rattle.sync_model.specs.Clients.{ClientRecord, Made, Unsent, as_made, makes, ok_list, state_or}
-use Rattle.sync_model.specs.Files.{client_admits, is_fine, is_growing, made_acts}
+use Rattle.sync_model.specs.Bytes.{Tables}
+use Rattle.sync_model.specs.Clients.{ClientRecord, Made, Subset, Waits, Unsent, as_made, is_late, makes, ok_list, state_or}
+use Rattle.sync_model.specs.Files.{client_admits, is_empty, is_fine, is_growing, made_acts, some_come, tables_fit}
+use Rattle.sync_model.proofs.Settling.{no_front}
 use Rattle.sync_model.specs.Worlds.{is_there}
 use Rattle.sync_exchange.specs.Profile.{the_profile, unspell}
 use Rattle.sync_exchange.specs.Lemmas.Coded.{all_act, first_break}
@@ -41,6 +43,44 @@ there (Some id) e = refl
 pub none_of : (o : Option ℕ) → is_some o ≡ false → o ≡ None
 none_of None e = refl
 none_of (Some n) e = cc
+
+-- an open client isn't within a front
+front_none : (past : Past) (r : Replica) → IsPast past r → past.front ≡ None
+front_none past r was = no_front (seen past r) was.settled
+
+-- so it takes none of its records, and tables as ever
+pub waits_refused : (past : Past) (r : Replica) (number base ms : ℕ) (body current : List ℕ) → IsPast past r → (ahead : List (Option ClientRecord)) → client_admits the_profile (seen past r) ahead (Waits number base ms body current) ≡ false
+waits_refused past r number base ms body current was ahead =
+    ap (λ o. some_come o && ((number == suc (length past.made)) && (not (is_empty ahead) && (is_fine (unspell body) && is_fine (unspell current))))) (front_none past r was)
+
+pub tables_are : (past : Past) (r : Replica) (tables : Tables) → IsPast past r → (ahead : List (Option ClientRecord))
+    → client_admits the_profile (seen past r) ahead (Subset tables) ≡ (is_there r.id && (not (is_growing (seen past r)) && (not (is_there r.subset) && not (is_late (seen past r)))))
+tables_are past r tables was ahead =
+    ap (λ o. tables_fit (seen past r) (not (is_empty ahead)) o (is_there r.id && (not (is_growing (seen past r)) && (not (is_there r.subset) && not (is_late (seen past r)))))) (front_none past r was)
+
+pub tables_admitted : (past : Past) (r t : Replica) (tables : Tables) → IsPast past r → is_some r.id ≡ true → is_some r.subset ≡ false → is_late (seen past r) ≡ false → t ≡ record r { subset = Some tables } → Admitted past r t (Subset tables)
+tables_admitted past r t tables was born none early is = record {
+  admitted = λ ahead. tables_are past r tables was ahead ∙ four (is_there r.id) (not (is_growing (seen past r))) (not (is_there r.subset)) (not (is_late (seen past r))) (there r.id born) (ap not was.settled) (no_tables r.subset none) (ap not early);
+  fits = tt;
+  then_past = past;
+  count = was.count ∙ sym (ap (λ (z : Replica). z.count) is);
+  after = ap (seen past) is;
+}
+  where
+    no_tables : (o : Option Tables) → is_some o ≡ false → not (is_there o) ≡ true
+    no_tables None e = refl
+    no_tables (Some t) e = cc
+
+pub tables_declined : (past : Past) (r : Replica) (tables : Tables) → IsPast past r → (is_some r.id ≡ true → is_some r.subset ≡ false → is_late (seen past r) ≡ false → ⊥) → (ahead : List (Option ClientRecord)) → client_admits the_profile (seen past r) ahead (Subset tables) ≡ false
+tables_declined past r tables was never_so ahead = tables_are past r tables was ahead ∙ go r.id r.subset (is_late (seen past r)) (not (is_growing (seen past r))) never_so
+  where
+    go : (a : Option (List ℕ)) (b : Option Tables) (l g : Bool) → (is_some a ≡ true → is_some b ≡ false → l ≡ false → ⊥) → (is_there a && (g && (not (is_there b) && not l))) ≡ false
+    go None b l g h = refl
+    go (Some x) (Some y) l true h = refl
+    go (Some x) (Some y) l false h = refl
+    go (Some x) None true true h = refl
+    go (Some x) None true false h = refl
+    go (Some x) None false g h = absurd (h refl refl refl)
 
 -- what decides of a body that was read and that the form and the tables allow
 acts_is : (past : Past) (r : Replica) (ms : ℕ) (body : List ℕ) (v : Changes) → IsRead ms body v → (needs the_profile v.instrs && not r.second) ≡ false → all_admitted the_profile r.subset v.instrs ≡ true → made_acts the_profile (seen past r) (unspell body) ≡ is_fine (apply_all the_profile v.instrs r.objects)

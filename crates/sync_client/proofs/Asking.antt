@@ -25,7 +25,7 @@ use Rattle.sync_client.proofs.Calls.{is_born}
 use Rattle.sync_client.proofs.Refusing.{differ}
 
 pub numbers_of : (records : List ClientRecord) (r : Replica) → Keeps records r → ClientNumbers the_profile (client_of the_profile records)
-numbers_of records r k = numbers_records the_profile records (no_client the_profile) k.opens k.each (numbers_first the_profile)
+numbers_of records r k = numbers_records the_profile records (no_client the_profile) refl k.opens k.each (numbers_first the_profile)
 
 settled_within : (cursor : ℕ) (us : List (Unsent Instr)) → Each (IsUnsent the_profile cursor) us → settled_from cursor us ≤ cursor
 settled_within cursor [] h = le_refl cursor

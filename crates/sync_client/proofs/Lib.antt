@@ -12,6 +12,8 @@ pub mod Records
 pub mod Parts
 pub mod Runs
 pub mod States
+pub mod Behinds
+pub mod Fronts
 pub mod Asking
 pub mod Uploads
 pub mod Leaving

@@ -1,12 +1,13 @@
 -- The parts of a state, and its version, where a client's file begins with them: what opening makes of each.
-use Rattle.std.proofs.Common.{◌≡◌, ℕ, zero, suc, ◌+◌, ◌<◌, ◌≤◌, Bool, true, false, not, ◌&&◌, List, [], ◌∷◌, ◌++◌, length, map, Option, Some, None, Result, Ok, Err, refl, ap, ◌∙◌, sym, subst, append_assoc, append-nil, length-append, arith, ◌==◌, if◌then◌else◌}
+use Rattle.std.proofs.Common.{◌≡◌, ℕ, zero, suc, ◌+◌, ◌<◌, ◌≤◌, Bool, true, false, not, ◌&&◌, List, [], ◌∷◌, ◌++◌, length, map, Option, Some, None, Result, Ok, Err, refl, ap, ◌∙◌, sym, subst, append_assoc, append-nil, length-append, arith, ◌==◌, if◌then◌else◌, nat_le}
 use Rattle.sync_model.specs.Bytes.{Bytes}
 use Rattle.sync_model.specs.Clients.{Client, ClientRecord, after_record, after_records, ok_list}
-use Rattle.sync_model.specs.Files.{bodies_ahead, client_admits, client_opens, client_reads, is_blank, is_empty, is_fine, is_growing, is_place, part_and, part_fits, parts_grow, read_one, read_parts, read_put, readable}
+use Rattle.sync_model.specs.Files.{all_came, bodies_ahead, client_admits, client_opens, client_reads, closes, is_blank, is_empty, is_fine, is_growing, is_place, may_grow, part_and, part_fits, parts_grow, read_one, read_parts, read_put, readable, reads_second, some_come, tables_fit}
 use Rattle.sync_model.specs.Profile.{Profile, needs}
 use Rattle.sync_model.specs.Snapshots.{grown}
 use Rattle.sync_model.specs.Worlds.{is_there}
 use Rattle.sync_model.proofs.Own.{if_true, if_false}
+use Rattle.sync_model.proofs.Settling.{is_waiting}
 use Rattle.sync_client.specs.Parts.{AreRead, none_read, and_read}
 use Rattle.sync_client.specs.Reading.{read_puts}
 use Rattle.sync_client.proofs.Refusing.{differ}
@@ -101,10 +102,10 @@ module _ {I S : Type 0} (p : Profile I S) where
   ahead_bodies (b ∷ bs) os = ap (λ (l : List Bytes). b ∷ l) (ahead_bodies bs os)
 
   -- a part is admitted where something is ahead and the parts aren't refused here
-  one_admits : (c : Client I S) (before : List (List I)) (b : Bytes) (x : List I) (ahead : List (Option ClientRecord)) → is_blank c ≡ true → readable p c.second (p.unspell b) ≡ Some x
-      → client_admits p (with_parts c before) ahead (part b) ≡ (not (is_empty ahead) && parts_grow p before x (read_parts p c.second (bodies_ahead p ahead)))
+  one_admits : (c : Client I S) (before : List (List I)) (b : Bytes) (x : List I) (ahead : List (Option ClientRecord)) → may_grow c ≡ true → readable p (reads_second c) (p.unspell b) ≡ Some x
+      → client_admits p (with_parts c before) ahead (part b) ≡ (not (is_empty ahead) && parts_grow p before x (read_parts p (reads_second c) (bodies_ahead p ahead)))
   one_admits c before b x ahead blank r =
-      ap (λ t. t && (not (is_empty ahead) && part_fits p (with_parts c before) ahead (readable p c.second (p.unspell b)))) blank
+      ap (λ t. t && (not (is_empty ahead) && part_fits p (with_parts c before) ahead (readable p (reads_second c) (p.unspell b)))) blank
       ∙ ap (λ o. not (is_empty ahead) && part_fits p (with_parts c before) ahead o) r
 
   -- each of these records is admitted before those that are ahead
@@ -113,22 +114,22 @@ module _ {I S : Type 0} (p : Profile I S) where
   AllAdmit c (r ∷ rs) os = (client_admits p c (map (λ q. Some q) rs ++ os) r ≡ true) × AllAdmit (after_record p c r) rs os
 
   -- after a part
-  then_part : (c : Client I S) (before : List (List I)) (b : Bytes) (x : List I) → readable p c.second (p.unspell b) ≡ Some x → after_record p (with_parts c before) (part b) ≡ with_parts c (before ++ x ∷ [])
-  then_part c before b x r = ap (λ (y : List I). with_parts c (before ++ y ∷ [])) (readable_ok c.second (p.unspell b) x r)
+  then_part : (c : Client I S) (before : List (List I)) (b : Bytes) (x : List I) → readable p (reads_second c) (p.unspell b) ≡ Some x → after_record p (with_parts c before) (part b) ≡ with_parts c (before ++ x ∷ [])
+  then_part c before b x r = ap (λ (y : List I). with_parts c (before ++ y ∷ [])) (readable_ok (reads_second c) (p.unspell b) x r)
 
   -- no place from the first of these on is refused
   abbrev NoneOf : List (List I) → List (List I) → Result S ℕ → Type 0
   NoneOf before xs g = (i : ℕ) → length before ≤ i → i < length before + length xs → is_place i g ≡ false
 
-  pub parts_admit : (c : Client I S) (before after xs : List (List I)) (bs : List Bytes) (os : List (Option ClientRecord)) → is_blank c ≡ true → AreRead p c.second bs xs → read_parts p c.second (bodies_ahead p os) ≡ Some after → is_empty os ≡ false
+  pub parts_admit : (c : Client I S) (before after xs : List (List I)) (bs : List Bytes) (os : List (Option ClientRecord)) → may_grow c ≡ true → AreRead p (reads_second c) bs xs → read_parts p (reads_second c) (bodies_ahead p os) ≡ Some after → is_empty os ≡ false
       → NoneOf before xs (grown p (before ++ (xs ++ after))) → AllAdmit (with_parts c before) (map part bs) os
   parts_admit c before after [] [] os blank none_read rest some none = tt
   parts_admit c before after [] (b ∷ bs) os blank h rest some none = elim h [ ]
   parts_admit c before after (x ∷ xs) [] os blank h rest some none = elim h [ ]
   parts_admit c before after (x ∷ xs) (b ∷ bs) os blank (and_read r rs) rest some none =
       let ahead = map (λ q. Some q) (map part bs) ++ os in
-      let behind : read_parts p c.second (bodies_ahead p ahead) ≡ Some (xs ++ after) = ap (read_parts p c.second) (ahead_bodies bs os) ∙ read_both c.second bs (bodies_ahead p os) xs after rs rest in
-      let fine : parts_grow p before x (read_parts p c.second (bodies_ahead p ahead)) ≡ true = ap (parts_grow p before x) behind ∙ ap not (none (length before) (omega arith) (omega arith)) in
+      let behind : read_parts p (reads_second c) (bodies_ahead p ahead) ≡ Some (xs ++ after) = ap (read_parts p (reads_second c)) (ahead_bodies bs os) ∙ read_both (reads_second c) bs (bodies_ahead p os) xs after rs rest in
+      let fine : parts_grow p before x (read_parts p (reads_second c) (bodies_ahead p ahead)) ≡ true = ap (parts_grow p before x) behind ∙ ap not (none (length before) (omega arith) (omega arith)) in
       let next : grown p (before ++ (x ∷ (xs ++ after))) ≡ grown p ((before ++ x ∷ []) ++ (xs ++ after)) = ap (grown p) (sym (append_assoc before (x ∷ []) (xs ++ after))) in
       let longer : length (before ++ x ∷ []) ≡ length before + 1 = length-append before (x ∷ []) in (
         one_admits c before b x ahead blank r ∙ both (not (is_empty ahead)) _ (ap not (some_here (map (λ q. Some q) (map part bs)) os some)) fine,
@@ -137,19 +138,19 @@ module _ {I S : Type 0} (p : Profile I S) where
       )
 
   -- where a later one isn't read
-  pub unread_admit : (c : Client I S) (before xs : List (List I)) (bs : List Bytes) (os : List (Option ClientRecord)) → is_blank c ≡ true → AreRead p c.second bs xs → read_parts p c.second (bodies_ahead p os) ≡ None → is_empty os ≡ false → AllAdmit (with_parts c before) (map part bs) os
+  pub unread_admit : (c : Client I S) (before xs : List (List I)) (bs : List Bytes) (os : List (Option ClientRecord)) → may_grow c ≡ true → AreRead p (reads_second c) bs xs → read_parts p (reads_second c) (bodies_ahead p os) ≡ None → is_empty os ≡ false → AllAdmit (with_parts c before) (map part bs) os
   unread_admit c before [] [] os blank none_read rest some = tt
   unread_admit c before [] (b ∷ bs) os blank h rest some = elim h [ ]
   unread_admit c before (x ∷ xs) [] os blank h rest some = elim h [ ]
   unread_admit c before (x ∷ xs) (b ∷ bs) os blank (and_read r rs) rest some =
       let ahead = map (λ q. Some q) (map part bs) ++ os in
-      let behind : read_parts p c.second (bodies_ahead p ahead) ≡ None = ap (read_parts p c.second) (ahead_bodies bs os) ∙ read_not c.second bs (bodies_ahead p os) xs rs rest in (
+      let behind : read_parts p (reads_second c) (bodies_ahead p ahead) ≡ None = ap (read_parts p (reads_second c)) (ahead_bodies bs os) ∙ read_not (reads_second c) bs (bodies_ahead p os) xs rs rest in (
         one_admits c before b x ahead blank r ∙ both (not (is_empty ahead)) _ (ap not (some_here (map (λ q. Some q) (map part bs)) os some)) (ap (parts_grow p before x) behind),
         subst (λ d. AllAdmit d (map part bs) os) (sym (then_part c before b x r)) (unread_admit c (before ++ x ∷ []) xs bs os blank rs rest some),
       )
 
   -- what the parts leave
-  pub after_parts : (c : Client I S) (before xs : List (List I)) (bs : List Bytes) → AreRead p c.second bs xs → after_records p (with_parts c before) (map part bs) ≡ with_parts c (before ++ xs)
+  pub after_parts : (c : Client I S) (before xs : List (List I)) (bs : List Bytes) → AreRead p (reads_second c) bs xs → after_records p (with_parts c before) (map part bs) ≡ with_parts c (before ++ xs)
   after_parts c before [] [] none_read = ap (with_parts c) (sym (append-nil before))
   after_parts c before [] (b ∷ bs) h = elim h [ ]
   after_parts c before (x ∷ xs) [] h = elim h [ ]
@@ -201,23 +202,23 @@ module _ {I S : Type 0} (p : Profile I S) where
     named_none g s i is = ap (is_place i) is
 
     -- the parts before one, and those behind it
-    front_admits : (c : Client I S) (bs1 bs2 : List Bytes) (b : Bytes) (xs1 xs2 : List (List I)) (x : List I) (tail : List Bytes) → is_blank c ≡ true → AreRead p c.second bs1 xs1 → readable p c.second (p.unspell b) ≡ Some x → AreRead p c.second bs2 xs2
+    front_admits : (c : Client I S) (bs1 bs2 : List Bytes) (b : Bytes) (xs1 xs2 : List (List I)) (x : List I) (tail : List Bytes) → may_grow c ≡ true → AreRead p (reads_second c) bs1 xs1 → readable p (reads_second c) (p.unspell b) ≡ Some x → AreRead p (reads_second c) bs2 xs2
         → bodies_ahead p (map read tail) ≡ [] → ((i : ℕ) → i < length xs1 → is_place i (grown p (xs1 ++ (x ∷ xs2))) ≡ false) → AllAdmit (with_parts c []) (map part bs1) (map read (map spell (b ∷ bs2) ++ tail))
     front_admits c bs1 bs2 b xs1 xs2 x tail blank r1 r r2 last none =
         let os = map read (map spell (b ∷ bs2) ++ tail) in
         let ahead : os ≡ map (λ q. Some q) (map part (b ∷ bs2)) ++ map read tail = mapped (b ∷ bs2) tail in
         let bodies : bodies_ahead p os ≡ b ∷ bs2 = ap (bodies_ahead p) ahead ∙ ahead_bodies (b ∷ bs2) (map read tail) ∙ ap (λ (l : List Bytes). b ∷ (bs2 ++ l)) last ∙ ap (λ (l : List Bytes). b ∷ l) (append-nil bs2) in
-        parts_admit c [] (x ∷ xs2) xs1 bs1 os blank r1 (ap (read_parts p c.second) bodies ∙ read_is c.second (b ∷ bs2) (x ∷ xs2) (and_read r r2)) (ap is_empty ahead)
+        parts_admit c [] (x ∷ xs2) xs1 bs1 os blank r1 (ap (read_parts p (reads_second c)) bodies ∙ read_is (reads_second c) (b ∷ bs2) (x ∷ xs2) (and_read r r2)) (ap is_empty ahead)
         (λ i low high. none i (omega (arith, high)))
 
     -- the parts are refused at this one
-    pub stops_named : (c : Client I S) (bs1 bs2 : List Bytes) (b : Bytes) (xs1 xs2 : List (List I)) (x : List I) (tail : List Bytes) → is_blank c ≡ true → AreRead p c.second bs1 xs1 → readable p c.second (p.unspell b) ≡ Some x → AreRead p c.second bs2 xs2
+    pub stops_named : (c : Client I S) (bs1 bs2 : List Bytes) (b : Bytes) (xs1 xs2 : List (List I)) (x : List I) (tail : List Bytes) → may_grow c ≡ true → AreRead p (reads_second c) bs1 xs1 → readable p (reads_second c) (p.unspell b) ≡ Some x → AreRead p (reads_second c) bs2 xs2
         → bodies_ahead p (map read tail) ≡ [] → grown p (xs1 ++ (x ∷ xs2)) ≡ Err (length xs1) → client_reads p read (with_parts c []) (map spell (bs1 ++ (b ∷ bs2)) ++ tail) ≡ Err (length bs1)
     stops_named c bs1 bs2 b xs1 xs2 x tail blank r1 r r2 last bad =
         let front = front_admits c bs1 bs2 b xs1 xs2 x tail blank r1 r r2 last (λ i high. named_not (grown p (xs1 ++ (x ∷ xs2))) (length xs1) i bad (λ e. absurd (omega (arith, e, high)))) in
         let rest = map spell bs2 ++ tail in
         let bodies : bodies_ahead p (map read rest) ≡ bs2 = ap (bodies_ahead p) (mapped bs2 tail) ∙ ahead_bodies bs2 (map read tail) ∙ ap (λ (l : List Bytes). bs2 ++ l) last ∙ append-nil bs2 in
-        let behind : read_parts p c.second (bodies_ahead p (map read rest)) ≡ Some xs2 = ap (read_parts p c.second) bodies ∙ read_is c.second bs2 xs2 r2 in
+        let behind : read_parts p (reads_second c) (bodies_ahead p (map read rest)) ≡ Some xs2 = ap (read_parts p (reads_second c)) bodies ∙ read_is (reads_second c) bs2 xs2 r2 in
         let here : client_admits p (with_parts c xs1) (map read rest) (part b) ≡ false =
         one_admits c xs1 b x (map read rest) blank r ∙ second_false (not (is_empty (map read rest))) _ (ap (parts_grow p xs1 x) behind ∙ ap not (named_here (grown p (xs1 ++ (x ∷ xs2))) (length xs1) (length xs1) bad refl)) in
         let stop : client_reads p read (after_records p (with_parts c []) (map part bs1)) (spell b ∷ rest) ≡ Err 0 =
@@ -229,7 +230,7 @@ module _ {I S : Type 0} (p : Profile I S) where
         spelled_both (u ∷ us) vs ws = ap (λ (l : List Bytes). spell u ∷ l) (spelled_both us vs ws)
 
     -- nothing follows the last one
-    pub stops_last : (c : Client I S) (bs1 : List Bytes) (b : Bytes) (xs1 : List (List I)) (x : List I) → is_blank c ≡ true → AreRead p c.second bs1 xs1 → readable p c.second (p.unspell b) ≡ Some x
+    pub stops_last : (c : Client I S) (bs1 : List Bytes) (b : Bytes) (xs1 : List (List I)) (x : List I) → may_grow c ≡ true → AreRead p (reads_second c) bs1 xs1 → readable p (reads_second c) (p.unspell b) ≡ Some x
         → ((i : ℕ) → i < length xs1 → is_place i (grown p (xs1 ++ (x ∷ []))) ≡ false) → client_reads p read (with_parts c []) (map spell (bs1 ++ (b ∷ []))) ≡ Err (length bs1)
     stops_last c bs1 b xs1 x blank r1 r none =
         let front = front_admits c bs1 [] b xs1 [] x [] blank r1 r none_read refl none in
@@ -243,74 +244,79 @@ module _ {I S : Type 0} (p : Profile I S) where
         spelled_last (u ∷ us) = ap (λ (l : List Bytes). spell u ∷ l) (spelled_last us)
 
     -- one of them isn't a part that the form allows
-    pub stops_unread : (c : Client I S) (bs : List Bytes) (xs : List (List I)) (b : Bytes) (tail : List Bytes) → is_blank c ≡ true → AreRead p c.second bs xs → readable p c.second (p.unspell b) ≡ None
+    pub stops_unread : (c : Client I S) (bs : List Bytes) (xs : List (List I)) (b : Bytes) (tail : List Bytes) → may_grow c ≡ true → AreRead p (reads_second c) bs xs → readable p (reads_second c) (p.unspell b) ≡ None
         → client_reads p read (with_parts c []) (map spell bs ++ (spell b ∷ tail)) ≡ Err (length bs)
     stops_unread c bs xs b tail blank rs r =
         let os = map read (spell b ∷ tail) in
         let bodies : bodies_ahead p os ≡ b ∷ bodies_ahead p (map read tail) = ap (λ o. bodies_ahead p (o ∷ map read tail)) (back b) in
-        let none : read_parts p c.second (bodies_ahead p os) ≡ None = ap (read_parts p c.second) bodies ∙ ap (λ o. part_and o (read_parts p c.second (bodies_ahead p (map read tail)))) r in
+        let none : read_parts p (reads_second c) (bodies_ahead p os) ≡ None = ap (read_parts p (reads_second c)) bodies ∙ ap (λ o. part_and o (read_parts p (reads_second c) (bodies_ahead p (map read tail)))) r in
         let front = unread_admit c [] xs bs os blank rs none refl in
         let here : client_admits p (with_parts c xs) (map read tail) (part b) ≡ false =
-        ap (λ t. t && (not (is_empty (map read tail)) && part_fits p (with_parts c xs) (map read tail) (readable p c.second (p.unspell b)))) blank
+        ap (λ t. t && (not (is_empty (map read tail)) && part_fits p (with_parts c xs) (map read tail) (readable p (reads_second c) (p.unspell b)))) blank
         ∙ ap (λ o. not (is_empty (map read tail)) && part_fits p (with_parts c xs) (map read tail) o) r ∙ second_false (not (is_empty (map read tail))) false refl in
         let stop : client_reads p read (after_records p (with_parts c []) (map part bs)) (spell b ∷ tail) ≡ Err 0 =
         ap (λ d. client_reads p read d (spell b ∷ tail)) (after_parts c [] xs bs rs) ∙ refuses (with_parts c xs) (spell b) tail (part b) (back b) here in
         stops bs (spell b) tail (with_parts c []) front stop
 
     -- ---- all of them are admitted
-    pub all_admit : (c : Client I S) (bs : List Bytes) (xs : List (List I)) (os : List (Option ClientRecord)) → is_blank c ≡ true → AreRead p c.second bs xs → bodies_ahead p os ≡ [] → is_empty os ≡ false
+    pub all_admit : (c : Client I S) (bs : List Bytes) (xs : List (List I)) (os : List (Option ClientRecord)) → may_grow c ≡ true → AreRead p (reads_second c) bs xs → bodies_ahead p os ≡ [] → is_empty os ≡ false
         → ((i : ℕ) → i < length xs → is_place i (grown p xs) ≡ false) → AllAdmit (with_parts c []) (map part bs) os
     all_admit c bs xs os blank rs last some none =
-        parts_admit c [] [] xs bs os blank rs (ap (read_parts p c.second) last) some
+        parts_admit c [] [] xs bs os blank rs (ap (read_parts p (reads_second c)) last) some
         (λ i low high. ap (λ l. is_place i (grown p l)) (append-nil xs) ∙ none i (omega (arith, high)))
 
     -- and what follows is refused
-    pub stops_behind : (c : Client I S) (bs : List Bytes) (xs : List (List I)) (b : Bytes) (tail : List Bytes) → is_blank c ≡ true → AreRead p c.second bs xs → bodies_ahead p (map read (b ∷ tail)) ≡ []
+    pub stops_behind : (c : Client I S) (bs : List Bytes) (xs : List (List I)) (b : Bytes) (tail : List Bytes) → may_grow c ≡ true → AreRead p (reads_second c) bs xs → bodies_ahead p (map read (b ∷ tail)) ≡ []
         → ((i : ℕ) → i < length xs → is_place i (grown p xs) ≡ false) → client_reads p read (with_parts c xs) (b ∷ tail) ≡ Err 0 → client_reads p read (with_parts c []) (map spell bs ++ (b ∷ tail)) ≡ Err (length bs)
     stops_behind c bs xs b tail blank rs last none stop =
         stops bs b tail (with_parts c []) (all_admit c bs xs (map read (b ∷ tail)) blank rs last refl none) (ap (λ d. client_reads p read d (b ∷ tail)) (after_parts c [] xs bs rs) ∙ stop)
 
   -- ---- what a client that waits for its version refuses
-  module _ (d : Client I S) (blank : is_blank d ≡ true) where
+  module _ (d : Client I S) (ready : may_grow d ≡ true) (waiting : is_waiting d ≡ true) where
     is_born : is_there d.id ≡ true
-    is_born = first_of (is_there d.id) _ blank
-
-    not_closed : is_there d.floor ≡ false
-    not_closed = not_true _ (first_of (not (is_there d.floor)) _ (second_of (not (is_there d.subset)) _ (second_of (is_there d.id) _ blank)))
+    is_born = first_of (is_there d.id) _ waiting
 
     unnamed : (d.ident == 0) ≡ true
-    unnamed = first_of (d.ident == 0) _ (second_of (not (is_there d.floor)) _ (second_of (not (is_there d.subset)) _ (second_of (is_there d.id) _ blank)))
+    unnamed = second_of (is_there d.id) _ waiting
 
-    -- it waits for a version where it has parts
-    pub growing : (x : List I) (xs : List (List I)) → d.parts ≡ x ∷ xs → is_growing d ≡ true
-    growing x xs e = ap (λ l. not (is_empty l) && not (is_there d.floor)) e ∙ ap not not_closed
-
-    waits : (rest : Bool) → is_growing d ≡ true → (is_there d.id && (not (is_growing d) && rest)) ≡ false
-    waits rest g = second_false (is_there d.id) _ (ap (λ b. not b && rest) g)
+    waits_on : (rest : Bool) → is_growing d ≡ true → (is_there d.id && (not (is_growing d) && rest)) ≡ false
+    waits_on rest g = second_false (is_there d.id) _ (ap (λ b. not b && rest) g)
 
     waits_for_ident : (rest : Bool) → (not (d.ident == 0) && rest) ≡ false
     waits_for_ident rest = ap (λ b. not b && rest) unnamed
 
-    pub others_refused : (ahead : List (Option ClientRecord)) (r : ClientRecord) → IsOther r → is_growing d ≡ true → client_admits p d ahead r ≡ false
-    others_refused ahead (ClientRecord.Born id) o g = ap not is_born
-    others_refused ahead (ClientRecord.Named ident) o g = waits _ g
-    others_refused ahead (ClientRecord.Made number ms body) o g = waits _ g
-    others_refused ahead (ClientRecord.Took origin number ms body) o g = waits_for_ident _
-    others_refused ahead ClientRecord.Form o g = waits _ g
-    others_refused ahead (ClientRecord.Subset tables) o g = waits _ g
-    others_refused ahead (ClientRecord.Part body) o g = absurd o
-    others_refused ahead (ClientRecord.Floor version) o g = absurd o
+    none_come : (o : Option ℕ) (b : Bool) → all_came o b ≡ true → some_come o ≡ false
+    none_come None b e = refl
+    none_come (Some zero) b e = refl
+    none_come (Some (suc n)) b e = cc
 
-    -- a version closes the parts exactly where they grow
-    pub floor_admits : (ahead : List (Option ClientRecord)) (version : ℕ) → client_admits p d ahead (ClientRecord.Floor version) ≡ is_fine (grown p d.parts)
-    floor_admits ahead version = ap (λ b. b && is_fine (grown p d.parts)) blank
+    tables_refused : (o : Option ℕ) (more : Bool) (x : Bool) → x ≡ false → is_empty d.parts ≡ false → tables_fit d more o x ≡ false
+    tables_refused None more x e f = e
+    tables_refused (Some n) more x e f = second_false (d.ident == 0) _ (second_false (not (is_there d.subset)) _ (second_false (is_empty d.unsent) _ (ap (λ b. b && more) f)))
 
-  -- a client that isn't blank takes neither
-  pub not_blank : (d : Client I S) (ahead : List (Option ClientRecord)) (b : Bytes) → is_blank d ≡ false → client_admits p d ahead (part b) ≡ false
-  not_blank d ahead b e = ap (λ t. t && (not (is_empty ahead) && part_fits p d ahead (readable p d.second (p.unspell b)))) e
+    pub others_refused : (ahead : List (Option ClientRecord)) (r : ClientRecord) → IsOther r → is_growing d ≡ true → is_empty d.parts ≡ false → client_admits p d ahead r ≡ false
+    others_refused ahead (ClientRecord.Born id) o g some = ap not is_born
+    others_refused ahead (ClientRecord.Named ident) o g some = waits_on _ g
+    others_refused ahead (ClientRecord.Made number ms body) o g some = waits_on _ g
+    others_refused ahead (ClientRecord.Took origin number ms body) o g some = waits_for_ident _
+    others_refused ahead ClientRecord.Form o g some = waits_on _ g
+    others_refused ahead (ClientRecord.Subset tables) o g some = tables_refused d.front (not (is_empty ahead)) _ (waits_on _ g) some
+    others_refused ahead (ClientRecord.Part body) o g some = absurd o
+    others_refused ahead (ClientRecord.Floor version) o g some = absurd o
+    others_refused ahead (ClientRecord.Resumed number waiting) o g some = second_false (is_blank d) _ (ap (λ b. not b && (not (is_empty ahead) && nat_le (number + waiting) p.full)) g)
+    others_refused ahead (ClientRecord.Waits number base ms body current) o g some =
+        ap (λ b. b && ((number == suc (length d.made)) && (not (is_empty ahead) && (is_fine (p.unspell body) && is_fine (p.unspell current))))) (none_come d.front (is_blank d) ready)
 
-  pub not_blank_floor : (d : Client I S) (ahead : List (Option ClientRecord)) (version : ℕ) → is_blank d ≡ false → client_admits p d ahead (ClientRecord.Floor version) ≡ false
-  not_blank_floor d ahead version e = ap (λ t. t && is_fine (grown p d.parts)) e
+    -- a version closes the parts exactly where they grow, and behind it nothing is unsent
+    pub floor_admits : (ahead : List (Option ClientRecord)) (version : ℕ) → client_admits p d ahead (ClientRecord.Floor version) ≡ (is_fine (grown p d.parts) && closes d.front version d.unsent)
+    floor_admits ahead version = ap (λ b. b && (is_fine (grown p d.parts) && closes d.front version d.unsent)) ready
+
+  -- where none may come a client takes neither
+  pub not_ready : (d : Client I S) (ahead : List (Option ClientRecord)) (b : Bytes) → may_grow d ≡ false → client_admits p d ahead (part b) ≡ false
+  not_ready d ahead b e = ap (λ t. t && (not (is_empty ahead) && part_fits p d ahead (readable p (reads_second d) (p.unspell b)))) e
+
+  pub not_ready_floor : (d : Client I S) (ahead : List (Option ClientRecord)) (version : ℕ) → may_grow d ≡ false → client_admits p d ahead (ClientRecord.Floor version) ≡ false
+  not_ready_floor d ahead version e = ap (λ t. t && (is_fine (grown p d.parts) && closes d.front version d.unsent)) e
 
 -- ---- a run cut at a place
 pub record Cut {I S : Type 0} (p : Profile I S) (second : Bool) (bs : List Bytes) (xs : List (List I)) (k : ℕ) : Type 0 where

@@ -33,6 +33,8 @@ kept_seen codes.Form = refl
 kept_seen (codes.Subset tables) = refl
 kept_seen (codes.Part body) = refl
 kept_seen (codes.Floor version) = refl
+kept_seen (codes.Resumed number waiting) = refl
+kept_seen (codes.Waits number base ms body current) = refl
 
 pub bytes_back : (r : CodeRecord) → client_spelling r ≡ client_bytes (client_seen r)
 bytes_back r = ap client_spelling (sym (kept_seen r))

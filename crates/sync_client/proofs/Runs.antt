@@ -9,13 +9,13 @@ use Rattle.sync_model.specs.Bytes.{Bytes}
 use Rattle.sync_model.specs.Files.{bodies_ahead, body_and, part_body}
 use Rattle.sync_records.specs.declared.client.ClientRecord.{ClientRecord as CodeRecord}
 use Rattle.sync_records.specs.declared.client.ClientRecord.TheVariants as codes
-use Rattle.sync_records.specs.Reading.{id_in, ident_in, made_in, made_of, took_in, took_of, form_in, names_in, version_in}
+use Rattle.sync_records.specs.Reading.{id_in, ident_in, made_in, made_of, took_in, took_of, form_in, names_in, version_in, pair_in, resumed_of, waits_in, waits_of}
 use Rattle.sync_exchange.specs.Profile.{the_profile}
 use Rattle.sync_exchange.specs.Seen.{client_seen, read_client}
 use Rattle.sync_client.specs.declared.beginning.Found.{Found}
 use Rattle.sync_client.specs.declared.beginning.Found.TheVariants as founds
 use Rattle.sync_snapshot.specs.Grown.{lists_of}
-use Rattle.sync_client.specs.Parts.{none_read, part_bytes, CutRun, Finds, IsBadPart, IsPart, RunOf, WholeRun}
+use Rattle.sync_client.specs.Parts.{none_read, part_bytes, CutRun, Finds, IsBadPart, IsNoState, IsPart, RunOf, WholeRun}
 use Rattle.sync_client.proofs.Parts.{read_more}
 
 -- ---- a record with another tag is no part
@@ -36,11 +36,39 @@ other_tag tag fields h =
     (unless (tag == 7) _ _ (λ e. not_part (form_in fields) (λ _. codes.Form) (λ x. refl))
     (unless (tag == 9) _ _ (λ e. not_part (names_in fields) codes.Subset (λ x. refl))
     (unless (tag == 11) _ _ (λ e. absurd (h (Rattle.std.proofs.Common.eqb-true tag 11 e)))
-    (unless (tag == 12) _ _ (λ e. not_part (version_in fields) codes.Floor (λ x. refl)) refl)))))))
+    (unless (tag == 12) _ _ (λ e. not_part (version_in fields) codes.Floor (λ x. refl))
+    (unless (tag == 16) _ _ (λ e. not_part (pair_in fields) resumed_of (λ x. refl))
+    (unless (tag == 17) _ _ (λ e. not_part (waits_in fields) waits_of (λ x. refl)) refl)))))))))
 
 pub no_part : (bytes : List ℕ) → ¬ (get_or bytes 0 0 ≡ 11) → part_body (read_client bytes) ≡ None
 no_part [] h = refl
 no_part (b ∷ bytes) h = other_tag b bytes h
+
+-- ---- and with two others neither a part nor a version
+no_state_of : {A : Type 0} (o : Option A) (make : A → CodeRecord) → ((x : A) → IsNoState (Some (client_seen (make x)))) → IsNoState (option_map client_seen (o >>= λ x. Some (make x)))
+no_state_of None make h = tt
+no_state_of (Some x) make h = h x
+
+unless_state : (b : Bool) (x y : Option CodeRecord) → (b ≡ true → IsNoState (option_map client_seen x)) → IsNoState (option_map client_seen y) → IsNoState (option_map client_seen (if b then x else y))
+unless_state true x y f g = f refl
+unless_state false x y f g = g
+
+other_tags : (tag : ℕ) (fields : List ℕ) → ¬ (tag ≡ 11) → ¬ (tag ≡ 12) → IsNoState (read_client (tag ∷ fields))
+other_tags tag fields h g =
+    unless_state (tag == 1) _ _ (λ e. no_state_of (id_in fields) codes.Born (λ x. tt))
+    (unless_state (tag == 2) _ _ (λ e. no_state_of (ident_in fields) codes.Named (λ x. tt))
+    (unless_state (tag == 3) _ _ (λ e. no_state_of (made_in fields) made_of (λ x. tt))
+    (unless_state (tag == 4) _ _ (λ e. no_state_of (took_in fields) took_of (λ x. tt))
+    (unless_state (tag == 7) _ _ (λ e. no_state_of (form_in fields) (λ _. codes.Form) (λ x. tt))
+    (unless_state (tag == 9) _ _ (λ e. no_state_of (names_in fields) codes.Subset (λ x. tt))
+    (unless_state (tag == 11) _ _ (λ e. absurd (h (Rattle.std.proofs.Common.eqb-true tag 11 e)))
+    (unless_state (tag == 12) _ _ (λ e. absurd (g (Rattle.std.proofs.Common.eqb-true tag 12 e)))
+    (unless_state (tag == 16) _ _ (λ e. no_state_of (pair_in fields) resumed_of (λ x. tt))
+    (unless_state (tag == 17) _ _ (λ e. no_state_of (waits_in fields) waits_of (λ x. tt)) tt)))))))))
+
+pub no_state : (bytes : List ℕ) → ¬ (get_or bytes 0 0 ≡ 11) → ¬ (get_or bytes 0 0 ≡ 12) → IsNoState (read_client bytes)
+no_state [] h g = tt
+no_state (b ∷ bytes) h g = other_tags b bytes h g
 
 -- ---- one after the other
 length_map : {A B : Type 0} (f : A → B) (xs : List A) → length (map f xs) ≡ length xs

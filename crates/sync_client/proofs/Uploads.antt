@@ -56,7 +56,7 @@ fit_large : (n room : ℕ) (x : Change) (xs : List Change) → room < size x →
 fit_large zero room x xs h = refl
 fit_large (suc n) room x xs h = if_false (nat_le (size x) room) _ _ (lt-leb (size x) room h)
 
-drop_at : (us : List Item) (place : ℕ) (u : Item) → place < length us → u ≡ get_or us place u → drop place us ≡ u ∷ drop (place + 1) us
+pub drop_at : (us : List Item) (place : ℕ) (u : Item) → place < length us → u ≡ get_or us place u → drop place us ≡ u ∷ drop (place + 1) us
 drop_at us place u h is = drop-cons us place u h ∙ ap₂ (λ x j. x ∷ drop j us) (sym is) (sym (add-one place))
 
 left_at : (after : ℕ) (us : List Item) (place : ℕ) (u : Item) → place < length us → u ≡ get_or us place u → after < u.original.number → left_of after us place ≡ change_at u ∷ left_of after us (place + 1)

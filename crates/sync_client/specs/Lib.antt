@@ -8,5 +8,6 @@ pub mod Taking
 pub mod Opening
 pub mod Reading
 pub mod Parts
+pub mod Fronts
 pub mod Files
 pub mod Sending

@@ -1,12 +1,12 @@
 -- How the state with which a client's file begins is read: its parts, and its version behind them.
-use Rattle.std.specs.Prelude.{◌≡◌, ◌⊎◌, ◌≤◌, ◌<◌, ◌+◌, ℕ, Bool, false, List, [], ◌∷◌, ◌++◌, length, map, Vec, Option, Some, None, Result, Ok, Err}
+use Rattle.std.specs.Prelude.{◌≡◌, ◌⊎◌, ◌≤◌, ◌<◌, ◌+◌, ℕ, Bool, true, false, ◌&&◌, if◌then◌else◌, List, [], ◌∷◌, ◌++◌, drop, length, map, Vec, Option, Some, None, Result, Ok, Err}
 use Rattle.std.specs.declared.alloc.Global.{Global}
 use Rattle.sync_data.specs.Payload.{Changes}
 use Rattle.sync_data.specs.declared.instr.Instr.{Instr}
 use Rattle.sync_data.specs.declared.memory.NoMemory.{NoMemory}
 use Rattle.sync_model.specs.Bytes.{Bytes}
 use Rattle.sync_model.specs.Clients.{ClientRecord}
-use Rattle.sync_model.specs.Files.{bodies_ahead, is_fine, is_place, part_body, readable}
+use Rattle.sync_model.specs.Files.{bodies_ahead, closes, is_fine, is_place, part_body, readable}
 use Rattle.sync_model.specs.Profile.{Profile}
 use Rattle.sync_model.specs.Snapshots.{grown}
 use Rattle.sync_exchange.specs.Profile.{the_profile, unspell}
@@ -74,6 +74,16 @@ IsOfState (Some (ClientRecord.Part body)) = Unit {0}
 IsOfState (Some (ClientRecord.Floor version)) = Unit {0}
 IsOfState (Some r) = ⊥
 
+-- neither a part nor a version
+abbrev pub IsNoState : Option ClientRecord → Type 0
+IsNoState (Some (ClientRecord.Part body)) = ⊥
+IsNoState (Some (ClientRecord.Floor version)) = ⊥
+IsNoState o = Unit {0}
+
+-- so are the bytes at a place
+abbrev pub OfState : List (List ℕ) → ℕ → Type 0
+OfState records place = (b : List ℕ) (l : List (List ℕ)) → drop place records ≡ b ∷ l → IsOfState (read_client b)
+
 -- ---- the parts from a place on
 pub record RunOf (second : Bool) (file rest : List (List ℕ)) (run : List (List Instr)) : Type 0 where
   pub bodies : List Bytes
@@ -101,11 +111,16 @@ FindsRun second file behind place (Err (reads.BadRecord bad)) = (count : ℕ) ×
 FindsRun second file behind place (Err reads.NoMemory) = Unit {0}
 
 -- ---- what is made of them
--- the parts lead to this state, and the record behind them is its version
-pub record Closed (old new : Replica) (run : List (List Instr)) (bytes : List ℕ) : Type 0 where
+-- what is still to come where all unsent changesets of a short front were read, and where there is no front
+abbrev pub front_of : Bool → Option ℕ
+front_of within = if within then Some 0 else None
+
+-- the parts lead to this state, and the record behind them is its version, behind which nothing is unsent
+pub record Closed (within : Bool) (old new : Replica) (run : List (List Instr)) (bytes : List ℕ) : Type 0 where
   pub version : ℕ
   pub floor : IsFloor bytes version
   pub grows : grown the_profile run ≡ Ok new.objects
+  pub behind : closes (front_of within) version old.unsent ≡ true
   pub is : new ≡ record old { floor = Some version; cursor = version; objects = new.objects }
 
 -- the part at that place is wrong
@@ -114,16 +129,16 @@ pub record Named (run : List (List Instr)) (place : ℕ) : Type 0 where
   pub grows : grown the_profile run ≡ Err place
 
 -- no part is wrong, and the record behind them isn't the version of a state
-pub record Unclosed (run : List (List Instr)) (bytes : List ℕ) (place : ℕ) : Type 0 where
+pub record Unclosed (within : Bool) (old : Replica) (run : List (List Instr)) (bytes : List ℕ) (place : ℕ) : Type 0 where
   pub place_is : place ≡ length run
   pub fine : (i : ℕ) → i < length run → is_place i (grown the_profile run) ≡ false
-  pub behind : IsNoFloor (read_client bytes) ⊎ (((version : ℕ) × IsFloor bytes version) × (is_fine (grown the_profile run) ≡ false))
+  pub behind : IsNoFloor (read_client bytes) ⊎ ((version : ℕ) × IsFloor bytes version × ((is_fine (grown the_profile run) && closes (front_of within) version old.unsent) ≡ false))
 
 -- how many records are taken, before a record behind the parts; the place of the one that is refused
-abbrev pub Closes : Replica → Replica → List (List Instr) → List ℕ → Result (Option ℕ) NoMemory → Type 0
-Closes old new run bytes (Ok None) = Closed old new run bytes
-Closes old new run bytes (Ok (Some place)) = Named run place ⊎ Unclosed run bytes place
-Closes old new run bytes (Err e) = Unit {0}
+abbrev pub Closes : Bool → Replica → Replica → List (List Instr) → List ℕ → Result (Option ℕ) NoMemory → Type 0
+Closes within old new run bytes (Ok None) = Closed within old new run bytes
+Closes within old new run bytes (Ok (Some place)) = Named run place ⊎ Unclosed within old run bytes place
+Closes within old new run bytes (Err e) = Unit {0}
 
 -- no part before the last one is wrong, and nothing follows
 pub record Ended (run : List (List Instr)) (place : ℕ) : Type 0 where

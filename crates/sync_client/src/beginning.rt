@@ -1,14 +1,14 @@
-ghost use Rattle.std.specs.Prelude.{◌≡◌, ◌⊎◌, ◌≤◌, ◌<◌, ◌+◌, ◌∷◌, List, ℕ, length, drop, Ok, Some, IfOk, IfSome, true};
+ghost use Rattle.std.specs.Prelude.{◌≡◌, ◌⊎◌, ◌≤◌, ◌<◌, ◌+◌, ◌∷◌, ◌||◌, List, ℕ, length, drop, Ok, Some, IfOk, IfSome, false, true};
 ghost use Rattle.sync_model.specs.Clients as model;
 ghost use Rattle.sync_model.specs.Files as files;
 ghost use Rattle.sync_exchange.specs.Seen.{read_client};
 ghost use Rattle.sync_client.specs.Keeping.{Keeps};
 ghost use Rattle.sync_snapshot.specs.Grown.{lists_of};
-ghost use Rattle.sync_client.specs.Parts.{Closes, Ended, Finds, FindsBody, FindsFloor, FindsRun, IsOfState, Named};
-ghost use Rattle.sync_client.specs.Reading.{ReadsOn};
+ghost use Rattle.sync_client.specs.Parts.{Closes, Ended, Finds, FindsBody, FindsFloor, FindsRun, IsNoState, IsOfState, Named, OfState};
+ghost use Rattle.sync_client.specs.Reading.{GrowsOn, MayGrow, ReadsOn};
 ghost use Rattle.sync_client.specs.Seen.{Past, seen};
 
-use crate::entries::changes_of;
+use crate::entries::{changes_of, exceeds};
 use crate::refusal::ClientRefusal;
 use crate::replica::Replica;
 use byte_lists::ByteLists;
@@ -33,7 +33,8 @@ pub(crate) enum Found {
 
 /// Whether the bytes have the tag of a part or a version.
 pub(crate) fn is_of_state(bytes: &[u8]) -> bool
-    ensures { result ≡ true → IsOfState (read_client bytes.now) }
+    ensures is { result ≡ true → IsOfState (read_client bytes.now) }
+    ensures other { result ≡ false → IsNoState (read_client bytes.now) }
 {
     match bytes {
         [] => false,
@@ -54,7 +55,9 @@ fn floor_of(alloc: Global, bytes: &[u8]) -> Result<Option<u32>, NoMemory>
             | ClientRecord::Took { .. }
             | ClientRecord::Form
             | ClientRecord::Subset { .. }
-            | ClientRecord::Part { .. },
+            | ClientRecord::Part { .. }
+            | ClientRecord::Resumed { .. }
+            | ClientRecord::Waits { .. },
         ) => Ok(None),
         Err(RecordRefusal::BadRecord) => Ok(None),
         Err(RecordRefusal::NoMemory) => Err(NoMemory),
@@ -81,9 +84,75 @@ fn end_of(alloc: Global, run: &[Changeset]) -> Result<usize, NoMemory>
     }
 }
 
+/// The part of a state that these bytes are, where it may need the second form or not.
+fn part_of(alloc: Global, bytes: &[u8], second: bool) -> Result<Found, NoMemory>
+    ensures { Finds second bytes.now result }
+{
+    match bytes {
+        [] => Ok(Found::Other),
+        [tag, body @ ..] => {
+            if *tag == PART {
+                read_part(alloc, body, second)
+            } else {
+                Ok(Found::Other)
+            }
+        }
+    }
+}
+
+/// The part of a state with that body.
+fn read_part(alloc: Global, body: &[u8], second: bool) -> Result<Found, NoMemory>
+    ensures { FindsBody second body.now result }
+{
+    if body.len() > LONGEST {
+        return Err(NoMemory);
+    }
+    let changes = match changes_of(alloc, 0, 0, body) {
+        Ok(changes) => changes,
+        Err(
+            ClientRefusal::BadBody {
+                version: _,
+                offset: _,
+                rule: _,
+            },
+        ) => return Ok(Found::BadPart),
+        Err(_) => return Err(NoMemory),
+    };
+    if exceeds(&changes, second) {
+        return Ok(Found::BadPart);
+    }
+    Ok(Found::Part(changes))
+}
+
+/// The parts of a state from that place on.
+fn run_from(
+    alloc: Global,
+    records: &ByteLists,
+    place: usize,
+    second: bool,
+) -> Result<Vec<Changeset>, ReadRefusal>
+    requires { place ≤ length records.now }
+    ensures run { FindsRun second (drop place records.now) (λ n. drop (place + n) records.now) place result }
+    ensures within { IfOk result (λ run. place + length run.items ≤ length records.now) }
+{
+    let mut run = Vec::new(alloc);
+    for index in place..records.len() {
+        match part_of(alloc, records.at(index), second) {
+            Ok(Found::Part(changes)) => match run.push(changes) {
+                Ok(()) => {}
+                Err(_) => return Err(ReadRefusal::NoMemory),
+            },
+            Ok(Found::BadPart) => return Err(ReadRefusal::BadRecord { place: index }),
+            Ok(Found::Other) => return Ok(run),
+            Err(NoMemory) => return Err(ReadRefusal::NoMemory),
+        }
+    }
+    Ok(run)
+}
+
 impl Replica {
     /// Whether it wrote nothing yet but its uuid, a form and parts of a state.
-    fn is_blank(&self) -> bool
+    pub(crate) fn is_blank(&self) -> bool
         ensures { (past : Past) → length past.made ≡ self.now.count → result ≡ files.is_blank (seen past self.now) }
     {
         self.id.is_some()
@@ -93,87 +162,48 @@ impl Replica {
             && self.count == 0
     }
 
-    /// The part of a state that these bytes are.
-    fn part_of(&self, alloc: Global, bytes: &[u8]) -> Result<Found, NoMemory>
-        ensures { Finds self.now.second bytes.now result }
+    /// Whether a part may need the second form, in the front of a short file or not.
+    fn allows(&self, within: bool) -> bool
+        ensures { result ≡ (within || self.now.second) }
     {
-        match bytes {
-            [] => Ok(Found::Other),
-            [tag, body @ ..] => {
-                if *tag == PART {
-                    self.read_part(alloc, body)
-                } else {
-                    Ok(Found::Other)
-                }
+        within || self.second
+    }
+
+    /// Whether no unsent changeset is of a base beyond that version.
+    fn is_behind(&self, version: u32) -> bool
+        ensures { result ≡ files.all_behind version self.now.unsent }
+    {
+        for place in 0..self.unsent.len() {
+            let Some(unsent) = self.unsent.get(place) else {
+                return true;
+            };
+            if unsent.base() > version {
+                return false;
             }
         }
+        true
     }
 
-    /// The part of a state with that body.
-    fn read_part(&self, alloc: Global, body: &[u8]) -> Result<Found, NoMemory>
-        ensures { FindsBody self.now.second body.now result }
-    {
-        if body.len() > LONGEST {
-            return Err(NoMemory);
-        }
-        let changes = match changes_of(alloc, 0, 0, body) {
-            Ok(changes) => changes,
-            Err(
-                ClientRefusal::BadBody {
-                    version: _,
-                    offset: _,
-                    rule: _,
-                },
-            ) => return Ok(Found::BadPart),
-            Err(_) => return Err(NoMemory),
-        };
-        if self.is_beyond(&changes) {
-            return Ok(Found::BadPart);
-        }
-        Ok(Found::Part(changes))
-    }
-
-    /// The parts of a state from that place on.
-    fn run_from(
-        &self,
-        alloc: Global,
-        records: &ByteLists,
-        place: usize,
-    ) -> Result<Vec<Changeset>, ReadRefusal>
-        requires { place ≤ length records.now }
-        ensures run { FindsRun self.now.second (drop place records.now) (λ n. drop (place + n) records.now) place result }
-        ensures within { IfOk result (λ run. place + length run.items ≤ length records.now) }
-    {
-        let mut run = Vec::new(alloc);
-        for index in place..records.len() {
-            match self.part_of(alloc, records.at(index)) {
-                Ok(Found::Part(changes)) => match run.push(changes) {
-                    Ok(()) => {}
-                    Err(_) => return Err(ReadRefusal::NoMemory),
-                },
-                Ok(Found::BadPart) => return Err(ReadRefusal::BadRecord { place: index }),
-                Ok(Found::Other) => return Ok(run),
-                Err(NoMemory) => return Err(ReadRefusal::NoMemory),
-            }
-        }
-        Ok(run)
-    }
-
-    /// Begins with the state of these parts, where the bytes behind them are its version. Else the number of the first that a
-    /// client wouldn't have written, counted from 0 at the first part.
+    /// Begins with the state of these parts, where the bytes behind them are its version; within the front of a short file
+    /// nothing may be unsent beyond that. Else the number of the first that a client wouldn't have written, counted from 0 at
+    /// the first part.
     fn close(
         &mut self,
         alloc: Global,
         run: &[Changeset],
         bytes: &[u8],
+        within: bool,
     ) -> Result<Option<usize>, NoMemory>
-        ensures closes { Closes self.old self.new (lists_of run.now) bytes.now result }
+        ensures closes { Closes within self.old self.new (lists_of run.now) bytes.now result }
         ensures within { IfOk result (λ refused. IfSome refused (λ number. number ≤ length run.now)) }
     {
         let floor = floor_of(alloc, bytes)?;
         match grown(alloc, run) {
             Ok(objects) => match floor {
                 Some(version) => {
+                    if within && !self.is_behind(version) {
+                        return Ok(Some(run.len()));
+                    }
                     self.floor = Some(version);
                     self.cursor = version;
                     self.objects = objects;
@@ -201,13 +231,29 @@ impl Replica {
         place: usize,
     ) -> Result<usize, ReadRefusal>
         requires there { place < length records.now }
-        requires of_state { (bytes : List ℕ) (rest : List (List ℕ)) → drop place records.now ≡ bytes ∷ rest → IsOfState (read_client bytes) }
+        requires of_state { OfState records.now place }
         ensures { (before : List model.ClientRecord) → Keeps before self.old → ReadsOn before self.new (drop place records.now) (λ n. drop (place + n) records.now) place result }
     {
         if !self.is_blank() {
             return Err(ReadRefusal::BadRecord { place });
         }
-        let run = self.run_from(alloc, records, place)?;
+        self.admit_parts(alloc, records, place, false)
+    }
+
+    /// The same of a client that may take them: it is blank, or within the front of a short file.
+    pub(crate) fn admit_parts(
+        &mut self,
+        alloc: Global,
+        records: &ByteLists,
+        place: usize,
+        within: bool,
+    ) -> Result<usize, ReadRefusal>
+        requires there { place < length records.now }
+        requires of_state { OfState records.now place }
+        ensures { (past : Past) → MayGrow within past self.old → GrowsOn past self.old self.new (drop place records.now) (λ n. drop (place + n) records.now) place result }
+    {
+        let second = self.allows(within);
+        let run = run_from(alloc, records, place, second)?;
         let (count, behind) = (records.len(), place + run.len());
         if behind == count {
             match end_of(alloc, run.as_slice()) {
@@ -219,7 +265,7 @@ impl Replica {
                 Err(NoMemory) => return Err(ReadRefusal::NoMemory),
             }
         }
-        match self.close(alloc, run.as_slice(), records.at(behind)) {
+        match self.close(alloc, run.as_slice(), records.at(behind), within) {
             Ok(None) => Ok(behind + 1),
             Ok(Some(number)) => Err(ReadRefusal::BadRecord {
                 place: place + number,

@@ -42,6 +42,13 @@ pub(crate) fn changes_of(
     }
 }
 
+/// Whether the changeset needs form 2 where that isn't allowed.
+pub(crate) fn exceeds(changes: &Changeset, second: bool) -> bool
+    ensures { result ≡ (needs the_profile changes.now.instrs && not second) }
+{
+    any_needs_second(changes.instrs()) && !second
+}
+
 impl Replica {
     /// Takes an entry of the history, whose version is the cursor: the client that made it, its number among that client's, its
     /// time in milliseconds since the epoch, and its bytes.
@@ -85,7 +92,7 @@ impl Replica {
     pub(crate) fn is_beyond(&self, changes: &Changeset) -> bool
         ensures { result ≡ (needs the_profile changes.now.instrs && not self.now.second) }
     {
-        any_needs_second(changes.instrs()) && !self.second
+        exceeds(changes, self.second)
     }
 
     /// Takes an entry of its own: the oldest unsent changeset is in the history now.

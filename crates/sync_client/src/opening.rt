@@ -10,6 +10,7 @@ ghost use Rattle.sync_client.specs.Seen.{Past, seen};
 
 use crate::beginning::is_of_state;
 use crate::entries::changes_of;
+use crate::front::is_of_front;
 use crate::refusal::ClientRefusal;
 use crate::replica::Replica;
 use byte_lists::ByteLists;
@@ -78,8 +79,11 @@ impl Replica {
                 Ok(true)
             }
             ClientRecord::Subset { tables } => self.admit_subset(tables),
-            // Those are read together (`admit_state`).
-            ClientRecord::Part { .. } | ClientRecord::Floor { .. } => Err(NoMemory),
+            // Those are read together (`admit_state`, `admit_front`).
+            ClientRecord::Part { .. }
+            | ClientRecord::Floor { .. }
+            | ClientRecord::Resumed { .. } => Err(NoMemory),
+            ClientRecord::Waits { .. } => Ok(false),
         }
     }
 
@@ -170,7 +174,8 @@ impl Replica {
         Ok(replica)
     }
 
-    /// Reads the record at that place, or the state that begins there; answers the place behind it.
+    /// Reads the record at that place, or the state or the front of a short file that begins there; answers the place
+    /// behind it.
     fn read_at(
         &mut self,
         alloc: Global,
@@ -184,6 +189,9 @@ impl Replica {
         let bytes = records.at(place);
         if is_of_state(bytes) {
             return self.admit_state(alloc, records, place);
+        }
+        if is_of_front(bytes) {
+            return self.admit_front(alloc, records, place);
         }
         match self.read(alloc, bytes) {
             Ok(true) => Ok(place + 1),

@@ -45,6 +45,8 @@ client_seen clients.Form = ClientRecord.Form
 client_seen (clients.Subset tables) = ClientRecord.Subset tables
 client_seen (clients.Part body) = ClientRecord.Part body
 client_seen (clients.Floor version) = ClientRecord.Floor version
+client_seen (clients.Resumed number waiting) = ClientRecord.Resumed number waiting
+client_seen (clients.Waits number base ms body current) = ClientRecord.Waits number base ms body current
 
 abbrev pub client_kept : ClientRecord → CodeClientRecord
 client_kept (ClientRecord.Born id) = clients.Born id
@@ -55,6 +57,8 @@ client_kept ClientRecord.Form = clients.Form
 client_kept (ClientRecord.Subset tables) = clients.Subset tables
 client_kept (ClientRecord.Part body) = clients.Part body
 client_kept (ClientRecord.Floor version) = clients.Floor version
+client_kept (ClientRecord.Resumed number waiting) = clients.Resumed number waiting
+client_kept (ClientRecord.Waits number base ms body current) = clients.Waits number base ms body current
 
 -- a record as its bytes, and back
 abbrev pub client_bytes : ClientRecord → Bytes

@@ -7,7 +7,7 @@ use Rattle.sync_theory.proofs.Server.{test_true}
 use Rattle.sync_model.specs.Bytes.{Uuid}
 use Rattle.sync_model.specs.Profile.{Profile, Lawful, apply_all, is_small, needs, first_need, all_admitted, first_outside}
 use Rattle.sync_model.specs.Messages.{Change}
-use Rattle.sync_model.specs.Clients.{Client, ClientRecord, Born, Named, Made, Took, Form, Subset, Part, Floor, ClientRefusal, NotBorn, TooLarge, NumbersFull, OldForm, NotSubscribed, Break, Original, ClientStep, refuse, if_born, ok_list, no_client, after_record, after_records, makes, last, commit, commit_born, commit_applied}
+use Rattle.sync_model.specs.Clients.{Client, ClientRecord, Born, Named, Made, Took, Form, Subset, Part, Floor, ClientRefusal, NotBorn, TooLarge, NumbersFull, OldForm, NotSubscribed, Break, Original, ClientStep, refuse, if_born, ok_list, no_client, after_record, after_records, makes, last, commit, commit_born, commit_applied, Resumed, Waits}
 use Rattle.sync_model.specs.Files.{is_growing, client_admits, client_opens}
 use Rattle.sync_model.specs.Limits.{ClientNumbers}
 use Rattle.sync_model.specs.Each.{no_more}
@@ -210,6 +210,8 @@ module _ {I S : Type 0} (p : Profile I S) where
   id_record c ahead (Subset tables) e h ne = h ne
   id_record c ahead (Part body) e h ne = h ne
   id_record c ahead (Floor version) e h ne = h ne
+  id_record c ahead (Resumed number waiting) e h ne = h ne
+  id_record c ahead (Waits number base ms body current) e h ne = h ne
   id_record c ahead (Took origin number ms body) e h ne =
       let x : Rattle.sync_theory.specs.Changesets.Changeset I = record { origin = origin; number = number; ms = ms; instrs = ok_list (p.unspell body) } in
       ap is_there (took_id c (record { origin = origin; number = number; ms = ms; instrs = ok_list (p.unspell body) })) ∙ h (λ z. ne ((took_cursor p c (record { origin = origin; number = number; ms = ms; instrs = ok_list (p.unspell body) })).1 ∙ z))

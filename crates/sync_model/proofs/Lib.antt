@@ -20,6 +20,7 @@ pub mod Calling
 pub mod Holding
 pub mod Facts
 pub mod Acknowledged
+pub mod Settling
 pub mod Opening
 pub mod Restarting
 pub mod Reporting

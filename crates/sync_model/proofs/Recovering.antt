@@ -9,8 +9,8 @@ use Rattle.sync_theory.proofs.World.{same_or_not}
 use Rattle.sync_model.specs.Bytes.{Uuid, Tables}
 use Rattle.sync_model.specs.Profile.{Profile, Lawful, Stuck, cross_changesets, is_small}
 use Rattle.sync_model.specs.Messages.{Change, Sent, Message, Bind, Ident, Upload, Ask, Download, Refused, Stored, Ask2, Retire, Retired, AskTables}
-use Rattle.sync_model.specs.Clients.{Client, ClientRecord, Born, Named, Made, Took, Form, Subset, Part, Floor, Original, Unsent, ClientRefusal, NotNamed, NotMine, TooLate, IdentDiffers, Gap, WasRefused, ClientStep, refuse, answers, appends, carried_to, changeset_of, ok_list, born, born_once, if_born, no_client, client_of, after_record, after_records, makes, crossed, change_of, unsent_above, to_upload_from, upload_from, upgrade, is_late, subscribed_once, subscribe, last, entry_refusal, took, take_one, take_ident, take_entries, take_born, take as take_message}
-use Rattle.sync_model.specs.Files.{is_growing, client_admits, client_opens, server_opens}
+use Rattle.sync_model.specs.Clients.{Client, ClientRecord, Born, Named, Made, Took, Form, Subset, Part, Floor, Original, Unsent, ClientRefusal, NotNamed, NotMine, TooLate, IdentDiffers, Gap, WasRefused, ClientStep, refuse, answers, appends, carried_to, changeset_of, ok_list, born, born_once, if_born, no_client, client_of, after_record, after_records, makes, crossed, change_of, unsent_above, to_upload_from, upload_from, upgrade, is_late, subscribed_once, subscribe, last, entry_refusal, took, take_one, take_ident, take_entries, take_born, take as take_message, Resumed, Waits, blanks}
+use Rattle.sync_model.specs.Files.{is_growing, some_come, client_admits, client_opens, server_opens}
 use Rattle.sync_model.specs.Each.{Each, no_more, and_each}
 use Rattle.sync_model.specs.Servers.{ServerRecord, no_server, server_of, after_all, heir_of, is_given, count, serve}
 use Rattle.sync_model.specs.Worlds.{at, is_there}
@@ -77,6 +77,13 @@ module _ {I S : Type 0} (p : Profile I S) where
   placed_record c ahead (Subset tables) e f = f
   placed_record c ahead (Part body) e f = f
   placed_record c ahead (Floor version) e f = f
+  placed_record c ahead (Resumed number waiting) e f = each_weaker (λ u h. placed_more c.made (blanks (suc (length c.made)) number) u.original h) f
+  placed_record c ahead (Waits number base ms body current) e f =
+      let b = both (some_come c.front) _ e in
+      let d = both (number == suc (length c.made)) _ b.1 in
+      let o : Original I = record { base = base; number = number; ms = ms; instrs = ok_list (p.unspell body) } in
+      each_append (each_weaker (λ u h. placed_more c.made (record { base = base; number = number; ms = ms; instrs = ok_list (p.unspell body) } ∷ []) u.original h) f)
+      (and_each (record { before = length c.made; here = at_new c.made (record { base = base; number = number; ms = ms; instrs = ok_list (p.unspell body) }); number = eqb-true number (suc (length c.made)) d.0 }) no_more)
   placed_record c ahead (Made number ms body) e f =
       let b = both (is_there c.id) _ e in
       let g = both (not (is_growing c)) _ b.1 in
@@ -147,6 +154,8 @@ module _ {I S : Type 0} (p : Profile I S) where
   NamesNone (Subset tables) = Unit {0}
   NamesNone (Part body) = Unit {0}
   NamesNone (Floor version) = Unit {0}
+  NamesNone (Resumed number waiting) = Unit {0}
+  NamesNone (Waits number base ms body current) = Unit {0}
 
   abbrev MakesNone : ClientRecord → Type 0
   MakesNone (Born id) = Unit {0}
@@ -157,6 +166,8 @@ module _ {I S : Type 0} (p : Profile I S) where
   MakesNone (Subset tables) = Unit {0}
   MakesNone (Part body) = Unit {0}
   MakesNone (Floor version) = Unit {0}
+  MakesNone (Resumed number waiting) = ⊥
+  MakesNone (Waits number base ms body current) = ⊥
 
   ident_after : (c : Client I S) (r : ClientRecord) → NamesNone r → (after_record p c r).ident ≡ c.ident
   ident_after c (Born id) q = refl
@@ -166,6 +177,8 @@ module _ {I S : Type 0} (p : Profile I S) where
   ident_after c (Subset tables) q = refl
   ident_after c (Part body) q = refl
   ident_after c (Floor version) q = refl
+  ident_after c (Resumed number waiting) q = refl
+  ident_after c (Waits number base ms body current) q = refl
   ident_after c (Took origin number ms body) q = (took_cursor p c (record { origin = origin; number = number; ms = ms; instrs = ok_list (p.unspell body) })).1
 
   ident_after_all : (c : Client I S) (rs : List ClientRecord) → Each NamesNone rs → (after_records p c rs).ident ≡ c.ident
@@ -180,6 +193,8 @@ module _ {I S : Type 0} (p : Profile I S) where
   made_after c (Subset tables) q = refl
   made_after c (Part body) q = refl
   made_after c (Floor version) q = refl
+  made_after c (Resumed number waiting) q = absurd q
+  made_after c (Waits number base ms body current) q = absurd q
   made_after c (Took origin number ms body) q = go (origin == c.ident) (rebase (cross_changesets p) (map (changeset_of c.ident) c.unsent) (record { origin = origin; number = number; ms = ms; instrs = ok_list (p.unspell body) }))
     where
       go : (b : Bool) (r : Result (List (Changeset I) × Changeset I) (ℕ × Stuck)) → (if b then record c { cursor = suc c.cursor; unsent = tail c.unsent } else crossed p c r).made ≡ c.made

@@ -57,8 +57,8 @@ module _ {I S : Type 0} (p : Profile I S) where
     good_none : (c : Client I S) → Good c []
     good_none c = record { opens = (refl, no_more); fits = λ n. no_more }
 
-    good_then : (c : Client I S) (rs ts : List ClientRecord) → Good c rs → Good (after_records p c rs) ts → Good c (rs ++ ts)
-    good_then c rs ts a b = record { opens = (client_opens_on p c rs ts a.opens.0 b.opens.0, each_append a.opens.1 b.opens.1); fits = λ n. each_append (a.fits n) (b.fits (numbers_records p rs c a.opens.0 (a.fits n) n)) }
+    good_then : (c : Client I S) (rs ts : List ClientRecord) → is_growing c ≡ false → Good c rs → Good (after_records p c rs) ts → Good c (rs ++ ts)
+    good_then c rs ts calm_ a b = record { opens = (client_opens_on p c rs ts a.opens.0 b.opens.0, each_append a.opens.1 b.opens.1); fits = λ n. each_append (a.fits n) (b.fits (numbers_records p rs c calm_ a.opens.0 (a.fits n) n)) }
 
     -- a client with its whole file stays so
     calm_after : (c : Client I S) (rs : List ClientRecord) → is_growing c ≡ false → Good c rs → is_growing (after_records p c rs) ≡ false
@@ -75,7 +75,7 @@ module _ {I S : Type 0} (p : Profile I S) where
     changes_good (h ∷ hs) c calm_ n = on (heir p c c.ident n h).answer (changes_good hs (after_records p c (heir p c c.ident n h).records) (calm_after c (heir p c c.ident n h).records calm_ (heir_good c calm_ c.ident n h)) n)
       where
         on : (a : Result HeirAnswer ResetRefusal) → Good (after_records p c (heir p c c.ident n h).records) (recover_changes p (after_records p c (heir p c c.ident n h).records) n hs).records → Good c (handled h.number (heir p c c.ident n h).records a (λ new. recover_changes p (after_records p c new) n hs)).records
-        on (Ok a) rest = good_then c (heir p c c.ident n h).records (recover_changes p (after_records p c (heir p c c.ident n h).records) n hs).records (heir_good c calm_ c.ident n h) rest
+        on (Ok a) rest = good_then c (heir p c c.ident n h).records (recover_changes p (after_records p c (heir p c c.ident n h).records) n hs).records calm_ (heir_good c calm_ c.ident n h) rest
         on (Err why) rest = heir_good c calm_ c.ident n h
 
     frame_good : (m : Message) (c : Client I S) → is_growing c ≡ false → (known : List (ℕ × ℕ)) → Good c (recover_frame p c known m).records
@@ -103,7 +103,7 @@ module _ {I S : Type 0} (p : Profile I S) where
     frames_good [] c calm_ known = good_none c
     frames_good (m ∷ ms) c calm_ known =
         let one = frame_good m c calm_ known in
-        good_then c (recover_frame p c known m).records (recover_frames p (after_records p c (recover_frame p c known m).records) (recover_frame p c known m).known ms).records one
+        good_then c (recover_frame p c known m).records (recover_frames p (after_records p c (recover_frame p c known m).records) (recover_frame p c known m).known ms).records calm_ one
         (frames_good ms (after_records p c (recover_frame p c known m).records) (calm_after c (recover_frame p c known m).records calm_ one) (recover_frame p c known m).known)
 
     -- a run is accepted by opening

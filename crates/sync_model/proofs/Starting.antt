@@ -70,17 +70,17 @@ module _ {I S : Type 0} (p : Profile I S) where
 
     -- ---- the records of a file that begins with a state
 
-    parts_read : (ps : List (List I)) → Each (λ is. is_small p is ≡ true) ps → (c : Client I S) (rest : List ClientRecord) → after_records p c (map (λ is. ClientRecord.Part (p.spell is)) ps ++ rest) ≡ after_records p (record c { parts = c.parts ++ ps }) rest
+    pub parts_read : (ps : List (List I)) → Each (λ is. is_small p is ≡ true) ps → (c : Client I S) (rest : List ClientRecord) → after_records p c (map (λ is. ClientRecord.Part (p.spell is)) ps ++ rest) ≡ after_records p (record c { parts = c.parts ++ ps }) rest
     parts_read [] no_more c rest = ap (λ l. after_records p (record c { parts = l }) rest) (sym (append-nil c.parts))
     parts_read (x ∷ ps) (and_each h f) c rest =
         ap (λ is. after_records p (record c { parts = c.parts ++ is ∷ [] }) (map (λ is. ClientRecord.Part (p.spell is)) ps ++ rest)) (ap ok_list (law.spelled x h))
         ∙ parts_read ps f (record c { parts = c.parts ++ x ∷ [] }) rest
         ∙ ap (λ l. after_records p (record c { parts = l }) rest) (append_assoc c.parts (x ∷ []) ps)
 
-    pub started_is : (id : Uuid) (second : Bool) (version : ℕ) (s : S) → Fits s → Bounded s → client_of p (started p id second version s) ≡ record { id = Some id; ident = 0; second = second; subset = None; parts = p.build s; floor = Some version; cursor = version; made = []; unsent = []; objects = s }
-    started_is id second version s fit bounded = on second ∙ ap (λ r. record { id = Some id; ident = 0; second = second; subset = None; parts = p.build s; floor = Some version; cursor = version; made = []; unsent = []; objects = grown_or p.empty r }) (grown_build s fit bounded)
+    pub started_is : (id : Uuid) (second : Bool) (version : ℕ) (s : S) → Fits s → Bounded s → client_of p (started p id second version s) ≡ record { id = Some id; ident = 0; second = second; subset = None; parts = p.build s; floor = Some version; front = None; cursor = version; made = []; unsent = []; objects = s }
+    started_is id second version s fit bounded = on second ∙ ap (λ r. record { id = Some id; ident = 0; second = second; subset = None; parts = p.build s; floor = Some version; front = None; cursor = version; made = []; unsent = []; objects = grown_or p.empty r }) (grown_build s fit bounded)
       where
-        on : (b : Bool) → client_of p (started p id b version s) ≡ record { id = Some id; ident = 0; second = b; subset = None; parts = p.build s; floor = Some version; cursor = version; made = []; unsent = []; objects = grown_or p.empty (grown p (p.build s)) }
+        on : (b : Bool) → client_of p (started p id b version s) ≡ record { id = Some id; ident = 0; second = b; subset = None; parts = p.build s; floor = Some version; front = None; cursor = version; made = []; unsent = []; objects = grown_or p.empty (grown p (p.build s)) }
         on true = parts_read (p.build s) (built.small s fit bounded) (record (no_client p) { id = Some id; second = true }) (Floor version ∷ [])
         on false = parts_read (p.build s) (built.small s fit bounded) (record (no_client p) { id = Some id }) (Floor version ∷ [])
 
@@ -137,7 +137,7 @@ module _ {I S : Type 0} (p : Profile I S) where
 
     parts_open : (id : Uuid) (second : Bool) (version : ℕ) (s : S) → Fits s → Bounded s → (ps before : List (List I)) → before ++ ps ≡ p.build s → Each (λ is. is_small p is ≡ true) ps → Allowed second ps → client_opens p (begun id second before) (map (λ is. ClientRecord.Part (p.spell is)) ps ++ Floor version ∷ []) ≡ true
     parts_open id second version s fit bounded [] before e no_more no_more =
-        join (is_fine (grown p before)) true (ap is_fine (ap (grown p) (sym (append-nil before) ∙ e) ∙ grown_build s fit bounded)) refl
+        join (is_fine (grown p before) && true) true (join (is_fine (grown p before)) true (ap is_fine (ap (grown p) (sym (append-nil before) ∙ e) ∙ grown_build s fit bounded)) refl) refl
     parts_open id second version s fit bounded (x ∷ ps) before e (and_each h f) (and_each g k) =
         let rest = parts_open id second version s fit bounded ps (before ++ x ∷ []) (append_assoc before (x ∷ []) ps ∙ e) f k in
         let whole : parts_grow p before x (Some ps) ≡ true = ap (λ r. not (is_place (length before) r)) (ap (grown p) e ∙ grown_build s fit bounded) in

@@ -1,12 +1,14 @@
 -- The two laws of records: what is read is spelled so, and what is spelled so is read.
-use Rattle.std.proofs.Common.{◌≡◌, ℕ, ◌<◌, ◌^◌, leb, eqb, true, List, ◌∷◌, ◌++◌, drop, length, Option, Some, None, Result, Ok, Err, refl, sym, ap, ◌∙◌, lit<}
-use Rattle.std.specs.Prelude.{IfOk, IfSome}
+use Rattle.std.proofs.Common.{◌≡◌, ℕ, ◌<◌, ◌^◌, leb, eqb, Bool, true, false, cond, List, [], ◌∷◌, ◌++◌, drop, length, Option, Some, None, Result, Ok, Err, refl, sym, ap, subst, ◌∙◌, lit<}
+use Rattle.std.specs.Prelude.{IfOk, IfSome, bytes_eq}
 use Rattle.std.specs.List.{AllByRecursion}
-use Rattle.std.proofs.lemmas.Bool.{eqb-true, le-leb}
+use Rattle.std.proofs.lemmas.Bool.{eqb-true, le-leb, leb-true}
+use Rattle.std.proofs.lemmas.Slice.Eq.{bytes_eq-Decides}
 use Rattle.sync_io.specs.VarintLaws.{IsBytes}
 use Rattle.sync_io.specs.Varints.{varint}
-use Rattle.sync_io.specs.FormatLaws.{some_is, number_is, wide_is, bytes_is, both_is, only_is}
-use Rattle.subset_bytes.specs.Laws.{FitsTables, tables_are, tables_fit}
+use Rattle.sync_io.specs.FormatLaws.{IsFormat, some_is, bind_some, bound, number_is, wide_is, bytes_is, body_is as body_is_sized, both_is, only_is}
+use Rattle.sync_io.specs.Formats.{◌>>=◌, number_in, wide_in, body_in, both_in, body as sized}
+use Rattle.subset_bytes.specs.Laws.{FitsTables, tables_are, tables_fit, tables_whole}
 use Rattle.subset_bytes.specs.Spelling.{tables_spelling}
 use Rattle.sync_records.specs.declared.client.ClientRecord.{ClientRecord}
 use Rattle.sync_records.specs.declared.client.ClientRecord.TheVariants as client
@@ -14,9 +16,9 @@ use Rattle.sync_records.specs.declared.client.Took.{Took}
 use Rattle.sync_records.specs.declared.server.ServerRecord.{ServerRecord}
 use Rattle.sync_records.specs.declared.server.ServerRecord.TheVariants as server
 use Rattle.sync_records.specs.declared.refusal.RecordRefusal.{RecordRefusal}
-use Rattle.sync_records.specs.Limits.{IsClientRecord, IsServerRecord}
-use Rattle.sync_records.specs.Spelling.{client_spelling, server_spelling}
-use Rattle.sync_records.specs.Reading.{Gives, id_in, ident_in, form_in, made_in, took_in, entry_in, past_in, version_in, pair_in, count_in, names_in, rest_in, made_of, took_of, took_seen, entry_of, pair_as, count_of, carried_of, past_of, client_forms, server_forms, record_in}
+use Rattle.sync_records.specs.Limits.{IsCarried, IsClientRecord, IsServerRecord}
+use Rattle.sync_records.specs.Spelling.{client_spelling, server_spelling, left_out}
+use Rattle.sync_records.specs.Reading.{Gives, id_in, ident_in, form_in, made_in, took_in, entry_in, past_in, version_in, pair_in, count_in, names_in, rest_in, current_in, waits_in, waits_of, resumed_of, made_of, took_of, took_seen, entry_of, pair_as, count_of, carried_of, past_of, client_forms, server_forms, record_in}
 use Rattle.sync_records.proofs.Whole.{IsWhole, all_is, rest_is, IsForm, form_is, form_again, record_takes}
 
 id_is : IsWhole (λ text. text) id_in (λ text. length text ≡ 16)
@@ -58,6 +60,61 @@ body_is = record { takes = λ bytes x fits e. (some_is bytes x e, tt); again = �
 past_is : IsWhole (λ (x : ((ℕ × ℕ) × ℕ) × List ℕ). varint x.0.0.0 ++ varint x.0.0.1 ++ varint x.0.1 ++ x.1) past_in (λ x. ((x.0.0.0 < 2 ^ 32) × (x.0.0.1 < 2 ^ 32)) × (x.0.1 < 2 ^ 64))
 past_is = took_is
 
+-- ---- an unsent change
+
+bytes_same : (u v : List ℕ) → bytes_eq u v ≡ true → u ≡ v
+bytes_same u v e = (bytes_eq-Decides u v).0 e
+
+bytes_true : (u v : List ℕ) → u ≡ v → bytes_eq u v ≡ true
+bytes_true u v e = (bytes_eq-Decides u v).1 e
+
+abbrev Numbers : Type 0
+Numbers = ((ℕ × ℕ) × ℕ) × List ℕ
+
+abbrev WaitsFit : Numbers × List ℕ → Type 0
+WaitsFit x = ((((x.0.0.0.0 < 2 ^ 32) × (x.0.0.0.1 < 2 ^ 32)) × (x.0.0.1 < 2 ^ 64)) × (length x.0.1 < 2 ^ 32)) × IsCarried x.0.1 x.1
+
+fields_are : IsFormat (λ (x : Numbers). varint x.0.0.0 ++ varint x.0.0.1 ++ varint x.0.1 ++ sized x.1) (both_in (both_in (both_in number_in number_in) wide_in) body_in) (λ x. (((x.0.0.0 < 2 ^ 32) × (x.0.0.1 < 2 ^ 32)) × (x.0.1 < 2 ^ 64)) × (length x.1 < 2 ^ 32))
+fields_are = both_is (both_is (both_is number_is number_is) wide_is) body_is_sized
+
+-- what is left is what is left out of none, or the body as it was carried
+current_takes : (body rest current : List ℕ) → current_in body rest ≡ Some current → (rest ≡ left_out body current) × IsCarried body current
+current_takes body [] current e =
+    let same : body ≡ current = some_is body current e in
+    (sym (ap (λ (b : Bool). cond b [] current) (bytes_true current body (sym same))), λ none. same ∙ none)
+current_takes body (b ∷ rest) current e = go (bytes_eq (b ∷ rest) body) refl e
+  where
+    go : (t : Bool) → bytes_eq (b ∷ rest) body ≡ t → cond t None (Some (b ∷ rest)) ≡ Some current → (b ∷ rest ≡ left_out body current) × IsCarried body current
+    go true same f = absurd (let no : ◌≡◌ {A = Option (List ℕ)} None (Some current) = f in cc)
+    go false differs f =
+        let is : b ∷ rest ≡ current = some_is (b ∷ rest) current f in
+        (is ∙ sym (ap (λ (t : Bool). cond t [] current) (ap (λ l. bytes_eq l body) (sym is) ∙ differs)), λ none. absurd (let no : b ∷ rest ≡ [] = is ∙ none in cc))
+
+current_again : (body current : List ℕ) → IsCarried body current → current_in body (left_out body current) ≡ Some current
+current_again body current carried = go (bytes_eq current body) refl
+  where
+    go : (t : Bool) → bytes_eq current body ≡ t → current_in body (cond t [] current) ≡ Some current
+    go true same = ap (λ l. Some l) (sym (bytes_same current body same))
+    go false differs = on current refl
+      where
+        on : (l : List ℕ) → current ≡ l → current_in body l ≡ Some l
+        on [] is = absurd (let none = carried is in let same : bytes_eq current body ≡ true = bytes_true current body (is ∙ sym none) in cc)
+        on (b ∷ rest) is = ap (λ (t : Bool). cond t None (Some (b ∷ rest))) (ap (λ l. bytes_eq l body) (sym is) ∙ differs)
+
+waits_is : IsWhole (λ (x : Numbers × List ℕ). (varint x.0.0.0.0 ++ varint x.0.0.0.1 ++ varint x.0.0.1 ++ sized x.0.1) ++ left_out x.0.1 x.1) waits_in WaitsFit
+waits_is = record {
+  takes = λ bytes x fits e.
+      let p = bind_some (both_in (both_in (both_in number_in number_in) wide_in) body_in bytes) (λ x. current_in x.0.1 x.1 >>= λ current. Some (x.0, current)) x e in
+      let q = bind_some (current_in p.0.0.1 p.0.1) (λ current. Some (p.0.0, current)) x p.2 in
+      let first = fields_are.takes bytes p.0 fits p.1 in
+      let last = current_takes p.0.0.1 p.0.1 q.0 q.1 in
+      subst (λ (y : Numbers × List ℕ). (bytes ≡ (varint y.0.0.0.0 ++ varint y.0.0.0.1 ++ varint y.0.0.1 ++ sized y.0.1) ++ left_out y.0.1 y.1) × WaitsFit y) (some_is (p.0.0, q.0) x q.2)
+      (first.0.parts ∙ ap (λ l. (varint p.0.0.0.0.0 ++ varint p.0.0.0.0.1 ++ varint p.0.0.0.1 ++ sized p.0.0.1) ++ l) last.0, (first.1, last.1));
+  again = λ x fits.
+      bound (both_in (both_in (both_in number_in number_in) wide_in) body_in ((varint x.0.0.0.0 ++ varint x.0.0.0.1 ++ varint x.0.0.1 ++ sized x.0.1) ++ left_out x.0.1 x.1)) (λ x. current_in x.0.1 x.1 >>= λ current. Some (x.0, current)) (x.0, left_out x.0.1 x.1) (fields_are.again x.0 (left_out x.0.1 x.1) fits.0)
+      ∙ bound (current_in x.0.1 (left_out x.0.1 x.1)) (λ current. Some (x.0, current)) x.1 (current_again x.0.1 x.1 fits.1);
+}
+
 -- ---- a client's
 
 abbrev FitsClient : ClientRecord → Type 0
@@ -69,6 +126,8 @@ FitsClient client.Form = Unit {0}
 FitsClient (client.Subset tables) = FitsTables tables
 FitsClient (client.Part body) = Unit {0}
 FitsClient (client.Floor version) = version < 2 ^ 32
+FitsClient (client.Resumed number waiting) = (number < 2 ^ 32) × (waiting < 2 ^ 32)
+FitsClient (client.Waits number base ms body current) = ((((number < 2 ^ 32) × (base < 2 ^ 32)) × (ms < 2 ^ 64)) × (length body < 2 ^ 32)) × IsCarried body current
 
 client_forms_are : AllByRecursion (IsForm client_spelling FitsClient) client_forms
 client_forms_are = (
@@ -85,7 +144,13 @@ client_forms_are = (
             form_is names_is client.Subset client_spelling FitsClient 9 (λ x f. refl) (λ x f. f),
             (
               form_is body_is client.Part client_spelling FitsClient 11 (λ x f. refl) (λ x f. tt),
-              (form_is version_is client.Floor client_spelling FitsClient 12 (λ x f. refl) (λ x f. f), tt),
+              (
+                form_is version_is client.Floor client_spelling FitsClient 12 (λ x f. refl) (λ x f. f),
+                (
+                  form_is pair_is resumed_of client_spelling FitsClient 16 (λ x f. refl) (λ x f. f),
+                  (form_is waits_is waits_of client_spelling FitsClient 17 (λ x f. refl) (λ x f. f), tt),
+                ),
+              ),
             ),
           ),
         ),
@@ -103,6 +168,8 @@ client_again client.Form fits = form_again form_number_is (λ _. client.Form) 2 
 client_again (client.Subset tables) fits = form_again names_is client.Subset tables fits
 client_again (client.Part body) fits = form_again body_is client.Part body tt
 client_again (client.Floor version) fits = form_again version_is client.Floor version fits
+client_again (client.Resumed number waiting) fits = form_again pair_is resumed_of (number, waiting) fits
+client_again (client.Waits number base ms body current) fits = form_again waits_is waits_of ((((number, base), ms), body), current) fits
 
 client_fits : (record_ : ClientRecord) → IsClientRecord record_ → FitsClient record_
 client_fits (client.Born id) is = is
@@ -113,10 +180,28 @@ client_fits client.Form is = tt
 client_fits (client.Subset tables) is = tables_fit tables is
 client_fits (client.Part body) is = tt
 client_fits (client.Floor version) is = is
+client_fits (client.Resumed number waiting) is = is
+client_fits (client.Waits number base ms body current) is = ((((is.0, is.1), is.2), is.3), is.4)
+
+client_whole : (record_ : ClientRecord) → FitsClient record_ → IsClientRecord record_
+client_whole (client.Born id) fits = fits
+client_whole (client.Named ident) fits = (leb-true 1 ident fits.1, fits.0)
+client_whole (client.Made number ms body) fits = (fits.0, fits.1)
+client_whole (client.Took origin number ms body) fits = (fits.0.0, fits.0.1, fits.1)
+client_whole client.Form fits = tt
+client_whole (client.Subset tables) fits = tables_whole tables fits
+client_whole (client.Part body) fits = tt
+client_whole (client.Floor version) fits = fits
+client_whole (client.Resumed number waiting) fits = fits
+client_whole (client.Waits number base ms body current) fits = (fits.0.0.0.0, fits.0.0.0.1, fits.0.0.1, fits.0.1, fits.1)
 
 pub client_found : (bytes : List ℕ) (r : Result ClientRecord RecordRefusal) → IsBytes bytes → Gives (λ x. x) r (record_in client_forms bytes) → IfOk r (λ x. bytes ≡ client_spelling x)
 client_found bytes (Ok x) fits given = (record_takes client_spelling FitsClient client_forms client_forms_are bytes x fits given).0
 client_found bytes (Err refusal) fits given = tt
+
+pub client_is : (bytes : List ℕ) (r : Result ClientRecord RecordRefusal) → IsBytes bytes → Gives (λ x. x) r (record_in client_forms bytes) → IfOk r IsClientRecord
+client_is bytes (Ok x) fits given = client_whole x (record_takes client_spelling FitsClient client_forms client_forms_are bytes x fits given).1
+client_is bytes (Err refusal) fits given = tt
 
 pub client_took : (bytes : List ℕ) (r : Option Took) → IsBytes bytes → IfSome r (λ t. record_in client_forms bytes ≡ Some (took_seen t)) → IfSome r (λ t. bytes ≡ client_spelling (took_seen t))
 client_took bytes (Some t) fits given = (record_takes client_spelling FitsClient client_forms client_forms_are bytes (took_seen t) fits given).0

@@ -1,6 +1,6 @@
 -- How records are read.
-use Rattle.std.specs.Prelude.{◌≡◌, ℕ, ◌==◌, if◌then◌else◌, List, [], ◌∷◌, nat_le, Option, None, Some, Result, Ok, Err}
-use Rattle.sync_io.specs.Formats.{◌>>=◌, number_in, wide_in, bytes_in, both_in, only_in, all_in}
+use Rattle.std.specs.Prelude.{◌≡◌, ℕ, ◌==◌, if◌then◌else◌, List, [], ◌∷◌, bytes_eq, nat_le, Option, None, Some, Result, Ok, Err}
+use Rattle.sync_io.specs.Formats.{◌>>=◌, number_in, wide_in, bytes_in, body_in, both_in, only_in, all_in}
 use Rattle.subset_bytes.specs.Reading.{tables_in}
 use Rattle.sync_subset.specs.Tables.{Tables}
 use Rattle.sync_records.specs.declared.refusal.RecordRefusal.{RecordRefusal}
@@ -74,11 +74,25 @@ past_in bytes = both_in (both_in number_in number_in) wide_in bytes
 abbrev pub entry_in : List ℕ → Option ((((ℕ × ℕ) × ℕ) × ℕ) × List ℕ)
 entry_in bytes = both_in (both_in (both_in number_in number_in) number_in) wide_in bytes
 
+-- a body as it was carried: where nothing is left it is the same, and only there
+abbrev pub current_in : List ℕ → List ℕ → Option (List ℕ)
+current_in body [] = Some body
+current_in body (b ∷ rest) = if bytes_eq (b ∷ rest) body then None else Some (b ∷ rest)
+
+abbrev pub waits_in : List ℕ → Option ((((ℕ × ℕ) × ℕ) × List ℕ) × List ℕ)
+waits_in bytes = both_in (both_in (both_in number_in number_in) wide_in) body_in bytes >>= λ x. current_in x.0.1 x.1 >>= λ current. Some (x.0, current)
+
 abbrev pub made_of : (ℕ × ℕ) × List ℕ → ClientRecord
 made_of p = client.Made p.0.0 p.0.1 p.1
 
 abbrev pub took_of : ((ℕ × ℕ) × ℕ) × List ℕ → ClientRecord
 took_of p = client.Took p.0.0.0 p.0.0.1 p.0.1 p.1
+
+abbrev pub waits_of : (((ℕ × ℕ) × ℕ) × List ℕ) × List ℕ → ClientRecord
+waits_of p = client.Waits p.0.0.0.0 p.0.0.0.1 p.0.0.1 p.0.1 p.1
+
+abbrev pub resumed_of : ℕ × ℕ → ClientRecord
+resumed_of p = client.Resumed p.0 p.1
 
 -- the record of these fields
 abbrev pub took_seen : Took → ClientRecord
@@ -110,6 +124,8 @@ client_forms =
     ∷ (9, seen client.Subset names_in)
     ∷ (11, seen client.Part rest_in)
     ∷ (12, seen client.Floor version_in)
+    ∷ (16, seen resumed_of pair_in)
+    ∷ (17, seen waits_of waits_in)
     ∷ []
 
 abbrev pub server_forms : List (ℕ × (List ℕ → Option ServerRecord))

@@ -1,15 +1,16 @@
 ghost use Rattle.std.specs.Prelude.{◌≡◌, ◌++◌, List, length, IfOk, IfSome, OnOk, Some};
 ghost use Rattle.sync_records.specs.Limits.{IsClientRecord};
-ghost use Rattle.sync_records.specs.Reading.{Gives, seen, made_of as read_made, made_in, took_of as read_took, took_in, took_seen, client_forms, fields_in, record_in};
+ghost use Rattle.sync_records.specs.Reading.{Gives, seen, made_of as read_made, made_in, took_of as read_took, took_in, took_seen, waits_of as read_waits, waits_in, client_forms, fields_in, record_in};
 ghost use Rattle.sync_records.specs.Spelling.{client_spelling};
 ghost use Rattle.sync_records.specs.declared.client.ClientRecord.{ClientRecord};
 
 use crate::fields::{
-    FORM, body_of, form_of, id_of, named_of, names_of, number_of, version_of, wide_of,
+    FORM, body_of, current_of, form_of, id_of, named_of, names_of, number_of, pair_of, sized_of,
+    version_of, wide_of,
 };
 use crate::named::Named;
 use crate::refusal::RecordRefusal;
-use crate::writing::{ROOM, put_bytes, put_number, put_pair};
+use crate::writing::{ROOM, put_bytes, put_number, put_pair, put_waits};
 use std::alloc::Global;
 use subset_bytes::put_tables;
 use sync_data::{Blob, Id, Ident, NoMemory};
@@ -53,6 +54,21 @@ pub enum ClientRecord {
     /// That state is complete, and it is the one at this version of the history.
     Floor {
         version: u32,
+    },
+    /// The front of a short file begins: so many of the client's transactions were taken from the history and aren't in
+    /// the file, and so many are unsent.
+    Resumed {
+        number: u32,
+        waiting: u32,
+    },
+    /// One of those that are unsent: its number, its base, its time in milliseconds since the epoch, its bytes as it was
+    /// made, and as it was carried since. Where the latter are none the former are none too.
+    Waits {
+        number: u32,
+        base: u32,
+        ms: u64,
+        body: Blob,
+        current: Blob,
     },
 }
 
@@ -115,6 +131,25 @@ fn took_of(alloc: Global, bytes: &[u8]) -> Result<ClientRecord, RecordRefusal>
     })
 }
 
+fn waits_of(alloc: Global, bytes: &[u8]) -> Result<ClientRecord, RecordRefusal>
+    ensures { Gives (λ x. x) result (seen read_waits waits_in bytes.now) }
+{
+    let (number, rest) = number_of(bytes)?;
+    let (base, rest) = number_of(rest)?;
+    let (ms, rest) = wide_of(rest)?;
+    let (body, rest) = sized_of(rest)?;
+    let current = current_of(body, rest)?;
+    let body = body_of(alloc, body)?;
+    let current = body_of(alloc, current)?;
+    Ok(ClientRecord::Waits {
+        number,
+        base,
+        ms,
+        body,
+        current,
+    })
+}
+
 /// The fields behind that tag.
 fn fields_of(alloc: Global, tag: u8, bytes: &[u8]) -> Result<ClientRecord, RecordRefusal>
     ensures { Gives (λ x. x) result (fields_in client_forms tag bytes.now) }
@@ -137,6 +172,11 @@ fn fields_of(alloc: Global, tag: u8, bytes: &[u8]) -> Result<ClientRecord, Recor
         12 => Ok(ClientRecord::Floor {
             version: version_of(bytes)?,
         }),
+        16 => {
+            let (number, waiting) = pair_of(bytes)?;
+            Ok(ClientRecord::Resumed { number, waiting })
+        }
+        17 => waits_of(alloc, bytes),
         _ => Err(RecordRefusal::BadRecord),
     }
 }
@@ -181,11 +221,20 @@ fn put_record(out: &mut Vec<u8>, given: &ClientRecord) -> Result<(), sync_io::No
         }
         ClientRecord::Part { body } => put_bytes(out, 11, body.bytes()),
         ClientRecord::Floor { version } => put_number(out, 12, *version),
+        ClientRecord::Resumed { number, waiting } => put_pair(out, 16, *number, *waiting),
+        ClientRecord::Waits {
+            number,
+            base,
+            ms,
+            body,
+            current,
+        } => put_waits(out, (*number, *base), *ms, body.bytes(), current.bytes()),
     }
 }
 
 impl ClientRecord {
-    /// The one spelling of the record.
+    /// The one spelling of the record. `NoMemory` also where it has none: a `Waits` that was carried to no bytes at all but
+    /// had some, or one of more than 4,294,967,295 bytes.
     pub fn record_bytes(&self, alloc: Global) -> Result<Vec<u8>, NoMemory>
         ensures spelled { IfOk result (λ bytes. bytes.items ≡ client_spelling self.now) }
         // So they are read as the record again.
@@ -217,6 +266,7 @@ impl ClientRecord {
         ensures only { (spelled : ClientRecord) → IsClientRecord spelled → bytes.now ≡ client_spelling spelled → Gives (λ x. x) result (Some spelled) }
         // What is read, unless memory runs out.
         ensures exact { Gives (λ x. x) result (record_in client_forms bytes.now) }
+        ensures is { IfOk result IsClientRecord }
     {
         all_of(alloc, bytes)
     }

@@ -1,6 +1,6 @@
 ghost use Rattle.std.specs.Prelude.{◌≡◌, List, length, IfOk};
-ghost use Rattle.sync_io.specs.Formats.{number_in, wide_in, bytes_in};
-ghost use Rattle.sync_records.specs.Reading.{Gives, id_in, ident_in, form_in, names_in, rest_in, pair_in, version_in};
+ghost use Rattle.sync_io.specs.Formats.{number_in, wide_in, bytes_in, body_in};
+ghost use Rattle.sync_records.specs.Reading.{Gives, id_in, ident_in, form_in, names_in, rest_in, current_in, pair_in, version_in};
 
 use crate::named::Named;
 use crate::refusal::RecordRefusal;
@@ -93,6 +93,34 @@ pub(crate) fn names_of(alloc: Global, bytes: &[u8]) -> Result<Subset, RecordRefu
         Ok(_) => Err(RecordRefusal::BadRecord),
         Err(TablesRefusal::BadTables) => Err(RecordRefusal::BadRecord),
         Err(TablesRefusal::NoMemory) => Err(RecordRefusal::NoMemory),
+    }
+}
+
+/// Bytes behind their length, and what is left.
+pub(crate) fn sized_of(bytes: &[u8]) -> Result<(&[u8], &[u8]), RecordRefusal>
+    ensures { Gives (λ x. (x.0.now, x.1.now)) result (body_in bytes.now) }
+{
+    let (count, rest) = number_of(bytes)?;
+    let count = count as usize;
+    if rest.len() < count {
+        return Err(RecordRefusal::BadRecord);
+    }
+    Ok(rest.split_at(count))
+}
+
+/// A body as it was carried: where nothing is left it is the same, and only there.
+pub(crate) fn current_of<'a>(body: &'a [u8], rest: &'a [u8]) -> Result<&'a [u8], RecordRefusal>
+    ensures { Gives (λ x. x.now) result (current_in body.now rest.now) }
+{
+    match rest {
+        [] => Ok(body),
+        [_, ..] => {
+            if rest == body {
+                Err(RecordRefusal::BadRecord)
+            } else {
+                Ok(rest)
+            }
+        }
     }
 }
 

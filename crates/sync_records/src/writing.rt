@@ -1,5 +1,8 @@
-ghost use Rattle.std.specs.Prelude.{◌≡◌, ◌++◌, ◌∷◌, OnOk};
+ghost use Rattle.std.specs.Prelude.{◌≡◌, ◌<◌, ◌^◌, ◌++◌, ◌∷◌, length, OnOk};
+ghost use Rattle.sync_io.specs.Formats.{body as sized};
 ghost use Rattle.sync_io.specs.Varints.{varint};
+ghost use Rattle.sync_records.specs.Limits.{IsCarried};
+ghost use Rattle.sync_records.specs.Spelling.{left_out};
 
 use sync_data::{Blob, Ident};
 use sync_io::{NoMemory, put_varint32, put_varint64};
@@ -41,6 +44,36 @@ pub(crate) fn put_entry(
     put_varint32(out, base)?;
     put_varint64(out, ms)?;
     out.extend_from_slice(body.bytes())?;
+    Ok(())
+}
+
+/// An unsent change: its numbers, its time, its bytes as it was made and as it was carried, of which the latter are left out
+/// where they are the same.
+pub(crate) fn put_waits(
+    out: &mut Vec<u8>,
+    numbers: (u32, u32),
+    ms: u64,
+    body: &[u8],
+    current: &[u8],
+) -> Result<(), NoMemory>
+    ensures spelled { OnOk result (out.new.items ≡ out.old.items ++ (17 ∷ (varint numbers.0 ++ varint numbers.1 ++ varint ms ++ sized body.now ++ left_out body.now current.now))) }
+    ensures small { OnOk result (length body.now < 2 ^ 32) }
+    ensures carried { OnOk result (IsCarried body.now current.now) }
+{
+    let Ok(size) = u32::try_from(body.len()) else {
+        return Err(NoMemory);
+    };
+    if current.is_empty() && !body.is_empty() {
+        return Err(NoMemory);
+    }
+    let (number, base) = numbers;
+    put_pair(out, 17, number, base)?;
+    put_varint64(out, ms)?;
+    put_varint32(out, size)?;
+    out.extend_from_slice(body)?;
+    if current != body {
+        out.extend_from_slice(current)?;
+    }
     Ok(())
 }
 

@@ -7,7 +7,7 @@ use Rattle.sync_model.specs.Bytes.{Name, Uuid}
 use Rattle.sync_model.specs.Profile.{Profile, Stuck, cross_changesets}
 use Rattle.sync_model.specs.Each.{Each, no_more, and_each}
 use Rattle.sync_model.specs.Messages.{Message, Bind, Ident, Upload, Ask, Download, Refused, Stored, Ask2, Retire, Retired, AskTables}
-use Rattle.sync_model.specs.Clients.{Client, ClientRecord, Born, Named, Made, Took, Form, Subset, Part, Floor, ClientRefusal, ClientStep, after_record, after_records, ask, bind, changeset_of, client_of, commit, crossed, no_client, ok_list, take as take_message, takes_entry, upgrade, subscribe, upload}
+use Rattle.sync_model.specs.Clients.{Client, ClientRecord, Born, Named, Made, Took, Form, Subset, Part, Floor, Resumed, Waits, ClientRefusal, ClientStep, after_record, after_records, ask, bind, changeset_of, client_of, commit, crossed, no_client, ok_list, take as take_message, takes_entry, upgrade, subscribe, upload}
 use Rattle.sync_model.specs.Servers.{ServerRecord, serve, server_of}
 use Rattle.sync_model.specs.Worlds as worlds
 use Rattle.sync_model.specs.Worlds.{World, Node, Event, Joins, Starts, Edits, Binds, Uploads, Asks, Upgrades, Subscribes, Delivers, Restarts, Stops, Injects, Outcome, at, arm, client_called, client_calls, client_ends, client_moved, delivers, empty_world, happens, has_id, has_name, is_node, is_there, made_words, message_at, message_words, named_by, names_own, put, says, seek, server_called, server_ends, server_name, stopped, subscribe_words, took_words, upgrade_words, world_after}
@@ -53,6 +53,8 @@ module _ {I S : Type 0} (p : Profile I S) where
   id_stays (Subset tables ∷ rs) c u is = id_stays rs (after_record p c (Subset tables)) u is
   id_stays (Part body ∷ rs) c u is = id_stays rs (after_record p c (Part body)) u is
   id_stays (Floor version ∷ rs) c u is = id_stays rs (after_record p c (Floor version)) u is
+  id_stays (Resumed number waiting ∷ rs) c u is = id_stays rs (after_record p c (Resumed number waiting)) u is
+  id_stays (Waits number base ms body current ∷ rs) c u is = id_stays rs (after_record p c (Waits number base ms body current)) u is
 
   pub born_id : (nd : Node) → IsBorn nd → (v : Uuid) × ((client_of p nd.records).id ≡ Some v)
   born_id nd b =

@@ -26,6 +26,8 @@ client_kept_seen codes.Form = refl
 client_kept_seen (codes.Subset tables) = refl
 client_kept_seen (codes.Part body) = refl
 client_kept_seen (codes.Floor version) = refl
+client_kept_seen (codes.Resumed number waiting) = refl
+client_kept_seen (codes.Waits number base ms body current) = refl
 
 pub client_texts : (rs : List ClientRecord) → map client_spelling rs ≡ map client_bytes (map client_seen rs)
 client_texts [] = refl

@@ -27,6 +27,8 @@ client_whole ClientRecord.Form is fits = tt
 client_whole (ClientRecord.Subset tables) is fits = fits
 client_whole (ClientRecord.Part body) is fits = tt
 client_whole (ClientRecord.Floor version) is fits = within version is
+client_whole (ClientRecord.Resumed number waiting) is fits = (within number is.0, within waiting is.1)
+client_whole (ClientRecord.Waits number base ms body current) is fits = (within number is.0, within base is.1, fits.0, fits.1, is.2)
 
 client_again : (r : ClientRecord) → client_seen (client_kept r) ≡ r
 client_again (ClientRecord.Born id) = refl
@@ -37,6 +39,8 @@ client_again ClientRecord.Form = refl
 client_again (ClientRecord.Subset tables) = refl
 client_again (ClientRecord.Part body) = refl
 client_again (ClientRecord.Floor version) = refl
+client_again (ClientRecord.Resumed number waiting) = refl
+client_again (ClientRecord.Waits number base ms body current) = refl
 
 client_back : (r : ClientRecord) → IsClientRecord the_profile r → FitsClient r → read_client (client_bytes r) ≡ Some r
 client_back r is fits = ap (option_map client_seen) (client_read (client_bytes r) (client_kept r) (client_whole r is fits) refl) ∙ ap (λ x. Some x) (client_again r)

@@ -61,6 +61,8 @@ FitsClient ClientRecord.Form = Unit {0}
 FitsClient (ClientRecord.Subset tables) = AreTables tables
 FitsClient (ClientRecord.Part body) = Unit {0}
 FitsClient (ClientRecord.Floor version) = Unit {0}
+FitsClient (ClientRecord.Resumed number waiting) = Unit {0}
+FitsClient (ClientRecord.Waits number base ms body current) = (ms < 2 ^ 64) × (length body < 2 ^ 32)
 
 abbrev pub FitsServer : ServerRecord → Type 0
 FitsServer (ServerRecord.Client id) = length id ≡ 16

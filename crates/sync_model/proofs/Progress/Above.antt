@@ -6,7 +6,7 @@ use Rattle.sync_theory.specs.Grid.{rebase, tail}
 use Rattle.sync_model.specs.Bytes.{Tables}
 use Rattle.sync_model.specs.Profile.{Profile, Stuck, cross_changesets, fitting, needs}
 use Rattle.sync_model.specs.Messages.{Change, Message, Bind, Ident, Upload, Ask, Download, Refused, Stored, Ask2, Retire, Retired, AskTables}
-use Rattle.sync_model.specs.Clients.{Client, ClientRecord, Born, Named, Made, Took, Form, Subset, Unsent, changeset_of, carried_to, settled_from, change_of, to_upload, question, ok_list, after_record, after_records, takes_entry, crossed, take as take_message}
+use Rattle.sync_model.specs.Clients.{Client, ClientRecord, Born, Named, Made, Took, Form, Subset, Unsent, changeset_of, carried_to, settled_from, change_of, to_upload, question, ok_list, after_record, after_records, takes_entry, crossed, take as take_message, Resumed, Waits}
 use Rattle.sync_model.specs.Servers.{Server, ServerRecord, ServerStep, ServerRefusal, NoSuchIdent, IdentsFull, AheadOfHistory, NeedsForm2, SelfRetire, RetiredBy, place_of, count, is_given, heir_of, merge, merged, marking, serve, serve_changes, retire_for, download, download_first, download_tables, first_form, if_there, entries_from, refuses, replies, after_all}
 use Rattle.sync_model.specs.Each.{Each, no_more, and_each}
 use Rattle.sync_model.proofs.Alike.{LowChange, IsLow}
@@ -23,6 +23,8 @@ IsCall Form = Unit {0}
 IsCall (Subset tables) = Unit {0}
 IsCall (ClientRecord.Part body) = ⊥
 IsCall (ClientRecord.Floor version) = ⊥
+IsCall (Resumed number waiting) = ⊥
+IsCall (Waits number base ms body current) = ⊥
 
 told_called : {rs : List ClientRecord} → Each IsTold rs → Each IsCall rs
 told_called no_more = no_more
@@ -34,6 +36,8 @@ told_called (and_each {x = Form} h e) = absurd h
 told_called (and_each {x = Subset tables} h e) = absurd h
 told_called (and_each {x = ClientRecord.Part body} h e) = absurd h
 told_called (and_each {x = ClientRecord.Floor version} h e) = absurd h
+told_called (and_each {x = Resumed number waiting} h e) = absurd h
+told_called (and_each {x = Waits number base ms body current} h e) = absurd h
 
 -- a reply, which asks for nothing
 abbrev pub IsReply : Message → Type 0
@@ -169,6 +173,8 @@ module _ {I S : Type 0} (p : Profile I S) where
   called_above floor (Born id ∷ rs) c (and_each h e) a = absurd h
   called_above floor (ClientRecord.Part body ∷ rs) c (and_each h e) a = absurd h
   called_above floor (ClientRecord.Floor version ∷ rs) c (and_each h e) a = absurd h
+  called_above floor (Resumed number waiting ∷ rs) c (and_each h e) a = absurd h
+  called_above floor (Waits number base ms body current ∷ rs) c (and_each h e) a = absurd h
 
   pub takes_called : (c : Client I S) (m : Message) → Each IsCall (take_message p c m).records
   takes_called c m = told_called (takes_told p c m)

@@ -7,7 +7,7 @@ use Rattle.sync_theory.proofs.World.{put_same, put_other, same_or_not}
 use Rattle.sync_model.specs.Bytes.{Uuid}
 use Rattle.sync_model.specs.Profile.{Profile, needs}
 use Rattle.sync_model.specs.Messages.{Change, Message, Bind, Ident, Upload, Ask, Download, Refused, Stored, Ask2, Retire, Retired, AskTables}
-use Rattle.sync_model.specs.Clients.{Client, ClientRecord, Born, Named, Made, Took, Form, Subset, Unsent, ok_list, client_of, after_record, after_records}
+use Rattle.sync_model.specs.Clients.{Client, ClientRecord, Born, Named, Made, Took, Form, Subset, Unsent, ok_list, client_of, after_record, after_records, Resumed, Waits}
 use Rattle.sync_model.specs.Servers.{Server, ServerRecord, Entry, Settled, ServerRefusal, ServerStep, NoSuchIdent, IdentsFull, AheadOfHistory, SelfRetire, RetiredBy, no_server, server_of, after_server, after_all, place_of, count, is_given, heir_of, merge, merged, marking, marks_new, serve, serve_changes, serve_retire, retire_for, download, download_first, download_tables, if_there, entries_from, refuses, replies}
 use Rattle.sync_model.specs.Worlds.{Node, World, at, server_moved}
 use Rattle.sync_model.specs.Log.{ident_by, ident_of}
@@ -293,3 +293,5 @@ module _ {I S : Type 0} (p : Profile I S) where
   called_id (Born id ∷ rs) c (and_each h e) = absurd h
   called_id (ClientRecord.Part body ∷ rs) c (and_each h e) = absurd h
   called_id (ClientRecord.Floor version ∷ rs) c (and_each h e) = absurd h
+  called_id (Resumed number waiting ∷ rs) c (and_each h e) = absurd h
+  called_id (Waits number base ms body current ∷ rs) c (and_each h e) = absurd h

@@ -1,16 +1,17 @@
 -- Whatever happens, the history, cursors and what clients made only grow, and a uuid and its ident stay.
-use Rattle.std.proofs.Common.{append-nil, append_assoc, ◌≡◌, ◌≢◌, ℕ, ◌≤◌, Bool, true, false, ◌&&◌, ◌||◌, not, List, [], ◌∷◌, ◌++◌, Option, Some, None, Result, Ok, Err, refl, sym, ap, ◌∙◌, subst, arith, if◌then◌else◌, length, length-append, eqb-true, ◌==◌, map}
+use Rattle.std.proofs.Common.{append-nil, append_assoc, ◌≡◌, ◌≢◌, ℕ, zero, suc, ◌≤◌, Bool, true, false, ◌&&◌, ◌||◌, not, List, [], ◌∷◌, ◌++◌, Option, Some, None, Result, Ok, Err, refl, sym, ap, ◌∙◌, subst, arith, if◌then◌else◌, length, length-append, eqb-true, ◌==◌, map}
 use Rattle.std.specs.Prelude.{bytes_eq, ⊤}
 use Rattle.sync_theory.specs.Changesets.{Changeset}
 use Rattle.sync_theory.specs.Logs.{Entry as LogEntry, of_origin}
 use Rattle.sync_theory.proofs.Logs.{length_snoc, origin_append}
 use Rattle.sync_model.specs.Bytes.{Name, Uuid}
-use Rattle.sync_model.specs.Profile.{Profile, Lawful}
+use Rattle.sync_model.specs.Profile.{Profile, Lawful, Stuck, cross_changesets}
 use Rattle.sync_model.specs.Snapshots.{Buildable, grown}
 use Rattle.sync_model.specs.Messages.{Message, Bind, Ident, Upload, Ask, Download, Refused, Stored, Ask2, Retire, Retired, AskTables}
-use Rattle.sync_model.specs.Clients.{Client, ClientRecord, Born, Named, Made, Took, Form, ClientRefusal, ClientStep, ok_list, no_client, client_of, after_record, after_records, commit, upgrade, bind, upload, ask, take as take_message, Subset, subscribe}
+use Rattle.sync_model.specs.Clients.{Client, ClientRecord, Born, Named, Made, Took, Form, ClientRefusal, ClientStep, ok_list, no_client, client_of, after_record, after_records, commit, upgrade, bind, upload, ask, take as take_message, Subset, subscribe, Resumed, Waits, blanks, one_less, changeset_of, crossed, takes_entry}
 use Rattle.sync_model.specs.Servers.{Server, ServerRecord, Entry, no_server, server_of, after_server, after_all, entry_of, place_of, count, serve, server_objects}
-use Rattle.sync_model.specs.Files.{client_admits, client_opens, is_growing, is_blank, is_fine}
+use Rattle.sync_theory.specs.Grid.{rebase, tail}
+use Rattle.sync_model.specs.Files.{client_admits, client_opens, is_empty, is_growing, is_blank, is_fine, all_came, may_grow}
 use Rattle.sync_model.specs.Worlds.{Node, World, Event, Joins, Edits, Binds, Uploads, Asks, Upgrades, Delivers, Restarts, Stops, Injects, Outcome, says, NoNode, NameTaken, UuidTaken, Joined, Armed, OwnIdent, at, seek, is_there, stopped, has_name, has_id, server_name, message_words, made_words, took_words, upgrade_words, client_moved, client_ends, client_called, client_calls, server_ends, server_called, is_node, delivers, named_by, names_own, message_at, arm, happens, world_after, Starts, Subscribes, subscribe_words}
 use Rattle.sync_model.specs.Log.{ident_by, ident_of}
 use Rattle.sync_model.proofs.Lists.{place_old}
@@ -35,27 +36,72 @@ module _ {I S : Type 0} (p : Profile I S) where
     pub id : (u : Uuid) → c.id ≡ Some u → d.id ≡ Some u
     pub second : c.second ≡ true → d.second ≡ true
 
-  -- a client that has no ident and didn't begin with a state took nothing
-  abbrev AtFirst : Client I S → Type 0
-  AtFirst c = c.ident ≡ 0 → c.floor ≡ None → c.cursor ≡ 0
+  -- a client that has no ident and didn't begin with a state took nothing; nor has one in the front of a short file
+  pub record AtFirst (c : Client I S) : Type 0 where
+    none : c.ident ≡ 0 → c.floor ≡ None → c.cursor ≡ 0
+    front : is_there c.front ≡ true → (c.cursor ≡ 0) × (c.ident ≡ 0)
+
+  some : (k : ℕ) → not (k == 0) ≡ true → k ≡ 0 → ⊥
+  some k g z = let t = test_true k 0 z in cc
+
+  grows : (c : Client I S) → is_there c.front ≡ true → not (is_growing c) ≡ true → ⊥
+  grows c g e = go c.front g e
+    where
+      go : (o : Option ℕ) → is_there o ≡ true → not (is_there o || (not (is_empty c.parts) && not (is_there c.floor))) ≡ true → ⊥
+      go None g e = cc
+      go (Some n) g e = cc
+
+  blank : (c : Client I S) → is_blank c ≡ true → (c.floor ≡ None) × (c.ident ≡ 0)
+  blank c e =
+      let more = both (not (is_there c.floor)) _ (both (not (is_there c.subset)) _ (both (is_there c.id) _ e).1).1 in
+      (no_floor c.floor more.0, eqb-true c.ident 0 (both (c.ident == 0) _ more.1).0)
+    where
+      no_floor : (o : Option ℕ) → not (is_there o) ≡ true → o ≡ None
+      no_floor None f = refl
+      no_floor (Some v) f = cc
+
+  -- it took nothing where parts of a state may come
+  ready : (c : Client I S) → AtFirst c → may_grow c ≡ true → c.cursor ≡ 0
+  ready c f e = go c.front refl e
+    where
+      go : (o : Option ℕ) → c.front ≡ o → all_came o (is_blank c) ≡ true → c.cursor ≡ 0
+      go None is t = let h = blank c t in f.none h.1 h.0
+      go (Some n) is t = (f.front (ap is_there is)).0
+
+  still : (o : Option ℕ) → is_there (one_less o) ≡ true → is_there o ≡ true
+  still None g = g
+  still (Some zero) g = refl
+  still (Some (suc n)) g = refl
 
   first_one : (c : Client I S) (ahead : List (Option ClientRecord)) (r : ClientRecord) → client_admits p c ahead r ≡ true → AtFirst c → AtFirst (after_record p c r)
-  first_one c ahead (Born id) e f = f
-  first_one c ahead (Named ident) e f = λ z n. absurd (some ident (both (c.ident == 0) (not (ident == 0)) (both (not (is_growing c)) _ (both (is_there c.id) _ e).1).1).1 z)
-    where
-      some : (k : ℕ) → not (k == 0) ≡ true → k ≡ 0 → ⊥
-      some k g z = let t = test_true k 0 z in cc
-  first_one c ahead (Made number ms body) e f = f
+  first_one c ahead (Born id) e f = record { none = f.none; front = f.front }
+  first_one c ahead (Named ident) e f =
+      let b = both (not (is_growing c)) _ (both (is_there c.id) _ e).1 in
+      record { none = λ z n. absurd (some ident (both (c.ident == 0) (not (ident == 0)) b.1).1 z); front = λ g. absurd (grows c g b.0) }
+  first_one c ahead (Made number ms body) e f = record { none = f.none; front = f.front }
   first_one c ahead (Took origin number ms body) e f =
       let same = (takes_same p c (record { origin = origin; number = number; ms = ms; instrs = ok_list (p.unspell body) })).0 in
-      λ z n. absurd (some c.ident (both (not (c.ident == 0)) _ e).0 (sym same.ident ∙ z))
+      let named = some c.ident (both (not (c.ident == 0)) _ e).0 in
+      record {
+        none = λ z n. absurd (named (sym same.ident ∙ z));
+        front = λ g. absurd (named (f.front (sym (took_front (record { origin = origin; number = number; ms = ms; instrs = ok_list (p.unspell body) })) ∙ g)).1);
+      }
     where
-      some : (k : ℕ) → not (k == 0) ≡ true → k ≡ 0 → ⊥
-      some k g z = let t = test_true k 0 z in cc
-  first_one c ahead Form e f = f
-  first_one c ahead (Subset tables) e f = f
-  first_one c ahead (ClientRecord.Part body) e f = f
-  first_one c ahead (ClientRecord.Floor version) e f = λ z n. cc
+      took_front : (x : Changeset I) → is_there (takes_entry p c x).front ≡ is_there c.front
+      took_front x = go (x.origin == c.ident) (rebase (cross_changesets p) (map (changeset_of c.ident) c.unsent) x)
+        where
+          go : (t : Bool) (q : Result (List (Changeset I) × Changeset I) (ℕ × Stuck)) → is_there (if t then record c { cursor = suc c.cursor; unsent = tail c.unsent } else crossed p c q).front ≡ is_there c.front
+          go true q = refl
+          go false (Ok q) = refl
+          go false (Err f) = refl
+  first_one c ahead Form e f = record { none = f.none; front = f.front }
+  first_one c ahead (Subset tables) e f = record { none = f.none; front = f.front }
+  first_one c ahead (ClientRecord.Part body) e f = record { none = f.none; front = f.front }
+  first_one c ahead (ClientRecord.Floor version) e f = record { none = λ z n. cc; front = λ g. cc }
+  first_one c ahead (Resumed number waiting) e f =
+      let h = blank c (both (is_blank c) _ e).0 in
+      record { none = f.none; front = λ g. (f.none h.1 h.0, h.1) }
+  first_one c ahead (Waits number base ms body current) e f = record { none = f.none; front = λ g. f.front (still c.front g) }
 
   first_all : (rs : List ClientRecord) (c : Client I S) → client_opens p c rs ≡ true → AtFirst c → AtFirst (after_records p c rs)
   first_all [] c e f = f
@@ -91,18 +137,14 @@ module _ {I S : Type 0} (p : Profile I S) where
   onto_one c ahead (Subset tables) e first = record { cursor = omega arith; made = omega arith; id = λ u f. f; second = λ f. f }
   onto_one c ahead (ClientRecord.Part body) e first = record { cursor = omega arith; made = omega arith; id = λ u f. f; second = λ f. f }
   onto_one c ahead (ClientRecord.Floor version) e first =
-      let z = first (blank.1) (blank.0) in
+      let z = ready c first (both (may_grow c) _ e).0 in
       record { cursor = omega arith; made = omega arith; id = λ u f. f; second = λ f. f }
-    where
-      no_floor : (o : Option ℕ) → not (is_there o) ≡ true → o ≡ None
-      no_floor None f = refl
-      no_floor (Some v) f = cc
-
-      blank : (c.floor ≡ None) × (c.ident ≡ 0)
-      blank =
-          let tests = (both (is_there c.id) _ (both (is_blank c) (is_fine (grown p c.parts)) e).0).1 in
-          let more = both (not (is_there c.floor)) _ (both (not (is_there c.subset)) _ tests).1 in
-          (no_floor c.floor more.0, eqb-true c.ident 0 (both (c.ident == 0) _ more.1).0)
+  onto_one c ahead (Resumed number waiting) e first =
+      let l = length-append c.made (blanks {I = I} (suc (length c.made)) number) in
+      record { cursor = omega arith; made = omega (arith, l); id = λ u f. f; second = λ f. f }
+  onto_one c ahead (Waits number base ms body current) e first =
+      let l = length_snoc c.made (record { base = base; number = number; ms = ms; instrs = ok_list (p.unspell body) }) in
+      record { cursor = omega arith; made = omega arith; id = λ u f. f; second = λ f. f }
 
   onto : (rs : List ClientRecord) (c : Client I S) → client_opens p c rs ≡ true → AtFirst c → Onto c (after_records p c rs)
   onto [] c e first = onto_refl c
@@ -269,7 +311,7 @@ module _ {I S : Type 0} (p : Profile I S) where
           node = g.0;
           here = g.1;
           name = g.2.name;
-          client = subst (Onto (client_of p nd.records)) (sym (ap (client_of p) g.2.records ∙ after_append p (no_client p) nd.records g.2.more)) (onto g.2.more (client_of p nd.records) (opens_rest nd.records g.2.more (no_client p) open_) (first_all nd.records (no_client p) (reached.opens.clients i nd h) (λ z n. refl)));
+          client = subst (Onto (client_of p nd.records)) (sym (ap (client_of p) g.2.records ∙ after_append p (no_client p) nd.records g.2.more)) (onto g.2.more (client_of p nd.records) (opens_rest nd.records g.2.more (no_client p) open_) (first_all nd.records (no_client p) (reached.opens.clients i nd h) (record { none = λ z n. refl; front = λ g. cc })));
         }
 
     pub log_longer : length (server_of p w.server).log ≤ length (server_of p (world_after p w es).server).log

@@ -9,7 +9,7 @@ use Rattle.sync_model.specs.Bytes.{Name, Uuid}
 use Rattle.sync_model.specs.Profile.{Profile, Lawful}
 use Rattle.sync_model.specs.Snapshots.{Buildable}
 use Rattle.sync_model.specs.Messages.{Change, Sent, Message, Bind, Ident, Upload, Ask, Download, Refused, Stored, Ask2, Retire, Retired, AskTables}
-use Rattle.sync_model.specs.Clients.{Client, ClientRecord, Born, Named, Made, Took, Form, ClientRefusal, ClientStep, NotMine, WasRefused, IdentDiffers, Gap, Unsent, answers, appends, refuse, if_born, ok_list, client_of, after_record, after_records, entry_refusal, take_one, took, take_entries, take_ident, take_born, take as take_message, Subset}
+use Rattle.sync_model.specs.Clients.{Client, ClientRecord, Born, Named, Made, Took, Form, ClientRefusal, ClientStep, NotMine, WasRefused, IdentDiffers, Gap, Unsent, answers, appends, refuse, if_born, ok_list, client_of, after_record, after_records, entry_refusal, take_one, took, take_entries, take_ident, take_born, take as take_message, Subset, Resumed, Waits}
 use Rattle.sync_model.specs.Servers.{Server, ServerRecord, Entry, ServerStep, IdentsFull, NoSuchIdent, AheadOfHistory, server_of, after_server, after_all, place_of, count, is_given, serve, serve_changes, merge, merged, download, download_first, if_there, entries_from, refuses, replies, no_server, Settled, marking, marks_new, heir_of, retire_for, SelfRetire, RetiredBy, download_tables}
 use Rattle.sync_model.specs.Each.{Each, no_more, and_each}
 use Rattle.sync_model.specs.Worlds.{Node, World, Delivers, says, NoNode, at, put, seek, has_name, stopped, server_name, took_words, client_moved, client_ends, client_called, client_calls, server_ends, server_called, is_node, delivers, message_at, happens, world_after}
@@ -54,6 +54,8 @@ IsTold Form = ⊥
 IsTold (Subset tables) = ⊥
 IsTold (ClientRecord.Part body) = ⊥
 IsTold (ClientRecord.Floor version) = ⊥
+IsTold (Resumed number waiting) = ⊥
+IsTold (Waits number base ms body current) = ⊥
 
 at_suc : {A : Type 0} (xs : List A) (i : ℕ) (x : A) → at xs i ≡ Some x → i < length xs
 at_suc xs i x h = at_below xs i x h
@@ -82,6 +84,8 @@ module _ {I S : Type 0} (p : Profile I S) where
   made_same (Subset tables ∷ rs) c (and_each h e) = absurd h
   made_same (ClientRecord.Part body ∷ rs) c (and_each h e) = absurd h
   made_same (ClientRecord.Floor version ∷ rs) c (and_each h e) = absurd h
+  made_same (Resumed number waiting ∷ rs) c (and_each h e) = absurd h
+  made_same (Waits number base ms body current ∷ rs) c (and_each h e) = absurd h
 
   tooks : (es : List Sent) (c : Client I S) → Each IsTold (take_entries p c es).records
   tooks [] c = no_more

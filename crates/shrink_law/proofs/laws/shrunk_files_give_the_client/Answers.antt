@@ -1,9 +1,10 @@
+use Rattle.std.proofs.Common.{refl}
 use Rattle.sync_model.specs.Clients.{client_of, no_client}
 use Rattle.sync_model.proofs.Small.{client_lists}
 use Rattle.shrink_law.proofs.Files.{short_gives, fresh}
-use Rattle.shrink_law.proofs.Opened.{plains_open, short_file_opens}
+use Rattle.shrink_law.proofs.Opened.{longs_open, short_file_opens}
 use Rattle.shrink_law.proofs.Standing.{client_stands}
-use Rattle.shrink_law.proofs.Whole.{whole_of, goes_on, plains_are}
+use Rattle.shrink_law.proofs.Whole.{whole_of, goes_on}
 use Rattle.shrink_law.proofs.laws.shrunk_files_give_the_client.Goals as goal
 
 pub returns : goal.returns
@@ -15,5 +16,5 @@ returns g c =
       gives = λ rs open_. let stands = client_stands p law built rs in short_gives p law built (client_of p rs) stands.0 stands.1 (client_lists p law rs).unsent (fresh p rs open_);
       opens = λ rs more open_ each born plain_ later. short_file_opens p law built (client_of p rs) (whole_of p law built rs open_ each born) more plain_ later;
       goes_on = λ rs more open_ plain_. goes_on p law built rs more open_ plain_;
-      as_before = λ rs. (plains_are p law built rs (no_client p), plains_open p rs (no_client p));
+      as_before = λ rs longs. longs_open p rs (no_client p) refl longs;
     }

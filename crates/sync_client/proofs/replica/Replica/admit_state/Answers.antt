@@ -1,38 +1,11 @@
-use Rattle.std.proofs.Common.{◌≡◌, ◌+◌, List, drop, length, refl, sym, ◌∙◌, subst, arith}
-use Rattle.std.specs.Prelude.{◌⊎◌}
-use Rattle.std.proofs.lemmas.Result.{err_from_is_err_and}
-use Rattle.sync_data.specs.Payload.{Changes}
-use Rattle.sync_journal.proofs.Gates.{left_at, none_left}
-use Rattle.sync_snapshot.specs.Grown.{lists_of}
-use Rattle.sync_client.specs.Parts.{Ended, Named}
-use Rattle.sync_client.proofs.States.{blank_refused, close_refused, closed_on, closes_none, closes_some, end_refused, run_refused}
+use Rattle.std.proofs.Common.{◌+◌, drop, sym, ◌∙◌}
+use Rattle.sync_client.proofs.States.{blank_grows, blank_refused, grown_on}
 use Rattle.sync_client.proofs.replica.Replica.admit_state.Goals as goal
 
 pub returns-then-not-is_blank : goal.returns-then-not-is_blank
 returns-then-not-is_blank c = λ before k. blank_refused before c.args.self.now k c.args.records.now c.args.place c.requires.there (sym (c.is_blank.ensures k.past k.count) ∙ c.if-not-is_blank.true) c.requires.of_state
 
-pub returns-in_err-run : goal.returns-in_err-run
-returns-in_err-run c = λ before k.
-    let p = err_from_is_err_and c.from_residual.result c.from_residual.ensures.1 in
-    rw (p.1, p.2) (run_refused before c.args.self.now c.args.self.now k (sym (c.is_blank.ensures k.past k.count) ∙ c.if-not-is_blank.false) (drop c.args.place c.args.records.now) (λ n. drop (c.args.place + n) c.args.records.now) c.args.place c.in_err-run.field-0.0 c.in_err-run.ensures.run)
-
-pub returns-in-Ok : goal.returns-in-Ok
-returns-in-Ok c = λ before k.
-    let n_is : c.len.result ≡ length c.in_ok-run.run'.items = (let e = c.len.ensures in let ok = c.in_ok-run.run'.ok.0 in omega (arith, e, ok)) in
-    end_refused before c.args.self.now k (sym (c.is_blank.ensures k.past k.count) ∙ c.if-not-is_blank.false) c.args.records.now c.args.place c.in_ok-run.run'.items c.len.result n_is c.in_ok-run.ensures.run c.in-Ok.number
-    (none_left c.args.records.now (c.args.place + c.len.result) (let t = c.if-behind-count.true in omega (arith, t, c.len-count.ensures)))
-    (subst (λ (l : List Changes). Named (lists_of l) c.in-Ok.number ⊎ Ended (lists_of l) c.in-Ok.number) c.as_slice.ensures.value c.in-Ok.ensures.number)
-
-pub returns-in-Ok-None : goal.returns-in-Ok-None
-returns-in-Ok-None c = λ before k.
-    let n_is : c.len.result ≡ length c.in_ok-run.run'.items = (let e = c.len.ensures in let ok = c.in_ok-run.run'.ok.0 in omega (arith, e, ok)) in
-    closed_on before c.args.self.now k (sym (c.is_blank.ensures k.past k.count) ∙ c.if-not-is_blank.false) c.args.records.now c.args.place c.in_ok-run.run'.items c.len.result n_is c.in_ok-run.ensures.run c.at.result.now
-    (left_at c.args.records.now (c.args.place + c.len.result) c.at.result.now (let w = c.in_ok-run.ensures.within in let t = c.if-behind-count.false in omega (arith, w, t, n_is, c.len-count.ensures)) c.at.ensures) c.close.new.self
-    (closes_none c.args.self.now c.close.new.self c.in_ok-run.run'.items c.as_slice-2.result.now c.at.result.now c.at.result.now c.in-Ok-None.field-0 c.as_slice-2.ensures.value refl c.in-Ok-None.field-0-is c.in-Ok-None.ensures.closes)
-
-pub returns-in-Ok-Some : goal.returns-in-Ok-Some
-returns-in-Ok-Some c = λ before k.
-    let n_is : c.len.result ≡ length c.in_ok-run.run'.items = (let e = c.len.ensures in let ok = c.in_ok-run.run'.ok.0 in omega (arith, e, ok)) in
-    close_refused before c.args.self.now k (sym (c.is_blank.ensures k.past k.count) ∙ c.if-not-is_blank.false) c.args.records.now c.args.place c.in_ok-run.run'.items c.len.result n_is c.in_ok-run.ensures.run c.at.result.now
-    (left_at c.args.records.now (c.args.place + c.len.result) c.at.result.now (let w = c.in_ok-run.ensures.within in let t = c.if-behind-count.false in omega (arith, w, t, n_is, c.len-count.ensures)) c.at.ensures) c.in-Ok-Some.number c.requires.of_state
-    (closes_some c.args.self.now c.close.new.self c.in_ok-run.run'.items c.as_slice-2.result.now c.at.result.now c.at.result.now c.in-Ok-Some.field-0 c.in-Ok-Some.number c.as_slice-2.ensures.value refl c.in-Ok-Some.field-0-is c.in-Ok-Some.ensures.closes)
+pub returns : goal.returns
+returns c = λ before k.
+    grown_on before c.args.self.now c.admit_parts.new.self k (drop c.args.place c.args.records.now) (λ n. drop (c.args.place + n) c.args.records.now) c.args.place c.admit_parts.result
+    (c.admit_parts.ensures k.past (blank_grows before c.args.self.now k (sym (c.is_blank.ensures k.past k.count) ∙ c.if-not-is_blank.false)))
