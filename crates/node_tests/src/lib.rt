@@ -12,6 +12,7 @@ mod resets;
 mod servers;
 mod snapshots;
 mod spelled;
+mod talks;
 mod transactions;
 mod trims;
 
@@ -62,7 +63,7 @@ pub fn cases(alloc: Global) -> [(&'static str, bool); 10] {
 }
 
 /// The same of what an application and a host in another language call.
-pub fn cases_of_applications(alloc: Global) -> [(&'static str, bool); 6] {
+pub fn cases_of_applications(alloc: Global) -> [(&'static str, bool); 7] {
     [
         (
             "calls see the transaction so far",
@@ -79,6 +80,10 @@ pub fn cases_of_applications(alloc: Global) -> [(&'static str, bool); 6] {
         (
             "a client sends what is next",
             next::a_client_sends_what_is_next(alloc),
+        ),
+        (
+            "a client asks before it uploads",
+            talks::a_client_asks_before_it_uploads(alloc),
         ),
         ("a client of a host answers", hosts::a_client_answers(alloc)),
         ("other places of a host answer", hosts::others_answer(alloc)),

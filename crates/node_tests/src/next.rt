@@ -25,7 +25,7 @@ enum Step {
 
 /// A kind of message.
 #[derive(Clone, Copy, PartialEq, Eq)]
-enum Sent {
+pub(crate) enum Sent {
     Bind,
     Upload,
     Ask,
@@ -46,7 +46,7 @@ const CASES: [(Step, u32, Option<(Sent, u32)>); 9] = [
 ];
 
 /// Whether the client commits a transaction that adds a table.
-fn commits(alloc: Global, client: &mut Client<MemoryDisk>, table: &str) -> bool {
+pub(crate) fn commits(alloc: Global, client: &mut Client<MemoryDisk>, table: &str) -> bool {
     let Ok(table) = Name::new(table) else {
         return false;
     };
@@ -80,7 +80,7 @@ fn takes(alloc: Global, client: &mut Client<MemoryDisk>, step: &Step) -> bool {
     }
 }
 
-fn kind_of(message: &Message) -> Sent {
+pub(crate) fn kind_of(message: &Message) -> Sent {
     match message {
         Message::Bind { .. } => Sent::Bind,
         Message::Upload(_) => Sent::Upload,
@@ -106,7 +106,7 @@ fn is_told(alloc: Global, client: &mut Client<MemoryDisk>) -> bool {
     true
 }
 
-fn client(alloc: Global) -> Option<Client<MemoryDisk>> {
+pub(crate) fn client(alloc: Global) -> Option<Client<MemoryDisk>> {
     let Ok(disk) = MemoryDisk::new(alloc) else {
         return None;
     };

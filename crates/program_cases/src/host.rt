@@ -33,10 +33,14 @@ impl Folder {
     /// The words of a command, with the path of the file in place of its name. `gen` names none.
     fn words(&self, alloc: Global, command: &str) -> Result<Vec<String>, Failure> {
         let mut words = words_of(alloc, command)?;
-        if let [word, name, ..] = words.as_mut_slice() {
-            if word.as_str() != "gen" {
+        match words.as_mut_slice() {
+            [_, option, name] if option.as_str() == "--replace" => {
                 *name = self.path(alloc, name.as_str())?;
             }
+            [word, name, ..] if word.as_str() != "gen" => {
+                *name = self.path(alloc, name.as_str())?;
+            }
+            _ => {}
         }
         Ok(words)
     }
@@ -55,8 +59,10 @@ impl Folder {
         match step.commands.as_str().strip_prefix("held ") {
             Some(command) => {
                 let words = self.words(rt.alloc(), command)?;
-                let [_, path, ..] = words.as_slice() else {
-                    return Ok(false);
+                let path = match words.as_slice() {
+                    [_, option, path] if option.as_str() == "--replace" => path,
+                    [_, path, ..] => path,
+                    _ => return Ok(false),
                 };
                 let held = hold(rt, path.as_str());
                 let is_right = held.is_ok() && self.ends_so(rt, &words, step, exit)?;
