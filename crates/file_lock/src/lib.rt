@@ -3,8 +3,13 @@
 //! those that ask for it, and goes with the process that holds it, also where that is killed.
 #![tactic(auto)]
 
+use std::fs;
 use std::fs::{File, OpenFile, OpenOptions, TryLockError};
+use std::os::unix::fs::MetadataExt;
 use std::rt::Files;
+
+/// How often a file is opened again that another took the place of between its opening and its lock.
+const OPENINGS: usize = 100;
 
 /// Why a file isn't held.
 #[derive(Clone, Copy, Debug, PartialEq, Eq)]
@@ -44,19 +49,33 @@ impl<F: OpenFile + Drop> FileLock<F> {
     }
 }
 
-/// Holds the file of a path, which is made where it is absent. It doesn't wait: where another holds the file, that is
-/// `Busy`, and nothing changed.
+/// Whether the file still stands at its path: another may have taken its place since it was opened.
+fn stands_at<R: Files>(rt: &R, path: &str, file: &R::File) -> bool {
+    match (file.metadata(), fs::metadata(rt, path)) {
+        (Ok(held), Ok(named)) => held.dev() == named.dev() && held.ino() == named.ino(),
+        _ => false,
+    }
+}
+
+/// Holds the file of a path, which is made where it is absent. It doesn't wait: where another holds the file, or others put
+/// one file after another in its place, that is `Busy`, and nothing changed.
 pub fn hold<R: Files>(rt: &R, path: &str) -> Result<FileLock<R::File>, LockRefusal>
 where
     R::File: Lockable + Drop,
 {
-    let mut options = OpenOptions::new();
-    let Ok(file) = options.read(true).write(true).create(true).open(rt, path) else {
-        return Err(LockRefusal::Failed);
-    };
-    match file.lock_at_once() {
-        Ok(()) => Ok(FileLock { file }),
-        Err(TryLockError::WouldBlock) => Err(LockRefusal::Busy),
-        Err(TryLockError::Error(_)) => Err(LockRefusal::Failed),
+    for _ in 0..OPENINGS {
+        let mut options = OpenOptions::new();
+        let Ok(file) = options.read(true).write(true).create(true).open(rt, path) else {
+            return Err(LockRefusal::Failed);
+        };
+        match file.lock_at_once() {
+            Ok(()) => {}
+            Err(TryLockError::WouldBlock) => return Err(LockRefusal::Busy),
+            Err(TryLockError::Error(_)) => return Err(LockRefusal::Failed),
+        }
+        if stands_at(rt, path, &file) {
+            return Ok(FileLock { file });
+        }
     }
+    Err(LockRefusal::Busy)
 }

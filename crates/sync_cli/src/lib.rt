@@ -4,6 +4,7 @@
 
 mod arguments;
 mod end;
+mod replacing;
 mod running;
 
 pub use arguments::words;

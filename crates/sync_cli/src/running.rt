@@ -1,7 +1,9 @@
 ghost use Rattle.std.specs.Prelude.{◌≡◌, ◌⊎◌, map, string_bytes};
+ghost use Rattle.sync_cli.specs.Replacing.{AsksToReplace};
 ghost use Rattle.sync_top.specs.Jobs.{AsksFor};
 
 use super::end::End;
+use crate::replacing::{path_to_replace, replace_trimmed};
 use file_lock::{LockRefusal, hold};
 use std::fs;
 use std::io::{BufWriter, Read, Write};
@@ -37,7 +39,7 @@ fn run_over<I: Read + Drop, O: Write + Drop, D: Disk>(
 }
 
 /// Runs the words over the file at a path. Each answer is written at once, so that whoever waits for it can go on.
-fn run_over_file<I: Read + Drop, O: Write + Drop>(
+pub(crate) fn run_over_file<I: Read + Drop, O: Write + Drop>(
     rt: &HostRuntime,
     words: &[String],
     path: &str,
@@ -134,10 +136,8 @@ fn run_holding<I: Read + Drop, O: Write + Drop>(
     }
 }
 
-/// Runs the words over the file that they name, or over a disk in memory where they name none (docs/FORMATS.md, "Commands").
-/// Words that are no command are told so, and no others are, unless memory runs out. One command at a time writes to a
-/// file: where another holds it, that is `Busy`.
-pub fn run_words<I: Read + Drop, O: Write + Drop>(
+/// Runs the words of a command that `run` knows, over the file that they name, or over a disk in memory where they name none.
+fn run_command<I: Read + Drop, O: Write + Drop>(
     rt: &HostRuntime,
     words: &[String],
     input: I,
@@ -156,5 +156,24 @@ pub fn run_words<I: Read + Drop, O: Write + Drop>(
             End::Ran(run_reader(rt, words, path, &mut output))
         }
         _ => End::Ran(run_over_memory(rt, words, input, output)),
+    }
+}
+
+/// Runs the words (docs/FORMATS.md, "Commands"). Words that are no command are told so, and no others are, unless memory runs
+/// out. One command at a time writes to a file: where another holds it, that is `Busy`.
+pub fn run_words<I: Read + Drop, O: Write + Drop>(
+    rt: &HostRuntime,
+    words: &[String],
+    input: I,
+    output: O,
+) -> End
+    ensures words { result ≡ End.Ran Status.BadWords → (job : Job) → AsksFor job (map string_bytes words.now) → ⊥ }
+    ensures unknown { ((job : Job) → AsksFor job (map string_bytes words.now) → ⊥) → (AsksToReplace (map string_bytes words.now) → ⊥)
+        → (result ≡ End.Ran Status.BadWords) ⊎ (result ≡ End.Ran Status.NoMemory) }
+{
+    match path_to_replace(words) {
+        // (the first two words ask for a trim)
+        Some(path) => replace_trimmed(rt, &words[..2], path),
+        None => run_command(rt, words, input, output),
     }
 }

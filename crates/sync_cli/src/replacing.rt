@@ -1,0 +1,101 @@
+// A server's file that is trimmed where it stands.
+ghost use Rattle.std.specs.Prelude.{map, string_bytes, IfSome, IfNone};
+ghost use Rattle.sync_cli.specs.Replacing.{AsksToReplace};
+
+use crate::end::End;
+use crate::running::run_over_file;
+use file_lock::{LockRefusal, hold};
+use std::fs;
+use std::fs::File;
+use std::path::Path;
+use sync_io::Status;
+
+/// The path in the words `trim --replace FILE`; none where they are others.
+pub(crate) fn path_to_replace(words: &[String]) -> Option<&str>
+    ensures some { IfSome result (λ _. AsksToReplace (map string_bytes words.now)) }
+{
+    match words {
+        [word, option, path] if word.as_str() == "trim" && option.as_str() == "--replace" => {
+            Some(path.as_str())
+        }
+        _ => None,
+    }
+}
+
+/// Writes the trimmed file of the server at a path to another path, and brings it to the disk.
+fn write_beside(rt: &HostRuntime, words: &[String], path: &str, beside: &str) -> Status {
+    let Ok(told) = fs::metadata(rt, path) else {
+        return Status::DiskFault;
+    };
+    let Ok(file) = File::create(rt, beside) else {
+        return Status::DiskFault;
+    };
+    if file.set_permissions(told.permissions()).is_err() {
+        return Status::DiskFault;
+    }
+    let mut output = file;
+    match run_over_file(rt, words, path, std::io::empty(), &mut output) {
+        Status::Done => {
+            if output.sync_all().is_ok() {
+                Status::Done
+            } else {
+                Status::DiskFault
+            }
+        }
+        // the output is the new file
+        Status::WriteFault => Status::DiskFault,
+        status => status,
+    }
+}
+
+/// Brings a folder's names to the disk.
+fn sync_folder(rt: &HostRuntime, path: Path<'_>) -> Status {
+    let Some(folder) = path.parent() else {
+        return Status::DiskFault;
+    };
+    match File::open(rt, folder) {
+        Ok(folder) => {
+            if folder.sync_all().is_ok() {
+                Status::Done
+            } else {
+                Status::DiskFault
+            }
+        }
+        Err(_) => Status::DiskFault,
+    }
+}
+
+/// Puts the trimmed file in the place of the server's, which is held. Where anything fails the server's file is as it was, unless
+/// it is only the folder that isn't brought to the disk: then one of the two stands there after a crash of the machine.
+fn put_in_place(rt: &HostRuntime, words: &[String], path: Path<'_>) -> Status {
+    let Ok(beside) = format!(in rt.alloc(); "{}.trimmed", path.as_str()) else {
+        return Status::NoMemory;
+    };
+    let status = write_beside(rt, words, path.as_str(), beside.as_str());
+    if !matches!(status, Status::Done) {
+        let _ = fs::remove_file(rt, beside.as_str());
+        return status;
+    }
+    if fs::rename(rt, beside.as_str(), path.as_str()).is_err() {
+        let _ = fs::remove_file(rt, beside.as_str());
+        return Status::DiskFault;
+    }
+    sync_folder(rt, path)
+}
+
+/// Trims the server's file at a path where it stands: the new file is written beside it, brought to the disk, and takes its
+/// place, while no other command writes to it. `words` ask for a trim.
+pub(crate) fn replace_trimmed(rt: &HostRuntime, words: &[String], path: &str) -> End {
+    let held = match hold(rt, path) {
+        Ok(held) => held,
+        Err(LockRefusal::Busy) => return End::Busy,
+        Err(LockRefusal::Failed) => return End::Ran(Status::DiskFault),
+    };
+    // (a link stays one)
+    let status = match fs::canonicalize(rt, path) {
+        Ok(path) => put_in_place(rt, words, path.as_path()),
+        Err(_) => Status::DiskFault,
+    };
+    drop(held);
+    End::Ran(status)
+}
