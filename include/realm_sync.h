@@ -748,6 +748,7 @@ typedef struct realm_message {
     uint32_t first;
     uint32_t second;
     uint32_t third;
+    uint32_t fourth;
     const uint8_t *tables; /* of a question for some tables: as the message spells them, until the next call */
     size_t tables_len;
 } realm_message;
@@ -756,14 +757,14 @@ typedef struct realm_message {
 REALM_SYNC_API int realm_look(realm_node *node, const void *message, size_t len, realm_message *out) {
     int status = realm_told(node, realm_ask_of(node, 'H', message, len), "message: expected the bytes of a message, as docs/FORMATS.md, \"Messages\", has them");
     memset(out, 0, sizeof *out);
-    if (status != REALM_DONE || node->reply_len < 42) return status;
+    if (status != REALM_DONE || node->reply_len < 46) return status;
     const uint8_t *head = node->reply + 1;
     out->tag = head[0];
     memcpy(out->uuid, head + 1, sizeof out->uuid);
-    uint32_t *numbers[] = {&out->ident, &out->by, &out->count, &out->first, &out->second, &out->third};
-    for (int i = 0; i < 6; i++) *numbers[i] = (uint32_t)realm_number_at(head + 17 + 4 * i, 4);
-    out->tables = head + 41;
-    out->tables_len = node->reply_len - 42;
+    uint32_t *numbers[] = {&out->ident, &out->by, &out->count, &out->first, &out->second, &out->third, &out->fourth};
+    for (int i = 0; i < 7; i++) *numbers[i] = (uint32_t)realm_number_at(head + 17 + 4 * i, 4);
+    out->tables = head + 45;
+    out->tables_len = node->reply_len - 46;
     return status;
 }
 

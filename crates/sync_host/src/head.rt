@@ -3,7 +3,7 @@ ghost use Rattle.std.specs.Prelude.{◌≡◌, ◌∷◌, ◌++◌, ◌≤◌, �
 ghost use Rattle.std.specs.Int.{w64, to_le_bytes};
 ghost use Rattle.sync_messages.specs.Parts.{most_bytes};
 ghost use Rattle.sync_messages.specs.Reading.{message_in};
-ghost use Rattle.sync_host.specs.Heads.{BorneTold, HeadTold, ask_head, base_or_none, borne, borne_by, change_bytes, download_head, entry_bytes, head_bytes, head_of, named_head, number_or_none, numbered, retire_head, tables_of, upload_head};
+ghost use Rattle.sync_host.specs.Heads.{BorneTold, HeadTold, ask_head, base_or_none, borne, borne_by, change_bytes, download_head, entry_bytes, head_bytes, head_of, lowest_base, named_head, number_or_none, numbered, retire_head, tables_of, upload_head};
 ghost use Rattle.sync_host.specs.Replies.{reply_bytes, word};
 ghost use Rattle.sync_host.specs.Steps.{IfTold};
 
@@ -27,6 +27,7 @@ pub struct Head {
     pub first: u32,
     pub second: u32,
     pub third: u32,
+    pub fourth: u32,
 }
 
 fn named(tag: u8, uuid: Id, ident: Ident) -> Head
@@ -41,6 +42,7 @@ fn named(tag: u8, uuid: Id, ident: Ident) -> Head
         first: 0,
         second: 0,
         third: 0,
+        fourth: 0,
     }
 }
 
@@ -56,6 +58,7 @@ fn numbered(tag: u8, ident: Ident, first: u32, second: u32, third: u32) -> Head
         first,
         second,
         third,
+        fourth: 0,
     }
 }
 
@@ -71,6 +74,7 @@ fn retires(tag: u8, ident: Ident, by: Ident, number: u32) -> Head
         first: number,
         second: 0,
         third: 0,
+        fourth: 0,
     }
 }
 
@@ -86,6 +90,7 @@ fn asks(tag: u8, ask: &Ask, form: u32, count: u32) -> Head
         first: ask.cursor(),
         second: ask.settled(),
         third: form,
+        fourth: 0,
     }
 }
 
@@ -116,6 +121,17 @@ fn first_base(changes: &[Change]) -> u32
     }
 }
 
+/// The lowest version at which one of the changes was made.
+fn lowest_base(changes: &[Change]) -> u32
+    ensures { result ≡ lowest_base changes.now }
+{
+    let mut lowest = first_base(changes);
+    for change in changes {
+        lowest = lowest.min(change.base());
+    }
+    lowest
+}
+
 fn uploads(upload: &Upload) -> Head
     ensures { result ≡ upload_head upload.now }
 {
@@ -129,6 +145,7 @@ fn uploads(upload: &Upload) -> Head
         first: first_number(changes),
         second: last_number(changes),
         third: first_base(changes),
+        fourth: lowest_base(changes),
     }
 }
 
@@ -146,6 +163,7 @@ fn downloads(download: &Download) -> Head
         first: from,
         second: from + count,
         third: 0,
+        fourth: 0,
     }
 }
 
@@ -197,6 +215,7 @@ fn bytes_of(alloc: Global, head: Head) -> Result<Vec<u8>, AllocError>
     put_word(&mut out, head.first)?;
     put_word(&mut out, head.second)?;
     put_word(&mut out, head.third)?;
+    put_word(&mut out, head.fourth)?;
     Ok(out)
 }
 
