@@ -173,8 +173,19 @@ REALM_SYNC_API int realm_askable(realm_node *node) {
     return node->failed ? REALM_CLOSED : REALM_DONE;
 }
 
-/* Hands a request to the node. Its answer is told once all that it rests on is on the disk. */
-REALM_SYNC_API int realm_turn(realm_node *node, const uint8_t *request, size_t len) {
+/* What an answer of the node says of it. */
+REALM_SYNC_API int realm_note_status(realm_node *node, uint8_t verb) {
+    int status = node->reply[0];
+    if (verb == 'L') node->current = false;
+    /* what a later REALM_CLOSED of the archive is for */
+    if (status == REALM_NO_MEMORY) node->reason = REALM_OUT_OF_MEMORY;
+    if (status == REALM_BAD_FILE) node->reason = REALM_WRONG_FILE;
+    if (status == REALM_CLOSED && !node->reason) node->reason = REALM_NOT_OPEN;
+    return status;
+}
+
+/* Hands a request to the node. Its answer is told to nobody before realm_land. */
+REALM_SYNC_API int realm_hand(realm_node *node, const uint8_t *request, size_t len) {
     static const uint8_t again = 'R';
     int status = realm_askable(node);
     if (status != REALM_DONE) return status;
@@ -188,16 +199,20 @@ REALM_SYNC_API int realm_turn(realm_node *node, const uint8_t *request, size_t l
             told = 1;
         }
     }
-    int why = realm_settle(node);
-    if (why) return realm_fail(node, why);
     node->reply_len = told;
-    status = node->reply[0];
-    if (len > 0 && request[0] == 'L') node->current = false;
-    /* what a later REALM_CLOSED of the archive is for */
-    if (status == REALM_NO_MEMORY) node->reason = REALM_OUT_OF_MEMORY;
-    if (status == REALM_BAD_FILE) node->reason = REALM_WRONG_FILE;
-    if (status == REALM_CLOSED && !node->reason) node->reason = REALM_NOT_OPEN;
-    return status;
+    return realm_note_status(node, len > 0 ? request[0] : 0);
+}
+
+/* The answer of the last request, once all that it and those before it rest on is on the disk. */
+REALM_SYNC_API int realm_land(realm_node *node, int status) {
+    if (!node->host || node->failed || node->process != realm_process()) return status;
+    int why = realm_settle(node);
+    return why ? realm_fail(node, why) : status;
+}
+
+/* Hands a request to the node. Its answer is told once all that it rests on is on the disk. */
+REALM_SYNC_API int realm_turn(realm_node *node, const uint8_t *request, size_t len) {
+    return realm_land(node, realm_hand(node, request, len));
 }
 
 /* A request: its first byte, and what follows. */
@@ -533,20 +548,48 @@ REALM_SYNC_API const char *realm_quote(char *into, size_t room, const char *text
     return into;
 }
 
-/* Commits a transaction at that many milliseconds since the epoch. `edits` is a JSON list: docs/FORMATS.md, "Edits".
- * realm_number tells its number. */
-REALM_SYNC_API int realm_commit(realm_node *node, uint64_t ms, const char *edits) {
+/* A transaction: its time, in milliseconds since the epoch, and its edits, a JSON list (docs/FORMATS.md, "Edits"). */
+typedef struct realm_transaction {
+    uint64_t ms;
+    const char *edits;
+} realm_transaction;
+
+/* Hands a transaction to the node. */
+REALM_SYNC_API int realm_hand_transaction(realm_node *node, const realm_transaction *it) {
     static const char expected[] = "edits: expected a JSON list of edits, as docs/FORMATS.md, \"Edits\", has them";
     char small[1024];
-    if (!edits || edits[strspn(edits, " \t\r\n")] != '[') return realm_expect(node, expected);
-    size_t room = strlen(edits) + 64;
+    if (!it->edits || it->edits[strspn(it->edits, " \t\r\n")] != '[') return realm_expect(node, expected);
+    size_t room = strlen(it->edits) + 64;
     char *request = room <= sizeof small ? small : (char *)malloc(room);
     node->reply_len = 0;
     if (!request) return REALM_NO_MEMORY;
-    int len = snprintf(request, room, "{\"ms\":%" PRIu64 ",\"edits\":%s}", ms, edits);
-    int status = realm_ask_client(node, 'L', request, (size_t)len, expected);
+    int len = snprintf(request, room, "L{\"ms\":%" PRIu64 ",\"edits\":%s}", it->ms, it->edits);
+    int status = realm_hand(node, (const uint8_t *)request, (size_t)len);
     if (request != small) free(request);
-    return status;
+    return realm_told(node, status, node->is_client ? expected : "node: expected a client, and this is a server");
+}
+
+/* Commits transactions, one after the other, and brings them to the disk together, by two writes and two syncs, however many they are: a crash
+ * leaves all of them or none. The first that isn't done ends it, and its status is answered: those before it are committed, *done of them. Where
+ * the disk fails, none is. realm_number tells the number of the last one where all are done, and realm_changed what that one changed. */
+REALM_SYNC_API int realm_commit_all(realm_node *node, const realm_transaction *transactions, size_t count, size_t *done) {
+    int status = realm_askable(node);
+    *done = 0;
+    while (status == REALM_DONE && *done < count) {
+        status = realm_hand_transaction(node, &transactions[*done]);
+        if (status == REALM_DONE) ++*done;
+    }
+    int landed = realm_land(node, REALM_DONE);
+    if (landed == REALM_DONE) return status;
+    *done = 0;
+    return landed;
+}
+
+/* Commits a transaction at that many milliseconds since the epoch. `edits` is a JSON list: docs/FORMATS.md, "Edits".
+ * realm_number tells its number. */
+REALM_SYNC_API int realm_commit(realm_node *node, uint64_t ms, const char *edits) {
+    realm_transaction transaction = {ms, edits};
+    return realm_land(node, realm_hand_transaction(node, &transaction));
 }
 
 REALM_SYNC_API int realm_bind(realm_node *node) { return realm_ask_client(node, 'B', NULL, 0, NULL); }

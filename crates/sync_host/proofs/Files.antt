@@ -1,5 +1,5 @@
 -- The files of a node and of its host.
-use Rattle.std.proofs.Common.{◌≡◌, ◌⊎◌, inl, inr, ℕ, List, length, map, Option, Some, None, Result, Ok, Err, refl, sym, ◌∙◌, ap, subst}
+use Rattle.std.proofs.Common.{◌≡◌, inl, inr, ℕ, List, map, Result, Ok, Err, refl, sym, ◌∙◌, ap, subst}
 use Rattle.outbox_disk.specs.contracts.disk.OutboxDiskDisk.TheImpl.{ghosts as outbox}
 use Rattle.outbox_disk.specs.contracts.disk.OutboxDiskDisk.TheImpl.Laws.{by_strokes-law}
 use Rattle.outbox_disk.specs.declared.disk.OutboxDisk.{OutboxDisk}
@@ -8,7 +8,7 @@ use Rattle.sync_exchange.specs.Seen.{client_bytes, server_bytes}
 use Rattle.sync_journal.specs.Journal.{IsSettled}
 use Rattle.sync_journal.specs.Opening.{BadPlace}
 use Rattle.sync_journal.specs.Gates.{gate_of, told}
-use Rattle.sync_journal.specs.Records.{Reading, records_of}
+use Rattle.sync_journal.specs.Records.{records_of}
 use Rattle.sync_journal.specs.Records.Reading.{Good, BadAt}
 use Rattle.sync_journal.specs.Stands.{disk_of}
 use Rattle.sync_journal.specs.declared.opening.OpenCause.{OpenCause}
@@ -41,17 +41,17 @@ unopened_so Bad causes.DiskFault reply bad sound is = absurd (sound refl)
 unopened_so Bad (causes.BadFile place) reply bad sound is = subst (λ (r : Reply). IsUnopened Bad r) (sym is) (bad place refl)
 unopened_so Bad causes.NoMemory reply bad sound is = subst (λ (r : Reply). IsUnopened Bad r) (sym is) tt
 
-pub not_opened : (Bad : ℕ → Type 0) (Opens : Node → Type 0) (reply : Reply) (node : Node) → IsUnopened Bad reply → node ≡ nodes.None → Opened Bad Opens reply node
-not_opened Bad Opens (replies.BadFile place) node bad none = (bad, none)
-not_opened Bad Opens replies.NoMemory node bad none = none
-not_opened Bad Opens replies.Done node bad none = absurd bad
-not_opened Bad Opens (replies.Number n) node bad none = absurd bad
-not_opened Bad Opens (replies.Bytes b) node bad none = absurd bad
-not_opened Bad Opens (replies.Standing s) node bad none = absurd bad
-not_opened Bad Opens (replies.Declined d) node bad none = absurd bad
-not_opened Bad Opens replies.BadRequest node bad none = absurd bad
-not_opened Bad Opens replies.Absent node bad none = absurd bad
-not_opened Bad Opens replies.Closed node bad none = absurd bad
+pub not_opened : (Bad : ℕ → Type 0) (Opens : Node → Type 0) (reply : Reply) (there : Node) → IsUnopened Bad reply → there ≡ nodes.None → Opened Bad Opens reply there
+not_opened Bad Opens (replies.BadFile place) there bad none = (bad, none)
+not_opened Bad Opens replies.NoMemory there bad none = none
+not_opened Bad Opens replies.Done there bad none = absurd bad
+not_opened Bad Opens (replies.Number n) there bad none = absurd bad
+not_opened Bad Opens (replies.Bytes b) there bad none = absurd bad
+not_opened Bad Opens (replies.Standing s) there bad none = absurd bad
+not_opened Bad Opens (replies.Declined d) there bad none = absurd bad
+not_opened Bad Opens replies.BadRequest there bad none = absurd bad
+not_opened Bad Opens replies.Absent there bad none = absurd bad
+not_opened Bad Opens replies.Closed there bad none = absurd bad
 
 tells_so : (Bad : ℕ → Type 0) (reply : Reply) → ((p q : ℕ) → Bad p → Bad q → p ≡ q) → IsUnopened Bad reply → TellsBad Bad reply
 tells_so Bad (replies.BadFile place) one bad = λ p is. inl (ap (λ (n : ℕ). replies.BadFile n) (one place p bad is))

@@ -2,6 +2,7 @@
 use Rattle.std.proofs.Common.{◌≡◌, ◌∷◌, ℕ, List, ◌++◌, map, Option, None, Some, Ok, Err, sym, ◌∙◌, ap, subst}
 use Rattle.std.specs.Option.{option_map}
 use Rattle.sync_disk.specs.declared.disk.Disk.{Ghosts}
+use Rattle.sync_io.specs.Formats.{◌>>=◌, both_in}
 use Rattle.sync_journal.specs.Several.{Asks}
 use Rattle.sync_exchange.specs.Seen.{client_bytes}
 use Rattle.sync_model.specs.Clients.{ClientRecord, ClientRefusal}
@@ -17,6 +18,11 @@ use Rattle.sync_host.specs.Replies.{reply_bytes}
 use Rattle.sync_host.specs.Steps.{Answers, Declines, IfTold}
 use Rattle.sync_host.specs.declared.reply.Reply.{Reply}
 use Rattle.sync_host.proofs.Said.{asked_where, told_then, untold}
+
+-- two fields, one behind the other
+pub both_given : {A B : Type 0} (a : List ℕ → Option (A × List ℕ)) (b : List ℕ → Option (B × List ℕ)) (bytes rest left : List ℕ) (x : A) (y : B) → a bytes ≡ Some (x, rest) → b rest ≡ Some (y, left) → both_in a b bytes ≡ Some ((x, y), left)
+both_given a b bytes rest left x y p q =
+    ap (λ o. o >>= λ u. b u.1 >>= λ v. Some ((u.0, v.0), v.1)) p ∙ ap (λ o. o >>= λ v. Some ((x, v.0), v.1)) q
 
 -- the refusal of the heir's transaction
 pub by_client : (o : Option ClientRefusal) (reply : Reply) → Declines o reply → Resets (option_map (λ w. ByClient w) o) reply

@@ -1,10 +1,8 @@
 -- What a crash leaves of a node's call, as its host's file has it.
-use Rattle.std.proofs.Common.{◌≡◌, ℕ, List, map, Option, Some, None, refl, sym, subst}
+use Rattle.std.proofs.Common.{◌≡◌, ℕ, List, map, Option, Some, None, false, refl, sym, subst}
 use Rattle.sync_disk.specs.declared.disk.Disk.{Ghosts}
-use Rattle.outbox_disk.specs.contracts.disk.OutboxDiskDisk.TheImpl.{ghosts as outbox}
 use Rattle.outbox_disk.specs.contracts.disk.OutboxDiskDisk.TheImpl.Laws.{only_now-law}
 use Rattle.sync_journal.proofs.Steps.{at_rest}
-use Rattle.sync_journal.specs.Stands.{disk_of}
 use Rattle.sync_client.proofs.Leaving.{leaves_none}
 use Rattle.sync_client.specs.Clients as clients
 use Rattle.sync_client.specs.declared.client.Client.{Client}
@@ -17,7 +15,6 @@ use Rattle.sync_model.specs.Servers.{ServerRecord}
 use Rattle.sync_server.specs.declared.server.Server.{Server}
 use Rattle.sync_host.specs.Hosting as hosting
 use Rattle.sync_host.specs.Hosting.{ClientLasts}
-use Rattle.sync_host.specs.Outboxes.{client_start, client_strokes}
 use Rattle.sync_host.specs.Steps.{Answer, ClientStands, Lasts, ServerLasts, ServerStands}
 use Rattle.sync_host.specs.declared.hosted.HostedClient.{HostedClient}
 use Rattle.sync_host.specs.declared.hosted.HostedServer.{HostedServer}
@@ -43,7 +40,7 @@ server_lasts (Some did) records old new lasts = lasts.each
 module _ {D : Type 0} {G : Ghosts D} where
   pub server_still : ((disk : D) (c : List ℕ) → G.images_since disk (G.moment disk) c → G.images disk c) → (o : Option (Served Instr State)) (records : List ServerRecord) (s : Server D G) → ServerStands records s → ServerLasts o records s s
   server_still only_now None records s is = refl
-  server_still only_now (Some did) records s is = at_rest G.content G.images G.moment G.images_since only_now (map server_bytes records) (map server_bytes did.records) s.journal.end s.journal.disk is.stored.settled
+  server_still only_now (Some did) records s is = at_rest G.content G.images G.moment G.images_since only_now false (map server_bytes records) (map server_bytes did.records) s.journal.end s.journal.disk is.stored.settled
 
   pub client_at_rest : ((disk : D) (c : List ℕ) → G.images_since disk (G.moment disk) c → G.images disk c) → (o : Option Answer) (records : List ClientRecord) (c : Client D G) → ClientStands records c → Lasts o records c c
   client_at_rest only_now None records c is = refl

@@ -1,8 +1,8 @@
 -- A change of an old client, which its heir takes: as a request, and what it is answered.
-use Rattle.std.specs.Prelude.{◌≡◌, ◌⊎◌, ℕ, ◌∷◌, ◌++◌, ◌&&◌, Bool, List, [], flat_map, length, min, nat_le, Option, None, Some, Result, Ok, Err}
+use Rattle.std.specs.Prelude.{◌≡◌, ◌⊎◌, ℕ, ◌∷◌, ◌++◌, List, [], flat_map, min, Option, None, Some, Result, Ok, Err}
 use Rattle.std.specs.Int.{w32, w64, from_le_bytes}
 use Rattle.sync_heir.specs.Heirs.{heir_step}
-use Rattle.sync_io.specs.Formats.{◌>>=◌, both_in, bytes_in, only_in, seen_in}
+use Rattle.sync_io.specs.Formats.{both_in, bytes_in, only_in, seen_in}
 use Rattle.sync_messages.specs.Parts.{ChangeParts, RetiredParts}
 use Rattle.sync_messages.specs.Reading.{change_of, is_change, is_retired, retired_of}
 use Rattle.sync_model.specs.Clients.{ClientRecord}

@@ -1,5 +1,5 @@
 -- What a server tells of its history and of its clients.
-use Rattle.std.specs.Prelude.{◌≡◌, ℕ, ◌-◌, Bool, true, false, not, List, [], ◌∷◌, ◌++◌, drop, take, flat_map, if◌then◌else◌, length, nat_lt, ◌==◌, Option, None, Some}
+use Rattle.std.specs.Prelude.{◌≡◌, ℕ, ◌-◌, Bool, true, false, not, List, ◌∷◌, ◌++◌, drop, take, flat_map, if◌then◌else◌, length, nat_lt, ◌==◌, Option, None, Some}
 use Rattle.std.specs.Int.{w32, from_le_bytes}
 use Rattle.sync_data.specs.declared.instr.Instr.{Instr}
 use Rattle.sync_base.specs.States.{State}

@@ -6,10 +6,8 @@ use Rattle.sync_exchange.specs.Profile.{the_profile}
 use Rattle.sync_exchange.specs.Seen.{client_bytes, read_client, read_server, server_bytes}
 use Rattle.sync_io.specs.Formats.{all_in, bytes_in}
 use Rattle.sync_journal.specs.Files.{IsFile}
-use Rattle.sync_model.specs.Clients.{ClientRecord}
 use Rattle.sync_model.specs.Each.{Each}
 use Rattle.sync_model.specs.Parts.{Parts}
-use Rattle.sync_model.specs.Servers.{ServerRecord}
 use Rattle.sync_model.specs.Starts.{started}
 use Rattle.sync_model.specs.Trimmed.{trim_records}
 use Rattle.sync_host.specs.Replies.{reply_bytes}

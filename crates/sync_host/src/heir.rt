@@ -55,8 +55,8 @@ fn retired_of(bytes: &[u8]) -> Result<(Retired, &[u8]), MessageRefusal>
 }
 
 #[tactic(auto, unfolding(crate::specs::Heirs::change_in))]
-fn change_of(alloc: Global, bytes: &[u8]) -> Result<(Change, &[u8]), MessageRefusal>
-    ensures { Gives (λ x. (x.0, x.1.now)) result (change_in bytes.now) }
+fn change_of(alloc: Global, bytes: &[u8]) -> Result<Change, MessageRefusal>
+    ensures { Gives (λ x. (x, [])) result (change_in bytes.now) }
 {
     let (number, rest) = word_of(bytes)?;
     let (base, rest) = word_of(rest)?;
@@ -65,7 +65,7 @@ fn change_of(alloc: Global, bytes: &[u8]) -> Result<(Change, &[u8]), MessageRefu
         return Err(MessageRefusal::BadMessage);
     }
     match Blob::new(alloc, rest) {
-        Ok(body) => Ok((Change::new(number, base, ms, body), &[])),
+        Ok(body) => Ok(Change::new(number, base, ms, body)),
         Err(_) => Err(MessageRefusal::NoMemory),
     }
 }
@@ -75,7 +75,7 @@ fn inherited_of(alloc: Global, bytes: &[u8]) -> Result<(Retired, Change), Messag
     ensures { Gives (λ x. ((x.0, x.1), [])) result (inherited_in bytes.now) }
 {
     let (retired, rest) = retired_of(bytes)?;
-    let (change, _) = change_of(alloc, rest)?;
+    let change = change_of(alloc, rest)?;
     Ok((retired, change))
 }
 
@@ -147,12 +147,7 @@ fn tell(alloc: Global, answer: &Heir) -> Reply
 }
 
 /// The client takes a change of an ident that was given up for it.
-fn take<D: Disk>(
-    alloc: Global,
-    client: &mut Client<D>,
-    retired: &Retired,
-    change: &Change,
-) -> Reply
+fn take<D: Disk>(alloc: Global, client: &mut Client<D>, retired: &Retired, change: &Change) -> Reply
     ensures step { (records : List model.ClientRecord) → ClientStands records client.old → IfTold result (Answers (Some (heir_said (heir_step records retired.now change.now))) records result client.old client.new) }
     ensures lasts { (records : List model.ClientRecord) → ClientStands records client.old → Lasts (Some (heir_said (heir_step records retired.now change.now))) records client.old client.new }
     ensures begun { start_of client.new ≡ start_of client.old }

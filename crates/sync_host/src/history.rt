@@ -8,8 +8,8 @@ ghost use Rattle.sync_host.specs.Steps.{IfTold};
 
 use crate::head::{put_borne, put_word};
 use crate::reply::Reply;
-use std::alloc::{AllocError, Global};
 use server_memory::Counts;
+use std::alloc::{AllocError, Global};
 use sync_base::{Entry, Id};
 use sync_codec::encode;
 use sync_disk::Disk;
@@ -100,12 +100,7 @@ pub(crate) fn entries<D: Disk>(alloc: Global, server: &Server<D>, range: &[u8]) 
     }
 }
 
-fn put_client(
-    out: &mut Vec<u8>,
-    id: &Id,
-    counts: Counts,
-    given_up: bool,
-) -> Result<(), AllocError>
+fn put_client(out: &mut Vec<u8>, id: &Id, counts: Counts, given_up: bool) -> Result<(), AllocError>
     ensures { OnOk result (out.new.items ≡ out.old.items ++ told_of id.now counts given_up) }
 {
     out.extend_from_slice(id)?;

@@ -17,13 +17,7 @@ fn id_of(bytes: &[u8]) -> Option<Id>
     ensures { result ≡ id_in bytes.now }
 {
     match bytes.split_first_chunk::<16>() {
-        Some((id, rest)) => {
-            if rest.is_empty() {
-                Some(*id)
-            } else {
-                None
-            }
-        }
+        Some((id, rest)) => { if rest.is_empty() { Some(*id) } else { None } }
         None => None,
     }
 }

@@ -12,5 +12,8 @@ returns-in-Ok-clause-step g c = λ records is.
 pub returns-in-Ok-clause-lasts : goal.returns-in-Ok-clause-lasts
 returns-in-Ok-clause-lasts g c = λ records is. subst (λ o. Lasts (option_map (heir_answer records) o) records c.args.client.now c.take.new.client) (sym c.in-Ok.ensures) (c.take.ensures.lasts records is)
 
-pub returns-in-Err-2-clause-lasts : goal.returns-in-Err-2-clause-lasts
-returns-in-Err-2-clause-lasts g c = λ records is. client_at_rest g.met.D.Disk.only_now (option_map (heir_answer records) (inherited_in c.args.bytes.now)) records c.args.client.now is
+pub returns-in-Err-NoMemory-clause-lasts : goal.returns-in-Err-NoMemory-clause-lasts
+returns-in-Err-NoMemory-clause-lasts g c = λ records is. client_at_rest g.met.D.Disk.only_now (option_map (heir_answer records) (inherited_in c.args.bytes.now)) records c.args.client.now is
+
+pub returns-in-Err-BadMessage-clause-lasts : goal.returns-in-Err-BadMessage-clause-lasts
+returns-in-Err-BadMessage-clause-lasts g c = λ records is. client_at_rest g.met.D.Disk.only_now (option_map (heir_answer records) (inherited_in c.args.bytes.now)) records c.args.client.now is

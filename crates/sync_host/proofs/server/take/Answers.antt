@@ -15,5 +15,8 @@ returns-in-Ok-clause-lasts g c = λ records is.
     subst (λ (m : Option Message). ServerLasts (option_map (serve_by the_profile (parts (kept_of c.args.server.now))) (option_map message_seen m)) records c.args.server.now c.take_message.new.server) (sym c.in-Ok.ensures.exact)
     (c.take_message.ensures.lasts records is)
 
-pub returns-in-Err-2-clause-lasts : goal.returns-in-Err-2-clause-lasts
-returns-in-Err-2-clause-lasts g c = λ records is. server_still g.met.D.Disk.only_now (option_map (serve_by the_profile (parts (kept_of c.args.server.now))) (message_read c.args.bytes.now)) records c.args.server.now is
+pub returns-in-Err-NoMemory-clause-lasts : goal.returns-in-Err-NoMemory-clause-lasts
+returns-in-Err-NoMemory-clause-lasts g c = λ records is. server_still g.met.D.Disk.only_now (option_map (serve_by the_profile (parts (kept_of c.args.server.now))) (message_read c.args.bytes.now)) records c.args.server.now is
+
+pub returns-in-Err-BadMessage-clause-lasts : goal.returns-in-Err-BadMessage-clause-lasts
+returns-in-Err-BadMessage-clause-lasts g c = λ records is. server_still g.met.D.Disk.only_now (option_map (serve_by the_profile (parts (kept_of c.args.server.now))) (message_read c.args.bytes.now)) records c.args.server.now is

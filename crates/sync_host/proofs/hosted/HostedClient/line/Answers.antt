@@ -1,4 +1,4 @@
-use Rattle.std.proofs.Common.{Option, sym, subst}
+use Rattle.std.proofs.Common.{Option, refl, sym, subst}
 use Rattle.std.specs.Option.{option_map}
 use Rattle.sync_edits.specs.Lines.{node_form_of_line}
 use Rattle.sync_edits.specs.declared.event.NodeLine.{NodeLine}
@@ -21,3 +21,6 @@ pub returns-clause-lasts : goal.returns-clause-lasts
 returns-clause-lasts c = λ records stands.
     client_lasts (option_map (line_answer records) (node_form_of_line c.args.bytes.now)) records c.args.self.now _
     (subst (λ (line : Option NodeLine). Lasts (option_map (line_answer records) line) records c.args.self.now.client c.take_line.new.client) (sym c.in-Ok.ensures) (c.take_line.ensures.lasts records stands))
+
+pub returns-in_default-clause-lasts : goal.returns-in_default-clause-lasts
+returns-in_default-clause-lasts c = λ records stands. client_still (option_map (line_answer records) (node_form_of_line c.args.bytes.now)) records c.args.self.now c.args.self.now refl stands

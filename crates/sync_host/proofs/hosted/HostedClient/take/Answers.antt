@@ -1,4 +1,4 @@
-use Rattle.std.proofs.Common.{Option, sym, subst}
+use Rattle.std.proofs.Common.{Option, refl, sym, subst}
 use Rattle.std.specs.Option.{option_map}
 use Rattle.sync_exchange.specs.Seen.{message_seen}
 use Rattle.sync_messages.specs.declared.message.Message.{Message}
@@ -39,3 +39,9 @@ pub returns-in-Ok-changed_by_message-2-clause-lasts : goal.returns-in-Ok-changed
 returns-in-Ok-changed_by_message-2-clause-lasts c = λ records stands.
     client_lasts (option_map (take_answer records) (message_read c.args.bytes.now)) records c.args.self.now _
     (subst (λ (m : Option Message). Lasts (option_map (take_answer records) (option_map message_seen m)) records c.args.self.now.client c.take-reply.new.client) (sym c.in-Ok.ensures.exact) (c.take-reply.ensures.lasts records stands))
+
+pub returns-in-Err-NoMemory-clause-lasts : goal.returns-in-Err-NoMemory-clause-lasts
+returns-in-Err-NoMemory-clause-lasts c = λ records stands. client_still (option_map (take_answer records) (message_read c.args.bytes.now)) records c.args.self.now c.args.self.now refl stands
+
+pub returns-in_default-clause-lasts : goal.returns-in_default-clause-lasts
+returns-in_default-clause-lasts c = λ records stands. client_still (option_map (take_answer records) (message_read c.args.bytes.now)) records c.args.self.now c.args.self.now refl stands
