@@ -9,9 +9,11 @@ mod history;
 mod idents;
 mod lists;
 mod past;
+mod shortening;
 mod starting;
 mod trimming;
 
 pub use files::{started_file, trimmed_file};
+pub use shortening::shortened;
 pub use starting::started;
 pub use trimming::trimmed;
