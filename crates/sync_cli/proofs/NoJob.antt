@@ -25,6 +25,7 @@ module _ (words : List (List ℕ)) (asks : AsksToReplace words) where
   no_job (jobs.File (commands.Retire ident)) is = other (codes "retire") _ (omega arith) is.2.0
   no_job (jobs.File (commands.Rescue after)) is = other (codes "rescue") _ (omega arith) is.2.0
   no_job (jobs.File commands.Recover) is = other (codes "recover") _ (omega arith) is.2.0
+  no_job (jobs.File commands.Shrink) is = other (codes "shrink") _ (omega arith) is.2.0
   no_job (jobs.File (commands.Start id)) is = other (codes "start") _ (omega arith) is.2.0
   no_job (jobs.File commands.Take) is = take_trims (sym is.2.0 ∙ asks.1)
     where

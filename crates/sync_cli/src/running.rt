@@ -84,6 +84,7 @@ fn writes(command: FileCommand) -> bool {
         | FileCommand::Retire { ident: _ }
         | FileCommand::Rescue { after: _ }
         | FileCommand::Trim
+        | FileCommand::Shrink
         | FileCommand::Start { id: _ } => false,
     }
 }
