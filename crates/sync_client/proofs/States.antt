@@ -391,18 +391,18 @@ grown_on before r new k file behind place (Ok next) g = (
   g.1,
   g.2,
   (let s = g.3 in
-  let after : client_of the_profile (before ++ s.next) ≡ seen s.then_past new = after_append the_profile (no_client the_profile) before s.next ∙ ap (λ (c : Seen). after_records the_profile c s.next) k.stands_for ∙ s.after in
-  record {
-    next = s.next;
-    count_is = s.count_is;
-    spelled = s.spelled;
-    goes_on = ap (λ (c : Seen). reading c file) k.stands_for ∙ s.goes_on ∙ ap (λ (c : Seen). read_puts s.next (reading c (behind g.0))) (sym after);
-    keeps = record {
-      past = s.then_past;
-      count = s.made;
-      stands_for = after;
-      opens = client_opens_on the_profile (no_client the_profile) before s.next k.opens (ap (λ (c : Seen). client_opens the_profile c s.next) k.stands_for ∙ s.opens);
-      each = each_append k.each s.each;
-    };
-  }),
+      let after : client_of the_profile (before ++ s.next) ≡ seen s.then_past new = after_append the_profile (no_client the_profile) before s.next ∙ ap (λ (c : Seen). after_records the_profile c s.next) k.stands_for ∙ s.after in
+      record {
+        next = s.next;
+        count_is = s.count_is;
+        spelled = s.spelled;
+        goes_on = ap (λ (c : Seen). reading c file) k.stands_for ∙ s.goes_on ∙ ap (λ (c : Seen). read_puts s.next (reading c (behind g.0))) (sym after);
+        keeps = record {
+          past = s.then_past;
+          count = s.made;
+          stands_for = after;
+          opens = client_opens_on the_profile (no_client the_profile) before s.next k.opens (ap (λ (c : Seen). client_opens the_profile c s.next) k.stands_for ∙ s.opens);
+          each = each_append k.each s.each;
+        };
+      }),
 )

@@ -150,15 +150,23 @@ impl Replica {
                     Ok(None)
                 }
             }
-            Ok(ClientRecord::Waits {
-                number,
-                base,
-                ms,
-                body,
-                current,
-            }) => {
+            Ok(
+                ClientRecord::Waits {
+                    number,
+                    base,
+                    ms,
+                    body,
+                    current,
+                },
+            ) => {
                 if owed != 0
-                    && self.admit_unsent(alloc, (number, base), ms, body.bytes(), current.bytes())?
+                    && self.admit_unsent(
+                        alloc,
+                        (number, base),
+                        ms,
+                        body.bytes(),
+                        current.bytes(),
+                    )?
                 {
                     Ok(Some(owed - 1))
                 } else {

@@ -80,9 +80,8 @@ impl Replica {
             }
             ClientRecord::Subset { tables } => self.admit_subset(tables),
             // Those are read together (`admit_state`, `admit_front`).
-            ClientRecord::Part { .. }
-            | ClientRecord::Floor { .. }
-            | ClientRecord::Resumed { .. } => Err(NoMemory),
+            ClientRecord::Part { .. } | ClientRecord::Floor { .. } | ClientRecord::Resumed { .. } =>
+                Err(NoMemory),
             ClientRecord::Waits { .. } => Ok(false),
         }
     }

@@ -37,7 +37,6 @@ use Rattle.sync_node.specs.declared.sending.Errand.TheVariants as errands
 use Rattle.sync_top.specs.Recoveries.{Edits, HeirRun, Recovers, Takes, after_run, after_runs, run_of, stand_of}
 use Rattle.sync_top.specs.Shrinks.{IsAnsweredAlike}
 
-
 -- ---- two clients that are alike
 -- the same short file
 short_same : (c d : Client Instr State) → Alike c d → short_records the_profile d ≡ short_records the_profile c

@@ -19,10 +19,7 @@ use sync_records::{ClientRecord, Named};
 
 /// The records of the short file that may stand in place of a client's file: what its calls read, and nothing of what it
 /// took from the history.
-pub fn shortened<D: Disk>(
-    alloc: Global,
-    client: &Client<D>,
-) -> Result<Vec<ClientRecord>, NoMemory>
+pub fn shortened<D: Disk>(alloc: Global, client: &Client<D>) -> Result<Vec<ClientRecord>, NoMemory>
     ensures { (of : List model.ClientRecord) → IsClientOf of client.now → IfOk result (λ records. map client_seen records.items ≡ short_records the_profile (model.client_of the_profile of)) }
 {
     let mut records = Vec::new(alloc);
@@ -63,10 +60,7 @@ fn put_form<D: Disk>(records: &mut Vec<ClientRecord>, client: &Client<D>) -> Res
 }
 
 /// How many of its transactions it took, and how many are unsent.
-fn put_counts<D: Disk>(
-    records: &mut Vec<ClientRecord>,
-    client: &Client<D>,
-) -> Result<(), NoMemory>
+fn put_counts<D: Disk>(records: &mut Vec<ClientRecord>, client: &Client<D>) -> Result<(), NoMemory>
     ensures { (of : List model.ClientRecord) → IsClientOf of client.now → OnOk result (map client_seen records.new.items ≡ map client_seen records.old.items ++ count_records the_profile (model.client_of the_profile of)) }
 {
     let waiting = client.unsent();
@@ -75,10 +69,7 @@ fn put_counts<D: Disk>(
 }
 
 /// Its tables, where it named some.
-fn put_tables<D: Disk>(
-    records: &mut Vec<ClientRecord>,
-    client: &Client<D>,
-) -> Result<(), NoMemory>
+fn put_tables<D: Disk>(records: &mut Vec<ClientRecord>, client: &Client<D>) -> Result<(), NoMemory>
     ensures { (of : List model.ClientRecord) → IsClientOf of client.now → OnOk result (map client_seen records.new.items ≡ map client_seen records.old.items ++ tables_records (model.client_of the_profile of).subset) }
 {
     match client.tables()? {
@@ -147,10 +138,7 @@ fn put_objects<D: Disk>(
 }
 
 /// Its ident, where it has one.
-fn put_ident<D: Disk>(
-    records: &mut Vec<ClientRecord>,
-    client: &Client<D>,
-) -> Result<(), NoMemory>
+fn put_ident<D: Disk>(records: &mut Vec<ClientRecord>, client: &Client<D>) -> Result<(), NoMemory>
     ensures { (of : List model.ClientRecord) → IsClientOf of client.now → OnOk result (map client_seen records.new.items ≡ map client_seen records.old.items ++ ident_records (model.client_of the_profile of).ident) }
 {
     let ident = client.ident();

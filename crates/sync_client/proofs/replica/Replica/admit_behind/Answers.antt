@@ -12,5 +12,5 @@ pub returns-then-branch-2 : goal.returns-then-branch-2
 returns-then-branch-2 c = λ past w.
     waits_on past c.args.self.now c.args.owed w c.admit_unsent.new.self c.args.bytes.now c.in-Ok-Waits.field-0 c.in-Ok-Waits.number c.in-Ok-Waits.base c.in-Ok-Waits.ms c.in-Ok-Waits.body c.in-Ok-Waits.current c.in-Ok-Waits.ensures.exact c.in-Ok-Waits.ensures.found c.in-Ok-Waits.ensures.is c.in-Ok-Waits.field-0-is c.if-owed-ne0.true
     (subst (λ (b : List ℕ). WaitsNow c.in-Ok-Waits.number c.in-Ok-Waits.base c.in-Ok-Waits.ms b c.in-Ok-Waits.current c.args.self.now c.admit_unsent.new.self) c.bytes.ensures
-        (subst (λ (b : List ℕ). WaitsNow c.in-Ok-Waits.number c.in-Ok-Waits.base c.in-Ok-Waits.ms c.bytes.result.now b c.args.self.now c.admit_unsent.new.self) c.bytes-then-owed-ne0.ensures
-            (waits_true c.in-Ok-Waits.number c.in-Ok-Waits.base c.in-Ok-Waits.ms c.bytes.result.now c.bytes-then-owed-ne0.result.now c.args.self.now c.admit_unsent.new.self c.in_ok-admit_unsent-in-Ok-Waits.field-0 c.if-branch-2.true c.in_ok-admit_unsent-in-Ok-Waits.ensures)))
+    (subst (λ (b : List ℕ). WaitsNow c.in-Ok-Waits.number c.in-Ok-Waits.base c.in-Ok-Waits.ms c.bytes.result.now b c.args.self.now c.admit_unsent.new.self) c.bytes-then-owed-ne0.ensures
+    (waits_true c.in-Ok-Waits.number c.in-Ok-Waits.base c.in-Ok-Waits.ms c.bytes.result.now c.bytes-then-owed-ne0.result.now c.args.self.now c.admit_unsent.new.self c.in_ok-admit_unsent-in-Ok-Waits.field-0 c.if-branch-2.true c.in_ok-admit_unsent-in-Ok-Waits.ensures)))
