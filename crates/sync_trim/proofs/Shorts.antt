@@ -1,11 +1,14 @@
 -- The records of a short file, put together piece by piece.
-use Rattle.std.proofs.Common.{◌≡◌, ℕ, ◌+◌, ◌<◌, ◌≤◌, Bool, true, false, List, [], ◌∷◌, ◌++◌, Some, None, map, drop, length, get_or, refl, sym, ap, ◌∙◌, subst, if◌then◌else◌, append_assoc, append-nil, arith}
+use Rattle.std.proofs.Common.{◌≡◌, ℕ, Bool, true, false, List, [], ◌∷◌, ◌++◌, map, sym, ap, ◌∙◌, if◌then◌else◌}
 use Rattle.sync_data.specs.declared.instr.Instr.{Instr}
 use Rattle.sync_base.specs.States.{State}
-use Rattle.sync_model.specs.Clients.{Client, ClientRecord, Unsent}
-use Rattle.sync_exchange.specs.Profile.{the_profile}
+use Rattle.sync_codec.specs.Spelling.{spelling}
+use Rattle.snapshot_law.specs.Build.{build}
+use Rattle.sync_model.specs.Clients.{Client, ClientRecord, Floor, Part}
+use Rattle.sync_exchange.specs.Profile.{fits_changeset, the_profile}
 use Rattle.shrink_law.specs.Short.{count_records, form_records, has_begun, id_records, ident_records, short_records, state_records, tables_records, waits}
 use Rattle.sync_trim.proofs.Pieces.{and_more}
+use Rattle.sync_trim.proofs.Whole.{each_part}
 
 -- where the client has begun
 pub short_whole : (c : Client Instr State) (l0 l1 l2 l3 l4 l5 l6 l7 objects : List ClientRecord) → has_begun c ≡ true
@@ -52,3 +55,16 @@ short_fresh c l0 l1 l2 l3 l4 begun e0 e1 e2 e3 e4 = all ∙ ap (λ l. l ++ piece
 
     all : l4 ≡ l0 ++ pieces
     all = and_more l0 l1 l4 (id_records c.id) _ e1 (and_more l1 l2 l4 (form_records c.second) _ e2 (and_more l2 l3 l4 (tables_records c.subset) (ident_records c.ident) e3 e4))
+
+-- the parts of its objects, and its cursor
+pub objects_are : (objects : State) (bodies : List (List ℕ)) (version cursor : ℕ) (l0 l1 l2 : List ClientRecord)
+    → bodies ≡ map spelling (build fits_changeset objects)
+    → l1 ≡ l0 ++ map (λ body. Part body) bodies
+    → l2 ≡ l1 ++ Floor version ∷ []
+    → version ≡ cursor
+    → l2 ≡ l0 ++ (map (λ is. Part (the_profile.spell is)) (build fits_changeset objects) ++ Floor cursor ∷ [])
+objects_are objects bodies version cursor l0 l1 l2 e0 e1 e2 at_cursor =
+    and_more l0 l1 l2 (map (λ body. Part body) bodies) (Floor version ∷ []) e1 e2 ∙ (λ i. l0 ++ (parts_are i ++ Floor (at_cursor i) ∷ []))
+  where
+    parts_are : map (λ body. Part body) bodies ≡ map (λ is. Part (the_profile.spell is)) (build fits_changeset objects)
+    parts_are = ap (map (λ body. Part body)) e0 ∙ each_part (λ body. Part body) spelling (build fits_changeset objects)
