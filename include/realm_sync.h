@@ -88,7 +88,9 @@ enum realm_refusal_number {
     REALM_NOT_APPLICABLE = 16, /* version, place, code */
     REALM_WAS_REFUSED = 17,    /* number, code */
     REALM_SUBSCRIBED = 18,
-    REALM_TOO_LATE = 19
+    REALM_TOO_LATE = 19,
+    REALM_SKIPS = 20,          /* the number that comes next, the one that came */
+    REALM_BAD_CHANGE = 21      /* the change's number, offset, code */
 };
 
 /* Why a client refuses: a number of those above, and what it says more of. */
@@ -171,8 +173,19 @@ REALM_SYNC_API int realm_askable(realm_node *node) {
     return node->failed ? REALM_CLOSED : REALM_DONE;
 }
 
-/* Hands a request to the node. Its answer is told once all that it rests on is on the disk. */
-REALM_SYNC_API int realm_turn(realm_node *node, const uint8_t *request, size_t len) {
+/* What an answer of the node says of it. */
+REALM_SYNC_API int realm_note_status(realm_node *node, uint8_t verb) {
+    int status = node->reply[0];
+    if (verb == 'L') node->current = false;
+    /* what a later REALM_CLOSED of the archive is for */
+    if (status == REALM_NO_MEMORY) node->reason = REALM_OUT_OF_MEMORY;
+    if (status == REALM_BAD_FILE) node->reason = REALM_WRONG_FILE;
+    if (status == REALM_CLOSED && !node->reason) node->reason = REALM_NOT_OPEN;
+    return status;
+}
+
+/* Hands a request to the node. Its answer is told to nobody before realm_land. */
+REALM_SYNC_API int realm_hand(realm_node *node, const uint8_t *request, size_t len) {
     static const uint8_t again = 'R';
     int status = realm_askable(node);
     if (status != REALM_DONE) return status;
@@ -186,16 +199,20 @@ REALM_SYNC_API int realm_turn(realm_node *node, const uint8_t *request, size_t l
             told = 1;
         }
     }
-    int why = realm_settle(node);
-    if (why) return realm_fail(node, why);
     node->reply_len = told;
-    status = node->reply[0];
-    if (len > 0 && request[0] == 'L') node->current = false;
-    /* what a later REALM_CLOSED of the archive is for */
-    if (status == REALM_NO_MEMORY) node->reason = REALM_OUT_OF_MEMORY;
-    if (status == REALM_BAD_FILE) node->reason = REALM_WRONG_FILE;
-    if (status == REALM_CLOSED && !node->reason) node->reason = REALM_NOT_OPEN;
-    return status;
+    return realm_note_status(node, len > 0 ? request[0] : 0);
+}
+
+/* The answer of the last request, once all that it and those before it rest on is on the disk. */
+REALM_SYNC_API int realm_land(realm_node *node, int status) {
+    if (!node->host || node->failed || node->process != realm_process()) return status;
+    int why = realm_settle(node);
+    return why ? realm_fail(node, why) : status;
+}
+
+/* Hands a request to the node. Its answer is told once all that it rests on is on the disk. */
+REALM_SYNC_API int realm_turn(realm_node *node, const uint8_t *request, size_t len) {
+    return realm_land(node, realm_hand(node, request, len));
 }
 
 /* A request: its first byte, and what follows. */
@@ -531,20 +548,48 @@ REALM_SYNC_API const char *realm_quote(char *into, size_t room, const char *text
     return into;
 }
 
-/* Commits a transaction at that many milliseconds since the epoch. `edits` is a JSON list: docs/FORMATS.md, "Edits".
- * realm_number tells its number. */
-REALM_SYNC_API int realm_commit(realm_node *node, uint64_t ms, const char *edits) {
+/* A transaction: its time, in milliseconds since the epoch, and its edits, a JSON list (docs/FORMATS.md, "Edits"). */
+typedef struct realm_transaction {
+    uint64_t ms;
+    const char *edits;
+} realm_transaction;
+
+/* Hands a transaction to the node. */
+REALM_SYNC_API int realm_hand_transaction(realm_node *node, const realm_transaction *it) {
     static const char expected[] = "edits: expected a JSON list of edits, as docs/FORMATS.md, \"Edits\", has them";
     char small[1024];
-    if (!edits || edits[strspn(edits, " \t\r\n")] != '[') return realm_expect(node, expected);
-    size_t room = strlen(edits) + 64;
+    if (!it->edits || it->edits[strspn(it->edits, " \t\r\n")] != '[') return realm_expect(node, expected);
+    size_t room = strlen(it->edits) + 64;
     char *request = room <= sizeof small ? small : (char *)malloc(room);
     node->reply_len = 0;
     if (!request) return REALM_NO_MEMORY;
-    int len = snprintf(request, room, "{\"ms\":%" PRIu64 ",\"edits\":%s}", ms, edits);
-    int status = realm_ask_client(node, 'L', request, (size_t)len, expected);
+    int len = snprintf(request, room, "L{\"ms\":%" PRIu64 ",\"edits\":%s}", it->ms, it->edits);
+    int status = realm_hand(node, (const uint8_t *)request, (size_t)len);
     if (request != small) free(request);
-    return status;
+    return realm_told(node, status, node->is_client ? expected : "node: expected a client, and this is a server");
+}
+
+/* Commits transactions, one after the other, and brings them to the disk together, by two writes and two syncs, however many they are: a crash
+ * leaves all of them or none. The first that isn't done ends it, and its status is answered: those before it are committed, *done of them. Where
+ * the disk fails, none is. realm_number tells the number of the last one where all are done, and realm_changed what that one changed. */
+REALM_SYNC_API int realm_commit_all(realm_node *node, const realm_transaction *transactions, size_t count, size_t *done) {
+    int status = realm_askable(node);
+    *done = 0;
+    while (status == REALM_DONE && *done < count) {
+        status = realm_hand_transaction(node, &transactions[*done]);
+        if (status == REALM_DONE) ++*done;
+    }
+    int landed = realm_land(node, REALM_DONE);
+    if (landed == REALM_DONE) return status;
+    *done = 0;
+    return landed;
+}
+
+/* Commits a transaction at that many milliseconds since the epoch. `edits` is a JSON list: docs/FORMATS.md, "Edits".
+ * realm_number tells its number. */
+REALM_SYNC_API int realm_commit(realm_node *node, uint64_t ms, const char *edits) {
+    realm_transaction transaction = {ms, edits};
+    return realm_land(node, realm_hand_transaction(node, &transaction));
 }
 
 REALM_SYNC_API int realm_bind(realm_node *node) { return realm_ask_client(node, 'B', NULL, 0, NULL); }
@@ -732,6 +777,155 @@ REALM_SYNC_API int realm_object(realm_node *node, const char *name) {
  * docs/FORMATS.md, "Places". What none of them covers is as it was; of a list with "front" and "back" so many of its first and its last
  * elements, as the least of each says. */
 REALM_SYNC_API int realm_changed(realm_node *node) { return realm_ask_client(node, 'C', NULL, 0, NULL); }
+
+/* ---- messages, as a host looks at them */
+
+/* What a message is about, in places that are the same for each kind; what a message hasn't got is 0. docs/FORMATS.md, "Messages for a
+ * host", says what each number is. */
+typedef struct realm_message {
+    uint8_t tag;
+    uint8_t uuid[16];
+    uint32_t ident;
+    uint32_t by;
+    uint32_t count;
+    uint32_t first;
+    uint32_t second;
+    uint32_t third;
+    uint32_t fourth;
+    const uint8_t *tables; /* of a question for some tables: as the message spells them, until the next call */
+    size_t tables_len;
+} realm_message;
+
+/* Looks at a message: what it is about. The node does nothing. */
+REALM_SYNC_API int realm_look(realm_node *node, const void *message, size_t len, realm_message *out) {
+    int status = realm_told(node, realm_ask_of(node, 'H', message, len), "message: expected the bytes of a message, as docs/FORMATS.md, \"Messages\", has them");
+    memset(out, 0, sizeof *out);
+    if (status != REALM_DONE || node->reply_len < 46) return status;
+    const uint8_t *head = node->reply + 1;
+    out->tag = head[0];
+    memcpy(out->uuid, head + 1, sizeof out->uuid);
+    uint32_t *numbers[] = {&out->ident, &out->by, &out->count, &out->first, &out->second, &out->third, &out->fourth};
+    for (int i = 0; i < 7; i++) *numbers[i] = (uint32_t)realm_number_at(head + 17 + 4 * i, 4);
+    out->tables = head + 45;
+    out->tables_len = node->reply_len - 46;
+    return status;
+}
+
+/* A change of an Upload: its number, the version at which it was made, its time, and the bytes of its changeset. Of an entry of a
+ * Download number is the ident that made it, and base its number of that ident. */
+typedef struct realm_change {
+    uint32_t number;
+    uint32_t base;
+    uint64_t ms;
+    const uint8_t *body; /* until the next call */
+    size_t len;
+} realm_change;
+
+/* Asks for what a message bears: realm_next_change tells one after the other. The node does nothing. */
+REALM_SYNC_API int realm_borne(realm_node *node, const void *message, size_t len) {
+    return realm_told(node, realm_ask_of(node, 'P', message, len), "message: expected the bytes of a message, as docs/FORMATS.md, \"Messages\", has them");
+}
+
+/* The change or entry at a place of the last call's bytes, which goes behind it; false at their end. */
+REALM_SYNC_API bool realm_next_change(const realm_node *node, size_t *at, realm_change *out) {
+    size_t len;
+    const uint8_t *bytes = realm_bytes(node, &len);
+    if (*at > len || len - *at < 20) return false;
+    const uint8_t *row = bytes + *at;
+    out->number = (uint32_t)realm_number_at(row, 4);
+    out->base = (uint32_t)realm_number_at(row + 4, 4);
+    out->ms = realm_number_at(row + 8, 8);
+    out->len = (size_t)realm_number_at(row + 16, 4);
+    out->body = row + 20;
+    if (out->len > len - *at - 20) return false;
+    *at += 20 + out->len;
+    return true;
+}
+
+/* ---- the whole life of a history */
+
+/* The bytes of the file that may stand in place of the server's (realm_bytes): without the history that no client needs. The host puts
+ * it there while no node has the file open, and opens it. */
+REALM_SYNC_API int realm_trim(realm_node *server) {
+    return realm_told(server, realm_ask_of(server, 'F', NULL, 0), "node: expected a server, and this is a client");
+}
+
+/* The bytes of the file of a new client with that uuid, of 16 bytes, that begins with the server's objects (realm_bytes). */
+REALM_SYNC_API int realm_start(realm_node *server, const uint8_t *uuid) {
+    return realm_told(server, realm_ask_of(server, 'S', uuid, 16), "node: expected a server, and this is a client");
+}
+
+/* Asks a server for so many entries of its history from a version on: realm_next_change tells one after the other. REALM_ABSENT where the
+ * server gave up the history there. */
+REALM_SYNC_API int realm_entries(realm_node *server, uint32_t version, uint32_t count) {
+    uint8_t body[8];
+    realm_put_number(body, version);
+    realm_put_number(body + 4, count);
+    return realm_told(server, realm_ask_of(server, 'E', body, sizeof body), "node: expected a server, and this is a client");
+}
+
+/* A client as its server knows it. */
+typedef struct realm_known {
+    uint8_t uuid[16];
+    uint32_t number;  /* how many of its changes are in the history */
+    uint32_t settled; /* up to which version it has settled */
+    bool given_up;
+} realm_known;
+
+/* Asks a server for its clients: realm_known_at tells one by its ident, and the number before them is the first version that the server
+ * still has. */
+REALM_SYNC_API int realm_clients(realm_node *server) {
+    return realm_told(server, realm_ask_of(server, 'Q', NULL, 0), "node: expected a server, and this is a client");
+}
+
+REALM_SYNC_API uint32_t realm_floor(const realm_node *server) { return server->reply_len >= 5 ? (uint32_t)realm_number_at(server->reply + 1, 4) : 0; }
+
+REALM_SYNC_API bool realm_known_at(const realm_node *server, uint32_t ident, realm_known *out) {
+    if (ident == 0 || server->reply_len < 5 || (server->reply_len - 5) / 28 < ident) return false;
+    const uint8_t *row = server->reply + 5 + 28 * (size_t)(ident - 1);
+    memcpy(out->uuid, row, sizeof out->uuid);
+    out->number = (uint32_t)realm_number_at(row + 16, 4);
+    out->settled = (uint32_t)realm_number_at(row + 20, 4);
+    out->given_up = realm_number_at(row + 24, 4) != 0;
+    return true;
+}
+
+/* What became of a change that a client inherited. */
+enum realm_inherited {
+    REALM_INTEGRATED = 0, /* it is in the history */
+    REALM_KNOWN = 1,      /* it was saved before */
+    REALM_SAVED = 2       /* it is the client's transaction realm_saved_as now */
+};
+
+/* A client, the heir, takes a change of an ident that was given up for it: retired is the Retired message, looked at, and change one of those
+ * that the old client had unsent, which come one by one, in order. Then realm_inherited_of says what became of it. */
+REALM_SYNC_API int realm_inherit(realm_node *heir, const realm_message *retired, const realm_change *change) {
+    uint8_t *body = (uint8_t *)malloc(28 + change->len);
+    if (!body) {
+        heir->reply_len = 0;
+        return REALM_NO_MEMORY;
+    }
+    const uint32_t numbers[] = {retired->ident, retired->by, retired->first, change->number, change->base, (uint32_t)change->ms, (uint32_t)(change->ms >> 32)};
+    for (int i = 0; i < 7; i++) realm_put_number(body + 4 * i, numbers[i]);
+    if (change->len > 0) memcpy(body + 28, change->body, change->len);
+    int status = realm_ask_client(heir, 'K', body, 28 + change->len, "retired: expected a Retired message, and a change of an Upload");
+    free(body);
+    return status;
+}
+
+REALM_SYNC_API enum realm_inherited realm_inherited_of(const realm_node *heir) { return heir->reply_len > 1 ? (enum realm_inherited)heir->reply[1] : REALM_INTEGRATED; }
+
+/* As which transaction it was saved. */
+REALM_SYNC_API uint32_t realm_saved_as(const realm_node *heir) { return heir->reply_len >= 6 ? (uint32_t)realm_number_at(heir->reply + 2, 4) : 0; }
+
+/* How many of its instructions were dropped, since they broke; and of one of them its place in the change, and the code of the break. */
+REALM_SYNC_API size_t realm_dropped(const realm_node *heir) { return heir->reply_len >= 6 ? (heir->reply_len - 6) / 8 : 0; }
+
+REALM_SYNC_API uint32_t realm_dropped_at(const realm_node *heir, size_t index, uint32_t *code) {
+    const uint8_t *row = heir->reply + 6 + 8 * index;
+    *code = (uint32_t)realm_number_at(row + 4, 4);
+    return (uint32_t)realm_number_at(row, 4);
+}
 
 /* Where it stands. */
 REALM_SYNC_API int realm_standing(realm_node *node, realm_place *out) {

@@ -88,10 +88,11 @@ if [ -n "$target" ]; then
         "$top/examples/c/other_machine.py" "$module" "$triple" "$out/sync_host_c.o"
     fi
     library="$out/sync_host_c.o $out/sync_host_c.o.heap.o"
-    for name in two_phones refusals; do built $name $name.exe -O2; done
+    for name in two_phones refusals life; do built $name $name.exe -O2; done
     ran c/two_phones "two_phones on $target, over memory" $on "$out/two_phones.exe"
     ran c/two_phones "two_phones on $target, over files" $on "$out/two_phones.exe" $(files)
     ran c/refusals "each refusal on $target" $on "$out/refusals.exe"
+    ran c/life "the whole life of a history on $target" $on "$out/life.exe"
     if [ "$target" = windows ]; then
         built windows windows.exe -O2
         ran c/windows "files on $target" $on "$out/windows.exe" "$(folder)"
@@ -157,6 +158,10 @@ if command -v valgrind >/dev/null; then
     ran c/situations "the same, under valgrind" valgrind -q --leak-check=full --show-leak-kinds=all --error-exitcode=1 --child-silent-after-fork=yes \
         "$out/situations" "$(folder)"
 fi
+
+# The whole life of a history.
+built life life $sanitizers
+ran c/life "the whole life of a history, with sanitizers" "$out/life"
 
 # A crash at each write and each sync.
 built crashes crashes $sanitizers

@@ -60,7 +60,7 @@ const CLIENT: [(&[u8], &[u8]); 21] = [
     ),
 ];
 
-const OTHERS: [(&[u8], &[u8]); 13] = [
+const OTHERS: [(&[u8], &[u8]); 16] = [
     (b"", b"\x02"),
     (b"?", b"\x02"),
     (b"s", b"\0"),
@@ -74,12 +74,47 @@ const OTHERS: [(&[u8], &[u8]); 13] = [
         b"\0\x02\x0a\x0a\x0a\x0a\x0a\x0a\x0a\x0a\x0a\x0a\x0a\x0a\x0a\x0a\x0a\x0a\x01",
     ),
     (b"T\x04\x01\0\0", b"\0\x05\x01\0\0"),
+    // The files that the server makes: nothing is settled, so all of its own stays.
+    (
+        b"F",
+        b"\0RSYNCJ01\x01\0\0\0\x02\x0c\0\x01\0\0\0\x11\x05\x0a\x0a\x0a\x0a\x0a\x0a\x0a\x0a\x0a\x0a\x0a\x0a\x0a\x0a\x0a\x0a\x01\0\0\0\x05\x0d\x01\0\0\0\0",
+    ),
+    (
+        b"S\x0c\x0c\x0c\x0c\x0c\x0c\x0c\x0c\x0c\x0c\x0c\x0c\x0c\x0c\x0c\x0c",
+        b"\0RSYNCJ01\x01\0\0\0\x11\x01\x0c\x0c\x0c\x0c\x0c\x0c\x0c\x0c\x0c\x0c\x0c\x0c\x0c\x0c\x0c\x0c\x01\0\0\0\x02\x0c\0\0",
+    ),
+    (b"S\x0c", b"\x02"),
     (b"C", b"\x02"),
     (b"O{\"table\":\"t\",\"key\":1}", b"\x03"),
     (b"O{\"table\":\"t\"}", b"\x02"),
     (b"cRSYNCJ02\0\0", b"\x06\x07\0\0\0\0\0\0\0"),
     (b"G\0\0\0\0", b"\x05"),
     (b"x", b"\0"),
+];
+
+/// Messages are looked at where no node stands.
+const LOOKS: [(&[u8], &[u8]); 7] = [
+    (
+        b"H\x04\x03\x02\x01",
+        b"\0\x04\0\0\0\0\0\0\0\0\0\0\0\0\0\0\0\0\x03\0\0\0\0\0\0\0\0\0\0\0\x02\0\0\0\x01\0\0\0\x01\0\0\0\0\0\0\0",
+    ),
+    // The tables stand behind.
+    (
+        b"H\x0b\x02\0\0\x01\x01\x01q",
+        b"\0\x0b\0\0\0\0\0\0\0\0\0\0\0\0\0\0\0\0\x02\0\0\0\0\0\0\0\x01\0\0\0\0\0\0\0\0\0\0\0\x01\0\0\0\0\0\0\0\x01\x01q",
+    ),
+    // The numbers of the first change and the last, the base of the first, and the lowest.
+    (
+        b"H\x03\x02\x02\x05\x04\x07\x03\x01\0\0\x06\x01\x08\x03\x01\0\0",
+        b"\0\x03\0\0\0\0\0\0\0\0\0\0\0\0\0\0\0\0\x02\0\0\0\0\0\0\0\x02\0\0\0\x05\0\0\0\x06\0\0\0\x04\0\0\0\x01\0\0\0",
+    ),
+    (
+        b"P\x03\x02\x02\x05\x01\x07\x03\x01\0\0\x06\x04\x08\x03\x01\0\0",
+        b"\0\x05\0\0\0\x01\0\0\0\x07\0\0\0\0\0\0\0\x03\0\0\0\x01\0\0\x06\0\0\0\x04\0\0\0\x08\0\0\0\0\0\0\0\x03\0\0\0\x01\0\0",
+    ),
+    (b"P\x04\x03\x02\x01", b"\0"),
+    (b"H", b"\x02"),
+    (b"P\x04\x03\x02", b"\x02"),
 ];
 
 /// Whether the place answers so, also into less room.
@@ -118,5 +153,5 @@ pub(crate) fn a_client_answers(alloc: Global) -> bool {
 }
 
 pub(crate) fn others_answer(alloc: Global) -> bool {
-    answers_all(alloc, &OTHERS)
+    answers_all(alloc, &OTHERS) && answers_all(alloc, &LOOKS)
 }

@@ -1,4 +1,4 @@
-ghost use Rattle.std.specs.Prelude.{◌≡◌, ◌↔◌, ◌≤◌, List, IsErrOf, IfErr, IfOk, OnOk, ◌++◌, ◌∷◌, [], map, true, length, min};
+ghost use Rattle.std.specs.Prelude.{◌≡◌, ◌↔◌, ◌≤◌, List, None, IsErrOf, IfErr, IfOk, OnOk, ◌++◌, ◌∷◌, [], map, true, length, min};
 ghost use Rattle.sync_journal.specs.Stands.{disk_of};
 ghost use Rattle.sync_model.specs.Clients as model;
 ghost use Rattle.sync_exchange.specs.Profile.{the_profile};
@@ -32,6 +32,7 @@ impl<D: Disk> Client<D> {
     pub fn bind(&self) -> Result<Message, ClientRefusal>
         ensures step { (records : List model.ClientRecord) → IsClientOf records self.now → Sends (model.bind (model.client_of the_profile records)) result }
         ensures closed { IsErrOf result ClientRefusal.Closed ↔ (is_closed self.now ≡ true) }
+        ensures memory { IsErrOf result ClientRefusal.NoMemory → ⊥ }
     {
         if self.journal.is_closed() {
             return Err(ClientRefusal::Closed);
@@ -48,6 +49,7 @@ impl<D: Disk> Client<D> {
     pub fn ask(&self) -> Result<Message, ClientRefusal>
         ensures step { (records : List model.ClientRecord) → IsClientOf records self.now → Sends (model.ask (model.client_of the_profile records)) result }
         ensures closed { IsErrOf result ClientRefusal.Closed ↔ (is_closed self.now ≡ true) }
+        ensures memory { IsErrOf result ClientRefusal.NoMemory → (replica_of self.now).subset ≡ None → ⊥ }
     {
         if self.journal.is_closed() {
             return Err(ClientRefusal::Closed);

@@ -3,3 +3,9 @@ pub mod Untold
 pub mod Floats
 pub mod NodeKinds
 pub mod Objects
+pub mod Files
+pub mod Lasting
+pub mod Heads
+pub mod Pieces
+pub mod Inheriting
+pub mod Histories

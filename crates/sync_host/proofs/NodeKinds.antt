@@ -5,17 +5,17 @@ use Rattle.sync_host.specs.declared.hosted.HostedServer.{HostedServer}
 use Rattle.sync_host.specs.declared.node.Node.{Node}
 use Rattle.sync_host.specs.declared.node.Node.TheVariants as nodes
 
-pub same_client : (node : Node) (a b : HostedClient) → node ≡ nodes.Client a → node ≡ nodes.Client b → a ≡ b
-same_client node a b e f = cc
+pub same_client : (it : Node) (a b : HostedClient) → it ≡ nodes.Client a → it ≡ nodes.Client b → a ≡ b
+same_client it a b e f = cc
 
-pub same_server : (node : Node) (a b : HostedServer) → node ≡ nodes.Server a → node ≡ nodes.Server b → a ≡ b
-same_server node a b e f = cc
+pub same_server : (it : Node) (a b : HostedServer) → it ≡ nodes.Server a → it ≡ nodes.Server b → a ≡ b
+same_server it a b e f = cc
 
-pub not_both : (node : Node) (a : HostedClient) (b : HostedServer) → node ≡ nodes.Client a → node ≡ nodes.Server b → ⊥
-not_both node a b e f = cc
+pub not_both : (it : Node) (a : HostedClient) (b : HostedServer) → it ≡ nodes.Client a → it ≡ nodes.Server b → ⊥
+not_both it a b e f = cc
 
-pub client_there : (node : Node) (a : HostedClient) → node ≡ nodes.Client a → node ≡ nodes.None → ⊥
-client_there node a e f = cc
+pub client_there : (it : Node) (a : HostedClient) → it ≡ nodes.Client a → it ≡ nodes.None → ⊥
+client_there it a e f = cc
 
-pub server_there : (node : Node) (a : HostedServer) → node ≡ nodes.Server a → node ≡ nodes.None → ⊥
-server_there node a e f = cc
+pub server_there : (it : Node) (a : HostedServer) → it ≡ nodes.Server a → it ≡ nodes.None → ⊥
+server_there it a e f = cc

@@ -30,7 +30,7 @@ told_then replies.Closed P Q f h = tt
 told_then replies.NoMemory P Q f h = tt
 told_then reply P Q f h = f h
 
-untold : (reply : Reply) (P : Type 0) → Declines None reply → IfTold reply P
+pub untold : (reply : Reply) (P : Type 0) → Declines None reply → IfTold reply P
 untold reply P (inl closed) = subst (λ (r : Reply). IfTold r P) (sym closed) tt
 untold reply P (inr none) = subst (λ (r : Reply). IfTold r P) (sym none) tt
 

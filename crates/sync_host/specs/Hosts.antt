@@ -2,7 +2,7 @@
 use Rattle.std.specs.Prelude.{◌≡◌, ◌⊎◌, List, ℕ, true, [], ◌∷◌, length}
 use Rattle.outbox_disk.specs.Outbox.{outbox_bytes}
 use Rattle.sync_host.specs.Nodes.{Answered}
-use Rattle.sync_host.specs.Outboxes.{strokes_in}
+use Rattle.sync_host.specs.Outboxes.{FileStands, strokes_in}
 use Rattle.sync_host.specs.Replies.{over, reply_bytes}
 use Rattle.sync_host.specs.Verbs.{Asks, AsksNothingNew, is_new}
 use Rattle.sync_host.specs.declared.host.Host.{Host}
@@ -39,3 +39,5 @@ pub record Turned (old : Host) (request before : List ℕ) (count : ℕ) (after 
   pub outbox_told : request ≡ outbox → count ≡ length (outbox_bytes (strokes_in (node_of old)))
   pub outbox_written : request ≡ outbox → after ≡ over (outbox_bytes (strokes_in (node_of old))) before
   pub room : length after ≡ length before
+  -- a host that has done all that stands in the outbox has a file that stands for the node's records
+  pub file : FileStands (node_of new)

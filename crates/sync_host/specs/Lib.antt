@@ -9,3 +9,7 @@ pub mod Outboxes
 pub mod Hosting
 pub mod Nodes
 pub mod Hosts
+pub mod Heads
+pub mod Trimming
+pub mod Heirs
+pub mod Histories

@@ -1,10 +1,15 @@
 -- What a host's place answers, and what stands there afterwards.
-use Rattle.std.specs.Prelude.{◌≡◌, ℕ, List, [], true, false}
+use Rattle.std.specs.Prelude.{◌≡◌, ◌⊎◌, ℕ, List, [], true, false}
+use Rattle.sync_client.specs.Clients as clients
 use Rattle.sync_client.specs.Files as client_files
 use Rattle.sync_server.specs.Files as server_files
+use Rattle.sync_server.specs.Serving as servers
+use Rattle.sync_messages.specs.Reading.{message_in}
+use Rattle.sync_host.specs.Heads.{BorneTold, HeadTold}
+use Rattle.sync_host.specs.Steps.{IfTold}
 use Rattle.sync_host.specs.Hosting.{ClientAnswers, ServerAnswers}
 use Rattle.sync_host.specs.Outboxes.{Emptied}
-use Rattle.sync_host.specs.Opening.{ClientOpens, ServerOpens}
+use Rattle.sync_host.specs.Opening.{Begins, ClientOpens, ServerOpens}
 use Rattle.sync_host.specs.Verbs.{is_new, is_to_node}
 use Rattle.sync_host.specs.declared.hosted.HostedClient.{HostedClient}
 use Rattle.sync_host.specs.declared.hosted.HostedServer.{HostedServer}
@@ -23,10 +28,21 @@ pub record NodeAnswers (verb : Verb) (body : List ℕ) (old : Node) (reply : Rep
 
 -- the client of the records for which the bytes stand, of which the server said nothing yet, and nothing has changed
 abbrev pub OpensClient : List ℕ → Node → Type 0
-OpensClient bytes node = (h : HostedClient) × (node ≡ nodes.Client h) × (h.stored ≡ 0) × (h.changed.items ≡ []) × ClientOpens bytes h.client
+OpensClient bytes node = (h : HostedClient) × (node ≡ nodes.Client h) × (h.stored ≡ 0) × (h.changed.items ≡ []) × ClientOpens bytes h.client × Begins bytes (clients.journal_of h.client)
 
 abbrev pub OpensServer : List ℕ → Node → Type 0
-OpensServer bytes node = (h : HostedServer) × (node ≡ nodes.Server h) × ServerOpens bytes h.server
+OpensServer bytes node = (h : HostedServer) × (node ≡ nodes.Server h) × ServerOpens bytes h.server × Begins bytes (servers.journal_of h.server)
+
+-- a node was opened, or the place of what is bad is told, or memory ran out; then no node is open
+abbrev pub Opened : (ℕ → Type 0) → (Node → Type 0) → Reply → Node → Type 0
+Opened Bad Opens replies.Done there = Opens there
+Opened Bad Opens (replies.BadFile place) there = Bad place × (there ≡ nodes.None)
+Opened Bad Opens replies.NoMemory there = there ≡ nodes.None
+Opened Bad Opens reply there = ⊥
+
+-- a file that is bad at a place is told so
+abbrev pub TellsBad : (ℕ → Type 0) → Reply → Type 0
+TellsBad Bad reply = (place : ℕ) → Bad place → (reply ≡ replies.BadFile place) ⊎ (reply ≡ replies.NoMemory)
 
 -- an outbox can be emptied where a node is open
 abbrev pub emptied_reply : Node → Reply
@@ -37,10 +53,13 @@ emptied_reply (nodes.Server h) = replies.Done
 -- a request goes to the node that is open, or changes which is
 pub record Answered (verb : Verb) (body : List ℕ) (old : Node) (reply : Reply) (new : Node) : Type 0 where
   pub by_node : is_to_node verb ≡ true → NodeAnswers verb body old reply new
-  pub opens_client : verb ≡ verbs.OpenClient → reply ≡ replies.Done → OpensClient body new
-  pub bad_client : verb ≡ verbs.OpenClient → (place : ℕ) → reply ≡ replies.BadFile place → client_files.BadPlace body place
-  pub opens_server : verb ≡ verbs.OpenServer → reply ≡ replies.Done → OpensServer body new
-  pub bad_server : verb ≡ verbs.OpenServer → (place : ℕ) → reply ≡ replies.BadFile place → server_files.BadPlace body place
+  pub opens_client : verb ≡ verbs.OpenClient → Opened (client_files.BadPlace body) (OpensClient body) reply new
+  pub bad_client : verb ≡ verbs.OpenClient → TellsBad (client_files.BadPlace body) reply
+  pub opens_server : verb ≡ verbs.OpenServer → Opened (server_files.BadPlace body) (OpensServer body) reply new
+  pub bad_server : verb ≡ verbs.OpenServer → TellsBad (server_files.BadPlace body) reply
+  -- a message is looked at without a node
+  pub heads : verb ≡ verbs.Head → IfTold reply (HeadTold (message_in body) reply) × (new ≡ old)
+  pub bears : verb ≡ verbs.Borne → IfTold reply (BorneTold (message_in body) reply) × (new ≡ old)
   pub closes : verb ≡ verbs.Close → (reply ≡ replies.Done) × (new ≡ nodes.None)
   pub empties : verb ≡ verbs.Done → (reply ≡ emptied_reply old) × Emptied old new
   -- what asks for the last reply or the outbox with bytes behind it is no request

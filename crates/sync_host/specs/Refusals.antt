@@ -10,10 +10,10 @@ plain number = record { number = number; first = 0; second = 0; third = 0 }
 abbrev of_one : ℕ → ℕ → Declined
 of_one number first = record { number = number; first = first; second = 0; third = 0 }
 
-abbrev of_two : ℕ → ℕ → ℕ → Declined
+abbrev pub of_two : ℕ → ℕ → ℕ → Declined
 of_two number first second = record { number = number; first = first; second = second; third = 0 }
 
-abbrev of_three : ℕ → ℕ → ℕ → ℕ → Declined
+abbrev pub of_three : ℕ → ℕ → ℕ → ℕ → Declined
 of_three number first second third = record { number = number; first = first; second = second; third = third }
 
 abbrev pub declined : ClientRefusal → Declined

@@ -9,7 +9,10 @@ use Rattle.sync_base.specs.States.{State}
 use Rattle.sync_changed.specs.Ends.{SameEndsAt, all_spare}
 use Rattle.sync_changed.specs.Places.{is_told}
 use Rattle.sync_changed.specs.declared.place.Place.{Place}
+use Rattle.sync_disk.specs.Disk.{LeavesOnly}
 use Rattle.sync_disk.specs.declared.disk.Disk.{Ghosts}
+use Rattle.sync_journal.specs.Records.{StandsForPrefix}
+use Rattle.sync_journal.specs.Stands.{disk_of}
 use Rattle.sync_model.specs.Clients as clients
 use Rattle.sync_model.specs.Clients.{Client as ModelClient, ClientRecord, ClientRefusal, ClientStep, NotNamed, answers, ask, bind, client_of, last, refuse, upload_from}
 use Rattle.sync_model.specs.Messages.{Message, Retire}
@@ -160,6 +163,19 @@ module _ {D : Type 0} {G : Ghosts D} where
   Answers None records reply old new = (reply ≡ replies.BadRequest) × (new ≡ old)
   Answers (Some answer) records reply old new = Did answer records reply old new
 
+  -- with what its disk began, on the disk
+  abbrev pub start_of : Client D G → List ℕ
+  start_of c = (G.origin (disk_of (clients_code.journal_of c))).start
+
+  abbrev pub server_start_of : Server D G → List ℕ
+  server_start_of s = (G.origin (disk_of (servers_code.journal_of s))).start
+
+  -- a crash at any moment of a call left these records and some of the answer's, from the first on; what is no request of this kind
+  -- leaves the client
+  abbrev pub Lasts : Option Answer → List ClientRecord → Client D G → Client D G → Type 0
+  Lasts None records old new = new ≡ old
+  Lasts (Some answer) records old new = clients_code.Leaves records answer.records (clients_code.journal_of old) (clients_code.journal_of new)
+
   -- the same of a server
   pub record DidServe (did : Served Instr State) (records : List ServerRecord) (reply : Reply) (old new : Server D G) : Type 0 where
     pub replied : (sent : CodeMessage) × (message_seen sent ≡ did.answer) × (reply_bytes reply ≡ 0 ∷ message_spelling sent)
@@ -169,6 +185,11 @@ module _ {D : Type 0} {G : Ghosts D} where
   abbrev pub Serves : Option (Served Instr State) → List ServerRecord → Reply → Server D G → Server D G → Type 0
   Serves None records reply old new = (reply ≡ replies.BadRequest) × (new ≡ old)
   Serves (Some did) records reply old new = DidServe did records reply old new
+
+  abbrev pub ServerLasts : Option (Served Instr State) → List ServerRecord → Server D G → Server D G → Type 0
+  ServerLasts None records old new = new ≡ old
+  ServerLasts (Some did) records old new =
+      LeavesOnly G.moment G.images_since (disk_of (servers_code.journal_of old)) (disk_of (servers_code.journal_of new)) (StandsForPrefix (map server_bytes records) (map server_bytes did.records))
 
 abbrev pub server_standing : ℕ → Standing
 server_standing len = record { ident = 0; cursor = len; last = 0; unsent = 0 }

@@ -10,6 +10,7 @@ verb_of byte =
     else if byte == 120 then Some verbs.Close
     else if byte == 76 then Some verbs.Line
     else if byte == 84 then Some verbs.Take
+    else if byte == 75 then Some verbs.Inherit
     else if byte == 78 then Some verbs.Next
     else if byte == 66 then Some verbs.Bind
     else if byte == 85 then Some verbs.Upload
@@ -19,6 +20,12 @@ verb_of byte =
     else if byte == 79 then Some verbs.Object
     else if byte == 67 then Some verbs.Changed
     else if byte == 73 then Some verbs.Standing
+    else if byte == 70 then Some verbs.Trim
+    else if byte == 83 then Some verbs.Start
+    else if byte == 69 then Some verbs.Entries
+    else if byte == 81 then Some verbs.Clients
+    else if byte == 72 then Some verbs.Head
+    else if byte == 80 then Some verbs.Borne
     else if byte == 82 then Some verbs.Again
     else if byte == 87 then Some verbs.Outbox
     else if byte == 86 then Some verbs.Done
@@ -35,6 +42,7 @@ is_to_node verbs.OpenServer = false
 is_to_node verbs.Close = false
 is_to_node verbs.Line = true
 is_to_node verbs.Take = true
+is_to_node verbs.Inherit = true
 is_to_node verbs.Next = true
 is_to_node verbs.Bind = true
 is_to_node verbs.Upload = true
@@ -44,6 +52,12 @@ is_to_node verbs.Dump = true
 is_to_node verbs.Object = true
 is_to_node verbs.Changed = true
 is_to_node verbs.Standing = true
+is_to_node verbs.Trim = true
+is_to_node verbs.Start = true
+is_to_node verbs.Entries = true
+is_to_node verbs.Clients = true
+is_to_node verbs.Head = false
+is_to_node verbs.Borne = false
 is_to_node verbs.Again = false
 is_to_node verbs.Outbox = false
 is_to_node verbs.Done = false
@@ -55,6 +69,7 @@ is_new verbs.OpenServer = true
 is_new verbs.Close = true
 is_new verbs.Line = true
 is_new verbs.Take = true
+is_new verbs.Inherit = true
 is_new verbs.Next = true
 is_new verbs.Bind = true
 is_new verbs.Upload = true
@@ -64,14 +79,21 @@ is_new verbs.Dump = true
 is_new verbs.Object = true
 is_new verbs.Changed = true
 is_new verbs.Standing = true
+is_new verbs.Trim = true
+is_new verbs.Start = true
+is_new verbs.Entries = true
+is_new verbs.Clients = true
+is_new verbs.Head = true
+is_new verbs.Borne = true
 is_new verbs.Again = false
 is_new verbs.Outbox = false
 is_new verbs.Done = true
 
--- it is a node line or a message
+-- it is a node line, a message, or a change that a client inherits
 abbrev pub is_call : Verb → Bool
 is_call verbs.Line = true
 is_call verbs.Take = true
+is_call verbs.Inherit = true
 is_call verb = false
 
 -- it asks for nothing new: for nothing at all, or for the last reply or the outbox

@@ -6,7 +6,7 @@ ghost use Rattle.sync_exchange.specs.Seen.{message_seen};
 ghost use Rattle.sync_client.specs.Clients.{IsClientOf};
 ghost use Rattle.sync_client.specs.Sending.{Sends};
 ghost use Rattle.sync_host.specs.Replies.{word};
-ghost use Rattle.sync_host.specs.Steps.{Answers, ClientStands, IfTold, line_answer, next, nothing, retire, said, standing_of, take_answer};
+ghost use Rattle.sync_host.specs.Steps.{Answers, ClientStands, IfTold, Lasts, line_answer, next, nothing, retire, said, standing_of, start_of, take_answer};
 ghost use Rattle.sync_host.specs.declared.reply.Reply.TheVariants as replies;
 
 use crate::answers::decline;
@@ -20,7 +20,9 @@ use sync_subset::Subset;
 
 /// The client gets its uuid.
 fn born<D: Disk>(client: &mut Client<D>, id: Id) -> Reply
-    ensures { (records : List model.ClientRecord) → ClientStands records client.old → IfTold result (Answers (Some (said nothing (model.born (model.client_of the_profile records) id))) records result client.old client.new) }
+    ensures step { (records : List model.ClientRecord) → ClientStands records client.old → IfTold result (Answers (Some (said nothing (model.born (model.client_of the_profile records) id))) records result client.old client.new) }
+    ensures lasts { (records : List model.ClientRecord) → ClientStands records client.old → Lasts (Some (said nothing (model.born (model.client_of the_profile records) id))) records client.old client.new }
+    ensures begun { start_of client.new ≡ start_of client.old }
 {
     match client.born(id) {
         Ok(()) => Reply::Done,
@@ -30,7 +32,9 @@ fn born<D: Disk>(client: &mut Client<D>, id: Id) -> Reply
 
 /// The client commits a transaction.
 fn commit<D: Disk>(client: &mut Client<D>, ms: u64, edits: Vec<Instr>) -> Reply
-    ensures { (records : List model.ClientRecord) → ClientStands records client.old → IfTold result (Answers (Some (said word (model.commit the_profile (model.client_of the_profile records) ms edits.items))) records result client.old client.new) }
+    ensures step { (records : List model.ClientRecord) → ClientStands records client.old → IfTold result (Answers (Some (said word (model.commit the_profile (model.client_of the_profile records) ms edits.items))) records result client.old client.new) }
+    ensures lasts { (records : List model.ClientRecord) → ClientStands records client.old → Lasts (Some (said word (model.commit the_profile (model.client_of the_profile records) ms edits.items))) records client.old client.new }
+    ensures begun { start_of client.new ≡ start_of client.old }
 {
     match client.commit(ms, edits) {
         Ok(number) => Reply::Number(number),
@@ -40,7 +44,9 @@ fn commit<D: Disk>(client: &mut Client<D>, ms: u64, edits: Vec<Instr>) -> Reply
 
 /// The client's file is brought to form 2.
 fn upgrade<D: Disk>(client: &mut Client<D>) -> Reply
-    ensures { (records : List model.ClientRecord) → ClientStands records client.old → IfTold result (Answers (Some (said nothing (model.upgrade (model.client_of the_profile records)))) records result client.old client.new) }
+    ensures step { (records : List model.ClientRecord) → ClientStands records client.old → IfTold result (Answers (Some (said nothing (model.upgrade (model.client_of the_profile records)))) records result client.old client.new) }
+    ensures lasts { (records : List model.ClientRecord) → ClientStands records client.old → Lasts (Some (said nothing (model.upgrade (model.client_of the_profile records)))) records client.old client.new }
+    ensures begun { start_of client.new ≡ start_of client.old }
 {
     match client.upgrade() {
         Ok(_) => Reply::Done,
@@ -50,7 +56,9 @@ fn upgrade<D: Disk>(client: &mut Client<D>) -> Reply
 
 /// The client names its tables.
 fn subscribe<D: Disk>(client: &mut Client<D>, tables: Subset) -> Reply
-    ensures { (records : List model.ClientRecord) → ClientStands records client.old → IfTold result (Answers (Some (said nothing (model.subscribe (model.client_of the_profile records) tables))) records result client.old client.new) }
+    ensures step { (records : List model.ClientRecord) → ClientStands records client.old → IfTold result (Answers (Some (said nothing (model.subscribe (model.client_of the_profile records) tables))) records result client.old client.new) }
+    ensures lasts { (records : List model.ClientRecord) → ClientStands records client.old → Lasts (Some (said nothing (model.subscribe (model.client_of the_profile records) tables))) records client.old client.new }
+    ensures begun { start_of client.new ≡ start_of client.old }
 {
     match client.subscribe(tables) {
         Ok(()) => Reply::Done,
@@ -60,7 +68,9 @@ fn subscribe<D: Disk>(client: &mut Client<D>, tables: Subset) -> Reply
 
 /// The client does what a node line says: born, commit, upgrade or tables.
 pub(crate) fn take_line<D: Disk>(client: &mut Client<D>, line: NodeLine) -> Reply
-    ensures { (records : List model.ClientRecord) → ClientStands records client.old → IfTold result (Answers (Some (line_answer records line)) records result client.old client.new) }
+    ensures step { (records : List model.ClientRecord) → ClientStands records client.old → IfTold result (Answers (Some (line_answer records line)) records result client.old client.new) }
+    ensures lasts { (records : List model.ClientRecord) → ClientStands records client.old → Lasts (Some (line_answer records line)) records client.old client.new }
+    ensures begun { start_of client.new ≡ start_of client.old }
 {
     match line {
         NodeLine::Born { id } => born(client, id),
@@ -72,7 +82,9 @@ pub(crate) fn take_line<D: Disk>(client: &mut Client<D>, line: NodeLine) -> Repl
 
 /// Takes a message: the cursor is answered.
 pub(crate) fn take<D: Disk>(client: &mut Client<D>, message: Message) -> Reply
-    ensures { (records : List model.ClientRecord) → ClientStands records client.old → IfTold result (Answers (Some (take_answer records (message_seen message))) records result client.old client.new) }
+    ensures step { (records : List model.ClientRecord) → ClientStands records client.old → IfTold result (Answers (Some (take_answer records (message_seen message))) records result client.old client.new) }
+    ensures lasts { (records : List model.ClientRecord) → ClientStands records client.old → Lasts (Some (take_answer records (message_seen message))) records client.old client.new }
+    ensures begun { start_of client.new ≡ start_of client.old }
 {
     match client.take(message) {
         Ok(cursor) => Reply::Number(cursor),

@@ -8,9 +8,12 @@ ghost use Rattle.sync_messages.specs.Reading.{message_in};
 ghost use Rattle.sync_host.specs.Steps.{Answers, ClientStands, IfTold, SentSo, Spares, Tells, errand, line_answer, message_read, number_in, retire_in, stored_after, stored_in, take_answer};
 
 use crate::answers::{dump, send};
+use crate::heir::inherit;
+use crate::history::{clients, entries};
 use crate::object::object;
 use crate::places::{changed_by_line, tell};
 use crate::reply::Reply;
+use crate::trimming::{started, trimmed};
 use crate::verb::Verb;
 use crate::{client, server};
 use outbox_disk::OutboxDisk;
@@ -57,13 +60,15 @@ fn stored_by(message: &Message) -> Option<u32>
 }
 
 impl HostedClient {
-    ghost use Rattle.sync_host.specs.Hosting.{ClientAnswers};
-    ghost use Rattle.sync_host.specs.Outboxes.{EmptiedClient};
+    ghost use Rattle.sync_host.specs.Hosting.{ClientAnswers, ClientLasts};
+    ghost use Rattle.sync_host.specs.Outboxes.{EmptiedClient, client_start};
 
     /// Does what a node line says, and keeps what it may change.
     fn line(&mut self, alloc: Global, bytes: &[u8]) -> Reply
         ensures step { (records : List clients.ClientRecord) → ClientStands records self.old.client
             → IfTold result (Answers (option_map (line_answer records) (node_form_of_line bytes.now)) records result self.old.client self.new.client) }
+        ensures lasts { (records : List clients.ClientRecord) → ClientStands records self.old.client → ClientLasts (option_map (line_answer records) (node_form_of_line bytes.now)) records self.old self.new }
+        ensures begun { client_start self.new ≡ client_start self.old }
         ensures stored { self.new.stored ≡ self.old.stored }
         ensures told { (records : List clients.ClientRecord) → IfTold result (Tells self.new.changed.items records (option_map (line_answer records) (node_form_of_line bytes.now))) }
         ensures ends { (records : List clients.ClientRecord) → IfTold result (Spares self.new.changed.items records (option_map (line_answer records) (node_form_of_line bytes.now))) }
@@ -85,6 +90,8 @@ impl HostedClient {
     fn take(&mut self, alloc: Global, bytes: &[u8]) -> Reply
         ensures step { (records : List clients.ClientRecord) → ClientStands records self.old.client
             → IfTold result (Answers (option_map (take_answer records) (message_read bytes.now)) records result self.old.client self.new.client) }
+        ensures lasts { (records : List clients.ClientRecord) → ClientStands records self.old.client → ClientLasts (option_map (take_answer records) (message_read bytes.now)) records self.old self.new }
+        ensures begun { client_start self.new ≡ client_start self.old }
         ensures stored { self.new.stored ≡ stored_after result (message_in bytes.now) self.old.stored }
         ensures told { (records : List clients.ClientRecord) → IfTold result (Tells self.new.changed.items records (option_map (take_answer records) (message_read bytes.now))) }
         ensures ends { (records : List clients.ClientRecord) → ClientStands records self.old.client → IfTold result (Spares self.new.changed.items records (option_map (take_answer records) (message_read bytes.now))) }
@@ -157,6 +164,7 @@ impl HostedClient {
         match verb {
             Verb::Line => self.line(alloc, body),
             Verb::Take => self.take(alloc, body),
+            Verb::Inherit => inherit(alloc, &mut self.client, body),
             Verb::Dump => dump(alloc, self.client.objects()),
             Verb::Object => object(alloc, self.client.objects(), body),
             Verb::Changed => tell(alloc, &self.changed),
@@ -186,6 +194,10 @@ impl HostedServer {
             Verb::Dump => dump(alloc, self.server.objects()),
             Verb::Object => object(alloc, self.server.objects(), body),
             Verb::Standing => server::standing(&self.server),
+            Verb::Trim => trimmed(alloc, &self.server),
+            Verb::Start => started(alloc, &self.server, body),
+            Verb::Entries => entries(alloc, &self.server, body),
+            Verb::Clients => clients(alloc, &self.server),
             _ => Reply::BadRequest,
         }
     }

@@ -4,6 +4,9 @@
 
 mod answers;
 mod client;
+mod head;
+mod heir;
+mod history;
 mod host;
 mod hosted;
 mod node;
@@ -13,6 +16,7 @@ mod places;
 mod refusals;
 mod reply;
 mod server;
+mod trimming;
 mod verb;
 
 pub use host::Host;

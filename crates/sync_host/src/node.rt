@@ -1,10 +1,10 @@
-ghost use Rattle.std.specs.Prelude.{◌≡◌, ℕ, length};
+ghost use Rattle.std.specs.Prelude.{◌≡◌, length};
 ghost use Rattle.sync_client.specs.Files as client_files;
 ghost use Rattle.sync_server.specs.Files as server_files;
 ghost use Rattle.outbox_disk.specs.Outbox.{outbox_bytes};
 ghost use Rattle.sync_host.specs.Replies.{over};
-ghost use Rattle.sync_host.specs.declared.reply.Reply.TheVariants as replies;
 
+use crate::head::{tell_borne, tell_head};
 use crate::hosted::{HostedClient, HostedServer};
 use crate::opening::{open_client, open_server};
 use crate::reply::{Reply, copy};
@@ -28,13 +28,13 @@ fn put(place: &mut Node, node: Node)
 }
 
 impl Node {
-    ghost use Rattle.sync_host.specs.Nodes.{Answered, NodeAnswers, OpensClient, OpensServer, emptied_reply};
+    ghost use Rattle.sync_host.specs.Nodes.{Answered, NodeAnswers, Opened, OpensClient, OpensServer, TellsBad, emptied_reply};
     ghost use Rattle.sync_host.specs.Outboxes.{Emptied, strokes_in};
 
     /// Opens the client of these bytes of a file, in place of what stood there.
     fn open_client(&mut self, alloc: Global, file: &[u8]) -> Reply
-        ensures opened { result ≡ replies.Done → OpensClient file.now self.new }
-        ensures bad { (place : ℕ) → result ≡ replies.BadFile place → client_files.BadPlace file.now place }
+        ensures opened { Opened (client_files.BadPlace file.now) (OpensClient file.now) result self.new }
+        ensures tells { TellsBad (client_files.BadPlace file.now) result }
     {
         put(self, Node::None);
         match open_client(alloc, file) {
@@ -53,8 +53,8 @@ impl Node {
 
     /// Opens the server of these bytes of a file, in place of what stood there.
     fn open_server(&mut self, alloc: Global, file: &[u8]) -> Reply
-        ensures opened { result ≡ replies.Done → OpensServer file.now self.new }
-        ensures bad { (place : ℕ) → result ≡ replies.BadFile place → server_files.BadPlace file.now place }
+        ensures opened { Opened (server_files.BadPlace file.now) (OpensServer file.now) result self.new }
+        ensures tells { TellsBad (server_files.BadPlace file.now) result }
     {
         put(self, Node::None);
         match open_server(alloc, file) {
@@ -125,6 +125,8 @@ impl Node {
                 Reply::Done
             }
             Verb::Done => self.empty_outbox(),
+            Verb::Head => tell_head(alloc, body),
+            Verb::Borne => tell_borne(alloc, body),
             Verb::Again | Verb::Outbox => Reply::BadRequest,
             _ => self.ask(alloc, verb, body),
         }

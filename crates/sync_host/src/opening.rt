@@ -1,9 +1,10 @@
 // Nodes over the bytes of a file.
-ghost use Rattle.std.specs.Prelude.{◌≡◌, List, ℕ, IfOk, IfErr};
+ghost use Rattle.std.specs.Prelude.{IfOk, IfErr};
 ghost use Rattle.sync_client.specs.Files as client_files;
 ghost use Rattle.sync_server.specs.Files as server_files;
-ghost use Rattle.sync_host.specs.Opening.{ClientOpens, ServerOpens, Unopened};
-ghost use Rattle.sync_host.specs.declared.reply.Reply.TheVariants as replies;
+ghost use Rattle.sync_client.specs.Clients as clients;
+ghost use Rattle.sync_server.specs.Serving as servers;
+ghost use Rattle.sync_host.specs.Opening.{Begins, ClientOpens, IsUnopened, ServerOpens, Unopened};
 
 use crate::reply::Reply;
 use outbox_disk::OutboxDisk;
@@ -15,8 +16,7 @@ use sync_server::Server;
 
 /// Why a node isn't opened.
 fn unopened<D: Disk>(refusal: OpenRefusal<D>) -> Reply
-    ensures cause { Unopened refusal.cause result }
-    ensures not_done { result ≡ replies.Done → ⊥ }
+    ensures { Unopened refusal.cause result }
 {
     match refusal.cause {
         OpenCause::DiskFault => Reply::Closed,
@@ -28,8 +28,8 @@ fn unopened<D: Disk>(refusal: OpenRefusal<D>) -> Reply
 /// The client of a file with these bytes.
 pub(crate) fn open_client(alloc: Global, file: &[u8]) -> Result<Client<OutboxDisk>, Reply>
     ensures opened { IfOk result (λ made. ClientOpens file.now made) }
-    ensures bad { IfErr result (λ reply. (place : ℕ) → reply ≡ replies.BadFile place → client_files.BadPlace file.now place) }
-    ensures not_done { IfErr result (λ reply. reply ≡ replies.Done → ⊥) }
+    ensures begins { IfOk result (λ made. Begins file.now (clients.journal_of made)) }
+    ensures refused { IfErr result (IsUnopened (client_files.BadPlace file.now)) }
 {
     let Ok(disk) = OutboxDisk::over(alloc, file) else {
         return Err(Reply::NoMemory);
@@ -43,8 +43,8 @@ pub(crate) fn open_client(alloc: Global, file: &[u8]) -> Result<Client<OutboxDis
 /// The server of a file with these bytes.
 pub(crate) fn open_server(alloc: Global, file: &[u8]) -> Result<Server<OutboxDisk>, Reply>
     ensures opened { IfOk result (λ made. ServerOpens file.now made) }
-    ensures bad { IfErr result (λ reply. (place : ℕ) → reply ≡ replies.BadFile place → server_files.BadPlace file.now place) }
-    ensures not_done { IfErr result (λ reply. reply ≡ replies.Done → ⊥) }
+    ensures begins { IfOk result (λ made. Begins file.now (servers.journal_of made)) }
+    ensures refused { IfErr result (IsUnopened (server_files.BadPlace file.now)) }
 {
     let Ok(disk) = OutboxDisk::over(alloc, file) else {
         return Err(Reply::NoMemory);

@@ -14,13 +14,13 @@ pub struct Declined {
 }
 
 /// A refusal that nothing more is said of.
-fn plain(number: u8) -> Declined
+pub(crate) fn plain(number: u8) -> Declined
     ensures { result ≡ record { number = number; first = 0; second = 0; third = 0 } }
 {
     of(number, 0, 0, 0)
 }
 
-fn of(number: u8, first: u32, second: u32, third: u32) -> Declined
+pub(crate) fn of(number: u8, first: u32, second: u32, third: u32) -> Declined
     ensures { result ≡ record { number = number; first = first; second = second; third = third } }
 {
     Declined {

@@ -7,7 +7,7 @@ ghost use Rattle.sync_exchange.specs.Profile.{the_profile};
 ghost use Rattle.sync_exchange.specs.Seen.{message_seen};
 ghost use Rattle.server_memory.specs.Kept.{parts};
 ghost use Rattle.sync_server.specs.Serving.{kept_of};
-ghost use Rattle.sync_host.specs.Steps.{IfTold, ServerStands, Serves, message_read, server_standing};
+ghost use Rattle.sync_host.specs.Steps.{IfTold, ServerLasts, ServerStands, Serves, message_read, server_standing, server_start_of};
 ghost use Rattle.sync_host.specs.declared.reply.Reply.TheVariants as replies;
 
 use crate::answers::spell;
@@ -19,7 +19,9 @@ use sync_server::{Server, ServerRefusal};
 
 /// The server takes a message: its reply is answered.
 fn take_message<D: Disk>(alloc: Global, server: &mut Server<D>, message: Message) -> Reply
-    ensures { (records : List model.ServerRecord) → ServerStands records server.old → IfTold result (Serves (Some (serve_by the_profile (parts (kept_of server.old)) (message_seen message))) records result server.old server.new) }
+    ensures step { (records : List model.ServerRecord) → ServerStands records server.old → IfTold result (Serves (Some (serve_by the_profile (parts (kept_of server.old)) (message_seen message))) records result server.old server.new) }
+    ensures lasts { (records : List model.ServerRecord) → ServerStands records server.old → ServerLasts (Some (serve_by the_profile (parts (kept_of server.old)) (message_seen message))) records server.old server.new }
+    ensures begun { server_start_of server.new ≡ server_start_of server.old }
 {
     match server.take(message) {
         Ok(reply) => spell(alloc, &reply),
@@ -31,6 +33,8 @@ fn take_message<D: Disk>(alloc: Global, server: &mut Server<D>, message: Message
 /// Takes the message of these bytes.
 pub(crate) fn take<D: Disk>(alloc: Global, server: &mut Server<D>, bytes: &[u8]) -> Reply
     ensures step { (records : List model.ServerRecord) → ServerStands records server.old → IfTold result (Serves (option_map (serve_by the_profile (parts (kept_of server.old))) (message_read bytes.now)) records result server.old server.new) }
+    ensures lasts { (records : List model.ServerRecord) → ServerStands records server.old → ServerLasts (option_map (serve_by the_profile (parts (kept_of server.old))) (message_read bytes.now)) records server.old server.new }
+    ensures begun { server_start_of server.new ≡ server_start_of server.old }
 {
     match message_of(alloc, bytes) {
         Ok(message) => take_message(alloc, server, message),

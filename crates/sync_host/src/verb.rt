@@ -14,6 +14,8 @@ pub enum Verb {
     Line,
     /// Takes a message.
     Take,
+    /// Takes a change of an ident that was given up for the client.
+    Inherit,
     /// Asks for the client's next message.
     Next,
     /// Asks for the message that asks for an ident.
@@ -32,6 +34,18 @@ pub enum Verb {
     Changed,
     /// Asks where the node stands.
     Standing,
+    /// Asks a server for the file that may stand in place of its own.
+    Trim,
+    /// Asks a server for the file of a client that begins with its objects.
+    Start,
+    /// Asks a server for entries of its history.
+    Entries,
+    /// Asks a server for its clients.
+    Clients,
+    /// Asks for the head of a message.
+    Head,
+    /// Asks for the changes or entries that a message bears.
+    Borne,
     /// Asks for the last reply again.
     Again,
     /// Asks for the outbox.
@@ -51,6 +65,7 @@ impl Verb {
             b'x' => Some(Verb::Close),
             b'L' => Some(Verb::Line),
             b'T' => Some(Verb::Take),
+            b'K' => Some(Verb::Inherit),
             b'N' => Some(Verb::Next),
             b'B' => Some(Verb::Bind),
             b'U' => Some(Verb::Upload),
@@ -60,6 +75,12 @@ impl Verb {
             b'O' => Some(Verb::Object),
             b'C' => Some(Verb::Changed),
             b'I' => Some(Verb::Standing),
+            b'F' => Some(Verb::Trim),
+            b'S' => Some(Verb::Start),
+            b'E' => Some(Verb::Entries),
+            b'Q' => Some(Verb::Clients),
+            b'H' => Some(Verb::Head),
+            b'P' => Some(Verb::Borne),
             b'R' => Some(Verb::Again),
             b'W' => Some(Verb::Outbox),
             b'V' => Some(Verb::Done),

@@ -39,6 +39,8 @@ class Engine:
 
     def settle(self) -> None:
         """Does what the node asked of its disk. Where that fails the engine is of no use any more: its file is opened anew."""
+        if self._failed:
+            raise StorageFailed("the storage failed before")
         strokes = gathered(strokes_of(self._door.outbox()))
         if not strokes:
             return

@@ -226,15 +226,33 @@ class Client(_Node):
 
     def commit_changed(self, edits: list[Line], ms: int | None = None) -> tuple[int, list[Line]]:
         """The same of edits that were checked, and what they may have changed: at one go, so that no other thread's call comes between."""
+        line: Line = {"ms": time.time_ns() // 1_000_000 if ms is None else ms, "edits": edits}
+        with self._lock:
+            number = self._handed(line)
+            self._engine.settle()
+            return number, self.changed()
+
+    def commit_all(self, transactions: Iterable[list[Line]], ms: int | None = None) -> list[int]:
+        """Commits transactions, one after the other, and brings them to the disk together, by two writes and two syncs, however many they are: a crash
+        leaves all of them or none. Answers their numbers. Where one is refused, those before it are committed, and `standing` tells the
+        number of the last; what is no edit is told before anything is done."""
+        lists = [[checked(edit, number) for number, edit in enumerate(edits)] for edits in transactions]
+        at = time.time_ns() // 1_000_000 if ms is None else ms
+        with self._lock:
+            try:
+                return [self._handed({"ms": at, "edits": edits}) for edits in lists]
+            finally:
+                self._engine.settle()
+
+    def _handed(self, line: Line) -> int:
+        """Does what a node line says, without its strokes, and answers its number."""
         try:
-            with self._lock:
-                number = self._line({"ms": time.time_ns() // 1_000_000 if ms is None else ms, "edits": edits})
-                return number, self.changed()
+            return number_of(self._engine.ask(b"L", to_json(line).encode()))
         except Refused as why:
             if why.reason != Reason.BREAK:
                 raise
             place, code, _ = why.details
-            raise BrokenEdit(place, code, to_json(edits[place])) from None
+            raise BrokenEdit(place, code, to_json(line["edits"][place])) from None
 
     def changed(self) -> list[Line]:
         """What the last commit or take may have changed, for a screen to draw anew: a dict for each place, with its "table" and, as the place has

@@ -1,5 +1,9 @@
-use Rattle.std.proofs.Common.{map, refl, ◌∙◌}
+use Rattle.std.proofs.Common.{map, ap, refl, sym, ◌∙◌}
+use Rattle.sync_disk.specs.Origin.{Origin}
 use Rattle.sync_exchange.specs.Seen.{client_bytes}
+use Rattle.sync_journal.specs.Stands.{disk_of}
+use Rattle.sync_client.specs.Clients.{journal_of}
+use Rattle.sync_host.proofs.Files.{same_file}
 use Rattle.sync_host.proofs.hosted.HostedClient.empty.Goals as goal
 
 pub returns : goal.returns
@@ -7,6 +11,8 @@ returns c =
     let e = c.begin_anew.ensures in
     record {
       none_left = e.strokes;
+      begins = λ records is. let s = is.stored.settled in
+          ap (λ (o : Origin). o.start) (e.origin s.file (e.content ∙ s.told)) ∙ sym (same_file (disk_of (journal_of c.args.self.now.client)) (map client_bytes records) _ s);
       stands = λ records is. record { client = record { kept = is.client.kept; open_ = e.closed ∙ is.client.open_ }; stored = e.stands (map client_bytes records) is.stored };
       others = refl;
     }
