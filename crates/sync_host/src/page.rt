@@ -81,12 +81,7 @@ fn put_page(
     Ok(out)
 }
 
-fn text_of(
-    alloc: Global,
-    store: &Store,
-    table: &Name,
-    key: &Key,
-) -> Result<Vec<u8>, AllocError>
+fn text_of(alloc: Global, store: &Store, table: &Name, key: &Key) -> Result<Vec<u8>, AllocError>
     ensures { IfOk result (λ text. text.items ≡ line (data_of_object store.now (columns_in store.now.tables table.now) (table.now, key.now))) }
 {
     match object_text(alloc, store, table, key) {
@@ -99,7 +94,14 @@ fn tell(alloc: Global, store: &Store, start: &PageStart, count: u32) -> Reply
     ensures { IfTold result (reply_bytes result ≡ 0 ∷ page_lines store.now start.now.table start.now.behind count) }
 {
     let out = Vec::new(alloc);
-    match put_page(alloc, out, store, &start.table, start.behind.as_ref(), count) {
+    match put_page(
+        alloc,
+        out,
+        store,
+        &start.table,
+        start.behind.as_ref(),
+        count,
+    ) {
         Ok(lines) => Reply::Bytes(lines),
         Err(_) => Reply::NoMemory,
     }

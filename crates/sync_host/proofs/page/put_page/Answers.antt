@@ -1,9 +1,8 @@
-use Rattle.std.proofs.Common.{◌≡◌, ◌+◌, ◌-◌, ◌++◌, List, Option, take, sym, ap, ◌∙◌, subst, arith, rules}
+use Rattle.std.proofs.Common.{◌≡◌, ◌-◌, ◌++◌, Option, take, ap, ◌∙◌, subst, arith, rules}
 use Rattle.std.specs.Option.{option_copied}
 use Rattle.std.specs.FinMap as map
 use Rattle.sync_data.specs.Orders.{key_cmp}
 use Rattle.sync_data.specs.declared.key.Key.{Key}
-use Rattle.sync_base.specs.States.{Cells}
 use Rattle.sync_dump.specs.Dump.{data_of_object, line, object_lines, objects_in}
 use Rattle.sync_dump.specs.Walks.{columns_in}
 use Rattle.sync_dump.proofs.Standing.{object_step}
