@@ -379,7 +379,7 @@ REALM_SYNC_API const char *realm_text_of_reason(int reason) {
         "the links in the path lead back to it: give another path",
         "the system has no such names: give another path",
         "the user's share of the disk is full: make room in it, close the node, and open its file again",
-        "the file was renamed while it was open: close the node, and open the file at its path",
+        "the file that is open doesn't stand at its path any more: close the node, and open the file where it is",
         "a file that is open can't be replaced on Windows: close the node, and put the bytes of realm_trim in its place",
     };
     return reason >= 0 && (size_t)reason < sizeof texts / sizeof texts[0] ? texts[reason] : "unknown";

@@ -72,7 +72,7 @@ enum realm_reason {
     REALM_LINKS_GO_ROUND = 21, /* the links in the path lead back to it */
     REALM_BAD_NAME = 22,       /* the system has no such names */
     REALM_SHARE_FULL = 23,     /* the user's share of the disk is full */
-    REALM_RENAMED = 24,        /* the path is another file's by now */
+    REALM_RENAMED = 24,        /* the file that is open doesn't stand at its path any more */
     REALM_NOT_ON_WINDOWS = 25  /* a file that is open can't be replaced there */
 };
 
@@ -421,7 +421,7 @@ REALM_SYNC_API int realm_file_replace(const char *path, const char *suffix, cons
     realm_file made = 0;
     *replaced = false;
     int why = realm_path_behind(path, suffix, real, beside);
-    if (why) return why;
+    if (why) return why == REALM_NO_FOLDER ? (int)REALM_RENAMED : why;
     if (fstat((int)*file, &opened) != 0 || stat(real, &named) != 0) return realm_open_reason(errno, real);
     if (opened.st_dev != named.st_dev || opened.st_ino != named.st_ino) {
         errno = 0;
