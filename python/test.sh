@@ -33,4 +33,5 @@ PYTHONPATH=src "$python" -m unittest discover -t . -s tests
 for name in two_phones serve_sockets; do
     PYTHONPATH=src "$python" "examples/$name.py" | diff - "examples/$name.out"
 done
+[ -d "$top/js/dist" ] || "$top/js/build.sh" $trial >/dev/null
 "$here/tests/together/test.sh"
