@@ -17,7 +17,7 @@
 #include <unistd.h>
 
 /* The calls of the system, of which one fails when it is told to. */
-static int write_error, sync_error, lock_error;
+static int write_error, sync_error, lock_error, writes, syncs;
 static const char *rename_from, *rename_to; /* done once, between an open and its lock */
 static ssize_t failing_write(int file, const void *bytes, size_t count);
 static int failing_fsync(int file);
@@ -31,11 +31,13 @@ static int failing_flock(int file, int how);
 #undef flock
 
 static ssize_t failing_write(int file, const void *bytes, size_t count) {
+    writes++;
     errno = write_error;
     return write_error ? -1 : write(file, bytes, count);
 }
 
 static int failing_fsync(int file) {
+    syncs++;
     errno = sync_error;
     return sync_error ? -1 : fsync(file);
 }
@@ -545,6 +547,39 @@ static void forked(void) {
     realm_close(&phone);
 }
 
+/* Several transactions at once: two writes and two syncs, a refusal that ends them, and a disk that fails. */
+static void together(void) {
+    realm_node phone;
+    realm_transaction adds[100];
+    size_t done;
+    for (size_t i = 0; i < 100; i++) adds[i] = (realm_transaction){2, ADD};
+    const char *path = fresh("together");
+    new_phone(&phone, path, 1);
+    make_list(&phone);
+    writes = syncs = 0;
+    must(realm_commit_all(&phone, adds, 100, &done), &phone);
+    printf("100 transactions at once: %d writes and %d syncs\n", writes, syncs);
+    expect(done == 100 && realm_number(&phone) == 101, "all are committed");
+    adds[3].edits = "[{\"op\":\"EraseObject\",\"table\":\"items\",\"key\":9}]";
+    tell("  one of them is refused", &phone, realm_commit_all(&phone, adds, 100, &done), REALM_REFUSED);
+    expect(done == 3, "those before it are committed");
+    adds[1].edits = "{}";
+    tell("  one of them is none", &phone, realm_commit_all(&phone, adds, 100, &done), REALM_BAD_REQUEST);
+    expect(done == 1 && standing(&phone).last == 105, "the one before it is committed");
+    must(realm_commit_all(&phone, adds, 0, &done), &phone);
+    realm_close(&phone);
+    must(realm_open_client(&phone, path), &phone);
+    expect(standing(&phone).last == 105, "all that was answered is there");
+    write_error = ENOSPC;
+    tell("  the disk is full", &phone, realm_commit_all(&phone, adds, 100, &done), REALM_CLOSED);
+    write_error = 0;
+    expect(done == 0, "none is committed");
+    realm_close(&phone);
+    must(realm_open_client(&phone, path), &phone);
+    expect(standing(&phone).last == 105, "and none stands in the file");
+    realm_close(&phone);
+}
+
 static void requests(void) {
     realm_node phone, server;
     must(realm_open_server(&server, NULL), &server);
@@ -581,6 +616,7 @@ int main(int count, char **words) {
     renamed();
     closing();
     forked();
+    together();
     requests();
     printf("%s\n", wrong ? "WRONG" : "all as they should be");
     return wrong ? 1 : 0;

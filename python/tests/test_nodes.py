@@ -8,8 +8,10 @@ import threading
 import unittest
 from collections.abc import Callable
 from typing import Any
+from unittest import mock
 
-from realm_sync import BadEdit, BadRequest, Busy, Client, Edits, OtherProcess, Reason, Refused, Server
+from realm_sync import BadEdit, BadRequest, BrokenEdit, Busy, Client, Edits, OtherProcess, Reason, Refused, Server
+from realm_sync.storage import FileStorage
 
 LONG = 5_000  # transactions of a history that a Download doesn't bring at once
 
@@ -135,6 +137,27 @@ class UseTests(unittest.TestCase):
                 self.assertEqual(client.commit([]), 1)
             with Client(path) as client:
                 self.assertEqual(client.standing().last, 1)
+
+    def test_transactions_are_committed_together(self) -> None:
+        row = {"op": "AddInteger", "table": "items", "key": 1, "column": "count", "amount": 1}
+        missing = {"op": "EraseObject", "table": "items", "key": 9}
+        with tempfile.TemporaryDirectory() as folder:
+            path = os.path.join(folder, "file")
+            with new_client(1, path) as client:
+                make_table(client)
+                with mock.patch.object(FileStorage, "apply", autospec=True, side_effect=FileStorage.apply) as apply:
+                    self.assertEqual(client.commit_all([[row], [], [row]]), [2, 3, 4])
+                strokes = [call.args[1] for call in apply.call_args_list]
+                self.assertEqual([[stroke is None for stroke in it] for it in strokes], [[False, True, False, True]])
+                with self.assertRaises(BadEdit):
+                    client.commit_all([[row], ["none"]])
+                self.assertEqual(client.standing().last, 4)
+                with self.assertRaises(BrokenEdit) as caught:
+                    client.commit_all([[row], [row, missing], [row]])
+                self.assertEqual(caught.exception.place, 1)
+                self.assertEqual(client.standing().last, 5)
+            with Client(path) as client:
+                self.assertEqual(client.standing().last, 5)
 
     def test_a_new_device_gets_a_long_history(self) -> None:
         with new_client(1) as first, new_client(2) as second, Server() as server:
