@@ -12,6 +12,8 @@
 
   A block `sh by-hand` isn't run: it takes too long, or needs what isn't here. They are counted. Any other block `sh` without a
   text is an error.
+- The number in VERSION is that of the C header and of the packages.
+- The table of docs/HEADLINE.md has the crates and the lines that bench/definitions.py counts for the headline.
 - Each block ```rust FILE has only lines of that file, in their order, but for lines `// ..`.
 
 usage: .ci/docs.py [--quiet] [--links] [--program FILE]
@@ -54,7 +56,7 @@ def read(path):
 def documents():
     """README.md, docs/*.md, and the READMEs of other folders and of crates."""
     found = [os.path.join(TOP, "README.md")]
-    for folder in ("docs", "bench", "examples", "js", "python", "service", "wasm", "web"):
+    for folder in ("docs", "bench", "examples", "examples/shopping", "js", "python", "service", "wasm", "web"):
         at = os.path.join(TOP, folder)
         found += sorted(os.path.join(at, it) for it in os.listdir(at) if it.endswith(".md")) if os.path.isdir(at) else []
     for name in sorted(os.listdir(os.path.join(TOP, "crates"))):
@@ -229,6 +231,40 @@ def check_commands(path, blocks, program):
     return ran, by_hand
 
 
+def check_headline():
+    """The definitions on which the headline rests, crate by crate, are as many lines as docs/HEADLINE.md says."""
+    path = os.path.join(TOP, "docs", "HEADLINE.md")
+    script = os.path.join(TOP, "bench", "definitions.py")
+    told = subprocess.run([sys.executable, script, "--crates", "sync_top::run:headline"], stdout=subprocess.PIPE, text=True, check=True).stdout
+    counted = {name: int(count) for count, name in re.findall(r"(\d+) (\w+)(?: of definitions)?$", told, re.M)}
+    counted = {"all": counted.pop("lines", None), **counted}
+    said = {}
+    for number, line in enumerate(read(path).splitlines(), 1):
+        row = re.match(r"\| (?:`(\w+)`|(all)) \| ([\d,]+) \|", line)
+        if row:
+            name, count = row[1] or row[2], int(row[3].replace(",", ""))
+            said[name] = count
+            if counted.get(name) != count:
+                problem(path, number, f"{name} has {counted.get(name)} lines of definitions by bench/definitions.py")
+    for name in counted.keys() - said.keys():
+        problem(path, 1, f"the table has no row for {name}, with {counted[name]} lines")
+
+
+def check_version():
+    """One number for all that is installed."""
+    number = read(os.path.join(TOP, "VERSION")).strip()
+    for name, line in {
+        "include/realm_sync.h": f'#define REALM_SYNC_VERSION "{number}"',
+        "python/pyproject.toml": f'version = "{number}"',
+        "service/pyproject.toml": f'version = "{number}"',
+        "js/package.json": f'"version": "{number}"',
+        "docs/CHANGES.md": f"## {number}",
+    }.items():
+        path = os.path.join(TOP, name)
+        if line not in read(path):
+            problem(path, 1, f"it hasn't the number of VERSION, {number}")
+
+
 def check_examples():
     """Each exchange of examples/, and what it prints, is a case that the gate runs, byte for byte."""
     cases = os.path.join(TOP, "crates", "trials", "data")
@@ -264,6 +300,8 @@ def main():
         one, two = check_commands(path, blocks, program)
         ran, by_hand = ran + one, by_hand + two
     check_examples()
+    check_headline()
+    check_version()
     for path in [*sources(), *documents()]:
         check_cited(path)
     check_crates()

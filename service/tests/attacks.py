@@ -42,6 +42,7 @@ class Attacks:
         self.history = "attacked-" + uuid.uuid4().hex[:8]
         self.ann, self.bob = self.token("ann"), self.token("bob")
         self.checks, self.bad = 0, []
+        self.seen = set()  # which door answered with which status
 
     # ---- tools
 
@@ -67,8 +68,9 @@ class Attacks:
     async def status(self, message, token, history=None):
         return (await self.post(message, token, history))[0]
 
-    async def get(self, path, token):
-        async with self.session.get(self.url() + path, headers={"Authorization": "Bearer " + token} if token else {}) as answer:
+    async def get(self, path, token, **headers):
+        headers |= {"Authorization": "Bearer " + token} if token else {}
+        async with self.session.get(self.url() + path, headers=headers) as answer:
             await answer.read()
             return answer.status
 
@@ -97,11 +99,13 @@ class Attacks:
 
     async def run(self):
         """All of it. True where each is as it should be."""
-        async with aiohttp.ClientSession(connector=aiohttp.TCPConnector(limit=0)) as self.session:
+        noting = aiohttp.TraceConfig()
+        noting.on_request_end.append(self.note)
+        async with aiohttp.ClientSession(connector=aiohttp.TCPConnector(limit=0), trace_configs=[noting]) as self.session:
             if self.owner:
                 headers = {"Authorization": "Bearer " + self.ann}
-                async with self.session.get(f"{self.owner}/v1/histories/{self.history}/objects", headers=headers) as answer:
-                    self.check("another worker owns it", answer.status, 200)
+                async with self.session.get(f"{self.owner}/v1/histories/{self.history}/news?wait=0", headers=headers) as answer:
+                    self.check("another worker owns it", answer.status, 204)
             await self.whose()
             await self.garbage()
             await self.tokens()
@@ -111,8 +115,28 @@ class Attacks:
             await self.slow()
             await self.many_sockets()
             await self.flood()
+            await self.described()
         print(f"{self.checks} checks, {len(self.bad)} bad", *self.bad, sep="\n    ")
         return not self.bad
+
+    async def note(self, _session, _context, ended):
+        """Of a history's doors, and of others."""
+        first, found, behind = ended.url.raw_path.partition("/v1/histories/")
+        at, name, rest = self.base in str(ended.url), *behind.partition("/")[::2]
+        if at and not first and found and name:
+            path = found + "{history}" + ("/" + rest if rest else "")
+        elif at and not found:
+            path = first
+        else:
+            return
+        self.seen.add((ended.method.lower(), path, str(ended.response.status)))
+
+    async def described(self):
+        """Each answer that came is one that the page of the doors names."""
+        async with self.session.get(self.base + "/openapi.json") as answer:
+            paths = (await answer.json())["paths"]
+        known = {(method, path, status) for path, methods in paths.items() for method, it in methods.items() for status in it["responses"]}
+        self.check(f"the page of the doors names each of {len(self.seen)} kinds of answers", sorted(self.seen - known), [])
 
     async def whose(self):
         """Idents and uuids of others."""
@@ -202,8 +226,12 @@ class Attacks:
             self.check(f"{path} with another history's token", await self.get(path, other), 403)
             self.check(f"{path} by a reader", await self.get(path, reader), {200, 204})
         for path in ("/objects?key={", "/entries?from=-1", "/entries?from=99999999999", "/news?after=x", "/objects?table=q&key=1e9999",
-                     "/objects?table=q&key=" + "[" * 4000):
+                     "/objects?table=q&key=" + "[" * 4000, "/news?after=0&wait=nan", "/news?after=-inf", "/entries?from=\u00b2", "/entries?from=\u0661"):
             self.check(path[:40], await self.get(path, reader), {400, 404})
+        for last in ("\u00b2", "4294967295", "9" * 4000):
+            self.check(f"events behind {last[:12]}", await self.get("/entries", reader, **{"Last-Event-ID": last}), {200, 400})
+        self.check("a GET that is no WebSocket's", await self.get("", reader), 400)
+        self.check("a WebSocket without a key", await self.get("", reader, Upgrade="websocket", Connection="Upgrade"), 400)
         async with self.session.post(self.url() + "/trim", headers={"Authorization": "Bearer " + self.ann}) as answer:
             self.check("a writer trims", answer.status, 403)
 
@@ -218,6 +246,10 @@ class Attacks:
             got = await self.closed(self.ann, big)
         except (ConnectionError, aiohttp.ClientError) as error:  # closed before all of it was sent
             got = type(error).__name__
+        began = time.monotonic()
+        counted = self.status(b"\3\1\xff\xff\xff\x07" + b"\1\0\0\0" * (250 << 10), self.ann)
+        statuses = await asyncio.gather(counted, *(self.status(b"\4\2\0\0", self.bob) for _ in range(3)))
+        self.check("an Upload of a quarter of a million changes", (statuses, time.monotonic() - began < 2), ([400, 200, 200, 200], True))
         self.check("3 MiB by socket", got, {1009, 1006, 4413, "ConnectionResetError", "ClientConnectionResetError"})
         before = self.memory()
         for what, token in (("", self.ann), (" without a token", None)):

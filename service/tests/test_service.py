@@ -4,6 +4,7 @@ import asyncio
 import json
 import os
 import shutil
+import signal
 import sqlite3
 import subprocess
 import unittest
@@ -139,6 +140,14 @@ class Suite:
             name, _, value = line.partition(": ")
             fields[name] = value
         return fields["id"], json.loads(fields["data"])
+
+    async def test_who_reads_makes_no_history(self):
+        for path in ("/objects", "/entries"):
+            self.assertEqual((await self.get(path, level="rule"))[0], 404)
+        self.assertEqual((await fetched(self.session, "POST", self.url + "/trim", authorized("ann", {HISTORY: "rule"})))[0], 404)
+        self.assertEqual(self.service.metric("realm_histories_owned"), 0)
+        self.assertEqual((await self.get("/news?wait=0", level="read"))[0], 404)
+        self.assertEqual((await self.get("/news?wait=0", level="write"))[0], 204)
 
     async def test_who_may_not_make_a_history_holds_up_nobody_who_may(self):
         bind = b"\x01" + b"u" * 16
@@ -286,6 +295,19 @@ class OfFiles(Suite, unittest.IsolatedAsyncioTestCase):
         shutil.rmtree(self.store["folder"])
         shutil.copytree(kept, self.store["folder"])
 
+    async def test_a_damaged_history_isnt_moved(self):
+        async with Device(self.service.base, HISTORY) as phone:
+            phone.note("milk", "buy milk")
+            await phone.sync()
+        self.service.stop()
+        path, other = os.path.join(self.store["folder"], HISTORY + ".realm"), Service(stores("sqlite"))
+        os.truncate(path, os.path.getsize(path) - 2)
+        with open(path, "rb") as file:
+            damaged = file.read()
+        status, said = self.service.command("move", HISTORY, "--to", other.config)
+        self.assertEqual((status, said.partition(",")[0]), (1, f"realm_service: {HISTORY}: no journal of a server"))
+        with open(path, "rb") as file:
+            self.assertEqual(file.read(), damaged)
 
     async def test_a_long_history_comes_in_parts(self):
         async with Device(self.service.base, HISTORY) as phone, Device(self.service.base, HISTORY) as tablet:
@@ -383,6 +405,24 @@ class Workers(unittest.IsolatedAsyncioTestCase):
             took = asyncio.get_running_loop().time() - began
             self.assertLess(took, 15.0)
             self.assertEqual(tablet.count(), 2)
+
+    async def test_callers_whose_owner_is_gone_or_hangs_are_answered_by_the_other_worker(self):
+        """One that was killed is replaced at once, within the call; one that hangs when its lease has ended."""
+        store = {**stores("postgres"), "lease_seconds": 2.0}
+        asked = (("POST", "", b"\x04\x01\x00\x00", 200), ("GET", "/objects", None, 200), ("GET", "/entries", None, 200), ("GET", "/news?after=1&wait=0", None, 204))
+        for ends in (signal.SIGKILL, signal.SIGSTOP):
+            owner, other = (Service(store).start().ready() for _ in range(2))
+            headers, names = authorized("ann", {"*": "write"}), [f"{ends.name}-{number}" for number in range(len(asked))]
+            for name in names:
+                for base in (owner.base, other.base):
+                    self.assertEqual((await fetched(self.session, "POST", f"{base}/v1/histories/{name}", headers, b"\x01" + b"u" * 16))[0], 200)
+            owner.process.send_signal(ends)
+            began = asyncio.get_running_loop().time()
+            calls = (fetched(self.session, method, f"{other.base}/v1/histories/{name}{path}", headers, body) for name, (method, path, body, _) in zip(names, asked))
+            self.assertEqual([status for status, _ in await asyncio.gather(*calls)], [it[3] for it in asked])
+            self.assertLess(asyncio.get_running_loop().time() - began, 20.0)
+            owner.kill()
+            self.assertEqual(other.stop(), 0)
 
     async def test_a_worker_passes_on_many_sockets(self):
         """More than the hundred connections that a client of the library has by itself."""

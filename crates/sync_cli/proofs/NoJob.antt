@@ -1,5 +1,5 @@
 -- The words that write a file anew where it stands are no other command's.
-use Rattle.std.proofs.Common.{◌≡◌, ◌≢◌, ℕ, List, [], ◌∷◌, ⊎_elim, get_or, codes, sym, ◌∙◌, ap, arith, length}
+use Rattle.std.proofs.Common.{◌≡◌, ◌≢◌, ℕ, List, [], ◌∷◌, Option, Some, None, IfSome, inr, ⊎_elim, get_or, codes, sym, ◌∙◌, ap, arith, length}
 use Rattle.sync_top.specs.declared.job.Job.{Job}
 use Rattle.sync_top.specs.declared.job.Job.TheVariants as jobs
 use Rattle.sync_node.specs.declared.files.FileCommand.TheVariants as commands
@@ -7,7 +7,7 @@ use Rattle.sync_top.specs.Jobs.{AsksFor}
 use Rattle.sync_cli.specs.Replacing.{AsksToReplace}
 
 -- the second letter of the first word
-letter : List (List ℕ) → ℕ
+abbrev letter : List (List ℕ) → ℕ
 letter ws = get_or (get_or ws 0 []) 1 0
 
 module _ (words : List (List ℕ)) (asks : AsksToReplace words) where
@@ -21,15 +21,20 @@ module _ (words : List (List ℕ)) (asks : AsksToReplace words) where
   pub no_job : (job : Job) → AsksFor job words → ⊥
   no_job jobs.Replay is = other (codes "replay") [] (omega arith) (omega arith) is
   no_job (jobs.Generate seed count) is = other (codes "gen") _ (omega arith) (omega arith) is.0
-  no_job (jobs.File commands.Edit) is = short (codes "edit") is.0 is.1 is.2.0 is.2.1.0
-  no_job (jobs.File commands.Send) is = short (codes "send") is.0 is.1 is.2.0 is.2.1.0
-  no_job (jobs.File commands.Ask) is = short (codes "ask") is.0 is.1 is.2.0 is.2.1.0
-  no_job (jobs.File commands.Take) is = short (codes "take") is.0 is.1 is.2.0 is.2.1.0
-  no_job (jobs.File commands.Serve) is = short (codes "serve") is.0 is.1 is.2.0 is.2.1.0
-  no_job (jobs.File commands.Show) is = short (codes "show") is.0 is.1 is.2.0 is.2.1.0
-  no_job (jobs.File commands.Recover) is = short (codes "recover") is.0 is.1 is.2.0 is.2.1.0
-  no_job (jobs.File commands.Trim) is = short (codes "trim") is.0 is.1 is.2.0 is.2.1.0
-  no_job (jobs.File commands.Shrink) is = short (codes "shrink") is.0 is.1 is.2.0 is.2.1.0
-  no_job (jobs.File (commands.Retire ident)) is = other (codes "retire") _ (omega arith) (omega arith) is.2.0
-  no_job (jobs.File (commands.Rescue after)) is = other (codes "rescue") _ (omega arith) (omega arith) is.2.0
-  no_job (jobs.File (commands.Start id)) is = other (codes "start") _ (omega arith) (omega arith) is.2.0
+  no_job (jobs.File commands.Edit) is = short (codes "edit") is.0 is.1 is.2 is.3
+  no_job (jobs.File commands.Send) is = short (codes "send") is.0 is.1 is.2 is.3
+  no_job (jobs.File commands.Ask) is = short (codes "ask") is.0 is.1 is.2 is.3
+  no_job (jobs.File commands.Take) is = short (codes "take") is.0 is.1 is.2 is.3
+  no_job (jobs.File commands.Serve) is = short (codes "serve") is.0 is.1 is.2 is.3
+  no_job (jobs.File commands.Show) is = short (codes "show") is.0 is.1 is.2 is.3
+  no_job (jobs.File commands.Recover) is = short (codes "recover") is.0 is.1 is.2 is.3
+  no_job (jobs.File commands.Trim) is = short (codes "trim") is.0 is.1 is.2 is.3
+  no_job (jobs.File commands.Shrink) is = short (codes "shrink") is.0 is.1 is.2 is.3
+  no_job (jobs.File (commands.Retire ident)) is = other (codes "retire") _ (omega arith) (omega arith) is.2
+  no_job (jobs.File (commands.Rescue after)) is = other (codes "rescue") _ (omega arith) (omega arith) is.2
+  no_job (jobs.File (commands.Start id)) is = other (codes "start") _ (omega arith) (omega arith) is.2
+
+-- a path behind `shrink`
+pub or_shrinks : {P : Type 0} (o : Option P) (now : P → List ℕ) (words : List (List ℕ)) → IfSome o (λ path. words ≡ codes "shrink" ∷ codes "--replace" ∷ now path ∷ []) → IfSome o (λ path. AsksToReplace words)
+or_shrinks None now words h = tt
+or_shrinks (Some path) now words h = (now path, inr h)

@@ -1,5 +1,5 @@
 // A node's file that is written anew where it stands: a server's trimmed, or a client's short one.
-ghost use Rattle.std.specs.Prelude.{map, string_bytes, IfSome, IfNone};
+ghost use Rattle.std.specs.Prelude.{◌≡◌, ◌∷◌, [], codes, map, string_bytes, IfSome};
 ghost use Rattle.sync_cli.specs.Replacing.{AsksToReplace};
 
 use crate::end::End;
@@ -10,18 +10,25 @@ use std::fs::File;
 use std::path::Path;
 use sync_io::Status;
 
+/// The path in the words NAME, `--replace` and FILE; none where they are others.
+fn path_behind<'a>(words: &'a [String], name: &str) -> Option<&'a str>
+    ensures some { IfSome result (λ path. map string_bytes words.now ≡ name.now ∷ codes "--replace" ∷ path.now ∷ []) }
+{
+    match words {
+        [word, option, path] if word.as_str() == name && option.as_str() == "--replace" => {
+            Some(path.as_str())
+        }
+        _ => None,
+    }
+}
+
 /// The path in the words `trim --replace FILE` or `shrink --replace FILE`; none where they are others.
 pub(crate) fn path_to_replace(words: &[String]) -> Option<&str>
     ensures some { IfSome result (λ _. AsksToReplace (map string_bytes words.now)) }
 {
-    match words {
-        [word, option, path] if word.as_str() == "trim" && option.as_str() == "--replace" => {
-            Some(path.as_str())
-        }
-        [word, option, path] if word.as_str() == "shrink" && option.as_str() == "--replace" => {
-            Some(path.as_str())
-        }
-        _ => None,
+    match path_behind(words, "trim") {
+        Some(path) => Some(path),
+        None => path_behind(words, "shrink"),
     }
 }
 

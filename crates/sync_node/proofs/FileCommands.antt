@@ -10,7 +10,7 @@ use Rattle.sync_exchange.specs.Profile.{the_profile}
 use Rattle.sync_exchange.specs.Seen.{client_bytes, server_bytes}
 use Rattle.sync_words.specs.Messages.{message_read}
 use Rattle.sync_node.specs.Commands.{TellsText}
-use Rattle.sync_node.specs.FileCommands.{Does, IsFileFor, IsFileStatus, IsInputFor, MakesFile, MakesShort}
+use Rattle.sync_node.specs.FileCommands.{Does, IsFileFor, IsFileStatus, IsInputFor, MakesFile}
 use Rattle.sync_node.specs.Items.{frames_of, lines_of}
 use Rattle.sync_node.specs.Opening.{client_file, server_file}
 use Rattle.sync_node.specs.Recovering.{heard, recover_step, recovered}

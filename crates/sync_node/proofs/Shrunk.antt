@@ -1,6 +1,6 @@
 -- The bytes of a short file are a file of its client.
-use Rattle.std.proofs.Common.{◌≡◌, ℕ, Bool, true, false, ◌&&◌, List, [], ◌∷◌, ◌++◌, map, Option, Some, None, Result, Ok, Err, Vec, Global, IfOk, OnOk, if◌then◌else◌, ◌==◌, append-nil, refl, ap, subst, sym, ◌∙◌}
-use Rattle.sync_theory.specs.Grid.{rebase}
+use Rattle.std.proofs.Common.{◌≡◌, ℕ, suc, Bool, true, false, List, [], ◌∷◌, ◌++◌, map, Some, Result, Ok, Err, Vec, Global, IfOk, OnOk, if◌then◌else◌, ◌==◌, append-nil, refl, ap, subst, sym, ◌∙◌}
+use Rattle.sync_theory.specs.Grid.{rebase, tail}
 use Rattle.sync_base.specs.States.{State}
 use Rattle.sync_data.specs.declared.instr.Instr.{Instr}
 use Rattle.sync_data.specs.declared.memory.NoMemory.{NoMemory}
@@ -31,7 +31,7 @@ use Rattle.sync_node.specs.Sending.{StandsShrunk, shrunk_by, text_of}
 use Rattle.sync_node.specs.declared.sending.Errand.TheVariants as errands
 
 -- ---- a file that isn't empty has a client with a uuid
-crossed_id : (c : Client Instr State) (r : _) → (crossed c r).id ≡ c.id
+crossed_id : (c : Client Instr State) (r : _) → (crossed the_profile c r).id ≡ c.id
 crossed_id c (Ok q) = refl
 crossed_id c (Err why) = refl
 
@@ -41,7 +41,7 @@ id_kept c (Named ident) h = h
 id_kept c (Made number ms body) h = h
 id_kept c (Took origin number ms body) h = on (origin == c.ident) (rebase (cross_changesets the_profile) (map (changeset_of c.ident) c.unsent) (record { origin = origin; number = number; ms = ms; instrs = ok_list (the_profile.unspell body) }))
   where
-    on : (b : Bool) (r : _) → is_there (if b then c else crossed c r).id ≡ true
+    on : (b : Bool) (r : _) → is_there (if b then record c { cursor = suc c.cursor; unsent = tail c.unsent } else crossed the_profile c r).id ≡ true
     on true r = h
     on false r = ap is_there (crossed_id c r) ∙ h
 id_kept c Form h = h

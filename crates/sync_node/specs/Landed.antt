@@ -25,7 +25,7 @@ module _ {D : Type 0} {G : Ghosts D} {H : Ghosts (GatheredDisk D G)} where
   below_server s = below (disk_of (servers.journal_of s))
 
 -- a file is longer than its front
-long : (records : List (List ℕ)) (end : ℕ) (file : List ℕ) → IsJournal records end file → 0 < length file
+long : (records : List (List ℕ)) (end : ℕ) (file : List ℕ) → IsJournal false records end file → 0 < length file
 long records end file j = omega (arith, ap length j.file_is, length-append magic (j.front ++ j.gate ∷ j.rest))
 
 module _ {D : Type 0} {G : Ghosts D} where
@@ -55,7 +55,7 @@ module _ {D : Type 0} {G : Ghosts D} where
           file = h.file;
           told = s.told;
           reads = h.reads;
-          journal = subst (λ (n : ℕ). IsJournal records n h.file) (sym s.gate) h.journal;
+          journal = subst (λ (n : ℕ). IsJournal false records n h.file) (sym s.gate) h.journal;
           durable = new.durable s.is_open h.file s.told;
         };
       }

@@ -10,8 +10,8 @@ use Rattle.sync_edits.specs.declared.event.NodeLine.TheVariants as node_lines
 use Rattle.sync_journal.specs.Records.{Reading, file_of, records_of}
 use Rattle.sync_journal.specs.Records.Reading.{Good, BadAt}
 use Rattle.sync_model.specs.Bytes.{Uuid}
-use Rattle.sync_model.specs.Clients.{Client, ClientRecord, Floor, NotNamed, Part, Resumed, answers, appends, bind, born_once, client_of, no_client, refuse, upload}
-use Rattle.sync_model.specs.Each.{Each, no_more, and_each}
+use Rattle.sync_model.specs.Clients.{Client, ClientRecord, Floor, NotNamed, Part, Resumed, answers, appends, born_once, client_of, no_client, refuse}
+use Rattle.sync_model.specs.Each.{no_more, and_each}
 use Rattle.sync_model.specs.Files.{client_opens, client_reads}
 use Rattle.sync_model.specs.Messages.{Message, Retire}
 use Rattle.sync_model.specs.Resets.{recover_frame}
@@ -65,7 +65,7 @@ line_same whole less a number (Some (node_lines.Commit ms edits)) = ap (λ did. 
 line_same whole less a number (Some node_lines.Upgrade) = ap (λ did. Some (said number upgrade_words did)) (upgrade_alike the_profile (client_of the_profile whole) (client_of the_profile less) a)
 line_same whole less a number (Some (node_lines.Subscribe tables)) = ap (λ did. Some (said number subscribe_words did)) (subscribe_alike the_profile (client_of the_profile whole) (client_of the_profile less) a tables)
 
-born_plain : (o : Option Uuid) (id : Uuid) → ArePlain (born_once o (appends (ClientRecord.Born id) tt)).records
+born_plain : (o : Option Uuid) (id : Uuid) → ArePlain (born_once o (appends {A = ⊤} (ClientRecord.Born id) tt)).records
 born_plain None id = and_each tt no_more
 born_plain (Some other) id = no_more
 

@@ -1,4 +1,4 @@
-use Rattle.std.proofs.Common.{◌≡◌, IfOk, OnOk, subst, sym, map, ◌∙◌}
+use Rattle.std.proofs.Common.{◌≡◌, IfOk, OnOk, subst, sym}
 use Rattle.sync_model.specs.Clients.{ask, client_of, upload_from}
 use Rattle.sync_exchange.specs.Profile.{the_profile}
 use Rattle.sync_node.specs.Sending.{StandsFor, retire, send, text_of}
