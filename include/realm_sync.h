@@ -788,9 +788,8 @@ REALM_SYNC_API int realm_object(realm_node *node, const char *name) {
     return name ? realm_told(node, realm_ask_of(node, 'O', name, strlen(name)), expected) : realm_expect(node, expected);
 }
 
-/* So many objects of a table, in the order of their keys, a line of JSON each: `from` is {"table":"notes"} for the first ones, and
- * {"table":"notes","key":1} for those behind that key. Fewer come where the table ends. */
-REALM_SYNC_API int realm_page(realm_node *node, const char *from, uint32_t count) {
+/* A page of a table: realm_page's request, or realm_page_of_keys's. */
+REALM_SYNC_API int realm_ask_page(realm_node *node, char verb, const char *from, uint32_t count) {
     static const char expected[] = "from: expected {\"table\":NAME}, or {\"table\":NAME,\"key\":KEY}";
     if (!from) return realm_expect(node, expected);
     size_t len = strlen(from);
@@ -799,10 +798,17 @@ REALM_SYNC_API int realm_page(realm_node *node, const char *from, uint32_t count
     if (!body) return REALM_NO_MEMORY;
     realm_put_number(body, count);
     memcpy(body + 4, from, len);
-    int status = realm_ask_of(node, 'J', body, len + 4);
+    int status = realm_ask_of(node, verb, body, len + 4);
     free(body);
     return realm_told(node, status, expected);
 }
+
+/* So many objects of a table, in the order of their keys, a line of JSON each: `from` is {"table":"notes"} for the first ones, and
+ * {"table":"notes","key":1} for those behind that key. Fewer come where the table ends. */
+REALM_SYNC_API int realm_page(realm_node *node, const char *from, uint32_t count) { return realm_ask_page(node, 'J', from, count); }
+
+/* The same of their keys alone: {"key":1,"table":"notes"}. */
+REALM_SYNC_API int realm_page_of_keys(realm_node *node, const char *from, uint32_t count) { return realm_ask_page(node, 'Y', from, count); }
 
 /* What the last realm_line, realm_commit or realm_take may have changed of a client's objects, a line of JSON for each place:
  * docs/FORMATS.md, "Places". What none of them covers is as it was; of a list with "front" and "back" so many of its first and its last

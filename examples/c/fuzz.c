@@ -397,7 +397,7 @@ static void read_more(source *from, int number, unsigned what) {
     case 6:
         if (kept[at].bytes) ask(number, what == 5 ? 'H' : 'P', kept[at].bytes, kept[at].len);
         break;
-    case 7: ask(number, 'S', run, len); break;
+    case 7: ask(number, len % 2 ? 'S' : 'Y', run, len); break;
     default: ask(number, 'I', NULL, 0);
     }
 }

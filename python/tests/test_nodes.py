@@ -210,6 +210,8 @@ class UseTests(unittest.TestCase):
             self.assertEqual(client.page("items", 3, count=0), [])
             self.assertEqual(client.page("none"), [])
             self.assertEqual(client.page("items"), list(client.objects("items")))
+            self.assertEqual(client.page_of_keys("items", 3, count=3), [4, 5, 6])
+            self.assertEqual(client.page_of_keys("none"), [])
 
     def test_a_new_device_gets_a_long_history(self) -> None:
         with new_client(1) as first, new_client(2) as second, Server() as server:

@@ -7,7 +7,7 @@ use sync_host::Host;
 const ROOM: usize = 64;
 
 /// Requests to one place after the other, and their replies.
-const CLIENT: [(&[u8], &[u8]); 25] = [
+const CLIENT: [(&[u8], &[u8]); 26] = [
     (b"I", b"\x05"),
     (b"c", b"\0"),
     // A journal without records is made.
@@ -64,6 +64,10 @@ const CLIENT: [(&[u8], &[u8]); 25] = [
         b"\0{\"cells\":{\"l\":[8,7]},\"key\":5,\"table\":\"q\"}\n",
     ),
     (b"J\x09\0\0\0{\"table\":\"q\",\"key\":5}", b"\0"),
+    (
+        b"Y\x09\0\0\0{\"table\":\"q\"}",
+        b"\0{\"key\":5,\"table\":\"q\"}\n",
+    ),
     (b"J\0\0\0\0{\"table\":\"q\"}", b"\0"),
     (b"J\x09\0\0{\"table\":\"q\"}", b"\x02"),
 ];

@@ -1,5 +1,5 @@
 -- What a node in a host's place answers, and what stands there afterwards.
-use Rattle.std.specs.Prelude.{◌≡◌, ◌∷◌, ℕ, false, List, length, map, Option, None, Some, IfSome}
+use Rattle.std.specs.Prelude.{◌≡◌, ◌∷◌, ℕ, true, false, List, length, map, Option, None, Some, IfSome}
 use Rattle.std.specs.Option.{option_map}
 use Rattle.sync_data.specs.declared.instr.Instr.{Instr}
 use Rattle.sync_base.specs.States.{State}
@@ -73,7 +73,8 @@ pub record ClientAnswers (verb : Verb) (body : List ℕ) (old : HostedClient) (r
   pub dumps : verb ≡ verbs.Dump → (records : List ClientRecord) → ClientStands records old.client → IfTold reply (reply_bytes reply ≡ 0 ∷ dump (client_of the_profile records).objects)
   pub changes : verb ≡ verbs.Changed → IfTold reply (reply_bytes reply ≡ 0 ∷ place_lines old.changed.items)
   pub tells : verb ≡ verbs.Object → (records : List ClientRecord) → ClientStands records old.client → IfTold reply (ObjectTold (object_form_of_line body) (client_of the_profile records).objects reply)
-  pub pages : verb ≡ verbs.Page → (records : List ClientRecord) → ClientStands records old.client → IfTold reply (PageAsked (word_in body) (client_of the_profile records).objects reply)
+  pub pages : verb ≡ verbs.Page → (records : List ClientRecord) → ClientStands records old.client → IfTold reply (PageAsked false (word_in body) (client_of the_profile records).objects reply)
+  pub keys : verb ≡ verbs.Keys → (records : List ClientRecord) → ClientStands records old.client → IfTold reply (PageAsked true (word_in body) (client_of the_profile records).objects reply)
   pub stands : verb ≡ verbs.Standing → (records : List ClientRecord) → ClientStands records old.client → reply ≡ replies.Standing (standing_of (client_of the_profile records))
 
 -- a server, of whatever records it stands for
@@ -91,5 +92,6 @@ pub record ServerAnswers (verb : Verb) (body : List ℕ) (old : HostedServer) (r
   pub starts : verb ≡ verbs.Start → IfTold reply (TellsStarted (id_in body) (parts (kept_of old.server)) reply)
   pub dumps : verb ≡ verbs.Dump → IfTold reply (reply_bytes reply ≡ 0 ∷ dump (parts (kept_of old.server)).objects)
   pub tells : verb ≡ verbs.Object → IfTold reply (ObjectTold (object_form_of_line body) (parts (kept_of old.server)).objects reply)
-  pub pages : verb ≡ verbs.Page → IfTold reply (PageAsked (word_in body) (parts (kept_of old.server)).objects reply)
+  pub pages : verb ≡ verbs.Page → IfTold reply (PageAsked false (word_in body) (parts (kept_of old.server)).objects reply)
+  pub keys : verb ≡ verbs.Keys → IfTold reply (PageAsked true (word_in body) (parts (kept_of old.server)).objects reply)
   pub stands : verb ≡ verbs.Standing → reply ≡ replies.Standing (server_standing (parts (kept_of old.server)).len)

@@ -19,6 +19,7 @@ verb_of byte =
     else if byte == 68 then Some verbs.Dump
     else if byte == 79 then Some verbs.Object
     else if byte == 74 then Some verbs.Page
+    else if byte == 89 then Some verbs.Keys
     else if byte == 67 then Some verbs.Changed
     else if byte == 73 then Some verbs.Standing
     else if byte == 70 then Some verbs.Trim
@@ -52,6 +53,7 @@ is_to_node verbs.Retire = true
 is_to_node verbs.Dump = true
 is_to_node verbs.Object = true
 is_to_node verbs.Page = true
+is_to_node verbs.Keys = true
 is_to_node verbs.Changed = true
 is_to_node verbs.Standing = true
 is_to_node verbs.Trim = true
@@ -80,6 +82,7 @@ is_new verbs.Retire = true
 is_new verbs.Dump = true
 is_new verbs.Object = true
 is_new verbs.Page = true
+is_new verbs.Keys = true
 is_new verbs.Changed = true
 is_new verbs.Standing = true
 is_new verbs.Trim = true

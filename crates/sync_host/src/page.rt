@@ -4,14 +4,13 @@ ghost use Rattle.std.specs.Option.{option_copied};
 ghost use Rattle.serde_json.specs.View.{view};
 ghost use Rattle.sync_value_text.specs.Forms.{Reads};
 ghost use Rattle.sync_host.specs.Heirs.{word_in};
-ghost use Rattle.sync_dump.specs.Dump.{data_of_object, line};
-ghost use Rattle.sync_dump.specs.Walks.{columns_in};
-ghost use Rattle.sync_host.specs.Pages.{PageAsked, PageTold, page_form, page_form_of_line, page_lines};
+ghost use Rattle.sync_host.specs.Pages.{PageAsked, PageTold, page_form, page_form_of_line, page_line, page_lines};
 ghost use Rattle.sync_host.specs.Replies.{reply_bytes};
 ghost use Rattle.sync_host.specs.Steps.{IfTold};
 
 use crate::heir::word_of;
 use crate::object::{json_of_line, object_from};
+use crate::places::key_text;
 use crate::reply::Reply;
 use serde_json::Value as Json;
 use std::alloc::{AllocError, Global};
@@ -56,16 +55,17 @@ fn start_of(alloc: Global, line: &[u8]) -> Result<PageStart, TextRefusal>
     start_from(alloc, &json)
 }
 
-/// The lines of so many objects of a table, from the first behind a key on.
+/// The lines of so many objects of a table, or of their keys alone, from the first behind a key on.
 fn put_page(
     alloc: Global,
     mut out: Vec<u8>,
     store: &Store,
+    keys: bool,
     table: &Name,
     behind: Option<&Key>,
     count: u32,
 ) -> Result<Vec<u8>, AllocError>
-    ensures { IfOk result (λ new. new.items ≡ out.items ++ page_lines store.now table.now (option_copied behind.entry) count) }
+    ensures { IfOk result (λ new. new.items ≡ out.items ++ page_lines store.now keys table.now (option_copied behind.entry) count) }
 {
     let mut left = count;
     let mut object = store.next_key(table, behind);
@@ -73,7 +73,7 @@ fn put_page(
         if left == 0 {
             return Ok(out);
         }
-        let line = text_of(alloc, store, table, key)?;
+        let line = text_of(alloc, store, keys, table, key)?;
         out.extend_from_slice(&line)?;
         object = store.next_key(table, Some(key));
         left -= 1;
@@ -81,23 +81,33 @@ fn put_page(
     Ok(out)
 }
 
-fn text_of(alloc: Global, store: &Store, table: &Name, key: &Key) -> Result<Vec<u8>, AllocError>
-    ensures { IfOk result (λ text. text.items ≡ line (data_of_object store.now (columns_in store.now.tables table.now) (table.now, key.now))) }
+fn text_of(
+    alloc: Global,
+    store: &Store,
+    keys: bool,
+    table: &Name,
+    key: &Key,
+) -> Result<Vec<u8>, AllocError>
+    ensures { IfOk result (λ text. text.items ≡ page_line store.now keys table.now key.now) }
 {
+    if keys {
+        return key_text(alloc, table, key);
+    }
     match object_text(alloc, store, table, key) {
         Ok(text) => Ok(text),
         Err(_) => Err(AllocError),
     }
 }
 
-fn tell(alloc: Global, store: &Store, start: &PageStart, count: u32) -> Reply
-    ensures { IfTold result (reply_bytes result ≡ 0 ∷ page_lines store.now start.now.table start.now.behind count) }
+fn tell(alloc: Global, store: &Store, keys: bool, start: &PageStart, count: u32) -> Reply
+    ensures { IfTold result (reply_bytes result ≡ 0 ∷ page_lines store.now keys start.now.table start.now.behind count) }
 {
     let out = Vec::new(alloc);
     match put_page(
         alloc,
         out,
         store,
+        keys,
         &start.table,
         start.behind.as_ref(),
         count,
@@ -107,22 +117,22 @@ fn tell(alloc: Global, store: &Store, start: &PageStart, count: u32) -> Reply
     }
 }
 
-fn page_from(alloc: Global, store: &Store, count: u32, line: &[u8]) -> Reply
-    ensures { IfTold result (PageTold (page_form_of_line line.now) count store.now result) }
+fn page_from(alloc: Global, store: &Store, keys: bool, count: u32, line: &[u8]) -> Reply
+    ensures { IfTold result (PageTold keys (page_form_of_line line.now) count store.now result) }
 {
     match start_of(alloc, line) {
-        Ok(start) => tell(alloc, store, &start, count),
+        Ok(start) => tell(alloc, store, keys, &start, count),
         Err(TextRefusal::BadValue) => Reply::BadRequest,
         Err(TextRefusal::NoMemory) => Reply::NoMemory,
     }
 }
 
-/// The lines of a page: how many objects at most, and where it begins.
-pub(crate) fn page(alloc: Global, store: &Store, body: &[u8]) -> Reply
-    ensures { IfTold result (PageAsked (word_in body.now) store.now result) }
+/// The lines of a page, of objects or of their keys alone: how many at most, and where it begins.
+pub(crate) fn page(alloc: Global, store: &Store, keys: bool, body: &[u8]) -> Reply
+    ensures { IfTold result (PageAsked keys (word_in body.now) store.now result) }
 {
     match word_of(body) {
-        Ok((count, line)) => page_from(alloc, store, count, line),
+        Ok((count, line)) => page_from(alloc, store, keys, count, line),
         Err(MessageRefusal::BadMessage) => Reply::BadRequest,
         Err(MessageRefusal::NoMemory) => Reply::NoMemory,
     }

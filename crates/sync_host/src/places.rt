@@ -13,7 +13,7 @@ use crate::reply::Reply;
 use serde_json::{Value as Json, json};
 use std::alloc::{AllocError, Global};
 use sync_changed::{Place, changed_by_edits};
-use sync_data::{CellName, Key, NoMemory};
+use sync_data::{CellName, Key, Name, NoMemory};
 use sync_edits::NodeLine;
 use sync_value_text::json_of_key;
 
@@ -60,6 +60,26 @@ fn put_line(alloc: Global, lines: &mut Vec<u8>, place: &Place) -> Result<(), All
     Ok(())
 }
 
+/// The line of an object's table and key.
+pub(crate) fn key_text(alloc: Global, table: &Name, key: &Key) -> Result<Vec<u8>, AllocError>
+    ensures { IfOk result (λ text. text.items ≡ line (data_of_place (places.Object table.now key.now))) }
+{
+    let json = json_of_key_line(alloc, table, key)?;
+    let text = json.to_string(alloc)?;
+    let mut line = Vec::new(alloc);
+    line.extend_from_slice(text.as_bytes())?;
+    line.push(b'\n')?;
+    Ok(line)
+}
+
+fn json_of_key_line(alloc: Global, table: &Name, key: &Key) -> Result<Json, AllocError>
+    ensures { IfOk result (λ json. view json ≡ data_of_place (places.Object table.now key.now)) }
+{
+    let table = table.text();
+    let key = key_of(alloc, key)?;
+    json!(in alloc; {"key": key, "table": table})
+}
+
 fn json_of_place(alloc: Global, place: &Place) -> Result<Json, AllocError>
     ensures { IfOk result (λ json. view json ≡ data_of_place place.now) }
 {
@@ -73,11 +93,7 @@ fn json_of_place(alloc: Global, place: &Place) -> Result<Json, AllocError>
             let column = column.text();
             json!(in alloc; {"column": column, "table": table})
         }
-        Place::Object { table, key } => {
-            let table = table.text();
-            let key = key_of(alloc, key)?;
-            json!(in alloc; {"key": key, "table": table})
-        }
+        Place::Object { table, key } => json_of_key_line(alloc, table, key),
         Place::Cell(cell) => json_of_cell(alloc, cell),
         Place::Elements { cell, front, back } => json_of_elements(alloc, cell, *front, *back),
     }

@@ -32,6 +32,8 @@ pub enum Verb {
     Object,
     /// Asks for a page of the objects of a table.
     Page,
+    /// Asks for a page of the keys of a table.
+    Keys,
     /// Asks what the last line or message may have changed.
     Changed,
     /// Asks where the node stands.
@@ -76,6 +78,7 @@ impl Verb {
             b'D' => Some(Verb::Dump),
             b'O' => Some(Verb::Object),
             b'J' => Some(Verb::Page),
+            b'Y' => Some(Verb::Keys),
             b'C' => Some(Verb::Changed),
             b'I' => Some(Verb::Standing),
             b'F' => Some(Verb::Trim),

@@ -187,9 +187,16 @@ class _Node:
 
     def page(self, table: str, behind: Json = None, count: int = 1000) -> list[Line]:
         """So many objects of a table, in the order of their keys, from the first behind a key on; without one, from the first of all."""
+        return self._page(b"J", table, behind, count)
+
+    def page_of_keys(self, table: str, behind: Json = None, count: int = 1000) -> list[Json]:
+        """The same of their keys alone."""
+        return [line["key"] for line in self._page(b"Y", table, behind, count)]
+
+    def _page(self, verb: bytes, table: str, behind: Json, count: int) -> list[Line]:
         name = {"table": table} if behind is None else {"table": table, "key": behind}
         with self._lock:
-            text = self._engine.ask(b"J", count.to_bytes(4, "little") + to_json(name).encode()).decode()
+            text = self._engine.ask(verb, count.to_bytes(4, "little") + to_json(name).encode()).decode()
         return [json.loads(line) for line in text.split("\n")[:-1]]
 
     def lines(self) -> Iterator[Line]:

@@ -32,6 +32,7 @@ returns-in-Line c = let call : is_call c.args.verb ≡ true = ap is_call c.in-Li
   changes = λ is. absurd (cc);
   tells = λ is. absurd (cc);
   pages = λ is. absurd (cc);
+  keys = λ is. absurd (cc);
   stands = λ is. absurd (cc);
 }
 
@@ -58,6 +59,7 @@ returns-in-Take c = let call : is_call c.args.verb ≡ true = ap is_call c.in-Ta
   changes = λ is. absurd (cc);
   tells = λ is. absurd (cc);
   pages = λ is. absurd (cc);
+  keys = λ is. absurd (cc);
   stands = λ is. absurd (cc);
 }
 
@@ -84,5 +86,6 @@ returns-in-Inherit c = let call : is_call c.args.verb ≡ true = ap is_call c.in
   changes = λ is. absurd (cc);
   tells = λ is. absurd (cc);
   pages = λ is. absurd (cc);
+  keys = λ is. absurd (cc);
   stands = λ is. absurd (cc);
 }

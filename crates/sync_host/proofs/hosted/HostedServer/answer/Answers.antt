@@ -21,5 +21,6 @@ returns-in-Take c = record {
   dumps = λ is. absurd (cc);
   tells = λ is. absurd (cc);
   pages = λ is. absurd (cc);
+  keys = λ is. absurd (cc);
   stands = λ is. absurd (cc);
 }
