@@ -3,6 +3,7 @@
 import asyncio
 import json
 import os
+import resource
 import shutil
 import signal
 import sqlite3
@@ -281,8 +282,38 @@ def new_client_of(tables):
     return client
 
 
-class OfFiles(Suite, unittest.IsolatedAsyncioTestCase):
-    kind = "files"
+class Limited:
+    """The stores that write files by themselves."""
+
+    async def test_files_that_may_not_grow(self):
+        """As on a disk that is full: nothing is acknowledged that isn't stored, questions are answered, and it goes on once there is room."""
+        async with Device(self.service.base, HISTORY, patience=5) as phone, Device(self.service.base, HISTORY, "bob") as tablet:
+            for device in (phone, tablet):
+                await device.sync()
+            limit, pid = resource.RLIMIT_FSIZE, self.service.process.pid
+            resource.prlimit(pid, limit, (self.most_bytes, resource.RLIM_INFINITY))
+            for number in range(20):
+                phone.note(f"note {number}", "x" * 20_000)
+            syncing = asyncio.create_task(phone.sync())
+            for _ in range(300):
+                if self.service.metric("realm_batches_failed_total") >= 2:
+                    break
+                await asyncio.sleep(0.1)
+            self.assertGreaterEqual(self.service.metric("realm_batches_failed_total"), 2)
+            self.assertEqual((syncing.done(), phone.client.standing().unsent), (False, 20))
+            await tablet.sync()
+            self.assertEqual(tablet.count(), 0)
+            resource.prlimit(pid, limit, (resource.RLIM_INFINITY, resource.RLIM_INFINITY))
+            await asyncio.wait_for(syncing, 120)
+            await tablet.sync()
+            self.service.kill()
+            self.service.start().ready()
+            self.assertEqual(lines((await self.get("/objects"))[1]), phone.dump())
+            self.assertEqual((tablet.dump(), tablet.count()), (phone.dump(), 20))
+
+
+class OfFiles(Limited, Suite, unittest.IsolatedAsyncioTestCase):
+    kind, most_bytes = "files", 60_000
 
     def backed_up(self):
         """While it runs: the journals first, then the devices."""
@@ -321,8 +352,8 @@ class OfFiles(Suite, unittest.IsolatedAsyncioTestCase):
             self.assertEqual([it["version"] for it in told], list(range(5002)))
 
 
-class OfSqlite(Suite, unittest.IsolatedAsyncioTestCase):
-    kind = "sqlite"
+class OfSqlite(Limited, Suite, unittest.IsolatedAsyncioTestCase):
+    kind, most_bytes = "sqlite", 200_000
 
     def backed_up(self):
         kept = os.path.join(folder(), "backup.db")
