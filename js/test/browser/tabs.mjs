@@ -71,6 +71,32 @@ for (const storage of ['opfs', 'indexeddb']) {
 test('four tabs that add and read nothing, and the one with the files is closed', async (bench) =>
   addAndClose(await openTabs(bench, await bench.browser(), 'opfs', false), 'addBlind', 60));
 
+for (const storage of ['opfs', 'indexeddb']) {
+  test(`${storage}: what several tabs asked of a tab that ended without an answer stands once`, async (bench) => {
+    const browser = await bench.browser();
+    const host = await bench.tab(browser);
+    const makeWorker = `() => new Worker('/js/test/browser/mute_worker.js', { type: 'module' })`;
+    await host.evaluate(`open({ storage: '${storage}', makeWorker: ${makeWorker} })`);
+    const id = await host.evaluate(`db.write((tx) => tx.items.create({ title: '0' }))`);
+    const others = [];
+    for (let at = 0; at < 3; at++) {
+      others.push(await bench.tab(browser));
+      await others[at].evaluate(`open({ storage: '${storage}' })`);
+      await others[at].until(`db.items.get('${id}')`);
+    }
+    await others[0].evaluate(`new BroadcastChannel('mute').postMessage(true)`);
+    await wait(200);
+    for (const [at, tab] of others.entries()) {
+      await tab.evaluate(`void (globalThis.asked = ${at === 2 ? 'add' : 'addBlind'}('${id}', 'mark ${at}'))`);
+      await wait(200);
+    }
+    await host.close();
+    for (const tab of others) await tab.evaluate('asked');
+    const { sum, marks } = await settled(others, id);
+    assert.deepEqual([sum, marks], [3, ['mark 0', 'mark 1', 'mark 2']]);
+  });
+}
+
 test('a worker that cannot be loaded, and one that is not there any more, are errors', async (bench) => {
   const tab = await bench.tab(await bench.browser());
   const said = await tab.evaluate(`open({ makeWorker: () => new Worker('/nowhere.js', { type: 'module' }) }).catch((error) => error.message)`);
