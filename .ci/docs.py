@@ -12,6 +12,7 @@
 
   A block `sh by-hand` isn't run: it takes too long, or needs what isn't here. They are counted. Any other block `sh` without a
   text is an error.
+- The table of docs/HEADLINE.md has the crates and the lines that bench/definitions.py counts for the headline.
 - Each block ```rust FILE has only lines of that file, in their order, but for lines `// ..`.
 
 usage: .ci/docs.py [--quiet] [--links] [--program FILE]
@@ -229,6 +230,25 @@ def check_commands(path, blocks, program):
     return ran, by_hand
 
 
+def check_headline():
+    """The definitions on which the headline rests, crate by crate, are as many lines as docs/HEADLINE.md says."""
+    path = os.path.join(TOP, "docs", "HEADLINE.md")
+    script = os.path.join(TOP, "bench", "definitions.py")
+    told = subprocess.run([sys.executable, script, "--crates", "sync_top::run:headline"], stdout=subprocess.PIPE, text=True, check=True).stdout
+    counted = {name: int(count) for count, name in re.findall(r"(\d+) (\w+)(?: of definitions)?$", told, re.M)}
+    counted = {"all": counted.pop("lines", None), **counted}
+    said = {}
+    for number, line in enumerate(read(path).splitlines(), 1):
+        row = re.match(r"\| (?:`(\w+)`|(all)) \| ([\d,]+) \|", line)
+        if row:
+            name, count = row[1] or row[2], int(row[3].replace(",", ""))
+            said[name] = count
+            if counted.get(name) != count:
+                problem(path, number, f"{name} has {counted.get(name)} lines of definitions by bench/definitions.py")
+    for name in counted.keys() - said.keys():
+        problem(path, 1, f"the table has no row for {name}, with {counted[name]} lines")
+
+
 def check_examples():
     """Each exchange of examples/, and what it prints, is a case that the gate runs, byte for byte."""
     cases = os.path.join(TOP, "crates", "trials", "data")
@@ -264,6 +284,7 @@ def main():
         one, two = check_commands(path, blocks, program)
         ran, by_hand = ran + one, by_hand + two
     check_examples()
+    check_headline()
     for path in [*sources(), *documents()]:
         check_cited(path)
     check_crates()

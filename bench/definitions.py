@@ -5,11 +5,12 @@ From each ROOT it follows names through the `ghost use` of its clauses, the trai
 is reached counts whole, by its lines without comments, blank lines and imports; so does the head of a module around it. Prints those
 that are reached by crate and file, and the sum. Rust's own types, the standard library and lemmas aren't counted.
 
-usage: bench/definitions.py [--names] [--beside OTHER] [--since REVISION] ROOT ..
+usage: bench/definitions.py [--names | --crates] [--beside OTHER] [--since REVISION] ROOT ..
        bench/definitions.py --own
 A ROOT is CRATE::NAME, of a function, a trait or a type that implements one; CRATE::NAME:CLAUSE,CLAUSE for these clauses alone;
 CRATE.specs.FILE.NAME, of a definition; or a list in this script, `older` or `requests`. --beside leaves out what OTHER, a root or a
-list, reaches. --since leaves out lines that a definition of that name had in a revision of git. --names prints the definitions too.
+list, reaches. --since leaves out lines that a definition of that name had in a revision of git. --names prints the definitions too, --crates
+the sums of the crates alone.
 --own counts instead the files that define client reset, subscriptions by tables and trimmed history, each whole.
 """
 import argparse
@@ -274,6 +275,7 @@ def print_own():
 def main():
     words = argparse.ArgumentParser(usage=__doc__.split("usage: ")[1])
     words.add_argument("--names", action="store_true")
+    words.add_argument("--crates", action="store_true")
     words.add_argument("--beside")
     words.add_argument("--since")
     words.add_argument("--own", action="store_true")
@@ -296,6 +298,11 @@ def main():
             counts[path][definition.name] = sum(line.strip() not in before[definition.name] for line in definition.lines)
             heads[path].update(head for head in definition.heads if head[1].strip() not in before["module"])
     sums = {path: sum(counts[path].values()) + len(heads[path]) for path in sorted(counts)}
+    if asked.crates:
+        crates = collections.Counter()
+        for path, count in sums.items():
+            crates[path.split("/")[1]] += count
+        sums, counts = {f"crates/{crate}": count for crate, count in crates.items()}, collections.defaultdict(dict)
     for path in filter(sums.get, sums):
         names = [f"{name}:{count}" for name, count in counts[path].items() if asked.names and count]
         print(f"{sums[path]:5} {path.removeprefix('crates/')}", *names)
