@@ -12,6 +12,7 @@
 
   A block `sh by-hand` isn't run: it takes too long, or needs what isn't here. They are counted. Any other block `sh` without a
   text is an error.
+- The number in VERSION is that of the C header and of the packages.
 - The table of docs/HEADLINE.md has the crates and the lines that bench/definitions.py counts for the headline.
 - Each block ```rust FILE has only lines of that file, in their order, but for lines `// ..`.
 
@@ -249,6 +250,21 @@ def check_headline():
         problem(path, 1, f"the table has no row for {name}, with {counted[name]} lines")
 
 
+def check_version():
+    """One number for all that is installed."""
+    number = read(os.path.join(TOP, "VERSION")).strip()
+    for name, line in {
+        "include/realm_sync.h": f'#define REALM_SYNC_VERSION "{number}"',
+        "python/pyproject.toml": f'version = "{number}"',
+        "service/pyproject.toml": f'version = "{number}"',
+        "js/package.json": f'"version": "{number}"',
+        "docs/CHANGES.md": f"## {number}",
+    }.items():
+        path = os.path.join(TOP, name)
+        if line not in read(path):
+            problem(path, 1, f"it hasn't the number of VERSION, {number}")
+
+
 def check_examples():
     """Each exchange of examples/, and what it prints, is a case that the gate runs, byte for byte."""
     cases = os.path.join(TOP, "crates", "trials", "data")
@@ -285,6 +301,7 @@ def main():
         ran, by_hand = ran + one, by_hand + two
     check_examples()
     check_headline()
+    check_version()
     for path in [*sources(), *documents()]:
         check_cited(path)
     check_crates()

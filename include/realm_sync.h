@@ -14,6 +14,9 @@
 #ifndef REALM_SYNC_H
 #define REALM_SYNC_H
 
+/* docs/CHANGES.md says what is new in it, and what may change between two. */
+#define REALM_SYNC_VERSION "0.3.0"
+
 #include "realm_sync_file.h"
 
 #include <inttypes.h>
