@@ -270,7 +270,8 @@ static void pass_changed(source *from, int client) {
     uint8_t how = next_byte(from), body[4] = {0};
     char verb = verbs[how % 5];
     body[0] = (uint8_t)(how / 5 % 4);
-    hostile = hostile || verb == 'G';
+    /* an Upload that leaves out changes is refused as another server's would be */
+    hostile = hostile || verb == 'G' || (verb == 'U' && body[0] > 0);
     if (ask(client, verb, body, verb == 'U' || verb == 'G' ? 4 : 0) == REALM_DONE) pass(from, client, how >> 5 & 3, how >> 7);
 }
 
@@ -363,7 +364,9 @@ static void shrink(int number) {
     realm_node *node = &nodes[number];
     realm_place before, after;
     size_t len, had, has;
-    if (realm_standing(node, &before) != REALM_DONE) return;
+    if (detached[number] || realm_standing(node, &before) != REALM_DONE) return;
+    /* a client that comes later may need what the server gave up */
+    if (number == SERVER) hostile = true;
     check(realm_dump(node) == REALM_DONE, "the objects");
     uint8_t *objects = copy_answer(number, &had);
     check(realm_trim(node) == REALM_DONE, "a shorter file");

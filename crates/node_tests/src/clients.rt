@@ -229,7 +229,7 @@ fn short_holds(alloc: Global) -> Option<bool> {
 
 /// Whether the short file with another byte there is refused at this place.
 fn is_bad_short(alloc: Global, at: usize, byte: u8, place: u64) -> bool {
-    let (Some(front), Some(rest)) = (SHORT.get(..at), SHORT.get(at + 1..)) else {
+    let (Some(front), Some([_, rest @ ..])) = (SHORT.get(..at), SHORT.get(at..)) else {
         return false;
     };
     let mut file = Vec::new(alloc);
