@@ -18,8 +18,8 @@ use super::carried::{Became, Carried, Crossed};
 use super::items::{Items, Passing};
 use super::refusal::RebaseRefusal;
 use super::unsent::nothing;
-use list_blocks::cross_blocks_indexed;
 use list_places::ListAction;
+use long_sets::cross_long_indexed;
 use std::alloc::Global;
 use sync_data::{Changeset, Entry, Ident};
 use sync_index::Index;
@@ -167,7 +167,7 @@ fn pass(
     let Ok(current) = items.current(place) else {
         return Err(RebaseRefusal::NoMemory);
     };
-    match cross_blocks_indexed(alloc, current, own, changes, origin, index) {
+    match cross_long_indexed(alloc, current, own, changes, origin, index) {
         Ok(crossed) => Ok(crossed),
         Err(stop) => Err(RebaseRefusal::Mismatch {
             number: items.number(place),

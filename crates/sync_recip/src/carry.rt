@@ -18,8 +18,8 @@ use super::items::{Items, Passing};
 use super::refusal::RecipRefusal;
 use super::shared::SharedEntry;
 use super::shifted::nothing;
-use list_blocks::cross_blocks;
 use list_places::ListAction;
+use long_sets::cross_long;
 use std::alloc::Global;
 use sync_base::{Changeset, Entry, Ident, NoMemory};
 use sync_index::Index;
@@ -134,7 +134,7 @@ fn cross_one(
     let Ok(right) = items.changes(place) else {
         return Err(RecipRefusal::NoMemory);
     };
-    match cross_blocks(alloc, changes, own, right, items.origin(place)) {
+    match cross_long(alloc, changes, own, right, items.origin(place)) {
         Err(stop) => Err(RecipRefusal::Mismatch {
             place: stop.left_place,
             kind: stop.kind,

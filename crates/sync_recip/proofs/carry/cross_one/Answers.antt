@@ -5,8 +5,8 @@ use Rattle.sync_transform.specs.Sets.{made_by}
 use Rattle.sync_recip.proofs.Turns.{element}
 use Rattle.sync_recip.proofs.carry.cross_one.Goals as goal
 
-pub cross_blocks-requires : goal.cross_blocks-requires
-cross_blocks-requires c =
+pub cross_long-requires : goal.cross_long-requires
+cross_long-requires c =
     let k = element c.args.items.now c.args.place c.requires.within in
     λ same. c.requires.other k.0 k.1 (sym (same ∙ c.origin.ensures k.0 k.1))
 
@@ -14,9 +14,9 @@ pub returns-in-Ok-changed-clause-ok : goal.returns-in-Ok-changed-clause-ok
 returns-in-Ok-changed-clause-ok c = λ k at number.
     let own = c.args.own in
     (λ i. cross_sets meet (made_by own number c.args.changes) (made_by (sym (c.origin.ensures k at) i) k.item.number (sym (c.in-Ok.ensures k at) i)))
-    ∙ c.in-Ok-cross_blocks.ensures.ok number k.item.number
-    ∙ (λ i. Ok (made_by own number c.in-Ok-cross_blocks.left, made_by (c.origin.ensures k at i) k.item.number c.in-Ok-cross_blocks.right))
-    ∙ ap (λ e. Ok (made_by own number c.in-Ok-cross_blocks.left, e)) (sym (c.in-Ok-changed.ensures.is k at))
+    ∙ c.in-Ok-cross_long.ensures.ok number k.item.number
+    ∙ (λ i. Ok (made_by own number c.in-Ok-cross_long.left, made_by (c.origin.ensures k at i) k.item.number c.in-Ok-cross_long.right))
+    ∙ ap (λ e. Ok (made_by own number c.in-Ok-cross_long.left, e)) (sym (c.in-Ok-changed.ensures.is k at))
 
 pub returns-in-Err-clause-stuck : goal.returns-in-Err-clause-stuck
 returns-in-Err-clause-stuck c = λ k at number. record {
