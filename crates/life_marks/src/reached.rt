@@ -1,24 +1,33 @@
+ghost use Rattle.std.specs.Prelude.{◌≡◌, ℕ, List, OnOk, OnErr};
+ghost use Rattle.life_marks.specs.Reached.{raised, has};
+
 use life_bytes::{Life, Token};
 use std::alloc::Global;
 use std::collections::BTreeMap;
 use sync_data::{Id, NoMemory};
 
-/// Of each life the highest number of a transaction that is told. Contracts see it as a list of tokens.
+/// Of each life the highest number of a transaction that is told.
 #[derive(Drop)]
 pub struct Reached {
     numbers: BTreeMap<Id, u32>,
 }
 
 impl Reached {
+    ghost use Rattle.life_marks.specs.Reached.{number_of};
+
     /// None. It takes no memory.
-    pub fn new(alloc: Global) -> Reached {
+    pub fn new(alloc: Global) -> Reached
+        ensures { (life : List ℕ) → number_of result life ≡ 0 }
+    {
         Reached {
             numbers: BTreeMap::new(alloc),
         }
     }
 
     /// The highest number of a life, or 0.
-    pub fn of(&self, life: Life) -> u32 {
+    pub fn of(&self, life: Life) -> u32
+        ensures { result ≡ number_of self.now life }
+    {
         match self.numbers.get(&life.bytes()) {
             Some(number) => *number,
             None => 0,
@@ -26,12 +35,17 @@ impl Reached {
     }
 
     /// Whether it has the transaction of this token.
-    pub fn has(&self, token: Token) -> bool {
+    pub fn has(&self, token: Token) -> bool
+        ensures { result ≡ has (number_of self.now) token }
+    {
         token.number() <= self.of(token.life())
     }
 
-    /// From now on it has it. After `NoMemory` nothing changes.
-    pub fn reach(&mut self, token: Token) -> Result<(), NoMemory> {
+    /// From now on it has it. After `NoMemory` nothing changed.
+    pub fn reach(&mut self, token: Token) -> Result<(), NoMemory>
+        ensures ok { OnOk result ((life : List ℕ) → number_of self.new life ≡ raised token (number_of self.old) life) }
+        ensures err { OnErr result ((life : List ℕ) → number_of self.new life ≡ number_of self.old life) }
+    {
         if self.has(token) {
             return Ok(());
         }
