@@ -11,6 +11,9 @@ use Rattle.life_marks.specs.declared.reached.Reached.{Reached}
 abbrev pub number_of : Reached → List ℕ → ℕ
 number_of reached life = unwrap_or (get (slice_cmp nat_cmp) reached.numbers life) 0
 
+abbrev pub nothing_reached : List ℕ → ℕ
+nothing_reached life = 0
+
 -- the transaction of this token is there
 abbrev pub has : (List ℕ → ℕ) → TokenParts → Bool
 has numbers token = nat_le token.number (numbers token.life)

@@ -1,5 +1,5 @@
-ghost use Rattle.std.specs.Prelude.{◌≡◌, ℕ, List, OnOk, OnErr};
-ghost use Rattle.life_marks.specs.Reached.{raised, has};
+ghost use Rattle.std.specs.Prelude.{◌≡◌, OnOk, OnErr};
+ghost use Rattle.life_marks.specs.Reached.{raised, has, nothing_reached};
 
 use life_bytes::{Life, Token};
 use std::alloc::Global;
@@ -17,7 +17,7 @@ impl Reached {
 
     /// None. It takes no memory.
     pub fn new(alloc: Global) -> Reached
-        ensures { (life : List ℕ) → number_of result life ≡ 0 }
+        ensures { number_of result ≡ nothing_reached }
     {
         Reached {
             numbers: BTreeMap::new(alloc),
@@ -43,8 +43,8 @@ impl Reached {
 
     /// From now on it has it. After `NoMemory` nothing changed.
     pub fn reach(&mut self, token: Token) -> Result<(), NoMemory>
-        ensures ok { OnOk result ((life : List ℕ) → number_of self.new life ≡ raised token (number_of self.old) life) }
-        ensures err { OnErr result ((life : List ℕ) → number_of self.new life ≡ number_of self.old life) }
+        ensures ok { OnOk result (number_of self.new ≡ raised token (number_of self.old)) }
+        ensures err { OnErr result (number_of self.new ≡ number_of self.old) }
     {
         if self.has(token) {
             return Ok(());

@@ -1,6 +1,10 @@
+ghost use Rattle.std.specs.Prelude.{◌≡◌, ◌≤◌, ◌-◌, length, slice_set, Some, OnOk};
+ghost use Rattle.life_marks.specs.Reached.{number_of};
+ghost use Rattle.life_marks.specs.ServerMarks.{own_token, as_member, noting, ended};
+
 use crate::life_list::LifeList;
 use crate::reached::Reached;
-use life_bytes::{Life, Note, Numbers, Token};
+use life_bytes::{Life, Note, Token};
 use std::alloc::Global;
 use sync_data::{Id, Ident, NoMemory};
 use sync_records::ServerRecord;
@@ -18,7 +22,6 @@ pub struct Line {
 /// What the records and notes of a server's file say of lives.
 #[derive(Drop)]
 pub struct ServerMarks {
-    alloc: Global,
     birth: Option<Life>,
     life: Option<Life>,
     before: Option<Life>,
@@ -33,10 +36,13 @@ pub struct ServerMarks {
 pub(crate) const NO_LIFE: Id = [0; 16];
 
 impl ServerMarks {
+    ghost use Rattle.life_marks.specs.ServerMarks.{seen, no_marks, line_of, with_line, token_told, after_entry, after_client, after_note, after_record, life_before, first_of};
+
     /// Those of an empty file. It takes no memory.
-    pub fn new(alloc: Global) -> ServerMarks {
+    pub fn new(alloc: Global) -> ServerMarks
+        ensures { seen result ≡ no_marks }
+    {
         ServerMarks {
-            alloc,
             birth: None,
             life: None,
             before: None,
@@ -49,41 +55,55 @@ impl ServerMarks {
     }
 
     /// The first life of the file; none where it has none.
-    pub fn birth(&self) -> Option<Life> {
+    pub fn birth(&self) -> Option<Life>
+        ensures { result ≡ (seen self.now).birth }
+    {
         self.birth
     }
 
     /// The last life of the file; none where it has none.
-    pub fn life(&self) -> Option<Life> {
+    pub fn life(&self) -> Option<Life>
+        ensures { result ≡ (seen self.now).life }
+    {
         self.life
     }
 
     /// What is kept of an ident; none where it isn't given.
-    pub fn line(&self, ident: Ident) -> Option<&Line> {
+    pub fn line(&self, ident: Ident) -> Option<Line>
+        ensures { result ≡ line_of ident (seen self.now).lines }
+    {
         if ident == 0 {
             return None;
         }
-        self.lines.as_slice().get(ident as usize - 1)
+        self.lines.as_slice().get(ident as usize - 1).copied()
     }
 
-    /// The lives of the transactions that the history has.
-    pub fn reached(&self) -> &Reached {
+    /// Up to which number the history has the transactions of each life.
+    pub fn reached(&self) -> &Reached
+        ensures { number_of result.now ≡ (seen self.now).reached }
+    {
         &self.reached
     }
 
     /// The lives of the entries from the floor on.
-    pub fn entries(&self) -> &LifeList {
+    pub fn entries(&self) -> &LifeList
+        ensures { result.now ≡ (seen self.now).entries }
+    {
         &self.entries
     }
 
     /// The version of the first of these.
-    pub fn floor(&self) -> u32 {
+    pub fn floor(&self) -> u32
+        ensures { result ≡ (seen self.now).floor }
+    {
         self.floor
     }
 
     /// The life of the entry before a version; that of version 0 is the birth. None below the floor, above the history, and
     /// where none is known.
-    pub fn life_before(&self, version: u32) -> Option<Life> {
+    pub fn life_before(&self, version: u32) -> Option<Life>
+        ensures { result ≡ life_before (seen self.now) version }
+    {
         if version == 0 {
             return self.birth;
         }
@@ -93,50 +113,78 @@ impl ServerMarks {
         if version == self.floor {
             return self.before;
         }
-        self.entries.life_of(version - self.floor - 1)
+        self.entries.life_of(version - 1 - self.floor)
     }
 
     /// Takes a note that stands behind what was taken so far. After `NoMemory` the marks are of no use.
-    pub fn take_note(&mut self, note: &Note) -> Result<(), NoMemory> {
+    pub fn take_note(&mut self, note: &Note) -> Result<(), NoMemory>
+        ensures { OnOk result (seen self.new ≡ after_note (seen self.old) note.now) }
+    {
         self.saved = None;
         match note {
-            Note::Life(life) => self.take_life(*life),
-            Note::Of(life) => self.before = Some(*life),
-            Note::Member(named) => {
-                if let Some(line) = self.line_mut(named.ident()) {
-                    line.is_member = true;
-                }
+            Note::Life(life) => {
+                self.take_life(*life);
+                Ok(())
             }
-            Note::Numbers(numbers) => self.take_numbers(*numbers),
-            Note::Saved(token) => self.saved = Some(*token),
-            Note::Reached(token) => self.reached.reach(*token)?,
-            Note::Lives(runs) => self.entries.extend(runs.runs())?,
-            Note::Birth(_) | Note::Saves(_) => {}
+            Note::Of(life) => {
+                self.before = Some(*life);
+                Ok(())
+            }
+            Note::Member(named) => {
+                self.take_member(named.ident());
+                Ok(())
+            }
+            Note::Numbers(numbers) => {
+                self.take_numbers(numbers.ident(), numbers.life());
+                Ok(())
+            }
+            Note::Saved(token) => {
+                self.saved = Some(*token);
+                Ok(())
+            }
+            Note::Reached(token) => self.reached.reach(*token),
+            Note::Lives(runs) => self.entries.extend(runs.runs()),
+            Note::Birth(_) => Ok(()),
+            Note::Saves(_) => Ok(()),
         }
-        Ok(())
     }
 
     /// The same of a record.
-    pub fn take_record(&mut self, record: &ServerRecord) -> Result<(), NoMemory> {
-        match record {
-            ServerRecord::Client { id } => self.take_client(*id)?,
-            ServerRecord::Entry { origin, number, .. } => self.take_entry(*origin, *number)?,
-            ServerRecord::Floor { version } => self.floor = *version,
-            ServerRecord::Count { ident, number, .. } => self.take_count(*ident, *number),
-            // The next record is the Entry of which the note speaks.
-            ServerRecord::Form => return Ok(()),
+    pub fn take_record(&mut self, added: &ServerRecord) -> Result<(), NoMemory>
+        ensures { OnOk result (seen self.new ≡ after_record (seen self.old) added.now) }
+    {
+        match added {
+            ServerRecord::Client { id } => self.take_client(*id),
+            ServerRecord::Entry { origin, number, .. } => self.take_entry(*origin, *number),
+            ServerRecord::Floor { version } => {
+                self.floor = *version;
+                self.saved = None;
+                Ok(())
+            }
+            ServerRecord::Count { ident, number, .. } => {
+                if *number != 0 {
+                    self.end_line(*ident);
+                }
+                self.saved = None;
+                Ok(())
+            }
+            ServerRecord::Form => Ok(()),
             ServerRecord::Retired { .. }
             | ServerRecord::Settled { .. }
             | ServerRecord::Part { .. }
             | ServerRecord::Carried { .. }
-            | ServerRecord::Past { .. } => {}
+            | ServerRecord::Past { .. } => {
+                self.saved = None;
+                Ok(())
+            }
         }
-        self.saved = None;
-        Ok(())
     }
 
     /// A client gets the next ident.
-    pub fn take_client(&mut self, uuid: Id) -> Result<(), NoMemory> {
+    pub fn take_client(&mut self, uuid: Id) -> Result<(), NoMemory>
+        ensures { OnOk result (seen self.new ≡ after_client (seen self.old) uuid) }
+    {
+        self.saved = None;
         let line = Line {
             uuid,
             is_member: false,
@@ -150,59 +198,110 @@ impl ServerMarks {
     }
 
     /// An entry of that ident with that number goes into the history.
-    pub fn take_entry(&mut self, ident: Ident, number: u32) -> Result<(), NoMemory> {
-        let life = match self.life {
-            Some(life) => life,
-            None => Life::new(NO_LIFE),
-        };
+    pub fn take_entry(&mut self, ident: Ident, number: u32) -> Result<(), NoMemory>
+        ensures { OnOk result (seen self.new ≡ after_entry (seen self.old) ident number) }
+    {
+        let life = self.life.unwrap_or(Life::new(NO_LIFE));
         self.entries.push(life)?;
-        let own = match self.line_mut(ident) {
-            Some(line) => {
-                line.last = line.noted;
-                match line.noted {
-                    Some(life) => life,
-                    None => Life::new(line.uuid),
-                }
-            }
-            None => return Ok(()),
-        };
-        if number == 0 {
-            return Ok(());
-        }
-        let token = match self.saved {
-            Some(token) => token,
-            None => Token::new(own, number),
-        };
+        let token = self.token_told(ident, number);
+        self.end_line(ident);
         self.saved = None;
-        self.reached.reach(token)
+        match token {
+            Some(token) => self.reached.reach(token),
+            None => Ok(()),
+        }
     }
 
-    fn take_life(&mut self, life: Life) {
+    /// The token of the next entry.
+    fn token_told(&self, ident: Ident, number: u32) -> Option<Token>
+        ensures { result ≡ token_told (seen self.now).saved (line_of ident (seen self.now).lines) number }
+    {
+        if let Some(token) = self.saved {
+            return Some(token);
+        }
+        match self.line(ident) {
+            Some(line) => own_token(line, number),
+            None => None,
+        }
+    }
+
+    fn take_life(&mut self, life: Life)
+        ensures { seen self.new ≡ record (seen self.old) { birth = first_of (seen self.old).birth life; life = Some life } }
+    {
         if self.birth.is_none() {
             self.birth = Some(life);
         }
         self.life = Some(life);
     }
 
-    fn take_numbers(&mut self, numbers: Numbers) {
-        if let Some(line) = self.line_mut(numbers.ident()) {
-            line.noted = Some(numbers.life());
+    fn take_member(&mut self, ident: Ident)
+        ensures { seen self.new ≡ record (seen self.old) { lines = with_line ident as_member (seen self.old).lines } }
+    {
+        match self.line(ident) {
+            Some(line) => self.put_line(ident, member(line)),
+            None => {}
         }
     }
 
-    /// In the front of a file that was written anew: the ident has so many entries.
-    fn take_count(&mut self, ident: Ident, number: u32) {
-        if let Some(line) = self.line_mut(ident) {
-            if number != 0 {
-                line.last = line.noted;
-            }
+    fn take_numbers(&mut self, ident: Ident, life: Life)
+        ensures { seen self.new ≡ record (seen self.old) { lines = with_line ident (noting life) (seen self.old).lines } }
+    {
+        match self.line(ident) {
+            Some(line) => self.put_line(ident, noted(line, life)),
+            None => {}
         }
     }
 
-    fn line_mut(&mut self, ident: Ident) -> Option<&mut Line> {
-        if ident == 0 {
-            return None;
+    /// The last entry of an ident is of the life that is noted.
+    fn end_line(&mut self, ident: Ident)
+        ensures { seen self.new ≡ record (seen self.old) { lines = with_line ident ended (seen self.old).lines } }
+    {
+        match self.line(ident) {
+            Some(line) => self.put_line(ident, ended(line)),
+            None => {}
         }
-        self.lines.as_mut_slice().get_mut(ident as usize - 1)
     }
+
+    fn put_line(&mut self, ident: Ident, line: Line)
+        requires named { 1 ≤ ident }
+        requires given { ident ≤ length (seen self.old).lines }
+        ensures { seen self.new ≡ record (seen self.old) { lines = slice_set (seen self.old).lines (ident - 1) line } }
+    {
+        self.lines[ident as usize - 1] = line;
+    }
+}
+
+fn member(line: Line) -> Line
+    ensures { result ≡ as_member line }
+{
+    let mut line = line;
+    line.is_member = true;
+    line
+}
+
+fn noted(line: Line, life: Life) -> Line
+    ensures { result ≡ noting life line }
+{
+    let mut line = line;
+    line.noted = Some(life);
+    line
+}
+
+fn ended(line: Line) -> Line
+    ensures { result ≡ ended line }
+{
+    let mut line = line;
+    let noted = line.noted;
+    line.last = noted;
+    line
+}
+
+/// The token of an ident's own transaction.
+fn own_token(line: Line, number: u32) -> Option<Token>
+    ensures { result ≡ own_token (Some line) number }
+{
+    if number == 0 {
+        return None;
+    }
+    Some(Token::new(line.noted.unwrap_or(Life::new(line.uuid)), number))
 }
