@@ -5,6 +5,8 @@ use Rattle.std.specs.BTreeMap.{get}
 use Rattle.std.specs.Ordering.{nat_cmp}
 use Rattle.sync_records.specs.declared.client.ClientRecord.{ClientRecord}
 use Rattle.sync_records.specs.declared.client.ClientRecord.TheVariants as records
+use Rattle.life_marks.specs.declared.pieces.ClientPiece.{ClientPiece}
+use Rattle.life_marks.specs.declared.pieces.ClientPiece.TheVariants as pieces
 use Rattle.life_bytes.specs.declared.note.Note.{Note}
 use Rattle.life_bytes.specs.declared.note.Note.TheVariants as notes
 use Rattle.life_bytes.specs.Runs.{Lives}
@@ -112,19 +114,17 @@ after_record m (records.Waits number base ms body current) = other m
 
 -- ---- a file
 
-pub data Piece : Type 0 where
-  of_record : ClientRecord → Piece
-  of_note : Note → Piece
+-- a note of a later program is passed over
+abbrev pub after_piece : Marks → ClientPiece → Marks
+after_piece m (pieces.Record r) = after_record m r
+after_piece m (pieces.Note n) = after_note m n
+after_piece m pieces.Later = m
 
-abbrev pub after_piece : Marks → Piece → Marks
-after_piece m (of_record r) = after_record m r
-after_piece m (of_note n) = after_note m n
-
-abbrev pub after_pieces : Marks → List Piece → Marks
+abbrev pub after_pieces : Marks → List ClientPiece → Marks
 after_pieces m [] = m
 after_pieces m (p ∷ ps) = after_pieces (after_piece m p) ps
 
-abbrev pub marks_of : List Piece → Marks
+abbrev pub marks_of : List ClientPiece → Marks
 marks_of ps = after_pieces no_marks ps
 
 -- ---- readers

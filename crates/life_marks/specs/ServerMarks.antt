@@ -3,6 +3,8 @@ use Rattle.std.specs.Prelude.{ℕ, zero, suc, ◌+◌, ◌-◌, Bool, true, fals
 use Rattle.std.specs.Option.{unwrap_or, is_some}
 use Rattle.sync_records.specs.declared.server.ServerRecord.{ServerRecord}
 use Rattle.sync_records.specs.declared.server.ServerRecord.TheVariants as records
+use Rattle.life_marks.specs.declared.pieces.ServerPiece.{ServerPiece}
+use Rattle.life_marks.specs.declared.pieces.ServerPiece.TheVariants as pieces
 use Rattle.life_bytes.specs.declared.note.Note.{Note}
 use Rattle.life_bytes.specs.declared.note.Note.TheVariants as notes
 use Rattle.life_bytes.specs.Runs.{Lives}
@@ -133,19 +135,17 @@ after_record m (records.Past ident version ms body) = unsaved m
 
 -- ---- a file
 
-pub data Piece : Type 0 where
-  of_record : ServerRecord → Piece
-  of_note : Note → Piece
+-- a note of a later program is passed over
+abbrev pub after_piece : Marks → ServerPiece → Marks
+after_piece m (pieces.Record r) = after_record m r
+after_piece m (pieces.Note n) = after_note m n
+after_piece m pieces.Later = m
 
-abbrev pub after_piece : Marks → Piece → Marks
-after_piece m (of_record r) = after_record m r
-after_piece m (of_note n) = after_note m n
-
-abbrev pub after_pieces : Marks → List Piece → Marks
+abbrev pub after_pieces : Marks → List ServerPiece → Marks
 after_pieces m [] = m
 after_pieces m (p ∷ ps) = after_pieces (after_piece m p) ps
 
-abbrev pub marks_of : List Piece → Marks
+abbrev pub marks_of : List ServerPiece → Marks
 marks_of ps = after_pieces no_marks ps
 
 -- ---- readers

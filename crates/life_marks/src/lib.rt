@@ -3,10 +3,14 @@
 
 mod client_marks;
 mod life_list;
+mod pieces;
 mod reached;
+mod reading;
 mod server_marks;
 
 pub use client_marks::ClientMarks;
 pub use life_list::LifeList;
+pub use pieces::{ClientPiece, ServerPiece};
 pub use reached::Reached;
+pub use reading::MarksRefusal;
 pub use server_marks::{Line, ServerMarks};
