@@ -116,7 +116,7 @@ impl<D: Disk> MarkedClient<D> {
         if !self.has_lives() {
             return Some(MarkedRefusal::NoLives);
         }
-        if self.marks.has(token) {
+        if self.marks.reached().has(token) {
             return Some(MarkedRefusal::AlreadySaved);
         }
         if frontier.len() > MOST_TOKENS {
@@ -184,7 +184,7 @@ impl<D: Disk> MarkedClient<D> {
                 return Err(self.out_of_memory());
             }
         }
-        let taken = self.marks.take_note(note);
-        self.or_close(taken)
+        self.marks.take_note(note);
+        Ok(())
     }
 }

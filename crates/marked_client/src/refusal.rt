@@ -17,7 +17,7 @@ pub enum MarkedRefusal {
     /// The server has the client's transactions up to this number, and that isn't one of this file: the client's file was put
     /// back, or is a copy. A new client takes over.
     FileForked { number: u32 },
-    /// The file made or saved that transaction already.
+    /// The file made or saved that transaction already, or a later one of its life.
     AlreadySaved,
     /// More than 4,096 tokens stand before the transaction.
     FrontierTooLong,

@@ -1,9 +1,10 @@
-use crate::code::{Code, refused};
+use crate::code::refused;
 use crate::server::MarkedServer;
-use life_bytes::{Answered, Answers, Life, Mark, Runs, Said, Says};
+use crate::testing::{Standing, bound_said, ident_said, says_test};
+use life_bytes::{Answered, Answers, Runs, Said, Says};
 use sync_data::{Id, Ident};
 use sync_disk::Disk;
-use sync_messages::{Download, Message, Upload};
+use sync_messages::{Download, Message};
 use sync_server::ServerRefusal;
 
 impl<D: Disk> MarkedServer<D> {
@@ -12,12 +13,14 @@ impl<D: Disk> MarkedServer<D> {
         if self.server.journal.is_closed() {
             return Err(ServerRefusal::Closed);
         }
-        let ident = MarkedServer::<D>::ident_in(says.inner());
-        if let Some(refusal) = self.refusal(says, ident) {
+        let ident = ident_said(says.inner());
+        let at = self.standing(says.inner());
+        if let Some(why) = says_test(&self.marks, &at, says) {
+            let refusal = refused(ident, 0, why.code, why.place);
             return self.answers(says.uuid(), ident, Answered::Message(refusal));
         }
         match says.inner() {
-            Said::Message(Message::Bind { uuid }) => self.take_bind(says.uuid(), *uuid),
+            Said::Message(Message::Bind { uuid }) => self.take_bind(*uuid),
             Said::Message(Message::Upload(upload)) => {
                 let reply = self.take_upload(says, upload)?;
                 self.answers(says.uuid(), ident, Answered::Message(reply))
@@ -36,86 +39,19 @@ impl<D: Disk> MarkedServer<D> {
         }
     }
 
-    /// Why what stands in the files doesn't let a message through.
-    fn refusal(&self, says: &Says, ident: Ident) -> Option<Message> {
-        if self.life.is_none() {
-            return Some(refused(ident, 0, Code::NoLife, 0));
-        }
-        if let Some(refusal) = self.sender_refusal(says, ident) {
-            return Some(refusal);
-        }
-        let cursor = says.cursor();
-        let is_new = ident == 0 && cursor.number == 0;
-        if cursor.number < self.server.floor() && !is_new {
-            return Some(refused(ident, 0, Code::Trimmed, self.server.floor()));
-        }
-        if !self.is_on_history(cursor) {
-            return Some(refused(ident, 0, Code::OffHistory, self.server.len()));
-        }
-        match says.inner() {
-            Said::Message(Message::Upload(upload)) => self.file_refusal(says.runs(), upload),
-            _ => None,
-        }
-    }
-
-    /// Why the client isn't the one that has the ident.
-    fn sender_refusal(&self, says: &Says, ident: Ident) -> Option<Message> {
-        if let Said::Message(Message::Bind { uuid }) = says.inner() {
-            return self.bind_refusal(says.uuid(), *uuid);
-        }
-        match self.marks.line(ident) {
-            None => Some(refused(ident, 0, Code::NoSuchIdent, self.server.idents())),
-            Some(line) => {
-                if line.is_member && line.uuid == says.uuid() {
-                    None
-                } else {
-                    Some(refused(ident, 0, Code::NotYours, ident))
-                }
-            }
-        }
-    }
-
-    /// A client without lives, whose changes may stand in the history, gets none by asking anew.
-    fn bind_refusal(&self, uuid: Id, bound: Id) -> Option<Message> {
-        let ident = self.server.ident_of(&bound).unwrap_or(0);
-        if uuid != bound {
-            return Some(refused(0, 0, Code::NotYours, ident));
-        }
-        match self.server.counts(ident) {
-            Some(counts) if counts.number > 0 && !self.is_member(ident) => {
-                Some(refused(0, 0, Code::NotYours, ident))
-            }
-            _ => None,
-        }
-    }
-
-    /// Whether the history has that entry, of that life.
-    fn is_on_history(&self, cursor: Mark) -> bool {
-        if cursor.number == 0 {
-            return true;
-        }
-        cursor.number <= self.server.len() && self.life_before(cursor.number) == cursor.life
-    }
-
-    /// Why an Upload isn't of the file of which the history has a beginning.
-    fn file_refusal(&self, runs: &Runs, upload: &Upload) -> Option<Message> {
-        let ident = upload.ident();
-        let count = self.count_of(ident);
-        let (Some(first), Some(line)) = (upload.changes().first(), self.marks.line(ident)) else {
-            return None;
+    /// What the tests of a message look at beside the marks.
+    fn standing(&self, said: &Said) -> Standing {
+        let ident = match bound_said(said) {
+            Some(uuid) => self.server.ident_of(&uuid).unwrap_or(0),
+            None => ident_said(said),
         };
-        let from = first.number() - 1;
-        if count == 0 || count < from {
-            return None;
-        }
-        match runs.life_of(count - from) {
-            Some(life) if line.last != Some(life) => Some(refused(
-                ident,
-                0,
-                Code::OtherFile,
-                count,
-            )),
-            _ => None,
+        Standing {
+            life: self.life,
+            idents: self.server.idents(),
+            len: self.server.len(),
+            floor: self.server.floor(),
+            ident,
+            count: self.count_of(ident),
         }
     }
 
@@ -128,8 +64,8 @@ impl<D: Disk> MarkedServer<D> {
     }
 
     /// Gives a client with lives its ident.
-    fn take_bind(&mut self, uuid: Id, bound: Id) -> Result<Answers, ServerRefusal> {
-        let reply = self.serve(Message::Bind { uuid: bound })?;
+    fn take_bind(&mut self, uuid: Id) -> Result<Answers, ServerRefusal> {
+        let reply = self.serve(Message::Bind { uuid })?;
         let ident = match &reply {
             Message::Ident(given) => given.ident(),
             _ => 0,

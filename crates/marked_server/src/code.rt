@@ -1,3 +1,6 @@
+ghost use Rattle.std.specs.Prelude.{◌≡◌};
+ghost use Rattle.marked_server.specs.Testing.{code_number, refuse};
+
 use sync_data::Ident;
 use sync_messages::Message;
 
@@ -17,8 +20,17 @@ pub(crate) enum Code {
     Before,
 }
 
+/// A reason, and its place.
+#[derive(Clone, Copy)]
+pub(crate) struct Refusal {
+    pub code: Code,
+    pub place: u32,
+}
+
 impl Code {
-    fn number(self) -> u32 {
+    fn number(self) -> u32
+        ensures { result ≡ code_number self }
+    {
         match self {
             Code::NoSuchIdent => 60,
             Code::IdentsFull => 65,
@@ -36,7 +48,9 @@ impl Code {
 }
 
 /// The refusal of a message of that ident, or of its change of that number.
-pub(crate) fn refused(ident: Ident, number: u32, code: Code, place: u32) -> Message {
+pub(crate) fn refused(ident: Ident, number: u32, code: Code, place: u32) -> Message
+    ensures { result ≡ refuse ident number (record { code = code; place = place }) }
+{
     Message::Refused {
         ident,
         number,

@@ -6,6 +6,7 @@ mod code;
 mod giving_up;
 mod opening;
 mod server;
+mod testing;
 mod uploading;
 
 pub use opening::{MarkedCause, MarkedRefusal};

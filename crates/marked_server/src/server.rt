@@ -1,7 +1,6 @@
 use crate::code::{Code, refused};
-use life_bytes::{
-    Answered, Answers, Letter, Life, Mark, Note, Numbers, Said, Says, Token, note_bytes,
-};
+use crate::testing::is_member;
+use life_bytes::{Letter, Life, Mark, Note, Numbers, Token, note_bytes};
 use life_marks::ServerMarks;
 use std::alloc::Global;
 use sync_data::{Id, Ident, NoMemory};
@@ -95,10 +94,7 @@ impl<D: Disk> MarkedServer<D> {
 
     /// Whether the client of an ident has lives.
     pub(crate) fn is_member(&self, ident: Ident) -> bool {
-        match self.marks.line(ident) {
-            Some(line) => line.is_member,
-            None => false,
-        }
+        is_member(self.marks.line(ident))
     }
 
     /// Today's step. The marks are those of its records too.
@@ -226,18 +222,6 @@ impl<D: Disk> MarkedServer<D> {
                 None => none,
             },
             _ => none,
-        }
-    }
-
-    /// The ident of a message with lives that its client has by now; 0 where it asks for one.
-    pub(crate) fn ident_in(said: &Said) -> Ident {
-        match said {
-            Said::Message(Message::Upload(upload)) => upload.ident(),
-            Said::Message(Message::Ask(ask)) => ask.ident(),
-            Said::Message(Message::Ask2(ask)) => ask.ident(),
-            Said::Message(Message::AskTables(asked)) => asked.ask().ident(),
-            Said::GiveUp(given) => given.by(),
-            Said::Message(_) => 0,
         }
     }
 }

@@ -1,6 +1,7 @@
-use crate::code::{Code, refused};
+use crate::code::refused;
 use crate::server::MarkedServer;
-use life_bytes::{Life, Note, Numbers, Saves, Saving, Says, Token};
+use crate::testing::token_test;
+use life_bytes::{Life, Note, Numbers, Saves, Saving, Says};
 use sync_data::{Ident, NoMemory};
 use sync_disk::Disk;
 use sync_messages::{Change, Message, Upload};
@@ -29,7 +30,8 @@ impl<D: Disk> MarkedServer<D> {
         loop {
             let piece = first_piece(says, upload, left);
             let number = piece.changes[0].number();
-            if let Some(code) = self.token_refusal(&piece, number) {
+            let reached = self.marks.reached();
+            if let Some(code) = token_test(reached, piece.saves, piece.life, number) {
                 return Ok(refused(ident, number, code, number));
             }
             let reply = self.take_piece(ident, &piece)?;
@@ -53,26 +55,6 @@ impl<D: Disk> MarkedServer<D> {
             return &[];
         }
         &changes[(count - from) as usize..]
-    }
-
-    /// Why a transaction isn't taken: it is there, or it saves another and what stood before that isn't.
-    fn token_refusal(&self, piece: &Piece, number: u32) -> Option<Code> {
-        let token = match piece.saves {
-            Some(saves) => saves.token(),
-            None => Token::new(piece.life, number),
-        };
-        if self.marks.reached().has(token) {
-            return Some(Code::Twice);
-        }
-        let Some(saves) = piece.saves else {
-            return None;
-        };
-        for before in saves.frontier() {
-            if !self.marks.reached().has(*before) {
-                return Some(Code::Before);
-            }
-        }
-        None
     }
 
     /// Does today's step with these changes, behind the notes of them.

@@ -6,6 +6,7 @@ use crate::marked::{
 };
 use byte_lists::ByteLists;
 use life_bytes::{Letter, Token, letter_bytes};
+use life_marks::MarksRefusal;
 use marked_client::{MarkedClient, MarkedRefusal, Taken};
 use marked_server::{MarkedCause, MarkedServer};
 use std::alloc::Global;
@@ -397,7 +398,7 @@ fn no_life(alloc: Global) -> Option<bool> {
     let (mine, _) = backup(alloc, first.into_disk())?;
     let used = match MarkedServer::open(alloc, restored(alloc, &pieces, ALL)?, Some(life(100))) {
         Ok(_) => false,
-        Err(refusal) => refusal.cause == MarkedCause::LifeUsed,
+        Err(refusal) => refusal.cause == MarkedCause::Marks(MarksRefusal::LifeUsed),
     };
     let mine_used = MarkedClient::open(alloc, restored(alloc, &mine, ALL)?, Some(life(11))).is_err()
         && MarkedClient::open(alloc, restored(alloc, &mine, ALL)?, Some(life(1))).is_err();
@@ -425,7 +426,7 @@ fn refused_save(alloc: Global) -> Option<bool> {
     let refused = !saves(alloc, &mut heir, token, &[], b'a');
     let own = commits(alloc, &mut heir, b'b');
     let mut heir = phone(alloc, heir.into_disk(), 12)?;
-    let is_own = heir.marks().saves_at(2).is_none() && heir.marks().savings().is_empty();
+    let is_own = heir.marks().saves_at(1).is_none() && heir.marks().saves_at(2).is_none();
     let sent = syncs(alloc, &mut server, &mut heir) == Told::Taken;
     let asked = numbers(alloc, &mut server, &mut heir, &[], &[11, 51]) == Some([2, 0]);
     Some(table && refused && own && is_own && sent && asked && has(&server, b"ab"))
