@@ -1,1 +1,3 @@
 pub mod Testing
+pub mod Uploading
+pub mod Marked

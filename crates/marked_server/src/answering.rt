@@ -55,14 +55,6 @@ impl<D: Disk> MarkedServer<D> {
         }
     }
 
-    /// How many changes of an ident the history has.
-    pub(crate) fn count_of(&self, ident: Ident) -> u32 {
-        match self.server.counts(ident) {
-            Some(counts) => counts.number,
-            None => 0,
-        }
-    }
-
     /// Gives a client with lives its ident.
     fn take_bind(&mut self, uuid: Id) -> Result<Answers, ServerRefusal> {
         let reply = self.serve(Message::Bind { uuid })?;

@@ -1,3 +1,5 @@
+ghost use Rattle.std.specs.Prelude.{◌≤◌};
+
 use crate::code::{Code, refused};
 use crate::server::MarkedServer;
 use life_bytes::{Answered, GiveUp, GivenUp, Life};
@@ -36,7 +38,9 @@ impl<D: Disk> MarkedServer<D> {
     }
 
     /// A client that the history doesn't know is given up as well, so that a late Bind of it brings nothing in.
-    fn give_up_one(&mut self, by: Ident, uuid: &Id) -> Result<Option<Message>, ServerRefusal> {
+    fn give_up_one(&mut self, by: Ident, uuid: &Id) -> Result<Option<Message>, ServerRefusal>
+        requires { 1 ≤ by }
+    {
         let ident = match self.server.ident_of(uuid) {
             Some(ident) => ident,
             None => match self.serve(Message::Bind { uuid: *uuid })? {

@@ -38,7 +38,8 @@ impl<D: Disk> MarkedServer<D> {
                 });
             }
         };
-        match marks_of(alloc, &mut server, life) {
+        let found = marks_of(alloc, &mut server, &life);
+        match found {
             Ok(marks) => Ok(MarkedServer {
                 alloc,
                 server,
@@ -57,10 +58,10 @@ impl<D: Disk> MarkedServer<D> {
 fn marks_of<D: Disk>(
     alloc: Global,
     server: &mut Server<D>,
-    life: Option<Life>,
+    life: &Option<Life>,
 ) -> Result<ServerMarks, MarkedCause> {
     match server.journal.pieces() {
-        Ok(pieces) => match ServerMarks::of(alloc, &pieces, life) {
+        Ok(pieces) => match ServerMarks::of(alloc, &pieces, *life) {
             Ok(marks) => Ok(marks),
             Err(why) => Err(MarkedCause::Marks(why)),
         },

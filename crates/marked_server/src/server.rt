@@ -1,7 +1,14 @@
+ghost use Rattle.std.specs.Prelude.{◌≡◌, ◌≤◌, ◌++◌, ◌∷◌, [], ℕ, List, true, Ok, OnOk, OnErr};
+ghost use Rattle.sync_journal.specs.Stands.{Stands, StandsNoted};
+ghost use Rattle.sync_model.specs.Parts.{at_ident};
+ghost use Rattle.life_bytes.specs.Spelling.{note_spelling};
+ghost use Rattle.life_marks.specs.ServerMarks.{after_note, line_of};
+ghost use Rattle.marked_server.specs.Marked.{begin_notes, count_by, is_life, last_told, life_notes, life_told, mark_of, member_notes, no_mark, noted_in};
+
 use crate::code::{Code, refused};
 use crate::testing::is_member;
-use life_bytes::{Letter, Life, Mark, Note, Numbers, Token, note_bytes};
-use life_marks::ServerMarks;
+use life_bytes::{Letter, Life, Mark, Note, Numbers, note_bytes};
+use life_marks::{Line, ServerMarks};
 use std::alloc::Global;
 use sync_data::{Id, Ident, NoMemory};
 use sync_disk::Disk;
@@ -21,6 +28,9 @@ pub struct MarkedServer<D: Disk> {
 }
 
 impl<D: Disk> MarkedServer<D> {
+    ghost use Rattle.sync_server.specs.Serving.{journal_of};
+    ghost use Rattle.marked_server.specs.Marked.{Notes, Same, is_closed, life_of, marks_of, parts_of};
+
     /// The server.
     pub fn server(&self) -> &Server<D> {
         &self.server
@@ -131,7 +141,12 @@ impl<D: Disk> MarkedServer<D> {
     }
 
     /// Out of memory the server is closed, as its marks may be behind its file.
-    pub(crate) fn or_close(&mut self, done: Result<(), NoMemory>) -> Result<(), ServerRefusal> {
+    pub(crate) fn or_close(&mut self, done: Result<(), NoMemory>) -> Result<(), ServerRefusal>
+        ensures ok { OnOk result ((done ≡ Ok tt) × (self.new ≡ self.old)) }
+        ensures marks { marks_of self.new ≡ marks_of self.old }
+        ensures same { Same self.old self.new }
+        ensures closes { OnErr result (is_closed self.new ≡ true) }
+    {
         match done {
             Ok(()) => Ok(()),
             Err(NoMemory) => {
@@ -141,87 +156,179 @@ impl<D: Disk> MarkedServer<D> {
         }
     }
 
-    /// Writes a note.
-    pub(crate) fn note(&mut self, note: Note) -> Result<(), ServerRefusal> {
-        let Ok(bytes) = note_bytes(self.alloc, &note) else {
+    /// Writes a note. It closes the server where that fails.
+    pub(crate) fn note(&mut self, note: Note) -> Result<(), ServerRefusal>
+        ensures notes { OnOk result (Notes (note ∷ []) self.old self.new) }
+        ensures same { Same self.old self.new }
+        ensures closes { OnErr result (is_closed self.new ≡ true) }
+    {
+        self.put_note(&note)?;
+        self.keep_note(&note)?;
+        Ok(())
+    }
+
+    fn keep_note(&mut self, note: &Note) -> Result<(), ServerRefusal>
+        ensures marks { OnOk result (marks_of self.new ≡ after_note (marks_of self.old) note.now) }
+        ensures journal { OnOk result (journal_of self.new.server ≡ journal_of self.old.server) }
+        ensures same { Same self.old self.new }
+        ensures closes { OnErr result (is_closed self.new ≡ true) }
+    {
+        match self.marks.take_note(note) {
+            Ok(()) => Ok(()),
+            Err(NoMemory) => {
+                self.server.journal.close();
+                Err(ServerRefusal::NoMemory)
+            }
+        }
+    }
+
+    fn put_note(&mut self, note: &Note) -> Result<(), ServerRefusal>
+        ensures records { (rs : List (List ℕ)) → Stands rs (journal_of self.old.server) → OnOk result (Stands rs (journal_of self.new.server)) }
+        ensures noted { (ps : List (List ℕ)) → StandsNoted ps (journal_of self.old.server) → OnOk result (StandsNoted (ps ++ note_spelling note.now ∷ []) (journal_of self.new.server)) }
+        ensures marks { marks_of self.new ≡ marks_of self.old }
+        ensures same { Same self.old self.new }
+        ensures closes { OnErr result (is_closed self.new ≡ true) }
+    {
+        let Ok(bytes) = note_bytes(self.alloc, note) else {
             self.server.journal.close();
             return Err(ServerRefusal::NoMemory);
         };
         match self.server.journal.note(bytes.as_slice()) {
-            Ok(()) => {}
-            Err(JournalRefusal::Closed) => return Err(ServerRefusal::Closed),
-            Err(JournalRefusal::DiskFault) => return Err(ServerRefusal::DiskFault),
+            Ok(()) => Ok(()),
+            Err(JournalRefusal::Closed) => Err(ServerRefusal::Closed),
+            Err(JournalRefusal::DiskFault) => Err(ServerRefusal::DiskFault),
             Err(_) => {
                 self.server.journal.close();
-                return Err(ServerRefusal::NoMemory);
+                Err(ServerRefusal::NoMemory)
             }
         }
-        let taken = self.marks.take_note(&note);
-        self.or_close(taken)
     }
 
     /// Begins the life of this opening in the file, where it hasn't yet.
-    pub(crate) fn begin(&mut self) -> Result<(), ServerRefusal> {
-        match (self.life, self.marks.life()) {
-            (None, _) => Ok(()),
-            (Some(life), Some(begun)) if life == begun => Ok(()),
-            (Some(life), _) => self.note(Note::Life(life)),
+    pub(crate) fn begin(&mut self) -> Result<(), ServerRefusal>
+        ensures notes { OnOk result (Notes (begin_notes (marks_of self.old) (life_of self.old)) self.old self.new) }
+        ensures same { Same self.old self.new }
+        ensures closes { OnErr result (is_closed self.new ≡ true) }
+    {
+        match self.life {
+            None => Ok(()),
+            Some(life) => {
+                if is_life(self.marks.life(), life) {
+                    return Ok(());
+                }
+                self.note(Note::Life(life))
+            }
         }
     }
 
-    /// Notes of what life an ident's next entry is, and what it saves, where it saves another.
-    pub(crate) fn note_change(
-        &mut self,
-        ident: Ident,
-        life: Life,
-        saved: Option<Token>,
-    ) -> Result<(), ServerRefusal> {
+    /// Notes of what life an ident's next entry is.
+    pub(crate) fn note_life(&mut self, ident: Ident, life: Life) -> Result<(), ServerRefusal>
+        requires { 1 ≤ ident }
+        ensures notes { OnOk result (Notes (life_notes (marks_of self.old) (life_of self.old) ident life) self.old self.new) }
+        ensures same { Same self.old self.new }
+        ensures closes { OnErr result (is_closed self.new ≡ true) }
+    {
         self.begin()?;
-        let is_noted = match self.marks.line(ident) {
-            Some(line) => line.noted == Some(life),
-            None => false,
-        };
-        if !is_noted {
-            self.note(Note::Numbers(Numbers::new(ident, life)))?;
+        if is_life(noted_in(self.marks.line(ident)), life) {
+            return Ok(());
         }
-        match saved {
-            Some(token) => self.note(Note::Saved(token)),
-            None => Ok(()),
-        }
+        self.note(Note::Numbers(Numbers::new(ident, life)))?;
+        Ok(())
     }
 
     /// The client of an ident has lives from now on.
-    pub(crate) fn note_member(&mut self, ident: Ident) -> Result<(), ServerRefusal> {
-        if self.marks.life().is_none() {
-            self.begin()?;
+    pub(crate) fn note_member(&mut self, ident: Ident) -> Result<(), ServerRefusal>
+        requires { 1 ≤ ident }
+        ensures notes { OnOk result (Notes (member_notes (marks_of self.old) (life_of self.old) ident) self.old self.new) }
+        ensures same { Same self.old self.new }
+        ensures closes { OnErr result (is_closed self.new ≡ true) }
+    {
+        if self.marks.life().is_some() {
+            return self.note(Note::Member(Named::new(ident)));
         }
-        self.note(Note::Member(Named::new(ident)))
+        self.begin()?;
+        self.note(Note::Member(Named::new(ident)))?;
+        Ok(())
     }
 
     /// The life of the entry before a version, that of version 0 being the file's first life, or else that of this opening.
-    pub(crate) fn life_before(&self, version: u32) -> Life {
-        match (self.marks.life_before(version), version) {
-            (Some(life), _) => life,
-            (None, 0) => self.life.unwrap_or(Life::new([0; 16])),
-            (None, _) => Life::new([0; 16]),
+    pub(crate) fn life_before(&self, version: u32) -> Life
+        ensures { result ≡ life_told (marks_of self.now) (life_of self.now) version }
+    {
+        let none = Life::new([0; 16]);
+        if version == 0 {
+            return self.marks.birth().unwrap_or(self.life.unwrap_or(none));
         }
+        self.marks.life_before(version).unwrap_or(none)
     }
 
-    /// The last change of an ident in the history.
-    pub(crate) fn last_of(&self, uuid: Id, ident: Ident) -> Mark {
-        let none = Mark {
-            number: 0,
-            life: Life::new([0; 16]),
-        };
-        match (self.marks.line(ident), self.server.counts(ident)) {
-            (Some(line), Some(counts)) if line.is_member && line.uuid == uuid => match line.last {
-                Some(life) => Mark {
-                    number: counts.number,
-                    life,
-                },
-                None => none,
-            },
-            _ => none,
+    /// The last change of an ident in the history, where that is of the client with lives and this uuid.
+    pub(crate) fn last_of(&self, uuid: Id, ident: Ident) -> Mark
+        ensures { result ≡ last_told (line_of ident (marks_of self.now).lines) uuid (count_by (at_ident ident (parts_of self.now).idents)) }
+    {
+        last_told(self.marks.line(ident), uuid, self.count_of(ident))
+    }
+
+    /// How many changes of an ident the history has.
+    pub(crate) fn count_of(&self, ident: Ident) -> u32
+        ensures { result ≡ count_by (at_ident ident (parts_of self.now).idents) }
+    {
+        match self.server.counts(ident) {
+            Some(counts) => counts.number,
+            None => 0,
         }
+    }
+}
+
+fn is_life(last: Option<Life>, life: Life) -> bool
+    ensures { result ≡ is_life last life }
+{
+    match last {
+        None => false,
+        Some(last) => last == life,
+    }
+}
+
+fn noted_in(line: Option<Line>) -> Option<Life>
+    ensures { result ≡ noted_in line }
+{
+    match line {
+        None => None,
+        Some(line) => line.noted,
+    }
+}
+
+fn last_told(line: Option<Line>, uuid: Id, count: u32) -> Mark
+    ensures { result ≡ last_told line uuid count }
+{
+    match line {
+        None => no_mark(),
+        Some(line) => {
+            if line.is_member && line.uuid == uuid {
+                return mark_of(line.last, count);
+            }
+            no_mark()
+        }
+    }
+}
+
+fn no_mark() -> Mark
+    ensures { result ≡ no_mark }
+{
+    Mark {
+        number: 0,
+        life: Life::new([0; 16]),
+    }
+}
+
+fn mark_of(last: Option<Life>, count: u32) -> Mark
+    ensures { result ≡ mark_of last count }
+{
+    match last {
+        None => no_mark(),
+        Some(life) => Mark {
+            number: count,
+            life,
+        },
     }
 }

@@ -1,19 +1,16 @@
+ghost use Rattle.std.specs.Prelude.{◌≡◌, ◌≤◌, ◌<◌, length};
+ghost use Rattle.std.specs.Option.{option_map};
+ghost use Rattle.sync_messages.specs.Parts.{most_listed};
+ghost use Rattle.marked_server.specs.Uploading.{saves_at, life_at};
+
 use crate::code::refused;
 use crate::server::MarkedServer;
 use crate::testing::token_test;
 use life_bytes::{Life, Note, Numbers, Saves, Saving, Says};
-use sync_data::{Ident, NoMemory};
+use sync_data::Ident;
 use sync_disk::Disk;
-use sync_messages::{Change, Message, Upload};
+use sync_messages::{Change, Message, Stored, Upload};
 use sync_server::ServerRefusal;
-
-/// Changes of an Upload, one behind the other, that are of one life: what the only one saves, or none where all are the client's own.
-#[derive(Clone, Copy)]
-struct Piece<'a> {
-    changes: &'a [Change],
-    life: Life,
-    saves: Option<&'a Saves>,
-}
 
 impl<D: Disk> MarkedServer<D> {
     /// Takes the changes of an Upload, up to the first that is refused, with the lives of those that are new.
@@ -23,111 +20,104 @@ impl<D: Disk> MarkedServer<D> {
         upload: &Upload,
     ) -> Result<Message, ServerRefusal> {
         let ident = upload.ident();
-        let mut left = self.new_changes(upload);
-        if left.is_empty() {
-            return self.serve_changes(ident, upload.changes());
-        }
-        loop {
-            let piece = first_piece(says, upload, left);
-            let number = piece.changes[0].number();
-            let reached = self.marks.reached();
-            if let Some(code) = token_test(reached, piece.saves, piece.life, number) {
-                return Ok(refused(ident, number, code, number));
+        for (place, change) in upload.changes().iter().enumerate() {
+            let life = life_at(says, place);
+            let saves = saves_at(says.saves(), change.number());
+            if let Some(refusal) = self.take_change(ident, change, life, saves)? {
+                return Ok(refusal);
             }
-            let reply = self.take_piece(ident, &piece)?;
-            left = &left[piece.changes.len()..];
-            if left.is_empty() || !matches!(reply, Message::Stored(_)) {
-                return Ok(reply);
-            }
-            drop(reply);
         }
+        Ok(Message::Stored(Stored::new(ident, self.count_of(ident))))
     }
 
-    /// The changes from the first one on that the history lacks; none where they don't begin at most there.
-    fn new_changes<'a>(&self, upload: &'a Upload) -> &'a [Change] {
-        let changes = upload.changes();
-        let count = self.count_of(upload.ident());
-        let Some(first) = changes.first() else {
-            return &[];
-        };
-        let from = first.number() - 1;
-        if count < from || (count - from) as usize >= changes.len() {
-            return &[];
-        }
-        &changes[(count - from) as usize..]
-    }
-
-    /// Does today's step with these changes, behind the notes of them.
-    fn take_piece(&mut self, ident: Ident, piece: &Piece) -> Result<Message, ServerRefusal> {
-        let saved = match piece.saves {
-            Some(saves) => Some(saves.token()),
-            None => None,
-        };
-        self.note_change(ident, piece.life, saved)?;
-        let reply = self.serve_changes(ident, piece.changes)?;
-        if saved.is_some() && !matches!(reply, Message::Stored(_)) {
-            // No entry followed the note of what it saves: the next one saves nothing.
-            self.note(Note::Numbers(Numbers::new(ident, piece.life)))?;
-        }
-        Ok(reply)
-    }
-
-    /// Today's step with these changes.
-    fn serve_changes(
+    /// Passes over a change that the history has, and takes the next one behind the notes of it; or tells why not.
+    fn take_change(
         &mut self,
         ident: Ident,
-        changes: &[Change],
-    ) -> Result<Message, ServerRefusal> {
-        match copies(self.alloc, changes) {
-            Ok(changes) => self.serve(Message::Upload(Upload::new(ident, changes))),
-            Err(NoMemory) => Err(self.out_of_memory()),
+        change: &Change,
+        life: Life,
+        saves: Option<&Saves>,
+    ) -> Result<Option<Message>, ServerRefusal>
+        requires { 1 ≤ ident }
+    {
+        let number = change.number();
+        let count = self.count_of(ident);
+        if number <= count {
+            return Ok(None);
         }
+        if number - 1 > count {
+            return self.serve_change(ident, change);
+        }
+        if let Some(code) = token_test(self.marks.reached(), saves, life, number) {
+            return Ok(Some(refused(ident, number, code, number)));
+        }
+        self.take_next(ident, change, life, saves)
     }
-}
 
-fn copies(alloc: std::alloc::Global, changes: &[Change]) -> Result<Vec<Change>, NoMemory> {
-    let mut copies = Vec::new(alloc);
-    for change in changes {
-        let copy = change.copy()?;
-        match copies.push(copy) {
-            Ok(()) => {}
-            Err(_) => return Err(NoMemory),
+    /// Does today's step with the next change, behind the notes of it.
+    fn take_next(
+        &mut self,
+        ident: Ident,
+        change: &Change,
+        life: Life,
+        saves: Option<&Saves>,
+    ) -> Result<Option<Message>, ServerRefusal>
+        requires { 1 ≤ ident }
+    {
+        self.note_life(ident, life)?;
+        match saves {
+            None => self.serve_change(ident, change),
+            Some(saves) => {
+                self.note(Note::Saved(saves.token()))?;
+                let refusal = self.serve_change(ident, change)?;
+                if refusal.is_some() {
+                    // No entry followed the note of what it saves: the next one saves nothing.
+                    self.note(Note::Numbers(Numbers::new(ident, life)))?;
+                }
+                Ok(refusal)
+            }
         }
     }
-    Ok(copies)
+
+    /// Today's step with this change; its refusal, if it is refused.
+    fn serve_change(
+        &mut self,
+        ident: Ident,
+        change: &Change,
+    ) -> Result<Option<Message>, ServerRefusal>
+        requires { 1 ≤ ident }
+    {
+        let mut changes = Vec::new(self.alloc);
+        let Ok(copy) = change.copy() else {
+            return Err(self.out_of_memory());
+        };
+        if changes.push(copy).is_err() {
+            return Err(self.out_of_memory());
+        }
+        match self.serve(Message::Upload(Upload::new(ident, changes)))? {
+            Message::Stored(_) => Ok(None),
+            refusal => Ok(Some(refusal)),
+        }
+    }
 }
 
 /// What an Upload saves as that number.
-fn saves_at(saves: &[Saving], number: u32) -> Option<&Saves> {
-    let place = saves.partition_point(|saving| saving.number < number);
-    match saves.get(place) {
-        Some(saving) if saving.number == number => Some(&saving.saves),
-        _ => None,
+fn saves_at(saves: &[Saving], number: u32) -> Option<&Saves>
+    ensures { option_map (λ s. s.now) result ≡ saves_at saves.now number }
+{
+    for saving in saves {
+        if saving.number == number {
+            return Some(&saving.saves);
+        }
     }
-}
-
-/// The longest beginning of changes that are of one life, of which none saves another; or the first one alone, which does.
-fn first_piece<'a>(says: &'a Says, upload: &Upload, changes: &'a [Change]) -> Piece<'a> {
-    let behind = upload.changes().len() - changes.len();
-    let life = life_at(says, behind);
-    let saves = saves_at(says.saves(), changes[0].number());
-    let mut count = 1;
-    while saves.is_none()
-        && count < changes.len()
-        && life_at(says, behind + count) == life
-        && saves_at(says.saves(), changes[count].number()).is_none()
-    {
-        count += 1;
-    }
-    Piece {
-        changes: &changes[..count],
-        life,
-        saves,
-    }
+    None
 }
 
 /// The life of the change of an Upload at that place.
-fn life_at(says: &Says, place: usize) -> Life {
+fn life_at(says: &Says, place: usize) -> Life
+    requires { place < most_listed }
+    ensures { result ≡ life_at says.now.lives place }
+{
     says.runs()
         .life_of(place as u32 + 1)
         .unwrap_or(Life::new([0; 16]))
