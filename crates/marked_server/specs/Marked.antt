@@ -71,9 +71,13 @@ numbers_notes m ident life = if is_life (noted_in (line_of ident m.lines)) life 
 abbrev pub life_notes : Marks → Option (List ℕ) → ℕ → List ℕ → List Note
 life_notes m begun ident life = begin_notes m begun ++ numbers_notes (after_notes m (begin_notes m begun)) ident life
 
+-- where the file has no life
+abbrev pub first_notes : Marks → Option (List ℕ) → List Note
+first_notes m begun = if is_some m.life then [] else begin_notes m begun
+
 -- of a client with lives
 abbrev pub member_notes : Marks → Option (List ℕ) → ℕ → List Note
-member_notes m begun ident = (if is_some m.life then [] else begin_notes m begun) ++ notes.Member ident ∷ []
+member_notes m begun ident = first_notes m begun ++ notes.Member ident ∷ []
 
 module _ {D : Type 0} {G : Ghosts D} where
   abbrev pub marks_of : MarkedServer D G → Marks

@@ -1,4 +1,4 @@
-ghost use Rattle.std.specs.Prelude.{◌≤◌};
+ghost use Rattle.std.specs.Prelude.{◌≡◌, ◌≤◌, length, map, IfOk};
 
 use crate::code::{Code, refused};
 use crate::server::MarkedServer;
@@ -9,6 +9,8 @@ use sync_messages::{Message, Retire};
 use sync_server::ServerRefusal;
 
 impl<D: Disk> MarkedServer<D> {
+    ghost use Rattle.marked_server.specs.Marked.{marks_of};
+
     /// Gives up the clients of whose files an heir saves what isn't there, and tells it up to which numbers of their lives that is
     /// so. Nothing but how soon late messages of the old clients are refused rests on their being given up.
     pub(crate) fn take_give_up(&mut self, given: &GiveUp) -> Result<Answered, ServerRefusal> {
@@ -61,7 +63,10 @@ impl<D: Disk> MarkedServer<D> {
         Ok(None)
     }
 
-    fn numbers_of(&self, lives: &[Life]) -> Result<Vec<u32>, NoMemory> {
+    fn numbers_of(&self, lives: &[Life]) -> Result<Vec<u32>, NoMemory>
+        ensures told { IfOk result (λ numbers. numbers.items ≡ map (marks_of self.now).reached lives.now) }
+        ensures count { IfOk result (λ numbers. length numbers.items ≡ length lives.now) }
+    {
         let mut numbers = Vec::new(self.alloc);
         for life in lives {
             match numbers.push(self.marks.reached().of(*life)) {

@@ -1,9 +1,15 @@
-ghost use Rattle.std.specs.Prelude.{◌≡◌, ◌≤◌, ◌++◌, ◌∷◌, [], ℕ, List, true, Ok, OnOk, OnErr};
+ghost use Rattle.std.specs.Prelude.{◌≡◌, ◌≤◌, ◌++◌, ◌∷◌, [], ℕ, List, false, true, None, Some, Ok, IfOk, OnOk, OnErr};
 ghost use Rattle.sync_journal.specs.Stands.{Stands, StandsNoted};
-ghost use Rattle.sync_model.specs.Parts.{at_ident};
+ghost use Rattle.sync_model.specs.Parts.{at_ident, serve_by};
+ghost use Rattle.sync_model.specs.Servers as model;
+ghost use Rattle.sync_exchange.specs.Profile.{the_profile};
+ghost use Rattle.sync_exchange.specs.Seen.{message_seen};
+ghost use Rattle.sync_messages.specs.declared.message.Message.{Message};
+ghost use Rattle.marked_server.specs.Plain.{named_in, plain_refusal};
+ghost use Rattle.marked_server.specs.Testing.{is_member};
 ghost use Rattle.life_bytes.specs.Spelling.{note_spelling};
 ghost use Rattle.life_marks.specs.ServerMarks.{after_note, line_of};
-ghost use Rattle.marked_server.specs.Marked.{begin_notes, count_by, is_life, last_told, life_notes, life_told, mark_of, member_notes, no_mark, noted_in};
+ghost use Rattle.marked_server.specs.Marked.{begin_notes, count_by, first_notes, is_life, last_told, life_notes, life_told, mark_of, member_notes, no_mark, noted_in, numbers_notes};
 
 use crate::code::{Code, refused};
 use crate::testing::is_member;
@@ -28,7 +34,7 @@ pub struct MarkedServer<D: Disk> {
 }
 
 impl<D: Disk> MarkedServer<D> {
-    ghost use Rattle.sync_server.specs.Serving.{journal_of};
+    ghost use Rattle.sync_server.specs.Serving.{Did, IsServerOf, journal_of};
     ghost use Rattle.marked_server.specs.Marked.{Notes, Same, is_closed, life_of, marks_of, parts_of};
 
     /// The server.
@@ -62,29 +68,50 @@ impl<D: Disk> MarkedServer<D> {
     }
 
     /// Takes a message without lives.
-    fn take_message(&mut self, message: Message) -> Result<Message, ServerRefusal> {
-        if self.life.is_none() && self.marks.life().is_some() {
+    fn take_message(&mut self, message: Message) -> Result<Message, ServerRefusal>
+        ensures refused { (refusal : Message) → plain_refusal (marks_of self.old) (life_of self.old) (parts_of self.old) message ≡ Some refusal → (result ≡ Ok refusal) × (self.new ≡ self.old) }
+        ensures does { (records : List model.ServerRecord) → IsServerOf records self.old.server → plain_refusal (marks_of self.old) (life_of self.old) (parts_of self.old) message ≡ None
+            → IfOk result (λ reply. Did (serve_by the_profile (parts_of self.old) (message_seen message)) reply records self.new.server) }
+    {
+        if let Some(refusal) = self.plain_refusal(&message) {
             drop(message);
-            return Ok(refused(0, 0, Code::NoLife, 0));
+            return Ok(refusal);
         }
-        if let Some(reply) = self.needs_marks(&message) {
-            drop(message);
-            return Ok(reply);
-        }
-        if let Message::Upload(upload) = &message {
-            if !upload.changes().is_empty() {
-                self.begin()?;
+        if bears_some(&message) {
+            match self.begin() {
+                Ok(()) => {}
+                Err(why) => {
+                    drop(message);
+                    return Err(why);
+                }
             }
         }
         self.serve(message)
     }
 
-    /// The refusal of a message without lives that is of a client with lives.
-    fn needs_marks(&self, message: &Message) -> Option<Message> {
-        let (ident, named) = match message {
+    /// Why a message without lives is refused, where it is.
+    fn plain_refusal(&self, message: &Message) -> Option<Message>
+        ensures { result ≡ plain_refusal (marks_of self.now) (life_of self.now) (parts_of self.now) message.now }
+    {
+        if self.life.is_none() && self.marks.life().is_some() {
+            return Some(refused(0, 0, Code::NoLife, 0));
+        }
+        let (who, named) = self.named_in(message);
+        if self.is_member(named) {
+            return Some(refused(who, 0, Code::NeedsMarks, named));
+        }
+        None
+    }
+
+    /// Whom the refusal of a message is told, and whose message it is.
+    fn named_in(&self, message: &Message) -> (Ident, Ident)
+        ensures { result ≡ named_in (marks_of self.now) (parts_of self.now) message.now }
+    {
+        match message {
             Message::Bind { uuid } => (0, self.server.ident_of(uuid).unwrap_or(0)),
             Message::Upload(upload) => (upload.ident(), upload.ident()),
-            Message::Ask(ask) | Message::Ask2(ask) => (ask.ident(), ask.ident()),
+            Message::Ask(ask) => (ask.ident(), ask.ident()),
+            Message::Ask2(ask) => (ask.ident(), ask.ident()),
             Message::AskTables(asked) => (asked.ask().ident(), asked.ask().ident()),
             Message::Retire(retire) => {
                 if self.is_member(retire.ident()) {
@@ -93,51 +120,76 @@ impl<D: Disk> MarkedServer<D> {
                     (retire.by(), retire.by())
                 }
             }
-            _ => return None,
-        };
-        if self.is_member(named) {
-            Some(refused(ident, 0, Code::NeedsMarks, named))
-        } else {
-            None
+            _ => (0, 0),
         }
     }
 
     /// Whether the client of an ident has lives.
-    pub(crate) fn is_member(&self, ident: Ident) -> bool {
+    pub(crate) fn is_member(&self, ident: Ident) -> bool
+        ensures { result ≡ is_member (line_of ident (marks_of self.now).lines) }
+    {
         is_member(self.marks.line(ident))
     }
 
     /// Today's step. The marks are those of its records too.
-    pub(crate) fn serve(&mut self, message: Message) -> Result<Message, ServerRefusal> {
+    pub(crate) fn serve(&mut self, message: Message) -> Result<Message, ServerRefusal>
+        ensures does { (records : List model.ServerRecord) → IsServerOf records self.old.server → IfOk result (λ reply. Did (serve_by the_profile (parts_of self.old) (message_seen message)) reply records self.new.server) }
+        ensures life { life_of self.new ≡ life_of self.old }
+    {
         let idents = self.server.idents();
         let entries = self.server.len();
-        let bound = match &message {
-            Message::Bind { uuid } => Some(*uuid),
-            _ => None,
-        };
-        let origin = match &message {
-            Message::Upload(upload) => upload.ident(),
-            _ => 0,
-        };
+        let bound = bound_in(&message);
+        let origin = origin_in(&message);
         let reply = self.server.take(message)?;
-        let taken = match bound {
-            Some(uuid) if self.server.idents() > idents => self.marks.take_client(uuid),
-            _ => self.take_entries(origin, entries),
-        };
-        self.or_close(taken)?;
-        Ok(reply)
+        match self.take_given(bound, idents) {
+            Ok(()) => {}
+            Err(why) => {
+                drop(reply);
+                return Err(why);
+            }
+        }
+        match self.take_entries(origin, entries) {
+            Ok(()) => Ok(reply),
+            Err(why) => {
+                drop(reply);
+                Err(why)
+            }
+        }
+    }
+
+    /// The uuid for which an ident came behind so many.
+    fn take_given(&mut self, bound: Option<Id>, before: u32) -> Result<(), ServerRefusal>
+        ensures server { OnOk result (self.new.server ≡ self.old.server) }
+        ensures life { life_of self.new ≡ life_of self.old }
+    {
+        match bound {
+            Some(uuid) if self.server.idents() > before => {
+                let taken = self.marks.take_client(uuid);
+                self.or_close(taken)
+            }
+            _ => Ok(()),
+        }
     }
 
     /// The entries of an ident that came behind so many.
-    fn take_entries(&mut self, origin: Ident, before: u32) -> Result<(), NoMemory> {
+    fn take_entries(&mut self, origin: Ident, before: u32) -> Result<(), ServerRefusal>
+        ensures server { OnOk result (self.new.server ≡ self.old.server) }
+        ensures life { life_of self.new ≡ life_of self.old }
+    {
         for version in before..self.server.len() {
-            let number = match self.server.entry(version) {
-                Some(entry) => entry.number,
-                None => 0,
-            };
-            self.marks.take_entry(origin, number)?;
+            let number = self.number_at(version);
+            let taken = self.marks.take_entry(origin, number);
+            self.or_close(taken)?;
         }
         Ok(())
+    }
+
+    /// The number of an entry among its client's.
+    fn number_at(&self, version: u32) -> u32 {
+        match self.server.entry(version) {
+            Some(entry) => entry.number,
+            None => 0,
+        }
     }
 
     /// Out of memory the server is closed, as its marks may be behind its file.
@@ -145,6 +197,7 @@ impl<D: Disk> MarkedServer<D> {
         ensures ok { OnOk result ((done ≡ Ok tt) × (self.new ≡ self.old)) }
         ensures marks { marks_of self.new ≡ marks_of self.old }
         ensures same { Same self.old self.new }
+        ensures open_ { is_closed self.old ≡ false → OnOk result (is_closed self.new ≡ false) }
         ensures closes { OnErr result (is_closed self.new ≡ true) }
     {
         match done {
@@ -160,6 +213,7 @@ impl<D: Disk> MarkedServer<D> {
     pub(crate) fn note(&mut self, note: Note) -> Result<(), ServerRefusal>
         ensures notes { OnOk result (Notes (note ∷ []) self.old self.new) }
         ensures same { Same self.old self.new }
+        ensures open_ { is_closed self.old ≡ false → OnOk result (is_closed self.new ≡ false) }
         ensures closes { OnErr result (is_closed self.new ≡ true) }
     {
         self.put_note(&note)?;
@@ -171,6 +225,7 @@ impl<D: Disk> MarkedServer<D> {
         ensures marks { OnOk result (marks_of self.new ≡ after_note (marks_of self.old) note.now) }
         ensures journal { OnOk result (journal_of self.new.server ≡ journal_of self.old.server) }
         ensures same { Same self.old self.new }
+        ensures open_ { is_closed self.old ≡ false → OnOk result (is_closed self.new ≡ false) }
         ensures closes { OnErr result (is_closed self.new ≡ true) }
     {
         match self.marks.take_note(note) {
@@ -187,6 +242,7 @@ impl<D: Disk> MarkedServer<D> {
         ensures noted { (ps : List (List ℕ)) → StandsNoted ps (journal_of self.old.server) → OnOk result (StandsNoted (ps ++ note_spelling note.now ∷ []) (journal_of self.new.server)) }
         ensures marks { marks_of self.new ≡ marks_of self.old }
         ensures same { Same self.old self.new }
+        ensures open_ { is_closed self.old ≡ false → OnOk result (is_closed self.new ≡ false) }
         ensures closes { OnErr result (is_closed self.new ≡ true) }
     {
         let Ok(bytes) = note_bytes(self.alloc, note) else {
@@ -208,6 +264,7 @@ impl<D: Disk> MarkedServer<D> {
     pub(crate) fn begin(&mut self) -> Result<(), ServerRefusal>
         ensures notes { OnOk result (Notes (begin_notes (marks_of self.old) (life_of self.old)) self.old self.new) }
         ensures same { Same self.old self.new }
+        ensures open_ { is_closed self.old ≡ false → OnOk result (is_closed self.new ≡ false) }
         ensures closes { OnErr result (is_closed self.new ≡ true) }
     {
         match self.life {
@@ -226,14 +283,25 @@ impl<D: Disk> MarkedServer<D> {
         requires { 1 ≤ ident }
         ensures notes { OnOk result (Notes (life_notes (marks_of self.old) (life_of self.old) ident life) self.old self.new) }
         ensures same { Same self.old self.new }
+        ensures open_ { is_closed self.old ≡ false → OnOk result (is_closed self.new ≡ false) }
         ensures closes { OnErr result (is_closed self.new ≡ true) }
     {
         self.begin()?;
+        self.note_numbers(ident, life)?;
+        Ok(())
+    }
+
+    fn note_numbers(&mut self, ident: Ident, life: Life) -> Result<(), ServerRefusal>
+        requires { 1 ≤ ident }
+        ensures notes { OnOk result (Notes (numbers_notes (marks_of self.old) ident life) self.old self.new) }
+        ensures same { Same self.old self.new }
+        ensures open_ { is_closed self.old ≡ false → OnOk result (is_closed self.new ≡ false) }
+        ensures closes { OnErr result (is_closed self.new ≡ true) }
+    {
         if is_life(noted_in(self.marks.line(ident)), life) {
             return Ok(());
         }
-        self.note(Note::Numbers(Numbers::new(ident, life)))?;
-        Ok(())
+        self.note(Note::Numbers(Numbers::new(ident, life)))
     }
 
     /// The client of an ident has lives from now on.
@@ -241,14 +309,25 @@ impl<D: Disk> MarkedServer<D> {
         requires { 1 ≤ ident }
         ensures notes { OnOk result (Notes (member_notes (marks_of self.old) (life_of self.old) ident) self.old self.new) }
         ensures same { Same self.old self.new }
+        ensures open_ { is_closed self.old ≡ false → OnOk result (is_closed self.new ≡ false) }
+        ensures closes { OnErr result (is_closed self.new ≡ true) }
+    {
+        self.begin_first()?;
+        self.note(Note::Member(Named::new(ident)))?;
+        Ok(())
+    }
+
+    /// Begins the life of this opening where the file has none.
+    fn begin_first(&mut self) -> Result<(), ServerRefusal>
+        ensures notes { OnOk result (Notes (first_notes (marks_of self.old) (life_of self.old)) self.old self.new) }
+        ensures same { Same self.old self.new }
+        ensures open_ { is_closed self.old ≡ false → OnOk result (is_closed self.new ≡ false) }
         ensures closes { OnErr result (is_closed self.new ≡ true) }
     {
         if self.marks.life().is_some() {
-            return self.note(Note::Member(Named::new(ident)));
+            return Ok(());
         }
-        self.begin()?;
-        self.note(Note::Member(Named::new(ident)))?;
-        Ok(())
+        self.begin()
     }
 
     /// The life of the entry before a version, that of version 0 being the file's first life, or else that of this opening.
@@ -277,6 +356,28 @@ impl<D: Disk> MarkedServer<D> {
             Some(counts) => counts.number,
             None => 0,
         }
+    }
+}
+
+/// Whether it is an Upload with changes, which may become entries.
+fn bears_some(message: &Message) -> bool {
+    match message {
+        Message::Upload(upload) => !upload.changes().is_empty(),
+        _ => false,
+    }
+}
+
+fn bound_in(message: &Message) -> Option<Id> {
+    match message {
+        Message::Bind { uuid } => Some(*uuid),
+        _ => None,
+    }
+}
+
+fn origin_in(message: &Message) -> Ident {
+    match message {
+        Message::Upload(upload) => upload.ident(),
+        _ => 0,
     }
 }
 
