@@ -1,18 +1,29 @@
 -- A server with lives, and what it answers of them.
-use Rattle.std.specs.Prelude.{◌≡◌, ℕ, zero, suc, ◌-◌, Bool, true, false, ◌&&◌, if◌then◌else◌, bytes_eq, List, [], ◌∷◌, ◌++◌, Option, Some, None, take, drop, map}
+use Rattle.std.specs.Prelude.{◌≡◌, ℕ, zero, suc, ◌-◌, Bool, true, false, ◌&&◌, if◌then◌else◌, bytes_eq, List, [], ◌∷◌, ◌++◌, Option, Some, None, take, drop, map, length}
 use Rattle.std.specs.Option.{unwrap_or, is_some}
 use Rattle.sync_disk.specs.declared.disk.Disk.{Ghosts}
 use Rattle.sync_data.specs.declared.instr.Instr.{Instr}
 use Rattle.sync_base.specs.States.{State}
 use Rattle.sync_journal.specs.Stands.{Stands, StandsNoted}
-use Rattle.sync_model.specs.Parts.{Parts, Given, at_ident}
+use Rattle.sync_model.specs.Parts.{Parts, Given, Served, at_ident}
 use Rattle.server_memory.specs.Kept.{parts}
-use Rattle.sync_server.specs.Serving.{journal_of, kept_of, is_closed as is_shut}
+use Rattle.sync_server.specs.Serving.{Did, journal_of, kept_of, is_closed as is_shut}
 use Rattle.life_bytes.specs.declared.mark.Mark.{Mark}
 use Rattle.life_bytes.specs.declared.note.Note.{Note}
 use Rattle.life_bytes.specs.declared.note.Note.TheVariants as notes
 use Rattle.life_bytes.specs.Spelling.{note_spelling}
 use Rattle.life_bytes.specs.Runs.{Lives}
+use Rattle.life_bytes.specs.Envelopes.{AnswersParts}
+use Rattle.life_bytes.specs.declared.said.Said.{Said}
+use Rattle.life_bytes.specs.declared.said.Said.TheVariants as said
+use Rattle.life_bytes.specs.declared.answered.Answered.{Answered}
+use Rattle.life_bytes.specs.declared.answered.Answered.TheVariants as answered
+use Rattle.sync_messages.specs.declared.message.Message.{Message as CodeMessage}
+use Rattle.sync_messages.specs.declared.message.Message.TheVariants as messages
+use Rattle.sync_model.specs.Servers.{ServerRecord, place_of}
+use Rattle.server_memory.specs.Integrating.{found}
+use Rattle.marked_server.specs.Testing.{bound_said, ident_said}
+use Rattle.marked_server.specs.declared.testing.Standing.{Standing}
 use Rattle.life_marks.specs.declared.server_marks.Line.{Line}
 use Rattle.life_marks.specs.ServerMarks.{Marks, seen, line_of, life_before, no_life, after_note}
 use Rattle.marked_server.specs.declared.server.MarkedServer.{MarkedServer}
@@ -40,9 +51,68 @@ last_told (Some line) uuid count = if line.is_member && bytes_eq line.uuid uuid 
 abbrev pub lives_told : Marks → Option (List ℕ) → ℕ → ℕ → Lives
 lives_told m life from count = life_told m life from ∷ take count (drop (from - m.floor) m.entries)
 
+abbrev pub lives_in : Marks → Option (List ℕ) → CodeMessage → Lives
+lives_in m life (messages.Bind uuid) = []
+lives_in m life (messages.Ident given) = []
+lives_in m life (messages.Upload upload) = []
+lives_in m life (messages.Ask ask) = []
+lives_in m life (messages.Download download) = lives_told m life download.from (length download.entries)
+lives_in m life (messages.Refused ident number code place) = []
+lives_in m life (messages.Stored stored) = []
+lives_in m life (messages.Ask2 ask) = []
+lives_in m life (messages.Retire retire) = []
+lives_in m life (messages.Retired retired) = []
+lives_in m life (messages.AskTables asked) = []
+
+abbrev pub lives_beside : Marks → Option (List ℕ) → Answered → Lives
+lives_beside m life (answered.Message message) = lives_in m life message
+lives_beside m life (answered.GivenUp given) = []
+
 abbrev pub count_by : Option (Given Instr) → ℕ
 count_by None = 0
 count_by (Some g) = g.count
+
+-- the answer to a client of this uuid, with this ident
+abbrev pub answers_with : Marks → Option (List ℕ) → Parts Instr State → List ℕ → ℕ → Answered → AnswersParts
+answers_with m life k uuid ident inner = record {
+  uuid = uuid;
+  birth = life_told m life 0;
+  last = last_told (line_of ident m.lines) uuid (count_by (at_ident ident k.idents));
+  lives = lives_beside m life inner;
+  inner = inner;
+}
+
+-- ---- what the tests look at
+
+-- the ident that a message names, or that of the uuid for which it asks
+abbrev pub ident_told : Parts Instr State → Option (List ℕ) → ℕ → ℕ
+ident_told k None ident = ident
+ident_told k (Some uuid) ident = unwrap_or (found (place_of uuid (map (λ g. g.uuid) k.idents))) 0
+
+abbrev pub standing_of : Option (List ℕ) → Parts Instr State → Said → Standing
+standing_of life k said = record {
+  life = life;
+  idents = length k.idents;
+  len = k.len;
+  floor = k.floor;
+  ident = ident_told k (bound_said said) (ident_said said);
+  count = count_by (at_ident (ident_told k (bound_said said) (ident_said said)) k.idents);
+}
+
+-- it asks for the history
+abbrev pub is_question : Said → Bool
+is_question (said.GiveUp given) = false
+is_question (said.Message (messages.Bind uuid)) = false
+is_question (said.Message (messages.Ident given)) = false
+is_question (said.Message (messages.Upload upload)) = false
+is_question (said.Message (messages.Ask ask)) = true
+is_question (said.Message (messages.Download download)) = false
+is_question (said.Message (messages.Refused ident number code place)) = false
+is_question (said.Message (messages.Stored stored)) = false
+is_question (said.Message (messages.Ask2 ask)) = true
+is_question (said.Message (messages.Retire retire)) = false
+is_question (said.Message (messages.Retired retired)) = false
+is_question (said.Message (messages.AskTables asked)) = true
 
 -- ---- notes
 
@@ -102,3 +172,9 @@ module _ {D : Type 0} {G : Ghosts D} where
   pub record Same (old new : MarkedServer D G) : Type 0 where
     pub parts : parts_of new ≡ parts_of old
     pub life : life_of new ≡ life_of old
+
+  -- today's step was done, and its answer is told with lives
+  pub record IsAnswered (did : Served Instr State) (records : List ServerRecord) (new : MarkedServer D G) (uuid : List ℕ) (ident : ℕ) (answers : AnswersParts) : Type 0 where
+    pub reply : CodeMessage
+    pub did_it : Did did reply records new.server
+    pub told : answers ≡ answers_with (marks_of new) (life_of new) (parts_of new) uuid ident (answered.Message reply)
