@@ -14,6 +14,8 @@ use Rattle.life_bytes.specs.declared.note.Note.TheVariants as notes
 use Rattle.life_bytes.specs.Spelling.{note_spelling}
 use Rattle.life_bytes.specs.Runs.{Lives}
 use Rattle.life_bytes.specs.Envelopes.{AnswersParts}
+use Rattle.life_bytes.specs.declared.letter.Letter.{Letter}
+use Rattle.life_bytes.specs.declared.letter.Letter.TheVariants as letters
 use Rattle.life_bytes.specs.declared.said.Said.{Said}
 use Rattle.life_bytes.specs.declared.said.Said.TheVariants as said
 use Rattle.life_bytes.specs.declared.answered.Answered.{Answered}
@@ -178,3 +180,9 @@ module _ {D : Type 0} {G : Ghosts D} where
     pub reply : CodeMessage
     pub did_it : Did did reply records new.server
     pub told : answers ≡ answers_with (marks_of new) (life_of new) (parts_of new) uuid ident (answered.Message reply)
+
+  -- today's step was done, and its answer is told without lives
+  pub record IsPlain (did : Served Instr State) (records : List ServerRecord) (new : MarkedServer D G) (letter : Letter) : Type 0 where
+    pub reply : CodeMessage
+    pub did_it : Did did reply records new.server
+    pub letter_is : letter ≡ letters.Message reply

@@ -21,8 +21,12 @@ impl<D: Disk> MarkedServer<D> {
     ghost use Rattle.sync_server.specs.Serving.{IsServerOf};
     ghost use Rattle.marked_server.specs.Marked.{IsAnswered, life_of, marks_of, parts_of};
 
-    /// Takes a message with lives: what stands in the files is looked at first.
-    pub(crate) fn take_says(&mut self, says: &Says) -> Result<Answers, ServerRefusal>
+    /// Takes a message with lives. What stands in the files is looked at first, and what that doesn't let through is refused, in
+    /// this order: code 77 where the server was opened without a life; 60 where the ident isn't given; 72 where it isn't that of this
+    /// client with lives; 71 where the history isn't kept from the cursor on; 73 where the history doesn't have the client's last
+    /// entry; 74 where the ident's last change isn't of the file that sends it. Then, of an Upload, 76 at a transaction that
+    /// is there, and 78 at one that saves another where what stood before that isn't.
+    pub fn take_says(&mut self, says: &Says) -> Result<Answers, ServerRefusal>
         // What the tests don't let through is refused, and nothing changes.
         ensures refused { (why : Refusal) → says_test (marks_of self.old) (standing_of (life_of self.old) (parts_of self.old) says.now.inner) says.now ≡ Some why
             → OnOk result (self.new ≡ self.old) × IfOk result (λ answers. answers ≡ answers_with (marks_of self.old) (life_of self.old) (parts_of self.old) says.now.uuid (ident_said says.now.inner) (Answered.Message (refuse (ident_said says.now.inner) 0 why))) }

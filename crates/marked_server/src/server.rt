@@ -6,6 +6,7 @@ ghost use Rattle.sync_exchange.specs.Profile.{the_profile};
 ghost use Rattle.sync_exchange.specs.Seen.{message_seen};
 ghost use Rattle.sync_messages.specs.declared.message.Message.{Message};
 ghost use Rattle.marked_server.specs.Plain.{named_in, plain_refusal};
+ghost use Rattle.life_bytes.specs.declared.letter.Letter.{Letter};
 ghost use Rattle.marked_server.specs.Testing.{is_member};
 ghost use Rattle.life_bytes.specs.Spelling.{note_spelling};
 ghost use Rattle.life_marks.specs.ServerMarks.{after_note, line_of};
@@ -35,7 +36,7 @@ pub struct MarkedServer<D: Disk> {
 
 impl<D: Disk> MarkedServer<D> {
     ghost use Rattle.sync_server.specs.Serving.{Did, IsServerOf, journal_of};
-    ghost use Rattle.marked_server.specs.Marked.{Notes, Same, is_closed, life_of, marks_of, parts_of};
+    ghost use Rattle.marked_server.specs.Marked.{IsPlain, Notes, Same, is_closed, life_of, marks_of, parts_of};
 
     /// The server.
     pub fn server(&self) -> &Server<D> {
@@ -52,9 +53,12 @@ impl<D: Disk> MarkedServer<D> {
         self.server.into_disk()
     }
 
-    /// Takes a frame's message, and answers the reply. To a message without lives that is today's reply, but code 75 where it is
-    /// of a client with lives, and code 77 where the file has lives and was opened without one. What it answers is on the disk.
-    pub fn take(&mut self, letter: Letter) -> Result<Letter, ServerRefusal> {
+    /// Takes a frame's message, and answers the reply, as `take_message` and `take_says`; to an Answers, code 66. What it answers is on the disk.
+    pub fn take(&mut self, letter: Letter) -> Result<Letter, ServerRefusal>
+        ensures plain_refused { (message refusal : Message) → letter ≡ Letter.Message message → plain_refusal (marks_of self.old) (life_of self.old) (parts_of self.old) message ≡ Some refusal → (result ≡ Ok (Letter.Message refusal)) × (self.new ≡ self.old) }
+        ensures plain { (records : List model.ServerRecord) (message : Message) → IsServerOf records self.old.server → letter ≡ Letter.Message message → plain_refusal (marks_of self.old) (life_of self.old) (parts_of self.old) message ≡ None
+            → IfOk result (λ r. IsPlain (serve_by the_profile (parts_of self.old) (message_seen message)) records self.new r) }
+    {
         match letter {
             Letter::Message(message) => Ok(Letter::Message(self.take_message(message)?)),
             Letter::Says(says) => Ok(Letter::Answers(self.take_says(&says)?)),
@@ -67,8 +71,9 @@ impl<D: Disk> MarkedServer<D> {
         }
     }
 
-    /// Takes a message without lives.
-    fn take_message(&mut self, message: Message) -> Result<Message, ServerRefusal>
+    /// Takes a message without lives. The reply is today's, but code 75 where it is of a client with lives, and code 77 where the
+    /// file has lives and was opened without one; then nothing changes.
+    pub fn take_message(&mut self, message: Message) -> Result<Message, ServerRefusal>
         ensures refused { (refusal : Message) → plain_refusal (marks_of self.old) (life_of self.old) (parts_of self.old) message ≡ Some refusal → (result ≡ Ok refusal) × (self.new ≡ self.old) }
         ensures does { (records : List model.ServerRecord) → IsServerOf records self.old.server → plain_refusal (marks_of self.old) (life_of self.old) (parts_of self.old) message ≡ None
             → IfOk result (λ reply. Did (serve_by the_profile (parts_of self.old) (message_seen message)) reply records self.new.server) }
