@@ -1,5 +1,5 @@
 -- What is told of lives from a number on, run by run.
-use Rattle.std.proofs.Common.{◌≡◌, ℕ, zero, suc, ◌+◌, ◌-◌, ◌<◌, ◌≤◌, List, [], ◌∷◌, ◌++◌, length, get_or, drop, take, replicate, drop-cons, refl, sym, ap, ◌∙◌, add-one, append_assoc, arith}
+use Rattle.std.proofs.Common.{◌≡◌, ℕ, zero, suc, ◌+◌, ◌-◌, ◌<◌, ◌≤◌, List, ◌∷◌, ◌++◌, length, get_or, drop, take, replicate, drop-cons, refl, sym, ap, ◌∙◌, add-one, append_assoc, arith}
 use Rattle.std.proofs.lemmas.List.{append-nil}
 use Rattle.life_bytes.specs.declared.run.Run.{Run}
 use Rattle.life_bytes.specs.Runs.{Lives, lives_of}

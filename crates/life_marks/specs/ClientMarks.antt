@@ -1,6 +1,6 @@
 -- What the records and notes of a client's file say of lives.
 use Rattle.std.specs.Prelude.{ℕ, zero, suc, ◌-◌, Bool, true, false, ◌||◌, ◌&&◌, not, if◌then◌else◌, ◌==◌, List, [], ◌∷◌, ◌++◌, Option, Some, None, slice_get, nat_lt, bytes_eq}
-use Rattle.std.specs.Option.{unwrap_or, is_some, option_map}
+use Rattle.std.specs.Option.{unwrap_or, is_some}
 use Rattle.std.specs.BTreeMap.{get}
 use Rattle.std.specs.Ordering.{nat_cmp}
 use Rattle.sync_records.specs.declared.client.ClientRecord.{ClientRecord}

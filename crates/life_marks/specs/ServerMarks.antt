@@ -1,6 +1,6 @@
 -- What the records and notes of a server's file say of lives.
-use Rattle.std.specs.Prelude.{ℕ, zero, suc, ◌+◌, ◌-◌, Bool, true, false, nat_lt, ◌==◌, if◌then◌else◌, List, [], ◌∷◌, ◌++◌, Option, Some, None, slice_get, replicate}
-use Rattle.std.specs.Option.{unwrap_or, is_some}
+use Rattle.std.specs.Prelude.{ℕ, zero, suc, ◌-◌, true, false, nat_lt, ◌==◌, if◌then◌else◌, List, [], ◌∷◌, ◌++◌, Option, Some, None, slice_get, replicate}
+use Rattle.std.specs.Option.{unwrap_or}
 use Rattle.sync_records.specs.declared.server.ServerRecord.{ServerRecord}
 use Rattle.sync_records.specs.declared.server.ServerRecord.TheVariants as records
 use Rattle.life_marks.specs.declared.pieces.ServerPiece.{ServerPiece}

@@ -1,14 +1,14 @@
 -- Notes that are written one after the other.
-use Rattle.std.proofs.Common.{◌≡◌, ℕ, Bool, List, [], ◌∷◌, ◌++◌, map, refl, sym, ap, subst, ◌∙◌, append_assoc}
+use Rattle.std.proofs.Common.{◌≡◌, ℕ, List, [], ◌∷◌, ◌++◌, map, refl, sym, ap, subst, ◌∙◌, append_assoc}
 use Rattle.std.proofs.lemmas.List.{append-nil}
 use Rattle.sync_disk.specs.declared.disk.Disk.{Ghosts}
-use Rattle.sync_journal.specs.Stands.{Stands, StandsNoted}
+use Rattle.sync_journal.specs.Stands.{StandsNoted}
 use Rattle.sync_server.specs.Serving.{journal_of}
 use Rattle.life_bytes.specs.declared.note.Note.{Note}
 use Rattle.life_bytes.specs.Spelling.{note_spelling}
 use Rattle.life_marks.specs.ServerMarks.{Marks, after_note}
 use Rattle.marked_server.specs.declared.server.MarkedServer.{MarkedServer}
-use Rattle.marked_server.specs.Marked.{Notes, Same, after_notes, marks_of, life_of}
+use Rattle.marked_server.specs.Marked.{Notes, after_notes, marks_of}
 
 pub after_both : (m : Marks) (ns ms : List Note) → after_notes m (ns ++ ms) ≡ after_notes (after_notes m ns) ms
 after_both m [] ms = refl

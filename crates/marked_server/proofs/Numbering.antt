@@ -1,5 +1,5 @@
 -- Numbers that are told one after the other.
-use Rattle.std.proofs.Common.{◌≡◌, ℕ, suc, ◌+◌, ◌<◌, List, [], ◌∷◌, ◌++◌, length, get_or, drop, map, drop-cons, sym, ap, ◌∙◌, add-one, append_assoc}
+use Rattle.std.proofs.Common.{◌≡◌, ℕ, ◌+◌, ◌<◌, List, [], ◌∷◌, ◌++◌, length, get_or, drop, map, drop-cons, sym, ap, ◌∙◌, add-one, append_assoc}
 
 pub told_next : (f : List ℕ → ℕ) (lives : List (List ℕ)) (i : ℕ) (life : List ℕ) (old new : List ℕ) (n : ℕ) → i < length lives → life ≡ get_or lives i life → n ≡ f life → new ≡ old ++ n ∷ []
     → new ++ map f (drop (i + 1) lives) ≡ old ++ map f (drop i lives)

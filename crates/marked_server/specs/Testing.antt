@@ -1,10 +1,10 @@
 -- The tests of a message with lives, by what stands in the server's file and in the message.
-use Rattle.std.specs.Prelude.{ℕ, zero, suc, ◌+◌, ◌-◌, Bool, true, false, ◌&&◌, ◌||◌, not, ◌==◌, nat_le, nat_lt, bytes_eq, if◌then◌else◌, List, [], ◌∷◌, Option, Some, None, slice_get}
+use Rattle.std.specs.Prelude.{ℕ, ◌-◌, Bool, true, false, ◌&&◌, ◌||◌, not, ◌==◌, nat_le, nat_lt, bytes_eq, if◌then◌else◌, List, [], ◌∷◌, Option, Some, None, slice_get}
 use Rattle.std.specs.Option.{unwrap_or, is_some}
 use Rattle.std.specs.List.{list_any}
 use Rattle.sync_messages.specs.declared.message.Message.{Message}
 use Rattle.sync_messages.specs.declared.message.Message.TheVariants as messages
-use Rattle.sync_messages.specs.Parts.{ChangeParts, UploadParts}
+use Rattle.sync_messages.specs.Parts.{ChangeParts}
 use Rattle.life_bytes.specs.declared.mark.Mark.{Mark}
 use Rattle.life_bytes.specs.declared.said.Said.{Said}
 use Rattle.life_bytes.specs.declared.said.Said.TheVariants as said

@@ -457,7 +457,11 @@ fn no_entry(alloc: Global) -> Option<bool> {
     let (pieces, disk) = backup(alloc, server.into_disk())?;
     let mut whole = hub(alloc, disk, 101)?;
     let is_there = numbers(alloc, &mut whole, &mut heir, &[], &[51, 11]) == Some([7, 0]);
-    let mut server = hub(alloc, restored(alloc, &pieces, pieces.len() - 1)?, 102)?;
+    let mut server = hub(
+        alloc,
+        restored(alloc, &pieces, pieces.len().saturating_sub(1))?,
+        102,
+    )?;
     commits(alloc, &mut other, b'b');
     let told = syncs(alloc, &mut server, &mut other) == Told::Taken;
     let isnt_there = numbers(alloc, &mut server, &mut heir, &[], &[51, 21]) == Some([0, 1]);

@@ -1,4 +1,4 @@
-use Rattle.std.proofs.Common.{◌≡◌, [], ◌-◌}
+use Rattle.std.proofs.Common.{◌≡◌}
 use Rattle.life_marks.specs.ClientMarks.{seen, frontier, frontier_by}
 use Rattle.life_marks.proofs.client_marks.ClientMarks.frontier.Given as goal
 

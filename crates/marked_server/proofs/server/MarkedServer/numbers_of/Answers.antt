@@ -1,4 +1,4 @@
-use Rattle.std.proofs.Common.{◌∙◌, ap, ◌+◌, arith}
+use Rattle.std.proofs.Common.{◌∙◌, ap, arith}
 use Rattle.marked_server.specs.Marked.{marks_of}
 use Rattle.marked_server.proofs.Numbering.{told_next}
 use Rattle.marked_server.proofs.server.MarkedServer.numbers_of.Goals as goal
