@@ -3,7 +3,7 @@ use crate::refusal::MarkedRefusal;
 use life_bytes::{Answered, Answers, GivenUp, Letter, Life, Mark, Note, Runs};
 use std::alloc::Global;
 use sync_client::ClientRefusal;
-use sync_data::NoMemory;
+use sync_data::{Ident, NoMemory};
 use sync_disk::Disk;
 use sync_messages::{Download, Given, Message, Sent};
 
@@ -168,40 +168,34 @@ impl<D: Disk> MarkedClient<D> {
             drop(answers);
             return Err(self.not_mine());
         };
-        let mut place = (self.client.cursor() - download.from()) as usize;
-        while place < download.entries().len() {
-            let count = alike(answers.runs(), place, download.entries().len());
-            match self.take_entries(download, answers.runs(), place, count) {
-                Ok(()) => {}
-                Err(why) => {
-                    drop(answers);
-                    return Err(why);
+        let skipped = self.client.cursor().saturating_sub(download.from()) as usize;
+        for (place, sent) in download.entries().iter().enumerate() {
+            if place >= skipped {
+                match self.take_entry(download.ident(), sent, life_at(answers.runs(), place)) {
+                    Ok(()) => {}
+                    Err(why) => {
+                        drop(answers);
+                        return Err(why);
+                    }
                 }
             }
-            place += count;
         }
         drop(answers);
         Ok(Taken::Cursor(self.client.cursor()))
     }
 
-    /// Takes so many entries of one life, from a place of a Download on.
-    fn take_entries(
-        &mut self,
-        download: &Download,
-        runs: &Runs,
-        place: usize,
-        count: usize,
-    ) -> Result<(), MarkedRefusal> {
-        let life = life_at(runs, place);
+    /// Takes the next entry, of that life.
+    fn take_entry(&mut self, ident: Ident, sent: &Sent, life: Life) -> Result<(), MarkedRefusal> {
         if self.marks.noted() != Some(life) {
             self.note(Note::Of(life))?;
         }
-        let Ok(entries) = copies(self.alloc, &download.entries()[place..place + count]) else {
+        let cursor = self.client.cursor();
+        let Ok(entries) = only(self.alloc, sent) else {
             return Err(self.out_of_memory());
         };
-        let cursor = self.client.cursor();
-        let piece = Download::new(download.ident(), cursor, entries);
-        let taken = self.client.take(Message::Download(piece));
+        let taken = self
+            .client
+            .take(Message::Download(Download::new(ident, cursor, entries)));
         self.see_tooks(cursor);
         match taken {
             Ok(_) => Ok(()),
@@ -230,24 +224,12 @@ fn life_at(runs: &Runs, place: usize) -> Life {
     runs.life_of(place as u32 + 1).unwrap_or(Life::new([0; 16]))
 }
 
-/// How many entries of a Download, from that place on, have one life.
-fn alike(runs: &Runs, place: usize, len: usize) -> usize {
-    let life = life_at(runs, place);
-    let mut count = 1;
-    while place + count < len && life_at(runs, place + count) == life {
-        count += 1;
+/// That entry alone.
+fn only(alloc: Global, sent: &Sent) -> Result<Vec<Sent>, NoMemory> {
+    let mut entries = Vec::new(alloc);
+    let copy = sent.copy()?;
+    match entries.push(copy) {
+        Ok(()) => Ok(entries),
+        Err(_) => Err(NoMemory),
     }
-    count
-}
-
-fn copies(alloc: Global, entries: &[Sent]) -> Result<Vec<Sent>, NoMemory> {
-    let mut copies = Vec::new(alloc);
-    for sent in entries {
-        let copy = sent.copy()?;
-        match copies.push(copy) {
-            Ok(()) => {}
-            Err(_) => return Err(NoMemory),
-        }
-    }
-    Ok(copies)
 }
