@@ -1,0 +1,4 @@
+pub mod Reached
+pub mod ServerMarks
+pub mod ClientMarks
+pub mod Reading

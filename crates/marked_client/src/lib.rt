@@ -1,0 +1,13 @@
+//! A client whose file keeps the lives of what it made and took, and that tests each answer of a server by them.
+#![tactic(auto)]
+
+mod client;
+mod opening;
+mod refusal;
+mod saying;
+mod taking;
+
+pub use client::MarkedClient;
+pub use opening::{MarkedCause, MarkedOpenRefusal};
+pub use refusal::MarkedRefusal;
+pub use taking::Taken;

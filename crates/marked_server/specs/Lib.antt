@@ -1,0 +1,4 @@
+pub mod Testing
+pub mod Uploading
+pub mod Marked
+pub mod Plain
