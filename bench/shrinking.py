@@ -4,8 +4,8 @@
 drawn: draws exchanges of three clients and a server over files, and runs each twice, in one of them with `shrink --replace` of clients at
 drawn moments. Every answer, every exit status and every file that `shrink` and `show` tell of in the end has to be the same.
 
-table: a client has as many entries, so many for each object that lives. The file, the seconds to open it (the least of three) and the
-most memory, before and after `shrink --replace`.
+table: a client has as many entries, so many for each object that lives. The file, the processor seconds to open it (the least of three) and
+the most memory, before and after `shrink --replace`.
 
 usage: bench/shrinking.py drawn [EXCHANGES [FIRST SEED]]        (1,000 and 1)
        bench/shrinking.py table [ENTRIES]                       (100,000)
@@ -17,7 +17,7 @@ import subprocess
 import sys
 import tempfile
 
-from openings import MOST, UUID, born, catch_up, line, run, timed
+from openings import MOST, UUID, born, catch_up, line, run
 from replay import BUILD, PROGRAM
 
 # a folder in memory, where there is one: a sync costs nothing there
@@ -142,6 +142,18 @@ def transaction(number, each):
     return line({"ms": number + 1, "edits": edits})
 
 
+def opened(path):
+    """The least processor seconds of three openings, and the most memory in bytes."""
+    runs = []
+    for _ in range(3):
+        with tempfile.NamedTemporaryFile() as told:
+            subprocess.run(["/usr/bin/time", "-q", "-f", "%U %S %M", "-o", told.name, PROGRAM, "take", path], stdin=subprocess.DEVNULL,
+                           stdout=subprocess.DEVNULL, check=True)
+            user, system, peak = told.read().split()
+        runs.append((float(user) + float(system), 1024 * int(peak)))
+    return min(seconds for seconds, _ in runs), max(peak for _, peak in runs)
+
+
 def table(count):
     print("entries an object  KB whole  short    s whole  short   MB whole  short")
     for each in (1, 2, 10, 100):
@@ -152,9 +164,9 @@ def table(count):
                 run("edit", client, given=b"".join(transaction(n, each) for n in range(start, min(start + MOST, count))))
                 run("take", client, given=run("serve", server, given=run("send", client)))
                 catch_up(client, server)
-            rows = [(os.path.getsize(client), *timed("take", client))]
+            rows = [(os.path.getsize(client), *opened(client))]
             run("shrink", "--replace", client)
-            rows.append((os.path.getsize(client), *timed("take", client)))
+            rows.append((os.path.getsize(client), *opened(client)))
             (b0, s0, m0), (b1, s1, m1) = rows
             print(f"{each:17d} {b0 / 1e3:9,.0f} {b1 / 1e3:6,.0f} {s0:10.3f} {s1:6.3f} {m0 / 1e6:10.1f} {m1 / 1e6:6.1f}", flush=True)
 
