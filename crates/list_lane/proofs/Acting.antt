@@ -1,13 +1,13 @@
 -- What one list instruction does, and the same elsewhere.
 use Rattle.std.specs.Option.{option_map}
-use Rattle.std.proofs.Common.{◌≡◌, ℕ, Bool, List, [], ◌∷◌, Option, Some, None, refl, sym, ap, ◌∙◌}
+use Rattle.std.proofs.Common.{◌≡◌, ℕ, Bool, List, [], ◌∷◌, Option, Some, refl, sym, ap, ◌∙◌}
 use Rattle.sync_data.specs.declared.value.Value.TheVariants as values
 use Rattle.sync_data.specs.declared.instr.CellName.{CellName}
 use Rattle.sync_data.specs.declared.instr.Instr.{Instr}
 use Rattle.sync_data.specs.declared.instr.Instr.TheVariants as instrs
 use Rattle.sync_base.specs.Effects.{CellPath, path_of}
 use Rattle.list_places.specs.Places.{longer, place_after}
-use Rattle.list_places.specs.Moves.{instr_at, kind_of, action_at, action_in, kind_in, first_cell, moved_first, shown}
+use Rattle.list_places.specs.Moves.{instr_at, kind_of, action_in, kind_in, first_cell, moved_first, shown}
 use Rattle.list_places.specs.declared.places.Does.{Does}
 use Rattle.list_places.specs.declared.places.Does.TheVariants.{Inserts, Erases, Updates}
 use Rattle.list_places.specs.declared.moves.ListAction.{ListAction}

@@ -1,4 +1,4 @@
-ghost use Rattle.std.specs.Prelude.{◌≡◌, ◌≤◌, ◌<◌, ◌+◌, ◌∷◌, ◌++◌, [], Some, true, false, IfSome, ◌↔◌, OnOk, OnErr, IsTrue, IsFalse, length};
+ghost use Rattle.std.specs.Prelude.{◌≡◌, ◌≤◌, ◌<◌, ◌+◌, ◌∷◌, ◌++◌, [], Some, true, false, IfOk, IfSome, ◌↔◌, OnOk, OnErr, IsTrue, IsFalse, length};
 ghost use Rattle.sync_base.specs.Rules.{top};
 ghost use Rattle.list_lane.specs.Lanes.{crossed as crosses, first_slot, length_at_end, length_before as before, slot_at};
 ghost use Rattle.list_lane.specs.Ops.{lane_later as later};
@@ -51,6 +51,21 @@ impl Burst {
             up: 0,
             down: 0,
             bounds: no_bounds(),
+        }
+    }
+
+    /// An equal one.
+    pub(crate) fn copy(&self, alloc: Global) -> Result<Burst, NoMemory>
+        ensures { IfOk result (λ copy. copy ≡ self.now) }
+    {
+        match Vec::from_slice(alloc, self.slots.as_slice()) {
+            Ok(slots) => Ok(Burst {
+                slots,
+                up: self.up,
+                down: self.down,
+                bounds: self.bounds,
+            }),
+            Err(_) => Err(NoMemory),
         }
     }
 

@@ -18,6 +18,27 @@ const FEW: usize = 128;
 /// that it meets; a head takes about three times as long as a slot.
 const HEAD: usize = 3;
 
+/// Equal bursts.
+pub(crate) fn copy_of(alloc: Global, bursts: &VecDeque<Burst>) -> Result<VecDeque<Burst>, NoMemory>
+    ensures { IfOk result (λ copy. joined copy.items ≡ joined bursts.now.items) }
+{
+    let mut copy = VecDeque::new(alloc);
+    for i in 0..bursts.len() {
+        let burst = bursts[i].copy(alloc)?;
+        keep(&mut copy, burst)?;
+    }
+    Ok(copy)
+}
+
+fn keep(bursts: &mut VecDeque<Burst>, burst: Burst) -> Result<(), NoMemory>
+    ensures { OnOk result (bursts.new.items ≡ bursts.old.items ++ burst ∷ []) }
+{
+    match bursts.push_back(burst) {
+        Ok(()) => Ok(()),
+        Err(_) => Err(NoMemory),
+    }
+}
+
 /// What is left of an instruction that crosses all bursts in turn. They stand as crossed.
 pub(crate) fn cross_bursts(
     bursts: &mut VecDeque<Burst>,

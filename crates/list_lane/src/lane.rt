@@ -7,7 +7,7 @@ ghost use Rattle.list_lane.specs.Laws.{CrossesLeft, CrossesRight};
 
 use super::burst::Burst;
 use super::bursts::{
-    cross_bursts, left_over, length_within, pop_slot, push_slot, slot_in, slots_of,
+    copy_of, cross_bursts, left_over, length_within, pop_slot, push_slot, slot_in, slots_of,
 };
 use super::flat::length_behind;
 use super::op::Op;
@@ -51,6 +51,20 @@ impl Lane {
             first,
             last: first,
         }
+    }
+
+    /// An equal lane.
+    pub fn copy(&self) -> Result<Lane, NoMemory>
+        ensures { IfOk result (λ copy. copy ≡ self.now) }
+    {
+        let bursts = copy_of(self.alloc, &self.bursts)?;
+        Ok(Lane {
+            alloc: self.alloc,
+            bursts,
+            count: self.count,
+            first: self.first,
+            last: self.last,
+        })
     }
 
     /// How many slots there are.

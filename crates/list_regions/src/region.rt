@@ -93,6 +93,25 @@ impl Region {
         }
     }
 
+    /// An equal one.
+    pub(crate) fn copy(&self, alloc: Global) -> Result<Region, NoMemory>
+        ensures { IfOk result (λ copy. copy ≡ self.now) }
+    {
+        let mut numbers = VecDeque::new(alloc);
+        for i in 0..self.numbers.len() {
+            if numbers.push_back(self.numbers[i]).is_err() {
+                return Err(NoMemory);
+            }
+        }
+        let lane = self.lane.copy()?;
+        Ok(Region {
+            gap: self.gap,
+            numbers,
+            lane,
+            walked: self.walked,
+        })
+    }
+
     /// How many elements lie in front of it.
     pub(crate) fn gap(&self) -> u32
         ensures { result ≡ self.now.gap }

@@ -57,6 +57,21 @@ impl Regions {
         }
     }
 
+    /// An equal lane.
+    pub fn copy(&self) -> Result<Regions, NoMemory>
+        ensures { IfOk result (λ copy. copy ≡ self.now) }
+    {
+        let items = copy_of(&self.items, self.alloc)?;
+        Ok(Regions {
+            alloc: self.alloc,
+            items,
+            popped: self.popped,
+            count: self.count,
+            first: self.first,
+            last: self.last,
+        })
+    }
+
     /// How many slots there are.
     pub fn len(&self) -> usize
         ensures { result ≡ length self.now.slots }
@@ -170,6 +185,23 @@ impl Regions {
         self.last = length_behind(left, self.last);
         Ok(left)
     }
+}
+
+/// Equal regions.
+fn copy_of(items: &SumList<Region>, alloc: Global) -> Result<SumList<Region>, NoMemory>
+    ensures { IfOk result (λ copy. copy ≡ items.now) }
+{
+    let mut copy = SumList::new(alloc);
+    for place in 0..items.len() {
+        let Some(region) = items.get(place) else {
+            return Err(NoMemory);
+        };
+        let region = region.copy(alloc)?;
+        if copy.push(region).is_err() {
+            return Err(NoMemory);
+        }
+    }
+    Ok(copy)
 }
 
 /// The number of the next slot.

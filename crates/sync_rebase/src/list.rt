@@ -1,33 +1,33 @@
-ghost use Rattle.std.specs.Prelude.{◌≡◌, ◌≢◌, ◌<◌, ◌↔◌, ◌++◌, ◌∷◌, [], IsTrue, IsSome, IfOk, IfErr, IfSome, OnOk, OnErr, Some, drop, length};
+ghost use Rattle.std.specs.Prelude.{◌≡◌, ◌≢◌, ◌<◌, ◌↔◌, ◌++◌, ◌∷◌, [], IsTrue, IsSome, IfOk, IfErr, IfSome, OnOk, OnErr, length};
 ghost use Rattle.sync_data.specs.declared.instr.Instr.{Instr};
 ghost use Rattle.sync_model.specs.Clients as clients;
-ghost use Rattle.sync_theory.specs.Grid.{tail};
+ghost use Rattle.sync_rebase.specs.Settling.{settled, Fits};
 ghost use Rattle.sync_rebase.specs.Taking.{Crosses, IsHead, Refuses};
-ghost use Rattle.sync_rebase.specs.Settling.{settled, CanPass, Fits, FitsAt, FitsCrossed, put_across, put_became, put_crossed};
-ghost use Rattle.sync_rebase.specs.Stretches.{IsAt};
+ghost use Rattle.sync_rebase.specs.Unsents.{IsAt};
+ghost use Rattle.sync_theory.specs.Grid.{tail};
 
-use super::carried::{Across, Became, Carried, Crossed};
-use super::carry::carry_over;
-use super::items::Items;
+use super::carried::Carried;
 use super::original::Original;
 use super::refusal::RebaseRefusal;
 use super::unsent::Unsent;
-use list_places::ListAction;
+use slot_list::{Head, Pays, SlotList, Stop};
 use std::alloc::Global;
 use std::marker::Model;
-use sync_data::{Changeset, Entry, Ident, NoMemory};
-use sync_rivals::RivalIndex;
+use sync_data::{Changeset, Entry, Ident, NoMemory, Stamp};
+use sync_transform::cross_sets;
 
-/// After so many looks at a changeset it has paid to list it.
-const LOOKS: usize = 64;
+/// A list of fewer looks isn't indexed.
+const PAYS: Pays = Pays {
+    least: 64,
+    looks: 16,
+    many: 16,
+};
 
 /// A client's changesets that the server hasn't acknowledged, from the oldest on.
 #[derive(Drop)]
 pub struct PendingList {
     alloc: Global,
-    index: RivalIndex,
-    items: Items,
-    crossed: usize,
+    list: SlotList<Unsent>,
 }
 
 impl Model for PendingList {
@@ -37,12 +37,9 @@ impl Model for PendingList {
 
     ghost Value = { List (clients.Unsent Instr) };
 
-    ghost view = { λ a. a.items };
+    ghost use Rattle.sync_rebase.specs.Unsents.{unsents};
 
-    ghost use Rattle.sync_rivals.specs.Lists.{Lists};
-    ghost use Rattle.sync_rebase.specs.Settling.{currents};
-
-    ghost invariant = { λ a. Lists a.index (currents a.items) };
+    ghost view = { λ a. unsents a.list };
 }
 
 impl PendingList {
@@ -52,9 +49,7 @@ impl PendingList {
     {
         PendingList {
             alloc,
-            index: RivalIndex::new(alloc),
-            items: Items::new(alloc),
-            crossed: 0,
+            list: SlotList::new(alloc, true, PAYS),
         }
     }
 
@@ -63,21 +58,21 @@ impl PendingList {
         ensures ok { OnOk result (self.new ≡ self.old ++ unsent ∷ []) }
         ensures unchanged { OnErr result (self.new ≡ self.old) }
     {
-        self.items.push(unsent)
+        self.list.push(unsent)
     }
 
     /// The number of changesets.
     pub fn len(&self) -> usize
         ensures { result ≡ length self.now }
     {
-        self.items.len()
+        self.list.len()
     }
 
     /// Whether there is none.
     pub fn is_empty(&self) -> bool
         ensures { IsTrue result ↔ (self.now ≡ []) }
     {
-        self.items.len() == 0
+        self.list.len() == 0
     }
 
     /// The changeset at a place as it was made, counted from the oldest, or None past the end.
@@ -85,7 +80,10 @@ impl PendingList {
         ensures there { IsSome result ↔ (place < length self.now) }
         ensures value { IfSome result (λ o. (u : clients.Unsent Instr) → IsAt place self.now u → o.now ≡ u.original) }
     {
-        self.items.original(place)
+        if place >= self.list.len() {
+            return None;
+        }
+        Some(self.list.head(place).original())
     }
 
     /// A copy of the changeset at a place as it was rebased since, or None past the end.
@@ -93,25 +91,19 @@ impl PendingList {
         ensures there { IsSome result ↔ (place < length self.now) }
         ensures value { IfSome result (λ r. IfOk r (λ c. (u : clients.Unsent Instr) → IsAt place self.now u → c ≡ record { ms = u.original.ms; instrs = u.current })) }
     {
-        if place < self.items.len() {
-            Some(self.items.current(place))
+        if place < self.list.len() {
+            Some(self.current_at(place))
         } else {
             None
         }
     }
 
-    /// An equal list.
-    pub fn copy(&self, alloc: Global) -> Result<PendingList, NoMemory>
-        ensures { IfOk result (λ copy. copy ≡ self.now) }
-    {
-        match self.items.copy(alloc) {
-            Ok(items) => Ok(PendingList {
-                alloc,
-                index: RivalIndex::new(alloc),
-                items,
-                crossed: 0,
-            }),
-            Err(refusal) => Err(refusal),
+    fn current_at(&self, place: usize) -> Result<Changeset, NoMemory> {
+        let instrs = self.list.current(place)?;
+        let ms = self.list.head(place).stamp(0).ms;
+        match Changeset::checked(ms, instrs) {
+            Ok(changes) => Ok(changes),
+            Err(_) => Err(NoMemory),
         }
     }
 
@@ -120,38 +112,37 @@ impl PendingList {
         ensures same { self.new ≡ self.old }
         ensures told { IsTrue result ↔ IsHead entry.now self.old }
     {
-        self.items.is_head(entry)
+        if self.list.len() == 0 {
+            return false;
+        }
+        let original = self.list.head(0).original();
+        if original.number() != entry.number || original.changes().ms() != entry.changes.ms() {
+            return false;
+        }
+        self.list.first_is(entry.changes.instrs())
     }
 
     /// Takes the oldest changeset out, where there is one. It needs no memory.
     pub fn drop_head(&mut self)
         ensures { self.new ≡ tail self.old }
     {
-        if self.items.len() == 0 {
-            return;
-        }
-        self.index.drop_first(self.items.listed(0));
-        self.items.drop_first();
+        self.list.drop_first();
     }
 
-    /// The changesets stand as they crossed an entry that was carried over them, and the entry is answered as carried. Where
-    /// memory runs out fewer of them are indexed.
+    /// The changesets stand as they crossed an entry that was carried over them, and the entry is answered as carried.
     pub fn settle(&mut self, carried: Carried) -> Changeset
-        requires { Fits carried.crossed self.old }
-        ensures list { self.new ≡ settled carried.crossed self.old }
+        requires { Fits carried self.old }
+        ensures list { self.new ≡ settled carried self.old }
         ensures entry { result ≡ carried.changes }
     {
-        let (changes, crossed) = carried.into_parts();
-        let count = crossed.len();
-        self.put_all(crossed);
-        self.list_more(count);
-        self.crossed = self.crossed.saturating_add(count);
+        let Carried { changes } = carried;
+        self.list.settle();
         changes
     }
 
     /// An entry of another client as carried over the changesets, from the oldest on, each of them the left side with the
-    /// ident `own`; and the changesets that it may touch, as they crossed it. Err(Mismatch) where one can't cross it, with
-    /// the first such one's number. The list stays as it is; `settle` puts those that crossed in their places.
+    /// ident `own`. Err(Mismatch) where one can't cross it, with the first such one's number. The list stays as it is; `settle`
+    /// puts those that crossed in their places.
     pub fn carry(
         &mut self,
         alloc: Global,
@@ -160,83 +151,68 @@ impl PendingList {
     ) -> Result<Carried, RebaseRefusal>
         requires { own ≢ entry.origin }
         ensures same { self.new ≡ self.old }
-        ensures crosses { IfOk result (λ carried. Crosses own self.old entry (settled carried.crossed self.old) carried.changes) }
-        ensures fits { IfOk result (λ carried. Fits carried.crossed self.old) }
+        ensures crosses { IfOk result (λ carried. Crosses own self.old entry (settled carried self.old) carried.changes) }
+        ensures fits { IfOk result (λ carried. Fits carried self.old) }
         ensures refused { IfErr result (Refuses own self.old entry) }
     {
-        if self.crossed >= LOOKS && self.crossed >= self.items.len() {
-            self.crossed = 0;
-            self.items.join(own, LOOKS);
+        if self.list.len() == 0 {
+            self.list.part_from_plan();
+            return Ok(Carried {
+                changes: entry.changes,
+            });
         }
-        carry_over(alloc, &mut self.items, &self.index, own, entry)
+        match self.crossed(own, &entry, true) {
+            Ok(changes) => Ok(Carried { changes }),
+            Err(Stop::NoMemory) => Err(RebaseRefusal::NoMemory),
+            Err(Stop::Mismatch) => self.by_pairs(own, &entry),
+        }
     }
 
-    /// Lists some of the changesets that aren't: as many as crossed, and one in LOOKS of those that were looked at, so that
-    /// listing takes about as long as looking. A short list isn't listed.
-    fn list_more(&mut self, crossed: usize)
-        ensures { self.new ≡ self.old }
-    {
-        let count = self.items.len();
-        if count < LOOKS {
-            return;
+    fn crossed(&mut self, own: Ident, entry: &Entry, by_lanes: bool) -> Result<Changeset, Stop> {
+        let stamp = Stamp {
+            ms: entry.changes.ms(),
+            ident: entry.origin,
+        };
+        let instrs = entry.changes.instrs();
+        let left = if by_lanes {
+            self.list.carry(0, own, stamp, instrs)?
+        } else {
+            self.list.carry_apart(0, own, stamp, instrs)?
+        };
+        match Changeset::checked(stamp.ms, left) {
+            Ok(changes) => Ok(changes),
+            Err(_) => Err(Stop::NoMemory),
         }
-        let looked = count.saturating_sub(self.index.listed());
-        for _ in 0..(looked / LOOKS + 1).saturating_add(crossed) {
-            let place = self.index.listed();
-            if place >= count {
-                return;
+    }
+
+    /// Where the changesets can't cross it, the first one tells; else they cross it one by one.
+    fn by_pairs(&mut self, own: Ident, entry: &Entry) -> Result<Carried, RebaseRefusal> {
+        self.tell_stuck(own, entry)?;
+        match self.crossed(own, entry, false) {
+            Ok(changes) => Ok(Carried { changes }),
+            Err(_) => Err(RebaseRefusal::NoMemory),
+        }
+    }
+
+    /// The first changeset that can't cross the entry, if there is one.
+    fn tell_stuck(&self, own: Ident, entry: &Entry) -> Result<(), RebaseRefusal> {
+        let Ok(mut changes) = entry.changes.copy() else {
+            return Err(RebaseRefusal::NoMemory);
+        };
+        for place in 0..self.list.len() {
+            let Ok(current) = self.current_at(place) else {
+                return Err(RebaseRefusal::NoMemory);
+            };
+            match cross_sets(current, own, changes, entry.origin) {
+                Ok((_current, left)) => changes = left,
+                Err(stop) => {
+                    return Err(RebaseRefusal::Mismatch {
+                        number: self.list.head(place).original().number(),
+                        kind: stop.kind,
+                    });
+                }
             }
-            self.index.list(self.items.listed(place));
         }
-    }
-
-    /// Puts those that crossed in their places, from the first on.
-    fn put_all(&mut self, crossed: Vec<Crossed>)
-        requires { Fits crossed.items self.old }
-        ensures { self.new ≡ settled crossed.items self.old }
-    {
-        let mut rest = crossed;
-        rest.reverse();
-        while let Some(next) = rest.pop() {
-            self.put_at(next);
-        }
-    }
-
-    fn put_at(&mut self, crossed: Crossed)
-        requires { FitsCrossed crossed self.old }
-        ensures { self.new ≡ put_crossed crossed self.old }
-    {
-        match crossed {
-            Crossed::One { place, became } => match became {
-                Became::Moved(action) => self.shift_at(place, action),
-                Became::Changed(current) => self.change_at(place, current),
-            },
-            Crossed::Stretch(across) => self.cross(across),
-        }
-    }
-
-    /// The one list instruction of a changeset does the same elsewhere. Its home stays, and so does the index.
-    fn shift_at(&mut self, place: usize, action: ListAction)
-        requires { FitsAt place (Became.Moved action) self.old }
-        ensures { self.new ≡ put_became place (Became.Moved action) self.old }
-    {
-        self.items.put(place, Became::Moved(action));
-    }
-
-    fn change_at(&mut self, place: usize, current: Changeset)
-        requires { FitsAt place (Became.Changed current) self.old }
-        ensures { self.new ≡ put_became place (Became.Changed current) self.old }
-    {
-        let before = self.items.listed(place);
-        self.index.change(place, before, current.instrs());
-        self.items.put(place, Became::Changed(current));
-    }
-
-    /// Those of a stretch meet an action of another. Their homes stay, and so does the index.
-    fn cross(&mut self, across: Across)
-        requires { CanPass across.own across.stamp across.count (Some across.action) (drop across.start self.old) }
-        ensures { self.new ≡ put_across across self.old }
-    {
-        self.items.cross(across);
+        Ok(())
     }
 }

@@ -4,6 +4,7 @@ use Rattle.sync_data.specs.declared.entry.Entry.{Entry}
 use Rattle.sync_data.specs.declared.instr.Instr.{Instr}
 use Rattle.sync_theory.specs.Changesets.{Changeset}
 use Rattle.sync_transform.specs.Sets.{made_by}
+use Rattle.slot_law.specs.Slots.{alive}
 use Rattle.sync_recip.specs.declared.kept.Kept.{Kept}
 
 abbrev pub entry_of : Entry → Changeset Instr
@@ -31,3 +32,7 @@ IsRising (v ∷ vs) = All (λ w. v < w) vs × IsRising vs
 abbrev pub entry_at : {X : Type 0} → ℕ → List (ℕ × X) → Option X
 entry_at v [] = None
 entry_at v (p ∷ ps) = if p.0 == v then Some p.1 else entry_at v ps
+
+-- the entries of a list of slots, each with its version and with what its slots have
+abbrev pub entries : List (Kept × List (Option Instr)) → List (ℕ × Changeset Instr)
+entries ps = map (λ (p : Kept × List (Option Instr)). (p.0.version, record (kept_entry p.0) { instrs = alive p.1 })) ps

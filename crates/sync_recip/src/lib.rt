@@ -2,16 +2,11 @@
 //! them.
 #![tactic(auto)]
 
-mod across;
 mod carried;
-mod carry;
-mod items;
 mod kept;
 mod recip;
 mod refusal;
 mod shared;
-mod shifted;
-mod stretch;
 
 pub use carried::Carried;
 pub use recip::Recip;

@@ -10,7 +10,7 @@ use sync_base::{AddInteger, Instr, Update, Value, cell_of, same_cell};
 
 /// Two instructions meet where they lie, so that none is moved, where both stay. Whether they do: both are then as they are after
 /// the meeting. Else both are as they were, and `meet` has to tell. It may say no where both stay.
-pub(crate) fn meet_where_they_lie(left: &mut Instr, right: &mut Instr, left_later: bool) -> bool
+pub fn meet_where_they_lie(left: &mut Instr, right: &mut Instr, left_later: bool) -> bool
     ensures both { IsTrue result → meet left.old right.old left_later ≡ Ok (Some left.new, Some right.new) }
     ensures left { IsFalse result → left.new ≡ left.old }
     ensures right { IsFalse result → right.new ≡ right.old }

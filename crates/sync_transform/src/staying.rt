@@ -18,7 +18,7 @@ pub fn ones_stay(left: &Changeset, right: &Changeset) -> bool
 
 /// Whether it is plain that two instructions both stay as they are.
 #[tactic(auto, using(crate::proofs::Anywhere::additions_stay, crate::proofs::Anywhere::inclusions_stay, crate::proofs::Anywhere::exclusions_stay, crate::proofs::Anywhere::creations_stay))]
-pub(crate) fn both_stay(left: &Instr, right: &Instr) -> bool
+pub fn both_stay(left: &Instr, right: &Instr) -> bool
     ensures { IsTrue result → StayAnywhere (left.now ∷ []) (right.now ∷ []) }
 {
     match (left, right) {
