@@ -97,12 +97,7 @@ impl Region {
     pub(crate) fn copy(&self, alloc: Global) -> Result<Region, NoMemory>
         ensures { IfOk result (λ copy. copy ≡ self.now) }
     {
-        let mut numbers = VecDeque::new(alloc);
-        for i in 0..self.numbers.len() {
-            if numbers.push_back(self.numbers[i]).is_err() {
-                return Err(NoMemory);
-            }
-        }
+        let numbers = copy_of(&self.numbers, alloc)?;
         let lane = self.lane.copy()?;
         Ok(Region {
             gap: self.gap,
@@ -264,4 +259,17 @@ impl Region {
     {
         self.lane.left(traveller, lane_left)
     }
+}
+
+/// Equal numbers.
+fn copy_of(numbers: &VecDeque<u64>, alloc: Global) -> Result<VecDeque<u64>, NoMemory>
+    ensures { IfOk result (λ copy. copy.items ≡ numbers.now.items) }
+{
+    let mut copy = VecDeque::new(alloc);
+    for i in 0..numbers.len() {
+        if copy.push_back(numbers[i]).is_err() {
+            return Err(NoMemory);
+        }
+    }
+    Ok(copy)
 }

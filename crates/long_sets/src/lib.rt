@@ -1,0 +1,10 @@
+//! Changesets of many instructions, as they cross each other: each instruction meets those alone with which it may not stay as it
+//! is.
+#![tactic(auto)]
+
+mod instrs;
+mod meeting;
+mod row;
+mod sets;
+
+pub use sets::{cross_long, cross_long_indexed};
