@@ -1,27 +1,27 @@
 -- An instruction goes on through slots, from one place to the next.
-use Rattle.std.proofs.Common.{◌≡◌, ℕ, zero, suc, ◌+◌, ◌≤◌, ◌<◌, Bool, List, [], ◌∷◌, ◌++◌, append_assoc, append-nil, take, drop, map, length, Option, Some, None, Result, Ok, Err, refl, sym, ap, ◌∙◌, subst, arith}
+use Rattle.std.proofs.Common.{◌≡◌, ℕ, zero, suc, ◌+◌, ◌-◌, ◌≤◌, ◌<◌, Bool, List, [], ◌∷◌, ◌++◌, append_assoc, append-nil, take, drop, map, length, Option, Some, None, Result, Ok, Err, refl, sym, ap, ◌∙◌, subst, arith}
 use Rattle.std.proofs.Math.Seq.{take-add}
-use Rattle.std.proofs.lemmas.List.{drop-drop}
+use Rattle.std.proofs.lemmas.List.{drop-drop, take_all, drop_all}
 use Rattle.sync_data.specs.declared.instr.Instr.{Instr}
 use Rattle.sync_base.specs.declared.answers.Mismatch.{Mismatch}
 use Rattle.sync_theory.specs.Lists.{kept, cross}
 use Rattle.sync_theory.specs.Changesets.{Changeset, is_later}
 use Rattle.sync_law.specs.Instrs.{meet}
 use Rattle.sync_rivals.specs.Lists.{StandsAt, Pass}
-use Rattle.slot_law.specs.Slots.{Slot, slots_of, on_right, ok_pair, turned, meets_in}
+use Rattle.slot_law.specs.Slots.{Slot, through, slots_of, on_right, ok_pair, turned, meets_in}
 use Rattle.slot_law.specs.Laws.{AllStay}
-use Rattle.slot_law.proofs.Through.{Through, end, next, none_left, parts}
-use Rattle.slot_law.proofs.Skipping.{skip_right}
-use Rattle.long_sets.specs.Rows.{both_meet, lists_in}
+use Rattle.slot_law.proofs.Through.{Through, end, next, none_left, parts, through_of, through_is, some_is}
+use Rattle.slot_law.proofs.Skipping.{skips}
+use Rattle.long_sets.specs.Rows.{both_meet, lists_in, MeetsAt, Crosses}
 
 -- ---- two that meet
 pair_turned : {A M : Type 0} (r : Result (A × A) M) (z u : A) → ok_pair r ≡ Some (z, u) → turned r ≡ Some (u, z)
-pair_turned (Ok p) z u h = let e : (p.0, p.1) ≡ (z, u) = cc in ap (λ (q : _ × _). Some (q.1, q.0)) e
+pair_turned (Ok p) z u h = let e = some_is h in λ i. Some ((e i).1, (e i).0)
 pair_turned (Err m) z u h = cc
 
 pub met_in : (t e : Changeset Instr) (later : Bool) (y x z u : Option Instr) → is_later e t ≡ later → both_meet later y x ≡ Some (z, u) → meets_in (on_right meet e) t x y ≡ Some (u, z)
-met_in t e later None x z u l h = let p : (◌≡◌ {A = Option Instr × Option Instr} (None, x) (z, u)) = cc in ap (λ (q : Option Instr × Option Instr). Some (q.1, q.0)) p
-met_in t e later (Some b) None z u l h = let p : (◌≡◌ {A = Option Instr × Option Instr} (Some b, None) (z, u)) = cc in ap (λ (q : Option Instr × Option Instr). Some (q.1, q.0)) p
+met_in t e later None x z u l h = let p = some_is h in λ i. Some ((p i).1, (p i).0)
+met_in t e later (Some b) None z u l h = let p = some_is h in λ i. Some ((p i).1, (p i).0)
 met_in t e later (Some b) (Some a) z u l h = pair_turned (meet b a (is_later e t)) z u (ap (λ m. ok_pair (meet b a m)) l ∙ h)
 
 module _ (t e : Changeset Instr) where
@@ -46,7 +46,7 @@ module _ (t e : Changeset Instr) where
   pub passes_on : (xs : List (Option Instr)) (y : Option Instr) (passed mid rest : List (Option Instr)) (now : Option Instr) → Ahead xs y passed (mid ++ rest) now → Passing mid now (slots_of t mid) now → Ahead xs y (passed ++ mid) rest now
   passes_on xs y passed mid rest now h p us z r =
       subst (λ l. Passing xs y l z) (joined passed mid us)
-      (h (slots_of t mid ++ us) z (subst (λ l. Through (on_right meet e) l now (slots_of t mid ++ us) z) (sym (slots_join mid rest)) (parts p r)))
+      (h (slots_of t mid ++ us) z (subst (λ l. Through (on_right meet e) l now (slots_of t mid ++ us) z) (sym (slots_join mid rest)) (parts (on_right meet e) p r)))
 
   -- it meets the next
   pub meets_on : (xs : List (Option Instr)) (y : Option Instr) (passed rest : List (Option Instr)) (x u now z : Option Instr) → Ahead xs y passed (x ∷ rest) now → meets_in (on_right meet e) t x now ≡ Some (u, z) → Ahead xs y (passed ++ u ∷ []) rest z
@@ -72,7 +72,7 @@ module _ (t e : Changeset Instr) where
 
   passes_first : (k : ℕ) (xs : List (Option Instr)) (y : Option Instr) → Pass 0 k (lists_in xs) (kept y) → Passing (take k xs) y (slots_of t (take k xs)) y
   passes_first k xs None p = none_left (on_right meet e) (slots_of t (take k xs))
-  passes_first k xs (Some b) p = skip_right meet e b (slots_of t (take k xs)) (all_stay k xs b p)
+  passes_first k xs (Some b) p = through_of (on_right meet e) (slots_of t (take k xs)) (Some b) (slots_of t (take k xs)) (Some b) (skips meet e (slots_of t (take k xs)) b (all_stay k xs b p)).1
 
   later_on : (from k : ℕ) (xs : List (Option Instr)) (is : List Instr) → Pass from (from + k) (lists_in xs) is → Pass 0 k (lists_in (drop from xs)) is
   later_on zero k xs is p = λ place others low high at later. p place others low (omega (arith, high)) at later
@@ -95,3 +95,22 @@ module _ (t e : Changeset Instr) where
       halves zero l = refl
       halves (suc n) [] = refl
       halves (suc n) (x ∷ l) = ap (λ r. x ∷ r) (halves n l)
+
+  pub skips_to : (xs : List (Option Instr)) (y : Option Instr) (all : List (Option Instr)) (from to : ℕ) (now : Option Instr) → from ≤ to → Pass from to (lists_in all) (kept now)
+      → Ahead xs y (take from all) (drop from all) now → Ahead xs y (take to all) (drop to all) now
+  skips_to xs y all from to now o p h =
+      let is : to ≡ from + (to - from) = omega (arith, o) in
+      subst (λ n. Ahead xs y (take n all) (drop n all) now) (sym is) (skips_on xs y all from (to - from) now (subst (λ n. Pass from n (lists_in all) (kept now)) is p) h)
+
+  -- it met the slot at a place
+  pub met_on : (later : Bool) (xs : List (Option Instr)) (y : Option Instr) (place : ℕ) (all us : List (Option Instr)) (now z : Option Instr) → is_later e t ≡ later → MeetsAt later place now all z us
+      → Ahead xs y (take place all) (drop place all) now → Ahead xs y (take (place + 1) us) (drop (place + 1) us) z
+  met_on later xs y place all us now z l m h =
+      let on = meets_on xs y (take place all) (drop (place + 1) all) m.slot m.became now z (subst (λ r. Ahead xs y (take place all) r now) m.is h) (met_in t e later now m.slot z m.became l m.met) in
+      subst (λ r. Ahead xs y (take (place + 1) us) r z) (sym m.rest) (subst (λ p. Ahead xs y p (drop (place + 1) all) z) (sym m.front) on)
+
+  pub at_end : (xs : List (Option Instr)) (y : Option Instr) (all : List (Option Instr)) (n : ℕ) (now : Option Instr) → length all ≤ n → Ahead xs y (take n all) (drop n all) now
+      → through (on_right meet e) (slots_of t xs) y ≡ Some (slots_of t all, now)
+  at_end xs y all n now o h =
+      through_is (on_right meet e) (done xs y all now
+      (subst (λ r. Ahead xs y all r now) (drop_all n all o) (subst (λ p. Ahead xs y p (drop n all) now) (take_all n all o) h)))

@@ -1,6 +1,6 @@
 -- What is left of an instruction is found where it was: an index of slots is one of what is left of them.
 use Rattle.std.specs.List.{AllByRecursion}
-use Rattle.std.proofs.Common.{◌≡◌, ℕ, zero, suc, Bool, true, false, List, [], ◌∷◌, Option, Some, None, Result, Ok, Err, IfOk, refl, sym, ap, ◌∙◌, subst}
+use Rattle.std.proofs.Common.{◌≡◌, ℕ, zero, suc, Bool, true, false, ◌<◌, List, [], ◌∷◌, length, get_or, Option, Some, None, is_some, not, Result, Ok, Err, IfOk, refl, sym, ap, ◌∙◌, subst, arith}
 use Rattle.std.proofs.Math.ListN.{set}
 use Rattle.sync_data.specs.declared.instr.Instr.{Instr}
 use Rattle.sync_base.specs.Rules.{meeting}
@@ -15,6 +15,7 @@ use Rattle.sync_rivals.specs.Lemmas.Homes.{homes_stay}
 use Rattle.sync_rivals.proofs.Listed.{put_same_listed}
 use Rattle.sync_transform.proofs.Covered.{sides}
 use Rattle.slot_law.specs.Slots.{ok_pair}
+use Rattle.slot_law.proofs.Through.{some_is}
 use Rattle.long_sets.specs.Rows.{both_meet, lists_in}
 
 -- nothing, or an instruction at the same place
@@ -23,16 +24,16 @@ StaysHome None u = u ≡ None
 StaysHome (Some a) u = IsAt (place_of a) u
 
 pair_is : {A M : Type 0} (r : Result (A × A) M) (z u : A) → ok_pair r ≡ Some (z, u) → r ≡ Ok (z, u)
-pair_is (Ok p) z u h = cc
+pair_is (Ok p) z u h = let e = some_is h in λ i. Ok ((e i).0, (e i).1)
 pair_is (Err m) z u h = cc
 
 pub both_home : (later : Bool) (y x z u : Option Instr) → both_meet later y x ≡ Some (z, u) → StaysHome y z × StaysHome x u
-both_home later None None z u h = (cc, cc)
-both_home later None (Some a) z u h = (cc, same a u cc)
+both_home later None None z u h = let e = some_is h in (sym (λ i. (e i).0), sym (λ i. (e i).1))
+both_home later None (Some a) z u h = let e = some_is h in (sym (λ i. (e i).0), same a u (sym (λ i. (e i).1)))
   where
     same : (a : Instr) (u : Option Instr) → u ≡ Some a → IsAt (place_of a) u
     same a u e = subst (IsAt (place_of a)) (sym e) refl
-both_home later (Some b) None z u h = (same b z cc, cc)
+both_home later (Some b) None z u h = let e = some_is h in (same b z (sym (λ i. (e i).0)), sym (λ i. (e i).1))
   where
     same : (a : Instr) (u : Option Instr) → u ≡ Some a → IsAt (place_of a) u
     same a u e = subst (IsAt (place_of a)) (sym e) refl
@@ -65,3 +66,36 @@ stays_at (y ∷ xs) (suc i) x u a h = stays_at xs i x u a h
 pub became_listed : (idx : Indexed) (xs : List (Option Instr)) (i : ℕ) (x u : Option Instr) → StandsAt i (kept x) (lists_in xs) → StaysHome x u → Lists idx (lists_in xs) → Lists idx (lists_in (set xs i u))
 became_listed idx xs i x u a h l =
     subst (Lists idx) (sym (set_lists xs i u)) (put_same_listed idx.marks idx.first idx.listed (lists_in xs) i (kept u) (stays_at xs i x u a (home_listed x u h)) l)
+
+pub stands : (xs : List (Option Instr)) (i : ℕ) (d : Option Instr) → i < length xs → StandsAt i (kept (get_or xs i d)) (lists_in xs)
+stands [] i d l = absurd (omega (arith, l))
+stands (y ∷ xs) zero d l = refl
+stands (y ∷ xs) (suc i) d l = stands xs i d (omega (arith, l))
+
+-- nothing is put where nothing is
+stands_set : (xs : List (Option Instr)) (i : ℕ) (u : Option Instr) → i < length xs → StandsAt i (kept u) (lists_in (set xs i u))
+stands_set [] i u l = absurd (omega (arith, l))
+stands_set (y ∷ xs) zero u l = refl
+stands_set (y ∷ xs) (suc i) u l = stands_set xs i u (omega (arith, l))
+
+put_same : (i : ℕ) (l : List Instr) (lists : List (List Instr)) → StandsAt i l lists → put_list i l lists ≡ lists
+put_same i l [] h = refl
+put_same zero l (k ∷ lists) h = ap (λ m. m ∷ lists) (sym h)
+put_same (suc i) l (k ∷ lists) h = ap (λ m. k ∷ m) (put_same i l lists h)
+
+stays_nothing : (i : ℕ) (l : List Instr) (lists : List (List Instr)) → StandsAt i l lists → StaysAt i [] lists
+stays_nothing i l [] h = h
+stays_nothing zero l (k ∷ lists) h = λ s n m. tt
+stays_nothing (suc i) l (k ∷ lists) h = stays_nothing i l lists h
+
+pub fell_listed : (old new : Indexed) (xs : List (Option Instr)) (i : ℕ) (u : Option Instr) (b : Bool) → i < length xs → is_some u ≡ not b → b ≡ true → Lists old (lists_in (set xs i u))
+    → ((lists : List (List Instr)) → Lists old lists → StaysAt i [] lists → Lists new (put_list i [] lists)) → Lists new (lists_in (set xs i u))
+fell_listed old new xs i (Some a) b l e k h f = cc
+fell_listed old new xs i None b l e k h f =
+    let ls = lists_in (set xs i None) in
+    let at : StandsAt i [] ls = stands_set xs i None l in
+    subst (Lists new) (put_same i [] ls at) (f ls h (stays_nothing i [] ls at))
+
+pub none_kept : (y : Option Instr) (b : Bool) → is_some y ≡ not b → b ≡ true → kept y ≡ []
+none_kept None b e h = refl
+none_kept (Some a) b e h = cc

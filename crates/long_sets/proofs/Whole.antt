@@ -52,12 +52,17 @@ back t (x ∷ xs) = ap (λ l. x ∷ l) (back t xs)
 same_slots : {T I : Type 0} (t : T) (xs ys : List (Option I)) → slots_of t xs ≡ slots_of t ys → xs ≡ ys
 same_slots {T} {I} t xs ys h = sym (back t xs) ∙ ap (map (λ (s : Slot T I). s.1)) h ∙ back t ys
 
+ok_is : {A E : Type 0} {x y : A} → ◌≡◌ {A = Result A E} (Ok x) (Ok y) → x ≡ y
+ok_is e = cc
+
+first_is : {A : Type 0} {x y : A} {xs ys : List A} → x ∷ xs ≡ y ∷ ys → x ≡ y
+first_is e = cc
+
 one_carried : {I M : Type 0} (e t f g : Changeset I) (r : Result (List I × List I) M) → carry_one (with_lists e t r) (λ y. Ok (y, [])) ≡ Ok (f, g ∷ []) → r ≡ Ok (f.instrs, g.instrs)
 one_carried {I} {M} e t f g (Ok p) h =
-    let same : (◌≡◌ {A = Changeset I × List (Changeset I)} (record e { instrs = p.0 }, record t { instrs = p.1 } ∷ []) (f, g ∷ [])) = cc in
-    let left : record e { instrs = p.0 } ≡ f = cc in
-    let right : record t { instrs = p.1 } ≡ g = cc in
-    λ i. Ok ((left i).instrs, (right i).instrs)
+    let same : (◌≡◌ {A = Changeset I × List (Changeset I)} (record e { instrs = p.0 }, record t { instrs = p.1 } ∷ []) (f, g ∷ [])) = ok_is h in
+    let right : record t { instrs = p.1 } ≡ g = first_is (λ i. (same i).1) in
+    λ i. Ok ((same i).0.instrs, (right i).instrs)
 one_carried e t f g (Err m) h = cc
 
 -- two changesets of which the first is the later one, or isn't
@@ -94,7 +99,7 @@ sets_cross later i j left right cs ds l h m n =
 
 -- ---- an index of a list is one of what is left of it
 down_covered : (t : Touched) (o : Option Instr) (r : Result (List Instr × List Instr) (ℕ × ℕ × Mismatch)) (cs ds : List Instr) → step_down o r ≡ Ok (cs, ds) → ((as_ bs : List Instr) → r ≡ Ok (as_, bs) → Covers t bs) → Covers t ds
-down_covered t o (Ok p) cs ds h g = let e : p.1 ≡ ds = cc in subst (Covers t) e (g p.0 p.1 refl)
+down_covered t o (Ok p) cs ds h g = let e = ok_is h in subst (Covers t) (λ i. (e i).1) (g p.0 p.1 refl)
 down_covered t o (Err m) cs ds h g = cc
 
 row_goes : (later : Bool) (t : Touched) (a : Instr) (as_ bs : List Instr) (r : Result (Option Instr × List Instr) (ℕ × Mismatch)) (cs ds : List Instr) → row (λ a b. meet a b later) (Some a) bs ≡ r
@@ -103,14 +108,13 @@ row_goes later t a as_ bs (Ok p) cs ds e h c g = down_covered t p.0 (cross (λ a
 row_goes later t a as_ bs (Err m) cs ds e h c g = cc
 
 cross_covered : (later : Bool) (t : Touched) (as_ bs cs ds : List Instr) → cross (λ a b. meet a b later) as_ bs ≡ Ok (cs, ds) → Covers t bs → Covers t ds
-cross_covered later t [] bs cs ds h c = let e : bs ≡ ds = cc in subst (Covers t) e c
+cross_covered later t [] bs cs ds h c = let e = ok_is h in subst (Covers t) (λ i. (e i).1) c
 cross_covered later t (a ∷ as_) bs cs ds h c = row_goes later t a as_ bs (row (λ a b. meet a b later) (Some a) bs) cs ds refl h c (cross_covered later t as_)
 
 lists_of : {M : Type 0} (a b p q : Changeset Instr) (r : Result (List Instr × List Instr) M) → with_lists a b r ≡ Ok (p, q) → r ≡ Ok (p.instrs, q.instrs)
 lists_of {M} a b p q (Ok l) h =
-    let left : record a { instrs = l.0 } ≡ p = cc in
-    let right : record b { instrs = l.1 } ≡ q = cc in
-    λ i. Ok ((left i).instrs, (right i).instrs)
+    let e = ok_is h in
+    λ i. Ok ((e i).0.instrs, (e i).1.instrs)
 lists_of a b p q (Err m) h = cc
 
 pub sets_covered : (t : Touched) (i j : ℕ) (left right p q : Changes) → ((m n : ℕ) → cross_sets meet (made_by i m left) (made_by j n right) ≡ Ok (made_by i m p, made_by j n q)) → Covers t right.instrs → Covers t q.instrs

@@ -55,7 +55,8 @@ fn meet_at(
 {
     let slot = &mut slots[place];
     meet_in_place(left, slot, left_later)?;
-    if slots[place].is_none() {
+    let fell = slot.is_none();
+    if fell {
         index.change(place, &written[place..place + 1], &[]);
     }
     Ok(())
