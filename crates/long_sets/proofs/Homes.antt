@@ -1,6 +1,7 @@
 -- What is left of an instruction is found where it was: an index of slots is one of what is left of them.
 use Rattle.std.specs.List.{AllByRecursion}
-use Rattle.std.proofs.Common.{◌≡◌, ℕ, zero, suc, Bool, true, false, ◌<◌, List, [], ◌∷◌, length, get_or, Option, Some, None, is_some, not, Result, Ok, Err, IfOk, refl, sym, ap, ◌∙◌, subst, arith}
+use Rattle.std.specs.Prelude.{slice_range}
+use Rattle.std.proofs.Common.{◌≡◌, ℕ, zero, suc, ◌+◌, ◌-◌, map, take, drop, Bool, true, false, ◌<◌, List, [], ◌∷◌, length, get_or, Option, Some, None, is_some, not, Result, Ok, Err, IfOk, refl, sym, ap, ◌∙◌, subst, arith}
 use Rattle.std.proofs.Math.ListN.{set}
 use Rattle.sync_data.specs.declared.instr.Instr.{Instr}
 use Rattle.sync_base.specs.Rules.{meeting}
@@ -99,3 +100,24 @@ fell_listed old new xs i None b l e k h f =
 pub none_kept : (y : Option Instr) (b : Bool) → is_some y ≡ not b → b ≡ true → kept y ≡ []
 none_kept None b e h = refl
 none_kept (Some a) b e h = cc
+
+-- ---- an instruction at a place
+pub one_there : (is : List Instr) (i : ℕ) (d : Instr) → i < length is → take 1 (drop i is) ≡ get_or is i d ∷ []
+one_there [] i d l = absurd (omega (arith, l))
+one_there (a ∷ is) zero d l = refl
+one_there (a ∷ is) (suc i) d l = one_there is i d (omega (arith, l))
+
+pub slice_one : (is : List Instr) (i : ℕ) (d : Instr) → i < length is → slice_range is i (i + 1) ≡ get_or is i d ∷ []
+slice_one is i d l = let n : (i + 1) - i ≡ 1 = omega arith in ap (λ n. take n (drop i is)) n ∙ one_there is i d l
+
+stands_one : (is : List Instr) (i : ℕ) (d : Instr) → i < length is → StandsAt i (get_or is i d ∷ []) (lists_in (map (λ (i : Instr). Some i) is))
+stands_one [] i d l = absurd (omega (arith, l))
+stands_one (a ∷ is) zero d l = refl
+stands_one (a ∷ is) (suc i) d l = stands_one is i d (omega (arith, l))
+
+pub one_at : (is : List Instr) (i : ℕ) → i < length is → (a : Instr) × (slice_range is i (i + 1) ≡ a ∷ []) × StandsAt i (a ∷ []) (lists_in (map (λ (i : Instr). Some i) is))
+one_at [] i l = absurd (omega (arith, l))
+one_at (a ∷ is) i l = (get_or (a ∷ is) i a, slice_one (a ∷ is) i a l, stands_one (a ∷ is) i a l)
+
+pub one_listed : (is : List Instr) (i : ℕ) (a : Instr) → slice_range is i (i + 1) ≡ a ∷ [] → StaysListed (slice_range is i (i + 1)) (a ∷ [])
+one_listed is i a e = subst (λ l. StaysListed l (a ∷ [])) (sym e) (λ s n h. h)
