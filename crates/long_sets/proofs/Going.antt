@@ -1,10 +1,9 @@
 -- An instruction goes on through slots, from one place to the next.
-use Rattle.std.proofs.Common.{◌≡◌, ℕ, zero, suc, ◌+◌, ◌-◌, ◌≤◌, ◌<◌, Bool, List, [], ◌∷◌, ◌++◌, append_assoc, append-nil, take, drop, map, length, Option, Some, None, Result, Ok, Err, refl, sym, ap, ◌∙◌, subst, arith}
+use Rattle.std.proofs.Common.{◌≡◌, ℕ, zero, suc, ◌+◌, ◌-◌, ◌≤◌, Bool, List, [], ◌∷◌, ◌++◌, append_assoc, append-nil, take, drop, length, Option, Some, None, Result, Ok, Err, refl, sym, ap, ◌∙◌, subst, arith}
 use Rattle.std.proofs.Math.Seq.{take-add}
 use Rattle.std.proofs.lemmas.List.{drop-drop, take_all, drop_all}
 use Rattle.sync_data.specs.declared.instr.Instr.{Instr}
-use Rattle.sync_base.specs.declared.answers.Mismatch.{Mismatch}
-use Rattle.sync_theory.specs.Lists.{kept, cross}
+use Rattle.sync_theory.specs.Lists.{kept}
 use Rattle.sync_theory.specs.Changesets.{Changeset, is_later}
 use Rattle.sync_law.specs.Instrs.{meet}
 use Rattle.sync_rivals.specs.Lists.{StandsAt, Pass}
@@ -12,7 +11,7 @@ use Rattle.slot_law.specs.Slots.{Slot, through, slots_of, on_right, ok_pair, tur
 use Rattle.slot_law.specs.Laws.{AllStay}
 use Rattle.slot_law.proofs.Through.{Through, end, next, none_left, parts, through_of, through_is, some_is}
 use Rattle.slot_law.proofs.Skipping.{skips}
-use Rattle.long_sets.specs.Rows.{both_meet, lists_in, MeetsAt, Crosses}
+use Rattle.long_sets.specs.Rows.{both_meet, lists_in, MeetsAt}
 
 -- ---- two that meet
 pair_turned : {A M : Type 0} (r : Result (A × A) M) (z u : A) → ok_pair r ≡ Some (z, u) → turned r ≡ Some (u, z)

@@ -1,23 +1,23 @@
 -- What is left of an instruction is found where it was: an index of slots is one of what is left of them.
 use Rattle.std.specs.List.{AllByRecursion}
 use Rattle.std.specs.Prelude.{slice_range}
-use Rattle.std.proofs.Common.{◌≡◌, ℕ, zero, suc, ◌+◌, ◌-◌, map, take, drop, Bool, true, false, ◌<◌, List, [], ◌∷◌, length, get_or, Option, Some, None, is_some, not, Result, Ok, Err, IfOk, refl, sym, ap, ◌∙◌, subst, arith}
+use Rattle.std.proofs.Common.{◌≡◌, ℕ, zero, suc, ◌+◌, ◌-◌, map, take, drop, Bool, true, false, ◌<◌, List, [], ◌∷◌, length, get_or, Option, Some, None, is_some, not, Result, Ok, Err, refl, sym, ap, ◌∙◌, subst, arith, inl, inr, ◌⊎◌}
 use Rattle.std.proofs.Math.ListN.{set}
 use Rattle.sync_data.specs.declared.instr.Instr.{Instr}
 use Rattle.sync_base.specs.Rules.{meeting}
 use Rattle.sync_theory.specs.Lists.{kept}
-use Rattle.sync_law.specs.Instrs.{as_pair, meet}
+use Rattle.sync_law.specs.Instrs.{meet}
 use Rattle.sync_rivals.specs.Codes.{code}
-use Rattle.sync_rivals.specs.Homes.{Place, listed, rivals}
-use Rattle.sync_rivals.specs.Lists.{Indexed, Lists, AreListed, StaysListed, StandsAt, StaysAt, put_list}
-use Rattle.sync_rivals.specs.Marks.{Marks, Knows, is_at}
+use Rattle.sync_rivals.specs.Homes.{listed, rivals}
+use Rattle.sync_rivals.specs.Lists.{Indexed, Lists, StaysListed, StandsAt, StaysAt, put_list}
+use Rattle.sync_rivals.specs.Marks.{Knows, is_at}
 use Rattle.sync_rivals.specs.Strangers.{place_of, IsAt}
 use Rattle.sync_rivals.specs.Lemmas.Homes.{homes_stay}
 use Rattle.sync_rivals.proofs.Listed.{put_same_listed}
 use Rattle.sync_transform.proofs.Covered.{sides}
 use Rattle.slot_law.specs.Slots.{ok_pair}
 use Rattle.slot_law.proofs.Through.{some_is}
-use Rattle.long_sets.specs.Rows.{both_meet, lists_in}
+use Rattle.long_sets.specs.Rows.{both_meet, lists_in, somes, IsPart}
 
 -- nothing, or an instruction at the same place
 abbrev pub StaysHome : Option Instr → Option Instr → Type 0
@@ -110,14 +110,41 @@ one_there (a ∷ is) (suc i) d l = one_there is i d (omega (arith, l))
 pub slice_one : (is : List Instr) (i : ℕ) (d : Instr) → i < length is → slice_range is i (i + 1) ≡ get_or is i d ∷ []
 slice_one is i d l = let n : (i + 1) - i ≡ 1 = omega arith in ap (λ n. take n (drop i is)) n ∙ one_there is i d l
 
-stands_one : (is : List Instr) (i : ℕ) (d : Instr) → i < length is → StandsAt i (get_or is i d ∷ []) (lists_in (map (λ (i : Instr). Some i) is))
-stands_one [] i d l = absurd (omega (arith, l))
-stands_one (a ∷ is) zero d l = refl
-stands_one (a ∷ is) (suc i) d l = stands_one is i d (omega (arith, l))
+pub part_sizes : (xs : List (Option Instr)) (ws : List Instr) → IsPart xs ws → length xs ≡ length ws
+part_sizes [] [] h = refl
+part_sizes [] (w ∷ ws) h = absurd h
+part_sizes (x ∷ xs) [] h = absurd h
+part_sizes (x ∷ xs) (w ∷ ws) h = ap (λ n. suc n) (part_sizes xs ws h.1)
 
-pub one_at : (is : List Instr) (i : ℕ) → i < length is → (a : Instr) × (slice_range is i (i + 1) ≡ a ∷ []) × StandsAt i (a ∷ []) (lists_in (map (λ (i : Instr). Some i) is))
-one_at [] i l = absurd (omega (arith, l))
-one_at (a ∷ is) i l = (get_or (a ∷ is) i a, slice_one (a ∷ is) i a l, stands_one (a ∷ is) i a l)
+same_part : (x : Option Instr) (w : Instr) (a : Instr) → ((x ≡ None) ⊎ (x ≡ Some w)) → x ≡ Some a → a ≡ w
+same_part x w a (inl e) h = cc
+same_part x w a (inr e) h = cc
 
-pub one_listed : (is : List Instr) (i : ℕ) (a : Instr) → slice_range is i (i + 1) ≡ a ∷ [] → StaysListed (slice_range is i (i + 1)) (a ∷ [])
-one_listed is i a e = subst (λ l. StaysListed l (a ∷ [])) (sym e) (λ s n h. h)
+-- it is what was written there
+pub part_at : (xs : List (Option Instr)) (ws : List Instr) (i : ℕ) (d : Option Instr) (e a : Instr) → IsPart xs ws → i < length xs → get_or xs i d ≡ Some a → a ≡ get_or ws i e
+part_at [] ws i d e a h l g = absurd (omega (arith, l))
+part_at (x ∷ xs) [] i d e a h l g = absurd h
+part_at (x ∷ xs) (w ∷ ws) zero d e a h l g = same_part x w a h.0 g
+part_at (x ∷ xs) (w ∷ ws) (suc i) d e a h l g = part_at xs ws i d e a h.1 (omega (arith, l)) g
+
+pub one_listed : (xs : List (Option Instr)) (ws : List Instr) (i : ℕ) (d : Option Instr) → IsPart xs ws → i < length xs → StaysListed (slice_range ws i (i + 1)) (kept (get_or xs i d))
+one_listed [] ws i d h l = absurd (omega (arith, l))
+one_listed (x ∷ xs) [] i d h l = absurd h
+one_listed (x ∷ xs) (w ∷ ws) i d h l =
+    subst (λ is. StaysListed is (kept (get_or (x ∷ xs) i d))) (sym (slice_one (w ∷ ws) i w (omega (arith, l, part_sizes (x ∷ xs) (w ∷ ws) h)))) (within (get_or (x ∷ xs) i d) refl)
+  where
+    within : (y : Option Instr) → get_or (x ∷ xs) i d ≡ y → StaysListed (get_or (w ∷ ws) i w ∷ []) (kept y)
+    within None g = λ s n k. tt
+    within (Some a) g = subst (λ b. StaysListed (b ∷ []) (a ∷ [])) (part_at (x ∷ xs) (w ∷ ws) i d w a h l g) (λ s n k. k)
+
+pub whole_part : (ws : List Instr) → IsPart (somes ws) ws
+whole_part [] = tt
+whole_part (w ∷ ws) = (inr refl, whole_part ws)
+
+pub next_known : (codes : List ℕ) (ws : List Instr) (i : ℕ) (y : Option Instr) → i < length ws → ((a d : Instr) → y ≡ Some a → a ≡ get_or ws i d) → Knows codes (slice_range ws i (i + 1)) → Knows codes (kept y)
+next_known codes ws i None l f h = λ test none. tt
+next_known codes ws i (Some a) l f h = subst (λ (is : List Instr). Knows codes is) (slice_one ws i a l ∙ ap (λ b. b ∷ []) (sym (f a a refl))) h
+
+pub gone : (y : Option Instr) (b : Bool) → is_some y ≡ not b → b ≡ true → y ≡ None
+gone None b e h = refl
+gone (Some a) b e h = cc

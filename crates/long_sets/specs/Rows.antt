@@ -1,5 +1,5 @@
 -- Slots of one changeset, and instructions of another that cross them in turn.
-use Rattle.std.specs.Prelude.{◌≡◌, ℕ, ◌+◌, Bool, List, [], ◌∷◌, ◌++◌, Option, Some, None, map, take, drop, length}
+use Rattle.std.specs.Prelude.{◌≡◌, ℕ, ◌+◌, Bool, List, [], ◌∷◌, ◌++◌, Option, Some, None, map, take, drop, length, ◌⊎◌}
 use Rattle.sync_data.specs.declared.instr.Instr.{Instr}
 use Rattle.sync_theory.specs.Lists.{kept}
 use Rattle.sync_theory.specs.Changesets.{Changeset, is_later}
@@ -30,6 +30,17 @@ pub record MeetsAt (later : Bool) (place : ℕ) (y : Option Instr) (xs : List (O
   pub met : both_meet later y slot ≡ Some (z, became)
   pub size : length us ≡ length xs
 
--- several instructions go through the slots in turn
-abbrev pub CrossInTurn : Bool → List Instr → List (Option Instr) → List (Option Instr) → List (Option Instr) → Type 0
-CrossInTurn later lefts xs zs us = (t e : Changeset Instr) → is_later e t ≡ later → all_through (on_right meet e) (slots_of t xs) (map (λ (a : Instr). Some a) lefts) ≡ Some (slots_of t us, zs)
+-- several instructions, those of them that are there, go through the slots in turn
+abbrev pub CrossInTurn : Bool → List (Option Instr) → List (Option Instr) → List (Option Instr) → List (Option Instr) → Type 0
+CrossInTurn later ys xs zs us = (t e : Changeset Instr) → is_later e t ≡ later → all_through (on_right meet e) (slots_of t xs) ys ≡ Some (slots_of t us, zs)
+
+-- each slot has what was written for it, or nothing
+abbrev pub IsPart : List (Option Instr) → List Instr → Type 0
+IsPart [] [] = Unit {0}
+IsPart [] (w ∷ ws) = ⊥
+IsPart (x ∷ xs) [] = ⊥
+IsPart (x ∷ xs) (w ∷ ws) = ((x ≡ None) ⊎ (x ≡ Some w)) × IsPart xs ws
+
+-- a slot for each instruction
+abbrev pub somes : List Instr → List (Option Instr)
+somes is = map (λ (i : Instr). Some i) is

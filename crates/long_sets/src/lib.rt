@@ -3,8 +3,11 @@
 #![tactic(auto)]
 
 mod instrs;
+mod lane;
+mod lists;
 mod meeting;
 mod row;
 mod sets;
+mod strangers;
 
 pub use sets::{cross_long, cross_long_indexed};

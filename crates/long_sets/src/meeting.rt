@@ -49,10 +49,12 @@ fn meet_taken_out(
     };
     match meet(own, other, left_later) {
         Err(kind) => Err(kind),
-        Ok(Outcome {
-            left: stays,
-            right: other_stays,
-        }) => {
+        Ok(
+            Outcome {
+                left: stays,
+                right: other_stays,
+            },
+        ) => {
             *left = stays;
             *right = other_stays;
             Ok(())

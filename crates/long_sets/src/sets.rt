@@ -8,8 +8,8 @@ ghost use Rattle.sync_index.specs.Touched.{Covers};
 ghost use Rattle.sync_transform.specs.Sets.{made_by};
 
 use super::instrs::{alive_of, cross_instrs};
+use super::lists::Stamps;
 use list_blocks::{cross_blocks, cross_blocks_indexed};
-use list_places::{action_at, is_later};
 use std::alloc::Global;
 use sync_base::{Changeset, Ident, Instr, Stamp};
 use sync_index::Index;
@@ -60,8 +60,7 @@ pub fn cross_long_indexed(
     }
 }
 
-/// Both changesets as they crossed, where they are long and there is memory for it. Two blocks of list instructions aren't
-/// crossed so.
+/// Both changesets as they crossed, where they are long and there is memory for it.
 fn cross_by_rivals(
     alloc: Global,
     left: &Changeset,
@@ -72,22 +71,20 @@ fn cross_by_rivals(
     ensures { IfSome result (λ p. (m n : ℕ) → crossed_sets meet (made_by left_ident m left.now) (made_by right_ident n right.now) ≡ Ok (made_by left_ident m p.0, made_by right_ident n p.1)) }
 {
     let (lefts, rights) = (left.instrs(), right.instrs());
-    if lefts.len().saturating_mul(rights.len()) <= FEW_MEETINGS
-        || are_of_lists(lefts) && are_of_lists(rights)
-    {
+    if lefts.len().saturating_mul(rights.len()) <= FEW_MEETINGS {
         return None;
     }
-    let left_later = is_later(
-        Stamp {
+    let stamps = Stamps {
+        left: Stamp {
             ms: left.ms(),
             ident: left_ident,
         },
-        Stamp {
+        right: Stamp {
             ms: right.ms(),
             ident: right_ident,
         },
-    );
-    let (lefts, rights) = cross_instrs(alloc, lefts, rights, left_later)?;
+    };
+    let (lefts, rights) = cross_instrs(alloc, lefts, rights, stamps)?;
     let lefts = alive_of(alloc, lefts)?;
     let rights = alive_of(alloc, rights)?;
     made(left.ms(), lefts, right.ms(), rights)
@@ -110,14 +107,4 @@ fn made(
         return None;
     };
     Some((left, right))
-}
-
-/// Whether all of them are of lists.
-fn are_of_lists(instrs: &[Instr]) -> bool {
-    for instr in instrs {
-        if action_at(instr).is_none() {
-            return false;
-        }
-    }
-    true
 }

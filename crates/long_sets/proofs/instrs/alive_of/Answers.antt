@@ -1,4 +1,4 @@
-use Rattle.std.proofs.Common.{◌≡◌, List, [], ◌∷◌, ◌++◌, append_assoc, append-nil, Option, Some, None, refl, sym, ap, ◌∙◌}
+use Rattle.std.proofs.Common.{◌≡◌, List, [], ◌∷◌, ◌++◌, append_assoc, append-nil, Option, sym, ap, ◌∙◌}
 use Rattle.sync_theory.specs.Lists.{kept}
 use Rattle.slot_law.specs.Slots.{alive}
 use Rattle.long_sets.proofs.instrs.alive_of.Goals as goal

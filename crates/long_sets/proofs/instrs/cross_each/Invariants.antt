@@ -7,5 +7,5 @@ abbrev pub invariant-loop-place : goal.invariant-loop-place
 invariant-loop-place l = record {
   size : length l.slots ≡ length l.rights;
   listed : Lists l.index (lists_in l.slots);
-  turn : CrossInTurn l.left_later (take l.place l.lefts) l.initial.slots l.left.items l.slots;
+  turn : CrossInTurn l.left_later (take l.place l.left) l.initial.slots l.rest.items l.slots;
 }

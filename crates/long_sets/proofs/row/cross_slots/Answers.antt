@@ -1,7 +1,7 @@
 use Rattle.std.proofs.Common.{arith}
 use Rattle.long_sets.specs.Rows.{lists_in}
 use Rattle.sync_theory.specs.Lists.{kept}
-use Rattle.long_sets.proofs.Going.{begin, skips_to, met_on, at_end}
+use Rattle.long_sets.proofs.Going.{skips_to, met_on, at_end}
 use Rattle.long_sets.proofs.Homes.{both_home, home_known, none_kept}
 use Rattle.long_sets.proofs.row.cross_slots.Goals as goal
 

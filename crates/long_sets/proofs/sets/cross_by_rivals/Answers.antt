@@ -1,4 +1,4 @@
-use Rattle.std.proofs.Common.{◌≡◌, ℕ, Option, Some, None, IfSome, Ok, sym, ap, ◌∙◌, subst}
+use Rattle.std.proofs.Common.{◌≡◌, ℕ, Option, Some, None, IfSome, Ok, sym, ◌∙◌, subst}
 use Rattle.sync_data.specs.Payload.{Changes}
 use Rattle.sync_theory.specs.Lists.{cross}
 use Rattle.sync_theory.specs.Changesets.{cross_sets, later_stamp}
