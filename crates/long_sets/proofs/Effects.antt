@@ -1,5 +1,5 @@
 -- Which instructions are strangers to a list, by what they do.
-use Rattle.std.proofs.Common.{◌≡◌, Bool, true, false, cond, not, ◌&&◌, List, Option, Some, None, Ok, refl, sym, ap, ◌∙◌, subst}
+use Rattle.std.proofs.Common.{◌≡◌, Bool, true, false, cond, not, ◌&&◌, Some, Ok, refl, sym, ap, ◌∙◌, subst}
 use Rattle.std.specs.Ordering.{eq_by_cmp}
 use Rattle.std.specs.Cmp.{eq_by_cmp_equiv}
 use Rattle.sync_data.specs.declared.instr.Instr.{Instr}
@@ -17,14 +17,13 @@ use Rattle.sync_data.specs.declared.instr.SetInsert.{SetInsert}
 use Rattle.sync_data.specs.declared.instr.SetErase.{SetErase}
 use Rattle.sync_data.specs.declared.instr.DictUpdate.{DictUpdate}
 use Rattle.sync_data.specs.declared.instr.Clear.{Clear}
-use Rattle.sync_base.specs.Effects.{CellPath, ObjectName, Edit, Set, Add, Replace, Insert, Remove, Include, Exclude, Bind, Empty, Effect, NewTable, NewColumn, Create, Erase, Change, effect_of, instr_of, path_of}
+use Rattle.sync_base.specs.Effects.{CellPath, ObjectName, Edit, Set, Add, Replace, Insert, Remove, Include, Exclude, Bind, Empty, Effect, NewTable, NewColumn, Create, Erase, Change, effect_of, path_of}
 use Rattle.sync_base.specs.Merged.{path_cmp}
 use Rattle.sync_base.specs.States.{object_cmp}
 use Rattle.sync_base.specs.Rules.{rule, meeting, outcome_of, kept, has_row, lifted, rule_of_edits, only_left, only_right}
 use Rattle.sync_base.specs.Lemmas.Apart.{changes_apart}
 use Rattle.sync_base.specs.Lemmas.Looks.{path_total, object_total}
 use Rattle.sync_base.specs.Lemmas.Whole.{instr-effect}
-use Rattle.sync_index.specs.Touched.{Apart}
 use Rattle.sync_rivals.specs.Homes.{Place, OfTable, OfColumn, Creation, Erasure, InCell, AllOf, AllIn, Lane, Assigned, Added, Placed, Coming, Going, Bound, Emptied, home, lane}
 use Rattle.sync_rivals.specs.Strangers.{place_of}
 use Rattle.long_sets.specs.Parts.{Stranger}

@@ -1,7 +1,7 @@
 -- What is left of an instruction is found where it was: an index of slots is one of what is left of them.
 use Rattle.std.specs.List.{AllByRecursion}
 use Rattle.std.specs.Prelude.{slice_range}
-use Rattle.std.proofs.Common.{◌≡◌, ℕ, zero, suc, ◌+◌, ◌-◌, map, take, drop, Bool, true, false, ◌<◌, List, [], ◌∷◌, length, get_or, Option, Some, None, is_some, not, Result, Ok, Err, refl, sym, ap, ◌∙◌, subst, arith, inl, inr, ◌⊎◌}
+use Rattle.std.proofs.Common.{◌≡◌, ℕ, zero, suc, ◌+◌, ◌-◌, take, drop, Bool, true, false, ◌<◌, List, [], ◌∷◌, length, get_or, Option, Some, None, is_some, not, Result, Ok, Err, refl, sym, ap, ◌∙◌, subst, arith, inl, inr, ◌⊎◌}
 use Rattle.std.proofs.Math.ListN.{set}
 use Rattle.sync_data.specs.declared.instr.Instr.{Instr}
 use Rattle.sync_base.specs.Rules.{meeting}

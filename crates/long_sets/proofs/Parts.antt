@@ -1,5 +1,5 @@
 -- What is of a list and what is not cross apart from each other.
-use Rattle.std.proofs.Common.{◌≡◌, Bool, true, false, cond, List, [], ◌∷◌, ◌++◌, length, Option, Some, None, Result, Ok, Err, refl, sym, ap, ◌∙◌, subst, inl, inr, map, ◌⊎◌, IfOk, arith}
+use Rattle.std.proofs.Common.{◌≡◌, true, false, cond, List, [], ◌∷◌, ◌++◌, length, Option, Some, None, Result, Ok, Err, refl, sym, ap, ◌∙◌, subst, inl, inr, map, ◌⊎◌, IfOk, arith}
 use Rattle.long_sets.specs.Rows.{IsPart}
 use Rattle.sync_data.specs.declared.instr.Instr.{Instr}
 use Rattle.sync_data.specs.declared.instr.Instr.TheVariants as instrs
@@ -14,12 +14,12 @@ use Rattle.sync_base.specs.declared.answers.Outcome.{Outcome}
 use Rattle.sync_base.specs.Rules.{meeting}
 use Rattle.sync_theory.specs.Changesets.{Changeset, is_later}
 use Rattle.sync_law.specs.Instrs.{as_pair, meet}
-use Rattle.sync_rivals.specs.Homes.{Place, InCell, Placed}
+use Rattle.sync_rivals.specs.Homes.{InCell, Placed}
 use Rattle.sync_rivals.specs.Strangers.{place_of, IsAt}
 use Rattle.sync_rivals.specs.Lemmas.Homes.{homes_stay}
 use Rattle.sync_transform.proofs.Covered.{sides}
 use Rattle.slot_law.specs.Slots.{Slot, meets_in, slots_of, all_through, on_right, turned}
-use Rattle.slot_law.proofs.Through.{Through, AllThrough, end, next, none, more, some_is, none_left, through_is, all_of, all_is}
+use Rattle.slot_law.proofs.Through.{Through, AllThrough, end, next, none, more, some_is, all_of, all_is}
 use Rattle.long_sets.specs.Parts.{is_of, one_of, other_of, list_of, others_of, either_one, together, Stranger, AllStrangers, CrossAll}
 use Rattle.long_sets.proofs.Homes.{StaysHome}
 
@@ -228,7 +228,7 @@ module _ (t e : Changeset Instr) where
             let o = over (Member p) member_closed as_ bs y m.0 f (strangers_pass bs k) h in
             let q = none_through bs gone g in
             let r = go o.us bs (disjoint_stays as_ bs o.us o.home f) (members_stay p as_ o.us o.home n) k
-                (subst (λ l. AllThrough (on_right meet e) l ys tz zs) (sym o.is) hs) (subst (λ l. AllThrough (on_right meet e) l ws sz vs) (sym q.0) gs) in
+            (subst (λ l. AllThrough (on_right meet e) l ys tz zs) (sym o.is) hs) (subst (λ l. AllThrough (on_right meet e) l ws sz vs) (sym q.0) gs) in
             record {
               us = r.us;
               os = r.os;
@@ -242,7 +242,7 @@ module _ (t e : Changeset Instr) where
             let q = none_through as_ gone h in
             let still = disjoint_stays bs as_ o.us o.home back in
             let r = go as_ o.us (disjoint_flips o.us as_ still) n (strangers_stay p bs o.us o.home k)
-                (subst (λ l. AllThrough (on_right meet e) l ys tz zs) (sym q.0) hs) (subst (λ l. AllThrough (on_right meet e) l ws sz vs) (sym o.is) gs) in
+            (subst (λ l. AllThrough (on_right meet e) l ys tz zs) (sym q.0) hs) (subst (λ l. AllThrough (on_right meet e) l ws sz vs) (sym o.is) gs) in
             record {
               us = r.us;
               os = r.os;
@@ -301,7 +301,7 @@ pub parts_cross : (own other : Stamp) (p : CellPath) (ys xs zl ul zo uo : List (
 parts_cross own other p ys xs zl ul zo uo sy sx h k t e f g =
     let meets = on_right meet e in
     let b = both t e p (list_of p ys) (others_of p ys) (list_of p xs) (others_of p xs) (all_apart p ys) (all_members p ys) sy (all_apart p xs) (all_members p xs) sx
-        (all_of meets (list_of p ys) (slots_of t (list_of p xs)) (slots_of t ul) zl (h t e f g)) (all_of meets (others_of p ys) (slots_of t (others_of p xs)) (slots_of t uo) zo (k t e f g)) in
+    (all_of meets (list_of p ys) (slots_of t (list_of p xs)) (slots_of t ul) zl (h t e f g)) (all_of meets (others_of p ys) (slots_of t (others_of p xs)) (slots_of t uo) zo (k t e f g)) in
     (λ i. all_through meets (slots_of t (sym (all_whole p xs) i)) (sym (all_whole p ys) i))
     ∙ all_is meets b.all
     ∙ (λ i. Some (slots_of t (together (same_slots t b.us ul b.left i) (same_slots t b.os uo b.right i)), together zl zo))

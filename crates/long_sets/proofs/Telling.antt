@@ -1,5 +1,5 @@
 -- Slots of one list in a lane: what the lane tells of them, and what crosses it.
-use Rattle.std.proofs.Common.{◌≡◌, ℕ, zero, suc, ◌+◌, ◌<◌, Bool, true, false, cond, not, List, [], ◌∷◌, ◌++◌, append_assoc, append-nil, length, map, take, drop, Option, Some, None, IfSome, refl, sym, ap, ◌∙◌, subst, arith}
+use Rattle.std.proofs.Common.{◌≡◌, ℕ, zero, suc, ◌+◌, ◌<◌, Bool, true, false, cond, not, List, [], ◌∷◌, ◌++◌, append_assoc, append-nil, length, map, drop, Option, Some, None, IfSome, refl, sym, ap, ◌∙◌, subst, arith}
 use Rattle.sync_data.specs.declared.value.Value.{Value}
 use Rattle.sync_data.specs.declared.value.Value.TheVariants as values
 use Rattle.sync_data.specs.declared.entry.Stamp.{Stamp}
@@ -15,10 +15,10 @@ use Rattle.list_places.specs.Moves.{instr_at, moved as moved_instr}
 use Rattle.list_places.specs.declared.places.Does.{Does}
 use Rattle.list_places.specs.declared.places.Does.TheVariants.{Inserts, Erases, Updates}
 use Rattle.list_lane.specs.Ops.{moved, op_after, lane_later}
-use Rattle.list_lane.specs.Lanes.{LaneOf, Crossed, crossed, first_slot, without_first, lane_after, length_after, length_at_end, Chains, IsLeftOf}
+use Rattle.list_lane.specs.Lanes.{LaneOf, crossed, first_slot, without_first, lane_after, length_after, length_at_end, Chains, IsLeftOf}
 use Rattle.list_lane.specs.Told.{action, stamp_of}
 use Rattle.list_lane.specs.declared.op.Op.{Op}
-use Rattle.slot_law.specs.Slots.{Slot, through, all_through, slots_of, on_right}
+use Rattle.slot_law.specs.Slots.{through, all_through, slots_of, on_right}
 use Rattle.slot_law.specs.Lanes.{told_by, told_slots, Owned}
 use Rattle.slot_law.proofs.Through.{ends}
 use Rattle.slot_law.proofs.Going.{goes_right, still_owned}

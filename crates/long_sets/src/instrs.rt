@@ -5,15 +5,12 @@ ghost use Rattle.slot_law.specs.Slots.{alive};
 ghost use Rattle.long_sets.specs.Parts.{CrossAll};
 ghost use Rattle.long_sets.specs.Rows.{lists_in, somes, Crosses, CrossInTurn, IsPart};
 
-use super::lists::{Stamps, cross_by_lists};
+use super::lists::{Stamps, TRIES, cross_by_lists};
 use super::row::cross_slots;
 use list_places::is_later;
 use std::alloc::Global;
 use sync_base::Instr;
 use sync_rivals::RivalIndex;
-
-/// So many instructions are asked for the list that they are of.
-const TRIES: usize = 32;
 
 /// What is left of the instructions of two changesets, each in its slot, once they crossed; none where they mismatch, or memory
 /// runs out.
@@ -46,7 +43,9 @@ pub(crate) fn cross_others(
     let left_later = is_later(stamps.left, stamps.right);
     let mut slots = right;
     let mut index = index_of(alloc, &slots, rights);
-    let left = cross_each(alloc, left, lefts, &mut slots, &mut index, rights, left_later)?;
+    let left = cross_each(
+        alloc, left, lefts, &mut slots, &mut index, rights, left_later,
+    )?;
     Some((left, slots))
 }
 
@@ -67,7 +66,9 @@ fn cross_each(
     let mut rest = Vec::new(alloc);
     for place in 0..left.len() {
         let mut now = copy_of(&left[place])?;
-        cross_next(alloc, &mut now, lefts, place, slots, index, rights, left_later)?;
+        cross_next(
+            alloc, &mut now, lefts, place, slots, index, rights, left_later,
+        )?;
         let Ok(()) = rest.push(now) else {
             return None;
         };

@@ -24,6 +24,9 @@ pub(crate) struct OfList {
     pub(crate) right: Vec<Option<Instr>>,
 }
 
+/// So many instructions are asked for the list that they are of.
+pub(crate) const TRIES: usize = 32;
+
 /// For so many meetings of a list's instructions a lane is made.
 const FEW_OF_LIST: usize = 1_024;
 
@@ -45,7 +48,7 @@ pub(crate) fn cross_by_lists(
     if tries == 0 {
         return cross_others(alloc, &left, right, lefts, rights, stamps);
     }
-    let place = left.len() / 32 * (tries - 1);
+    let place = (left.len() / TRIES).saturating_mul(tries - 1);
     match cross_list(alloc, &left, &right, place, stamps) {
         None => cross_by_lists(alloc, left, right, lefts, rights, stamps, tries - 1),
         Some(of_list) => {
@@ -56,7 +59,15 @@ pub(crate) fn cross_by_lists(
             } = of_list;
             let left = without(alloc, left, &cell)?;
             let right = without(alloc, right, &cell)?;
-            let (left, right) = cross_by_lists(alloc, left, right, lefts, rights, stamps, tries - 1)?;
+            let (left, right) = cross_by_lists(
+                alloc,
+                left,
+                right,
+                lefts,
+                rights,
+                stamps,
+                tries - 1,
+            )?;
             let left = join(alloc, &list_left, &left)?;
             let right = join(alloc, &list_right, &right)?;
             Some((left, right))

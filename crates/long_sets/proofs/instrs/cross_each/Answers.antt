@@ -1,8 +1,8 @@
-use Rattle.std.proofs.Common.{◌≡◌, ◌+◌, ◌<◌, List, [], ◌∷◌, ◌++◌, take, sym, ap, ◌∙◌, subst, arith}
+use Rattle.std.proofs.Common.{[], ◌∷◌, ◌++◌, take, sym, ap, ◌∙◌, subst, arith}
 use Rattle.std.proofs.lemmas.List.{take_more}
 use Rattle.long_sets.specs.Rows.{CrossInTurn}
 use Rattle.long_sets.proofs.Homes.{part_at, part_sizes}
-use Rattle.long_sets.proofs.Whole.{turn_begins, turn_goes_on}
+use Rattle.long_sets.proofs.Whole.{turn_goes_on}
 use Rattle.long_sets.proofs.instrs.cross_each.Goals as goal
 
 pub cross_next-requires-clause-within : goal.cross_next-requires-clause-within

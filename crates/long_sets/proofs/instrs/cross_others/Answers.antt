@@ -1,6 +1,5 @@
-use Rattle.std.proofs.Common.{◌≡◌, List, ◌++◌, append-nil, length, take, drop, Option, sym, ap, ◌∙◌, subst, arith}
+use Rattle.std.proofs.Common.{◌≡◌, ◌++◌, append-nil, length, take, sym, ap, ◌∙◌, subst, arith}
 use Rattle.std.proofs.lemmas.List.{take_all, drop_all}
-use Rattle.sync_data.specs.declared.instr.Instr.{Instr}
 use Rattle.long_sets.specs.Rows.{CrossInTurn}
 use Rattle.long_sets.specs.Parts.{CrossAll}
 use Rattle.long_sets.proofs.Homes.{part_sizes}

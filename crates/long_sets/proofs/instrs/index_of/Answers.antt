@@ -1,4 +1,4 @@
-use Rattle.std.proofs.Common.{◌<◌, ◌+◌, length, None, get_or, sym, subst, arith}
+use Rattle.std.proofs.Common.{◌<◌, length, None, get_or, subst, arith}
 use Rattle.sync_theory.specs.Lists.{kept}
 use Rattle.sync_rivals.specs.Lists.{StandsAt}
 use Rattle.long_sets.specs.Rows.{lists_in}

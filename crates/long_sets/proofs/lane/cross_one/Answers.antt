@@ -1,4 +1,4 @@
-use Rattle.std.proofs.Common.{◌≡◌, Option, Some, None, IfSome, refl, sym, ap, ◌∙◌, subst}
+use Rattle.std.proofs.Common.{◌≡◌, Option, Some, None, IfSome, refl, ap, ◌∙◌, subst}
 use Rattle.list_lane.specs.Lanes.{Fits}
 use Rattle.slot_law.specs.Lanes.{told_by}
 use Rattle.long_sets.specs.Lists.{ToldSlot}
@@ -24,4 +24,4 @@ returns c =
     let stamp = subst (λ s. IfSome s (λ a. a.stamp ≡ c.args.stamp)) c.in-Some.is c.in_ok-op.ensures.stamp in
     let within = subst (λ n. Fits n (Some op)) c.first.ensures.is (subst (Fits c.first.result) c.in-Some.is c.in_ok-op.ensures.fits) in
     if_so _ _ c.told.result (λ z h. one_goes cell c.args.stamp x o op a c.cross.new.self rest z told c.in-Some.is stamp c.first.ensures.chains (c.if-not-has_room.ensures refl) within c.in-Ok.ensures.lane c.in-Ok.ensures.left c.in-Ok.ensures.is_left
-        (λ v s. h cell v s ∙ ap (λ n. told_by cell v n rest) c.last-end.ensures)) c.told.ensures
+    (λ v s. h cell v s ∙ ap (λ n. told_by cell v n rest) c.last-end.ensures)) c.told.ensures

@@ -1,5 +1,4 @@
 use Rattle.std.proofs.Common.{Some, None, refl, sym, ◌∙◌, subst}
-use Rattle.sync_data.specs.declared.instr.Instr.{Instr}
 use Rattle.list_places.proofs.Stands.{one_cell}
 use Rattle.list_lane.specs.declared.op.Op.{Op}
 use Rattle.long_sets.specs.Lists.{ToldSlot}

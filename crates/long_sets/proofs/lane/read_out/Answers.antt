@@ -1,7 +1,7 @@
-use Rattle.std.proofs.Common.{◌≡◌, ◌+◌, suc, ◌∷◌, [], ◌++◌, length, drop, sym, ap, ◌∙◌, subst, arith}
+use Rattle.std.proofs.Common.{◌≡◌, ◌+◌, suc, ◌∷◌, drop, sym, ap, ◌∙◌, subst, arith}
 use Rattle.std.proofs.lemmas.List.{drop_more, drop_all}
 use Rattle.slot_law.specs.Lanes.{told_by}
-use Rattle.long_sets.specs.Lists.{AllSuit, Suits}
+use Rattle.long_sets.specs.Lists.{Suits}
 use Rattle.long_sets.proofs.Telling.{nothing_read, reads_on, reads_all, SoFar}
 use Rattle.long_sets.proofs.lane.read_out.Goals as goal
 

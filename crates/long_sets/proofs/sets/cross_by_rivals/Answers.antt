@@ -5,7 +5,7 @@ use Rattle.sync_theory.specs.Changesets.{cross_sets, later_stamp}
 use Rattle.sync_law.specs.Instrs.{meet}
 use Rattle.sync_transform.specs.Sets.{made_by}
 use Rattle.slot_law.specs.Slots.{alive}
-use Rattle.long_sets.proofs.Whole.{sets_cross}
+use Rattle.long_sets.proofs.Whole.{all_cross, sets_cross}
 use Rattle.long_sets.proofs.sets.cross_by_rivals.Goals as goal
 
 both_made : (Q : Changes → Changes → Type 0) (r : Option (Changes × Changes)) (f g x y : Changes) → IfSome r (λ p. p.0 ≡ x) → IfSome r (λ p. p.1 ≡ y) → x ≡ f → y ≡ g → Q f g → IfSome r (λ p. Q p.0 p.1)
@@ -20,9 +20,11 @@ returns c =
     let right = c.args.right.now in
     let cs = alive c.in_ok-lefts.lefts.items in
     let ds = alive c.in_ok-lefts.rights.items in
-    let later = c.is_later-left_later.result in
-    let crossed : cross (λ a b. meet a b later) left.instrs right.instrs ≡ Ok (cs, ds) = (λ k. cross (λ a b. meet a b later) (sym c.instrs-lefts.ensures.listed k) (sym c.instrs-rights.ensures.listed k)) ∙ c.in_ok-lefts.ensures in
-    let told : later ≡ later_stamp left.ms i right.ms j = c.is_later-left_later.ensures ∙ (λ k. later_stamp (c.ms.ensures k) i (c.ms-2.ensures k) j) in
+    let later = later_stamp c.ms.result i c.ms-2.result j in
+    let crossed : cross (λ a b. meet a b later) left.instrs right.instrs ≡ Ok (cs, ds) =
+    (λ k. cross (λ a b. meet a b later) (sym c.instrs-lefts.ensures.listed k) (sym c.instrs-rights.ensures.listed k))
+    ∙ all_cross (record { ms = c.ms.result; ident = i }) (record { ms = c.ms-2.result; ident = j }) c.instrs-lefts.result.now c.instrs-rights.result.now c.in_ok-lefts.lefts.items c.in_ok-lefts.rights.items c.in_ok-lefts.ensures in
+    let told : later ≡ later_stamp left.ms i right.ms j = (λ k. later_stamp (c.ms.ensures k) i (c.ms-2.ensures k) j) in
     both_made (λ f g. (m n : ℕ) → cross_sets meet (made_by i m left) (made_by j n right) ≡ Ok (made_by i m f, made_by j n g)) c.made.result
     (record { ms = left.ms; instrs = cs }) (record { ms = right.ms; instrs = ds })
     (record { ms = c.ms-3.result; instrs = c.in_ok-lefts-2.lefts.items }) (record { ms = c.ms-4.result; instrs = c.in_ok-rights.rights.items })
