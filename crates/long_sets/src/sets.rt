@@ -8,10 +8,12 @@ ghost use Rattle.sync_index.specs.Touched.{Covers};
 ghost use Rattle.sync_transform.specs.Sets.{made_by};
 
 use super::instrs::{alive_of, cross_instrs};
+use super::lane::parts;
 use super::lists::Stamps;
+use super::strangers::is_of;
 use list_blocks::{cross_blocks, cross_blocks_indexed};
 use std::alloc::Global;
-use sync_base::{Changeset, Ident, Instr, Stamp};
+use sync_base::{CellName, Changeset, Ident, Instr, Stamp};
 use sync_index::Index;
 use sync_transform::CrossMismatch;
 
@@ -60,7 +62,7 @@ pub fn cross_long_indexed(
     }
 }
 
-/// Both changesets as they crossed, where they are long and there is memory for it.
+/// Both changesets as they crossed, where they are long and there is memory for it. Two blocks of one list aren't crossed so.
 fn cross_by_rivals(
     alloc: Global,
     left: &Changeset,
@@ -71,7 +73,7 @@ fn cross_by_rivals(
     ensures { IfSome result (λ p. (m n : ℕ) → crossed_sets meet (made_by left_ident m left.now) (made_by right_ident n right.now) ≡ Ok (made_by left_ident m p.0, made_by right_ident n p.1)) }
 {
     let (lefts, rights) = (left.instrs(), right.instrs());
-    if lefts.len().saturating_mul(rights.len()) <= FEW_MEETINGS {
+    if lefts.len().saturating_mul(rights.len()) <= FEW_MEETINGS || are_of_one_list(lefts, rights) {
         return None;
     }
     let stamps = Stamps {
@@ -107,4 +109,24 @@ fn made(
         return None;
     };
     Some((left, right))
+}
+
+/// Whether all instructions of both are of one list.
+fn are_of_one_list(lefts: &[Instr], rights: &[Instr]) -> bool {
+    let Some(first) = lefts.first() else {
+        return false;
+    };
+    let Some((cell, _, _, _)) = parts(first) else {
+        return false;
+    };
+    all_of(lefts, cell) && all_of(rights, cell)
+}
+
+fn all_of(instrs: &[Instr], cell: &CellName) -> bool {
+    for instr in instrs {
+        if !is_of(instr, cell) {
+            return false;
+        }
+    }
+    true
 }
