@@ -34,7 +34,7 @@ out=$(mktemp -d) || exit 1
 trap 'rm -rf "$out"' EXIT
 # Some at once, since they wait most of their time; the longest first.
 suites="test_attacks test_faults test_service.OfFiles test_service.OfPostgres test_service.OfSqlite test_limits test_stores test_service.Workers
-    test_service.WithoutConfiguration test_parts"
+    test_service.WithoutConfiguration test_parts test_history"
 # shellcheck disable=SC2086
 printf '%s\n' $suites | xargs -P $((2 * $(nproc))) -I SUITE sh -c '
     timeout -k 30 600 "$0" -W ignore::ResourceWarning -m unittest SUITE >"$1/SUITE" 2>&1

@@ -67,8 +67,9 @@ class Attacks:
     async def status(self, message, token, history=None):
         return (await self.post(message, token, history))[0]
 
-    async def get(self, path, token):
-        async with self.session.get(self.url() + path, headers={"Authorization": "Bearer " + token} if token else {}) as answer:
+    async def get(self, path, token, **headers):
+        headers |= {"Authorization": "Bearer " + token} if token else {}
+        async with self.session.get(self.url() + path, headers=headers) as answer:
             await answer.read()
             return answer.status
 
@@ -202,8 +203,10 @@ class Attacks:
             self.check(f"{path} with another history's token", await self.get(path, other), 403)
             self.check(f"{path} by a reader", await self.get(path, reader), {200, 204})
         for path in ("/objects?key={", "/entries?from=-1", "/entries?from=99999999999", "/news?after=x", "/objects?table=q&key=1e9999",
-                     "/objects?table=q&key=" + "[" * 4000):
+                     "/objects?table=q&key=" + "[" * 4000, "/news?after=0&wait=nan", "/news?after=-inf", "/entries?from=\u00b2", "/entries?from=\u0661"):
             self.check(path[:40], await self.get(path, reader), {400, 404})
+        for last in ("\u00b2", "4294967295", "9" * 4000):
+            self.check(f"events behind {last[:12]}", await self.get("/entries", reader, **{"Last-Event-ID": last}), {200, 400})
         async with self.session.post(self.url() + "/trim", headers={"Authorization": "Bearer " + self.ann}) as answer:
             self.check("a writer trims", answer.status, 403)
 
@@ -218,6 +221,10 @@ class Attacks:
             got = await self.closed(self.ann, big)
         except (ConnectionError, aiohttp.ClientError) as error:  # closed before all of it was sent
             got = type(error).__name__
+        began = time.monotonic()
+        counted = self.status(b"\3\1\xff\xff\xff\x07" + b"\1\0\0\0" * (250 << 10), self.ann)
+        statuses = await asyncio.gather(counted, *(self.status(b"\4\2\0\0", self.bob) for _ in range(3)))
+        self.check("an Upload of a quarter of a million changes", (statuses, time.monotonic() - began < 2), ([400, 200, 200, 200], True))
         self.check("3 MiB by socket", got, {1009, 1006, 4413, "ConnectionResetError", "ClientConnectionResetError"})
         before = self.memory()
         for what, token in (("", self.ann), (" without a token", None)):

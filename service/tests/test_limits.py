@@ -1,7 +1,9 @@
 """What callers may take of a worker, and what a worker tells of them."""
 
 import asyncio
+import json
 import socket
+import time
 import unittest
 
 import aiohttp
@@ -30,6 +32,27 @@ class OfOneWorker(unittest.IsolatedAsyncioTestCase):
             self.assertEqual((await opened.receive(timeout=5)).data, b"\x05\x01\x00\x00")
             self.assertEqual((await opened.receive(timeout=5)).data, 1012)
         self.assertEqual(slow.process.wait(10), 0)
+
+    async def test_a_worker_that_stops_answers_who_waits_for_news(self):
+        service = Service(stores("files")).start().ready()
+        url, headers = f"{service.base}/v1/histories/{HISTORY}", authorized("ann", {HISTORY: "write"})
+        self.assertEqual((await fetched(self.session, "POST", url, headers, b"\x01" + b"u" * 16))[0], 200)
+        waiting = asyncio.create_task(fetched(self.session, "GET", url + "/news?after=5&wait=60", headers))
+        await asyncio.sleep(0.3)
+        self.assertEqual(await asyncio.to_thread(service.stop), 0)
+        self.assertEqual((await waiting)[0], 503)
+
+    async def test_renewals_count_for_the_rate(self):
+        slow = Service(stores("files"), limits={"requests_per_second": 2.0}).start().ready()
+        given = token("ann", {HISTORY: "write"})
+        async with self.session.ws_connect(f"{slow.base}/v1/histories/{HISTORY}", headers={"Authorization": "Bearer " + given}) as opened:
+            began = time.monotonic()
+            for _ in range(10):
+                await opened.send_str(json.dumps({"token": given}))
+            await opened.send_bytes(b"\x01" + b"u" * 16)
+            self.assertEqual((await opened.receive(timeout=30)).data[:1], b"\x02")
+            self.assertGreater(time.monotonic() - began, 2.0)  # 11 at two a second, of which four may come at once
+        slow.kill()
 
     async def test_no_token_comes_to_the_log(self):
         service = Service(stores("files")).start().ready()

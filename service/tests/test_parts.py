@@ -43,7 +43,8 @@ class Messages(unittest.TestCase):
 
     def test_what_is_none(self):
         for given in ("", "63616263", "02" + "00" * 16 + "01", "01616263", "01" + "00" * 17, "03", "04" + "ff" * 20, "05010000", "09", "0901",
-                      "0b02000001", "0b020000010161", "0b0200000101ff", "03ac020201ac020003010000", "03010101000002ff"):
+                      "0b02000001", "0b020000010161", "0b0200000101ff", "03ac020201ac020003010000", "03010101000002ff",
+                      "03018120" + "01000000" * 4097, "0b0200000141" + "0161" * 65):  # more than a message has
             with self.assertRaises(BadMessage, msg=given):
                 head(bytes.fromhex(given))
 

@@ -4,6 +4,7 @@ import asyncio
 import json
 import os
 import shutil
+import signal
 import sqlite3
 import subprocess
 import unittest
@@ -383,6 +384,24 @@ class Workers(unittest.IsolatedAsyncioTestCase):
             took = asyncio.get_running_loop().time() - began
             self.assertLess(took, 15.0)
             self.assertEqual(tablet.count(), 2)
+
+    async def test_callers_whose_owner_is_gone_or_hangs_are_answered_by_the_other_worker(self):
+        """One that was killed is replaced at once, within the call; one that hangs when its lease has ended."""
+        store = {**stores("postgres"), "lease_seconds": 2.0}
+        asked = (("POST", "", b"\x04\x01\x00\x00", 200), ("GET", "/objects", None, 200), ("GET", "/entries", None, 200), ("GET", "/news?after=1&wait=0", None, 204))
+        for ends in (signal.SIGKILL, signal.SIGSTOP):
+            owner, other = (Service(store).start().ready() for _ in range(2))
+            headers, names = authorized("ann", {"*": "write"}), [f"{ends.name}-{number}" for number in range(len(asked))]
+            for name in names:
+                for base in (owner.base, other.base):
+                    self.assertEqual((await fetched(self.session, "POST", f"{base}/v1/histories/{name}", headers, b"\x01" + b"u" * 16))[0], 200)
+            owner.process.send_signal(ends)
+            began = asyncio.get_running_loop().time()
+            calls = (fetched(self.session, method, f"{other.base}/v1/histories/{name}{path}", headers, body) for name, (method, path, body, _) in zip(names, asked))
+            self.assertEqual([status for status, _ in await asyncio.gather(*calls)], [it[3] for it in asked])
+            self.assertLess(asyncio.get_running_loop().time() - began, 20.0)
+            owner.kill()
+            self.assertEqual(other.stop(), 0)
 
     async def test_a_worker_passes_on_many_sockets(self):
         """More than the hundred connections that a client of the library has by itself."""

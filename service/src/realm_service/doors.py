@@ -5,6 +5,7 @@ import contextlib
 import functools
 import json
 import logging
+import math
 import typing
 from collections.abc import Awaitable, Callable
 
@@ -25,11 +26,12 @@ from .refusals import GENERATION, Refused, response_of
 from .sockets import Sockets
 from .stores import Fenced
 from .tokens import Tokens
-from .visits import Visits
+from .visits import Visit, Visits
 
 log = logging.getLogger("realm_service")
 NO_LOG: dict[str, typing.Any] = {"access_log": None}
 Handler = Callable[["Doors", web.Request], Awaitable[web.StreamResponse]]
+Answer = Callable[[Visit, History], Awaitable[web.StreamResponse]]
 
 
 def _answered(handler: Handler) -> Handler:
@@ -54,9 +56,12 @@ def _answered(handler: Handler) -> Handler:
 
 def _number(request: web.Request, name: str, default: float) -> float:
     try:
-        return float(request.query.get(name, default))
+        given = float(request.query.get(name, default))
     except ValueError:
-        raise Refused(400, f"{name} is a number") from None
+        given = math.nan
+    if not math.isfinite(given):
+        raise Refused(400, f"{name} is a number")
+    return given
 
 
 class Doors:
@@ -155,17 +160,27 @@ class Doors:
         most, size = self.config.limits.message_bytes, request.content_length
         with self.limits.flight(most if size is None else min(size, most)):
             message = await self._body(request)
-            for _ in range(2):
-                visit = await self.visits.visit(request, is_device=True)
-                if visit.history is None:
+
+            async def answer(visit: Visit, history: History) -> web.StreamResponse:
+                reply = await self.visits.answer(history, visit.caller, message)
+                return web.Response(body=reply, headers={GENERATION: str(history.lease.generation)})
+
+            return await self._at_owner(request, answer, message)
+
+    async def _at_owner(self, request: web.Request, answer: Answer, message: bytes | None = None) -> web.StreamResponse:
+        """What this worker answers where it has the history, and else what the owner does: a `message` of a device, or another request."""
+        for is_last in (False, True):
+            visit = await self.visits.visit(request, is_device=message is not None)
+            try:
+                if visit.history is not None:
+                    return await answer(visit, visit.history)
+                if message is not None:
                     await self.limits.admit(visit.caller.user, len(message))
-                    return await self.owners.pass_on(visit.address, request, visit.token, message)
-                try:
-                    reply = await self.visits.answer(visit.history, visit.caller, message)
-                    return web.Response(body=reply, headers={GENERATION: str(visit.history.lease.generation)})
-                except Fenced:
-                    continue  # nothing of it was stored by us: whoever has it now answers
-        raise Fenced(request.match_info["history"])
+                return await self.owners.pass_on(visit, request, message)
+            except Fenced:
+                if is_last:
+                    raise  # else nothing of it was stored: whoever has the history now answers
+        raise AssertionError
 
     async def _body(self, request: web.Request) -> bytes:
         try:
@@ -177,24 +192,25 @@ class Doors:
     async def news(self, request: web.Request) -> web.StreamResponse:
         """Waits until the history has more than `after` entries."""
         after, wait = _number(request, "after", 0), min(_number(request, "wait", 25), LONGEST_WAIT)
-        visit = await self.visits.visit(request)
-        if visit.history is None:
-            return await self.owners.pass_on(visit.address, request, visit.token)
-        if await visit.history.known_length() <= after and not await _has_grown(visit.history, wait):
-            return web.Response(status=204)
-        return web.json_response({"news": visit.history.length})
+
+        async def answer(_: Visit, history: History) -> web.StreamResponse:
+            if await history.known_length() <= after and not await _has_grown(history, wait):
+                return web.Response(status=204)
+            return web.json_response({"news": history.length})
+
+        return await self._at_owner(request, answer)
 
     @_answered
     async def objects(self, request: web.Request) -> web.StreamResponse:
         """All objects, those of a table, or the one of a `table` and `key` (JSON), as the history has them now."""
-        visit = await self.visits.visit(request)
-        if visit.history is None:
-            return await self.owners.pass_on(visit.address, request, visit.token)
+        return await self._at_owner(request, functools.partial(self._objects, request))
+
+    async def _objects(self, request: web.Request, visit: Visit, history: History) -> web.StreamResponse:
         table, key, seen = request.query.get("table"), request.query.get("key"), visit.caller.tables
         if key is not None and table is not None and seen is not None and table not in seen:
             raise Forbidden("the token isn't for this table")
         asked = DUMP if key is None else OBJECT + _named(table, key)
-        status, told = await visit.history.read(asked)
+        status, told = await history.read(asked)
         if status == ABSENT:
             raise Refused(404, "there is no such object")
         if status != DONE:
@@ -206,21 +222,19 @@ class Doors:
     @_answered
     async def stream(self, request: web.Request) -> web.StreamResponse:
         """Entries from a version on."""
-        visit = await self.visits.visit(request)
-        if visit.history is None:
-            return await self.owners.pass_on(visit.address, request, visit.token)
-        return await self.entries.tell(request, visit)
+        return await self._at_owner(request, functools.partial(self.entries.tell, request))
 
     @_answered
     async def trim(self, request: web.Request) -> web.StreamResponse:
         """Gives up what all devices have settled."""
         if not self.visits.admitted(request)[2].rules:
             raise Forbidden("the token may not trim: it takes one with `rule`")
-        visit = await self.visits.visit(request)
-        if visit.history is None:
-            return await self.owners.pass_on(visit.address, request, visit.token)
-        before, after = await visit.history.trim()
-        return web.json_response({"before": before, "after": after})
+
+        async def answer(_: Visit, history: History) -> web.StreamResponse:
+            before, after = await history.trim()
+            return web.json_response({"before": before, "after": after})
+
+        return await self._at_owner(request, answer)
 
 
 async def _has_grown(history: History, wait: float) -> bool:
@@ -231,15 +245,13 @@ async def _has_grown(history: History, wait: float) -> bool:
         if not grown.done():
             grown.set_result(length)
 
-    history.listeners.add(listener)
     try:
-        if await asyncio.wait_for(grown, wait) is None:
-            raise Fenced(history.name)
-        return True
+        with history.listening(listener):
+            if await asyncio.wait_for(grown, wait) is None:
+                raise Fenced(history.name)
+            return True
     except asyncio.TimeoutError:
         return False
-    finally:
-        history.listeners.discard(listener)
 
 
 def _named(table: str | None, key: str) -> bytes:

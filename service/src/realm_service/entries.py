@@ -4,6 +4,7 @@ import asyncio
 import contextlib
 import json
 import logging
+import re
 import time
 import typing
 import uuid
@@ -22,6 +23,7 @@ from .visits import Visit, Visits
 log = logging.getLogger("realm_service")
 
 KEEP_ALIVE = 15.0  # seconds after which a stream of events says that it lives
+VERSION = re.compile(r"[0-9]{1,10}")
 EVENTS, LINES = "text/event-stream", "application/x-ndjson"
 
 
@@ -33,11 +35,12 @@ def _line(entry: Entry, device: bytes | None) -> str:
 
 def _first(request: web.Request) -> int:
     """The version from which on entries are asked; a stream that is resumed says the last one that it has."""
-    last = request.headers.get("Last-Event-ID")
-    given = str(int(last) + 1) if last is not None and last.isdigit() else request.query.get("from", "0")
-    if not given.isdigit() or int(given) >= 1 << 32:
+    last = request.headers.get("Last-Event-ID", "")
+    is_resumed = VERSION.fullmatch(last) is not None
+    given = last if is_resumed else request.query.get("from", "0")
+    if not VERSION.fullmatch(given) or int(given) + is_resumed >= 1 << 32:
         raise Refused(400, "from is a version")
-    return int(given)
+    return int(given) + is_resumed
 
 
 class _Page:
@@ -91,8 +94,8 @@ class Entries:
         for event in self.following:
             event.set()
 
-    async def tell(self, request: web.Request, visit: Visit) -> web.StreamResponse:
-        history, version = typing.cast(History, visit.history), _first(request)
+    async def tell(self, request: web.Request, visit: Visit, history: History) -> web.StreamResponse:
+        version = _first(request)
         stream = _Stream(request, history.lease.generation, self.visits.limits.config.message_seconds)
         is_followed = request.query.get("follow", "1" if stream.is_events else "0") == "1"
         page = await self._page(history, version, visit)
@@ -145,12 +148,9 @@ class Entries:
         def listener(_: int | None) -> None:
             grown.set()
 
-        if history.gone:
-            raise Fenced(history.name)
-        history.listeners.add(listener)
-        self.following.add(grown)
-        try:
-            yield grown
-        finally:
-            history.listeners.discard(listener)
-            self.following.discard(grown)
+        with history.listening(listener):
+            self.following.add(grown)
+            try:
+                yield grown
+            finally:
+                self.following.discard(grown)

@@ -135,8 +135,7 @@ class Histories:
         for work in history.waiting:
             work.fail(Fenced(history.name))
         history.waiting.clear()
-        for listener in set(history.listeners):
-            listener(None)
+        history.tell_moved()
 
     # ---- idle ones
 
@@ -155,10 +154,11 @@ class Histories:
             history.give_up(time.monotonic() - self.message_seconds)
         for history in [it for it in self.nodes if it.used < since and it.is_idle()]:
             self._close_node(history)
-        for history in [it for it in self.owned.values() if it.used < since and it.is_idle() and not it.listeners]:
-            await history.close()
-            if self.owned.get(history.name) is history:
-                del self.owned[history.name]
+        for history in list(self.owned.values()):
+            if history.used < since and history.is_idle() and not history.listeners:
+                await history.close()
+                if self.owned.get(history.name) is history:
+                    del self.owned[history.name]
         if self.let_go:
             self.let_go = 0
             await self.work_aside(give_back)

@@ -9,7 +9,7 @@ import dataclasses
 import logging
 import time
 import typing
-from collections.abc import Callable
+from collections.abc import Callable, Iterator
 
 from . import metrics
 from .devices import Caller, Devices, Forbidden, Outdated, TooMuch
@@ -85,6 +85,17 @@ class History:
         if status != DONE:
             raise NodeFailed(f"entries: {status}")
         return told
+
+    @contextlib.contextmanager
+    def listening(self, listener: Listener) -> Iterator[None]:
+        """Tells it all news from here on. Raises Fenced where the history isn't this worker's any more, since nobody would tell it then."""
+        if self.gone:
+            raise Fenced(self.name)
+        self.listeners.add(listener)
+        try:
+            yield
+        finally:
+            self.listeners.discard(listener)
 
     async def known_length(self) -> int:
         if self.length is None:
@@ -241,15 +252,19 @@ class History:
             else:
                 work.fail(BadMessage("no message") if status == BAD_REQUEST else NodeFailed(str(status)))
         if uploaders:
-            self._tell_news(uploaders)
+            self._tell_news(self.sizes.length, uploaders)
 
-    def _tell_news(self, but: set[Listener | None]) -> None:
-        length = self.sizes.length
-        if self.length is not None and length > self.length:
-            metrics.ENTRIES.inc(length - self.length)
-            self.length = length
+    def _tell_news(self, length: int, but: set[Listener | None]) -> None:
+        known, self.length = self.length, length
+        if known is not None and length > known:
+            metrics.ENTRIES.inc(length - known)
             for listener in list(self.listeners - but):
                 listener(length)
+
+    def tell_moved(self) -> None:
+        """Whoever listens is to come back."""
+        for listener in set(self.listeners):
+            listener(None)
 
     # ---- the node
 
@@ -264,21 +279,22 @@ class History:
                 self.devices = Devices(devices, self.lease.generation, self.histories.most_devices)
                 await self.histories.work_aside(self.node.open, journal)
                 await self._store(self.node.written(), [], 0)
-                await self.histories.work_aside(self._learn, list(devices))
-                await self._store(self.node.written(), [], self.sizes.length)
+                length = await self.histories.work_aside(self._learn, list(devices))
+                await self._store(self.node.written(), [], length)
+                self.sizes = Sizes(length, self.sizes.size)
+                self._tell_news(length, set())  # of an append that failed, and was stored all the same
             except BaseException:
                 self.let_go()
                 raise
         metrics.OPENED.inc()
 
-    def _learn(self, uuids: list[bytes]) -> None:
+    def _learn(self, uuids: list[bytes]) -> int:
         """Whose each ident is, and how long the history is: a Bind that is repeated answers the same ident."""
         assert self.node is not None and self.devices is not None
         *replies, standing = self.node.ask_all([*(TAKE + bytes([BIND]) + uuid for uuid in uuids), STANDING])
         for reply in replies:
             self.devices.named(reply.told)
-        self.length = length_of(standing)
-        self.sizes = Sizes(self.length, self.sizes.size)
+        return length_of(standing)
 
     async def _trim(self) -> tuple[int, int]:
         """The node is opened again from what is left."""
@@ -310,6 +326,7 @@ class History:
         self.gone = True
         while self.runner is not None:
             await asyncio.wait([self.runner])
+        self.tell_moved()
         self.let_go()
         with contextlib.suppress(StoreDown):
             await self.histories.store.release(self.lease)

@@ -139,10 +139,10 @@ class Guarded(RequestHandler):
             return 0
         unsent: int = self.transport.get_write_buffer_size()
         parser: typing.Any = self._payload_parser
-        try:
-            come = len(parser._frame_payload) + len(parser._partial) + len(parser._tail) + parser.queue._size if parser is not None else 0
-        except AttributeError:
-            come = 0
+        come: int = 0
+        with contextlib.suppress(AttributeError):
+            if parser is not None:
+                come = len(parser._frame_payload) + len(parser._partial) + len(parser._tail) + parser.queue._size
         return unsent + come
 
 

@@ -8,6 +8,7 @@ from collections.abc import Iterator
 BIND, IDENT, UPLOAD, ASK, DOWNLOAD, REFUSED, ASK2, RETIRE, ASK_TABLES = 1, 2, 3, 4, 5, 6, 8, 9, 11
 NAMES = {BIND: "bind", UPLOAD: "upload", ASK: "ask", ASK2: "ask", ASK_TABLES: "ask", RETIRE: "retire"}
 GIVEN_UP, AHEAD = 71, 63  # codes of a refusal
+MOST_CHANGES, MOST_TABLES = 4096, 64  # of a message: more are gone through by nobody
 
 
 class BadMessage(Exception):
@@ -19,6 +20,12 @@ class Reader:
 
     def __init__(self, data: bytes, place: int = 0):
         self.data, self.place = data, place
+
+    def count(self, most: int) -> int:
+        """A number of values that come, of which no message has more."""
+        if (count := self.number()) > most:
+            raise BadMessage("too many")
+        return count
 
     def number(self) -> int:
         value = 0
@@ -43,7 +50,7 @@ class Reader:
 
     def tables(self) -> frozenset[str]:
         try:
-            return frozenset(self.bytes(self.number()).decode() for _ in range(self.number()))
+            return frozenset(self.bytes(self.number()).decode() for _ in range(self.count(MOST_TABLES)))
         except UnicodeDecodeError:
             raise BadMessage("no tables") from None
 
@@ -73,7 +80,7 @@ def head(message: bytes) -> Head:
     if tag in (ASK, ASK2):
         return Head(tag, ident=read.number(), version=read.number())
     if tag == UPLOAD:
-        ident, changes = read.number(), read.number()
+        ident, changes = read.number(), read.count(MOST_CHANGES)
         return Head(tag, ident=ident, version=_lowest_base(read, changes), changes=changes)
     if tag == RETIRE:
         retired = read.number()
@@ -86,7 +93,7 @@ def head(message: bytes) -> Head:
 
 def _lowest_base(read: Reader, changes: int) -> int:
     """Of all changes, since the server skips those that it has: a first one of these may have any base."""
-    lowest = None
+    lowest: int | None = None
     for _ in range(changes):
         _, base, _, size = (read.number() for _ in range(4))
         read.skip(size)

@@ -6,6 +6,7 @@ import json
 import time
 import typing
 
+import aiohttp
 from aiohttp import WSMsgType, web
 
 from . import metrics
@@ -82,20 +83,27 @@ class Sockets:
         try:
             visit = await self.visits.visit(request, is_device=True)
             with self.limits.socket(visit.caller.user):
-                return await self._opened(request, visit)
+                try:
+                    other = await self._other(visit, request)
+                except Fenced:
+                    visit = await self.visits.visit(request, is_device=True)
+                    other = await self._other(visit, request)
+                return await self._opened(request, visit, other)
         except Exception as error:
             return response_of(error)
 
-    async def _opened(self, request: web.Request, visit: Visit) -> web.StreamResponse:
-        owners = self.visits.owners
-        other = None if visit.history else await owners.connected(visit.address, request, visit.token)
+    async def _other(self, visit: Visit, request: web.Request) -> aiohttp.ClientWebSocketResponse | None:
+        """The socket to the owner, where that isn't this worker."""
+        return None if visit.history else await self.visits.owners.connected(visit, request)
+
+    async def _opened(self, request: web.Request, visit: Visit, other: aiohttp.ClientWebSocketResponse | None) -> web.StreamResponse:
         most = self.limits.config.message_bytes
         socket = web.WebSocketResponse(max_msg_size=most, heartbeat=HEARTBEAT, timeout=2, compress=False, protocols=("realm",))
         await socket.prepare(request)
         self.open.add(socket)
         try:
             if other is not None:
-                await owners.relay(socket, other, visit.name, visit.caller)
+                await self.visits.owners.relay(socket, other, visit)
             else:
                 await self._serve(request, socket, visit)
         except Exception as error:
@@ -109,35 +117,40 @@ class Sockets:
     async def _serve(self, request: web.Request, socket: web.WebSocketResponse, visit: Visit) -> None:
         history = typing.cast(History, visit.history)
         news, end = News(socket), _End(socket, visit)
-        history.listeners.add(news)
         try:
-            while True:
-                message = await socket.receive()
-                if visit.until <= time.time():
-                    raise BadToken("the token has expired")
-                if message.type == WSMsgType.BINARY:
-                    news.is_told = False
-                    if history.gone:
-                        raise Fenced(visit.name)
-                    self.answering.add(socket)
-                    with self.limits.flight(len(message.data)):
-                        await self._send(request, socket, await self.visits.answer(history, visit.caller, message.data, news))
-                    self.answering.discard(socket)
-                    if not self.visits.is_open:
-                        raise Refused(503, "the worker stops", RESTART)
-                elif message.type == WSMsgType.TEXT:
-                    visit.caller, visit.until = self._renewed(message.data, visit)
+            with history.listening(news):
+                while await self._served(request, socket, visit, history, news):
                     end.renew()
-                elif history.gone or not self.visits.is_open:
-                    raise Refused(503, "the worker stops, or has the history no more", RESTART)
-                else:
-                    return
         except ConnectionError:
             return
         finally:
             self.answering.discard(socket)
-            history.listeners.discard(news)
             end.timer.cancel()
+
+    async def _served(self, request: web.Request, socket: web.WebSocketResponse, visit: Visit, history: History, news: News) -> bool:
+        """Answers messages. True where a newer token came, and False where the caller has closed the socket."""
+        while True:
+            message = await socket.receive()
+            if visit.until <= time.time():
+                raise BadToken("the token has expired")
+            if message.type == WSMsgType.BINARY:
+                news.is_told = False
+                if history.gone:
+                    raise Fenced(visit.name)
+                self.answering.add(socket)
+                with self.limits.flight(len(message.data)):
+                    await self._send(request, socket, await self.visits.answer(history, visit.caller, message.data, news))
+                self.answering.discard(socket)
+                if not self.visits.is_open:
+                    raise Refused(503, "the worker stops", RESTART)
+            elif message.type == WSMsgType.TEXT:
+                await self.limits.admit(visit.caller.user, len(message.data))
+                visit.caller, visit.until = self._renewed(message.data, visit)
+                return True
+            elif history.gone or not self.visits.is_open:
+                raise Refused(503, "the worker stops, or has the history no more", RESTART)
+            else:
+                return False
 
     async def _send(self, request: web.Request, socket: web.WebSocketResponse, reply: bytes) -> None:
         if request.transport is not None and request.transport.get_write_buffer_size() + len(reply) < SOON:

@@ -69,7 +69,7 @@ class Tokens:
             device = uuid.UUID(claims["device"]).bytes if "device" in claims else None
             grants = tuple(_grant(*it) for it in claims["realm"].items())
             return _Claims(_user(claims["sub"]), float(claims["exp"]), device, grants)
-        except (jwt.PyJWTError, KeyError, ValueError, TypeError, AttributeError, RecursionError) as error:
+        except (jwt.PyJWTError, KeyError, ValueError, TypeError, AttributeError, OverflowError, RecursionError) as error:
             raise BadToken(f"the token doesn't hold: {error}") from error
 
     def caller(self, token: str, history: str) -> tuple[Caller | None, float]:

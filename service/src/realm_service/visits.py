@@ -13,7 +13,7 @@ from .history import History, Listener
 from .limits import Limits
 from .owners import HOP, Owners
 from .refusals import Refused
-from .stores import StoreDown
+from .stores import Elsewhere, StoreDown
 from .tokens import BadToken, Tokens
 
 NAME = re.compile(r"[A-Za-z0-9_][A-Za-z0-9_.-]{0,127}")
@@ -42,14 +42,14 @@ def address_of(request: web.Request) -> tuple[str, int | None]:
 
 @dataclasses.dataclass
 class Visit:
-    """`history` is None where the worker at `address` owns it."""
+    """A request that was let in: where the history is this worker's, `history`, and else `owner`, who has it."""
 
     name: str
     token: str
     caller: Caller
     until: float
     history: History | None
-    address: str
+    owner: Elsewhere | None
 
 
 class Visits:
@@ -82,14 +82,14 @@ class Visits:
                 found = await self.owners.find(name, caller, HOP in request.headers)
         except asyncio.TimeoutError:
             raise StoreDown("nobody says in time who has the history") from None
-        if isinstance(found, str):
+        if isinstance(found, Elsewhere):
             return Visit(name, token, caller, until, None, found)
         _, given = address_of(request)
         if given is None and is_device:
             given = 1
         if given is not None and given != found.lease.generation:
             raise Outdated(given, found.lease.generation)
-        return Visit(name, token, caller, until, found, "")
+        return Visit(name, token, caller, until, found, None)
 
     async def answer(self, history: History, caller: Caller, message: bytes, listener: Listener | None = None) -> bytes:
         """The reply to a message, within the caller's rate."""
