@@ -42,6 +42,7 @@ class Attacks:
         self.history = "attacked-" + uuid.uuid4().hex[:8]
         self.ann, self.bob = self.token("ann"), self.token("bob")
         self.checks, self.bad = 0, []
+        self.seen = set()  # which door answered with which status
 
     # ---- tools
 
@@ -98,7 +99,9 @@ class Attacks:
 
     async def run(self):
         """All of it. True where each is as it should be."""
-        async with aiohttp.ClientSession(connector=aiohttp.TCPConnector(limit=0)) as self.session:
+        noting = aiohttp.TraceConfig()
+        noting.on_request_end.append(self.note)
+        async with aiohttp.ClientSession(connector=aiohttp.TCPConnector(limit=0), trace_configs=[noting]) as self.session:
             if self.owner:
                 headers = {"Authorization": "Bearer " + self.ann}
                 async with self.session.get(f"{self.owner}/v1/histories/{self.history}/objects", headers=headers) as answer:
@@ -112,8 +115,28 @@ class Attacks:
             await self.slow()
             await self.many_sockets()
             await self.flood()
+            await self.described()
         print(f"{self.checks} checks, {len(self.bad)} bad", *self.bad, sep="\n    ")
         return not self.bad
+
+    async def note(self, _session, _context, ended):
+        """Of a history's doors, and of others."""
+        first, found, behind = ended.url.raw_path.partition("/v1/histories/")
+        at, name, rest = self.base in str(ended.url), *behind.partition("/")[::2]
+        if at and not first and found and name:
+            path = found + "{history}" + ("/" + rest if rest else "")
+        elif at and not found:
+            path = first
+        else:
+            return
+        self.seen.add((ended.method.lower(), path, str(ended.response.status)))
+
+    async def described(self):
+        """Each answer that came is one that the page of the doors names."""
+        async with self.session.get(self.base + "/openapi.json") as answer:
+            paths = (await answer.json())["paths"]
+        known = {(method, path, status) for path, methods in paths.items() for method, it in methods.items() for status in it["responses"]}
+        self.check(f"the page of the doors names each of {len(self.seen)} kinds of answers", sorted(self.seen - known), [])
 
     async def whose(self):
         """Idents and uuids of others."""
@@ -207,6 +230,8 @@ class Attacks:
             self.check(path[:40], await self.get(path, reader), {400, 404})
         for last in ("\u00b2", "4294967295", "9" * 4000):
             self.check(f"events behind {last[:12]}", await self.get("/entries", reader, **{"Last-Event-ID": last}), {200, 400})
+        self.check("a GET that is no WebSocket's", await self.get("", reader), 400)
+        self.check("a WebSocket without a key", await self.get("", reader, Upgrade="websocket", Connection="Upgrade"), 400)
         async with self.session.post(self.url() + "/trim", headers={"Authorization": "Bearer " + self.ann}) as answer:
             self.check("a writer trims", answer.status, 403)
 

@@ -1,13 +1,16 @@
 """Parts by themselves: what is read of messages, who may say them, tokens, and the configuration."""
 
 import base64
+import contextlib
 import hashlib
 import hmac
 import json
 import os
+import re
 import subprocess
 import sys
 import time
+import types
 import unittest
 import uuid
 
@@ -18,10 +21,18 @@ from support import SECRET, TOP, folder
 
 from realm_service import config as configs
 from realm_service.devices import Caller, Devices, Forbidden, Outdated
+from realm_service.doors import Doors
+from realm_service.histories import Histories
 from realm_service.messages import BadMessage, Entry, Head, NoEntries, entries, head, ident_of, journal_end, question
+from realm_service.openapi import described
+from realm_service.refusals import Refused
 from realm_service.stores import Device
+from realm_service.stores.files import Files
 from realm_service.tokens import BadToken, Tokens
+from realm_service.visits import address_of
 
+# docs/SERVICE.md, "Doors".
+QUERIES = {"news": {"after", "wait"}, "objects": {"table", "key"}, "entries": {"from", "follow"}}
 A, B, C = (bytes([number]) * 16 for number in (1, 2, 3))
 
 
@@ -175,6 +186,29 @@ class TokensOfKeys(unittest.TestCase):
         self.assertEqual(tokens.caller(given, "a-2")[0], Caller("ann", False, device=A))  # the wider of two that read
         only = tokens.made("ann", {"a-*": {"level": "read", "tables": ["notes"]}}, 60)
         self.assertEqual(tokens.caller(only, "a-2")[0], Caller("ann", False, tables=frozenset({"notes"})))
+
+
+class Page(unittest.IsolatedAsyncioTestCase):
+    """The OpenAPI page, by the doors themselves; attacks.py has the answers."""
+
+    async def test_it_names_each_door(self):
+        store = Files(folder())
+        doors = Doors(Histories(store, configs.HistoriesConfig(), 30, None), Tokens(SECRET), "", configs.Config())
+        routes = {(it.method.lower(), it.resource.canonical) for it in doors._app().router.routes() if it.method != "HEAD"}
+        paths = described()["paths"]
+        self.assertEqual(routes - {("get", "/")}, {(method, path) for path, methods in paths.items() for method in methods})
+        await store.stop()
+
+    def test_it_names_what_a_call_may_say(self):
+        for path, methods in described()["paths"].items():
+            told = {it["name"] for given in methods.values() for it in given.get("parameters", []) if it["in"] == "query"}
+            self.assertEqual(told, QUERIES.get(path.rpartition("/")[2], set()), path)
+        name, *_ = described()["paths"]["/v1/histories/{history}"]["post"]["parameters"]
+        for given, fits in (("family-7", True), ("f.7_@12", True), (".f", False), ("-f", False), ("f@", False), ("f/g", False), ("n" * 129, False), ("n" * 128, True)):
+            self.assertEqual(re.fullmatch(name["schema"]["pattern"], given) is not None, fits, given)
+            at = types.SimpleNamespace(match_info={"history": given})
+            with contextlib.nullcontext() if fits else self.assertRaises(Refused):
+                address_of(at)
 
 
 class Configuration(unittest.TestCase):

@@ -287,6 +287,19 @@ class OfFiles(Suite, unittest.IsolatedAsyncioTestCase):
         shutil.rmtree(self.store["folder"])
         shutil.copytree(kept, self.store["folder"])
 
+    async def test_a_damaged_history_isnt_moved(self):
+        async with Device(self.service.base, HISTORY) as phone:
+            phone.note("milk", "buy milk")
+            await phone.sync()
+        self.service.stop()
+        path, other = os.path.join(self.store["folder"], HISTORY + ".realm"), Service(stores("sqlite"))
+        os.truncate(path, os.path.getsize(path) - 2)
+        with open(path, "rb") as file:
+            damaged = file.read()
+        status, said = self.service.command("move", HISTORY, "--to", other.config)
+        self.assertEqual((status, said.partition(",")[0]), (1, f"realm_service: {HISTORY}: no journal of a server"))
+        with open(path, "rb") as file:
+            self.assertEqual(file.read(), damaged)
 
     async def test_a_long_history_comes_in_parts(self):
         async with Device(self.service.base, HISTORY) as phone, Device(self.service.base, HISTORY) as tablet:

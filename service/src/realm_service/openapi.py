@@ -4,9 +4,10 @@ import html
 import typing
 
 _STATUSES = {
-    "400": "no message, or a parameter that isn't one", "401": "no token, or one that doesn't hold", "403": "not this caller's",
+    "400": "no message, no WebSocket, or a parameter that isn't one", "401": "no token, or one that doesn't hold", "403": "not this caller's",
     "404": "no such history, name or object", "410": "another generation, or entries that are no more: begin anew",
-    "413": "too large, or too much to merge at once", "429": "too many", "503": "try again",
+    "413": "too large, or too much to merge at once", "429": "too many", "500": "a journal that is damaged, or a fault of the service",
+    "501": "there is no program to trim with", "503": "try again",
 }
 _NAME = {
     "name": "history", "in": "path", "required": True, "schema": {"type": "string", "pattern": "^[A-Za-z0-9_][A-Za-z0-9_.-]{0,127}(@[0-9]+)?$"},
@@ -17,12 +18,12 @@ _NAME = {
 def _operation(summary: str, parameters: list[tuple[str, str, str]], answers: dict[str, str], statuses: str = "") -> dict[str, typing.Any]:
     query = [{"name": name, "in": "query", "schema": {"type": kind}, "description": text} for name, kind, text in parameters]
     told = {status: {"description": text} for status, text in answers.items()}
-    refused = {status: {"description": _STATUSES[status]} for status in ("401", "403", "404", "429", "503", *statuses.split())}
+    refused = {status: {"description": _STATUSES[status]} for status in ("401", "403", "404", "410", "429", "500", "503", *statuses.split())}
     return {"summary": summary, "parameters": [_NAME, *query], "responses": told | refused}
 
 
 def _message() -> dict[str, typing.Any]:
-    told = _operation("A message of docs/FORMATS.md and its reply", [], {"200": "the reply"}, "400 410 413")
+    told = _operation("A message of docs/FORMATS.md and its reply", [], {"200": "the reply"}, "400 413")
     told["requestBody"] = {"required": True, "content": {"application/octet-stream": {"schema": {"type": "string", "format": "binary"}}}}
     return told
 
@@ -32,7 +33,7 @@ def described() -> dict[str, typing.Any]:
     one = "/v1/histories/{history}"
     socket = "A WebSocket: binary frames are messages and replies in turn; text frames {\"news\": LENGTH} come, {\"token\": TOKEN} may go"
     paths: dict[str, typing.Any] = {
-        one: {"post": _message(), "get": _operation(socket, [], {"101": "it is open"}, "410")},
+        one: {"post": _message(), "get": _operation(socket, [], {"101": "it is open"}, "400")},
         one + "/news": {"get": _operation("Waits until the history has more entries", [
             ("after", "integer", "how many the caller knows"), ("wait", "number", "seconds, at most 60")],
             {"200": "{\"news\": LENGTH}", "204": "none came"}, "400")},
@@ -40,8 +41,8 @@ def described() -> dict[str, typing.Any]:
             ("table", "string", "those of one table"), ("key", "string", "one of them, as JSON")], {"200": "lines"}, "400")},
         one + "/entries": {"get": _operation("Entries from a version on: lines of JSON, or server-sent events by Accept", [
             ("from", "integer", "the first version; a Last-Event-ID says the last one that the caller has"),
-            ("follow", "integer", "1: go on with those that come; of events the default")], {"200": "entries"}, "400 410")},
-        one + "/trim": {"post": _operation("Gives up what all devices have settled", [], {"200": "{\"before\": BYTES, \"after\": BYTES}"})},
+            ("follow", "integer", "1: go on with those that come; of events the default")], {"200": "entries"}, "400")},
+        one + "/trim": {"post": _operation("Gives up what all devices have settled", [], {"200": "{\"before\": BYTES, \"after\": BYTES}"}, "501")},
     }
     for path, text in (("/healthz", "alive"), ("/readyz", "takes work"), ("/metrics", "Prometheus' text"), ("/openapi.json", "this")):
         paths[path] = {"get": {"summary": text, "security": [], "responses": {"200": {"description": text}}}}

@@ -8,7 +8,7 @@ from collections.abc import AsyncIterator
 
 from .config import BadConfig, Config
 from .messages import journal_end
-from .node import Damaged, Node, NodeFailed
+from .node import STANDING, Damaged, Node, NodeFailed, length_of
 from .server import store_of, tokens_of
 from .stores import Absent, Elsewhere, Fenced, Lease, Store, Stored, StoreDown
 from .tokens import LEVELS
@@ -76,7 +76,8 @@ async def move(config: Config, target: Config, names: list[str]) -> None:
             async with _held(here, config, name) as lease:
                 journal, devices = await here.read(lease)
                 whole = journal[: journal_end(journal)] + b"\0" if journal else b""
-                _look_at(name, whole)
+                if _look_at(name, journal) != _look_at(name, whole):  # (whatever follows the closed gate means nothing)
+                    raise Unable(f"{name}: its journal doesn't end where it seems to")
                 async with _held(there, target, name, create=True) as copy:
                     await _moved(here, there, lease, copy, Stored(whole, devices))
             print(f"{name}: moved, {copy.length} bytes")
@@ -107,11 +108,12 @@ async def _copied(there: Store, copy: Lease, stored: Stored, last: int) -> None:
             await there.raise_generation(copy)
 
 
-def _look_at(name: str, journal: bytes) -> None:
-    """Opens the journal, and lets it go."""
+def _look_at(name: str, journal: bytes) -> int:
+    """Opens the journal, and lets it go. How many entries it has; Unable where it is damaged."""
     node = Node()
     try:
         node.open(journal)
+        return length_of(node.ask_all([STANDING])[0])
     except (Damaged, NodeFailed) as error:
         raise Unable(f"{name}: {error}") from error
     finally:

@@ -81,6 +81,8 @@ class Sockets:
 
     async def handle(self, request: web.Request) -> web.StreamResponse:
         try:
+            if not web.WebSocketResponse(protocols=("realm",)).can_prepare(request).ok:
+                raise Refused(400, "a GET here opens a WebSocket, and this one doesn't ask for it: a message by itself is a POST")
             visit = await self.visits.visit(request, is_device=True)
             with self.limits.socket(visit.caller.user):
                 try:
