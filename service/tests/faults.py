@@ -7,7 +7,7 @@ Of two workers over PostgreSQL:
   kill      kill -9 of a worker, which is started again
   pause     a worker stands still for longer than its lease, and goes on
   database  PostgreSQL is stopped, at once or in order, and started
-  cut       the connections that append are cut, again and again
+  cut       the connections that append are cut, again and again, and some in the middle of an append
   force     histories are taken from their owner while it lives and works
   rolling   a worker is stopped in order and started
 Of the one process over files or SQLite: kill and rolling."""
@@ -26,6 +26,8 @@ HERE = os.path.dirname(os.path.abspath(__file__))
 KINDS = {"postgres": ("kill", "pause", "database", "cut", "force", "rolling"), "sqlite": ("kill", "rolling"), "files": ("kill", "rolling")}
 LIMITS = {"requests_per_second": 1e9, "user_connections": 10_000}
 CUT = "SELECT count(pg_terminate_backend(pid)) FROM pg_stat_activity WHERE pid <> pg_backend_pid() AND query LIKE '%claimed AS%'"
+# Appends wait for the lock within their statement, and are cut there.
+CUT_WITHIN = f"BEGIN; LOCK TABLE history IN EXCLUSIVE MODE; SELECT pg_sleep(0.3); {CUT} AND state = 'active'; COMMIT"
 FORCE = ("UPDATE history SET owner = (SELECT id FROM worker w WHERE w.id <> history.owner LIMIT 1), epoch = epoch + 1"
          " WHERE random() < 0.5 AND owner IS NOT NULL AND (SELECT count(*) FROM worker) > 1")
 
@@ -39,11 +41,15 @@ class Faults:
         for it in self.workers:
             it.ready()
         self.fenced = self.failed = 0.0
+        self.cut_within = 0  # appends
 
     def noted(self, worker):
         """What a worker counted so far is kept, since it is about to end."""
         self.fenced += worker.metric("realm_histories_fenced_total") or 0
         self.failed += worker.metric("realm_batches_failed_total") or 0
+
+    def database_name(self):
+        return self.store["dsn"].rpartition("/")[2]
 
     def kill(self, worker):
         time.sleep(self.drawn.uniform(0.3, 1.0))
@@ -69,9 +75,11 @@ class Faults:
         for _ in range(10):
             cluster().sql(CUT)
             time.sleep(self.drawn.uniform(0.0, 0.1))
+        for _ in range(3):
+            self.cut_within += int(cluster().sql(CUT_WITHIN, self.database_name()).split()[-1])
 
     def force(self, _):
-        cluster().sql(FORCE, self.store["dsn"].rpartition("/")[2])
+        cluster().sql(FORCE, self.database_name())
         time.sleep(self.drawn.uniform(0.5, 1.0))
 
     def rolling(self, worker):
@@ -108,7 +116,8 @@ class Faults:
             load.wait()
         for it in self.workers:
             self.noted(it)
-        print(said + f"    {self.fenced:.0f} times a history was fenced, {self.failed:.0f} batches failed")
+        print(said + f"    {self.fenced:.0f} times a history was fenced, {self.failed:.0f} batches failed, {self.cut_within} appends were cut within"
+              " their statement")
         statuses = [it.stop() for it in self.workers]
         return load.returncode == 0 and statuses == [0] * len(statuses)
 
