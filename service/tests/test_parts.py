@@ -200,7 +200,7 @@ class Page(unittest.IsolatedAsyncioTestCase):
 
     async def test_it_names_each_door(self):
         store = Files(folder())
-        doors = Doors(Histories(store, configs.HistoriesConfig(), 30, None), Tokens(SECRET), "", configs.Config())
+        doors = Doors(Histories(store, configs.HistoriesConfig(), 30), Tokens(SECRET), "", configs.Config())
         routes = {(it.method.lower(), it.resource.canonical) for it in doors._app().router.routes() if it.method != "HEAD"}
         paths = described()["paths"]
         self.assertEqual(routes - {("get", "/")}, {(method, path) for path, methods in paths.items() for method in methods})

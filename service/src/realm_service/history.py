@@ -28,10 +28,10 @@ from .node import (
     Reply,
     Written,
     length_of,
+    trimmed,
     uuids_of,
 )
 from .stores import Fenced, Lease, StoreDown
-from .trimming import CantTrim
 from .weights import LIGHT_MESSAGE, Sizes
 
 if typing.TYPE_CHECKING:
@@ -197,10 +197,10 @@ class History:
             self.histories.forget(self)
         else:
             metrics.FAILED.labels(type(error).__name__).inc()
-            if not isinstance(error, (StoreDown, NodeFailed, CantTrim)):
+            if not isinstance(error, (StoreDown, NodeFailed)):
                 log.error("%s: a batch failed", self.name, exc_info=error)
         for work in batch:
-            work.fail(error if isinstance(error, (Fenced, Damaged, CantTrim)) else StoreDown(str(error)))
+            work.fail(error if isinstance(error, (Fenced, Damaged)) else StoreDown(str(error)))
 
     async def _answer(self, batch: list[_Work]) -> None:
         if not batch:
@@ -342,7 +342,7 @@ class History:
         """The node is opened again from what is left."""
         self.let_go()
         journal, _ = await self.histories.store.read(self.lease)
-        left = await self.histories.trimmer(journal)
+        left = await self.histories.work(trimmed, journal)
         if len(left) < len(journal):
             await self.histories.store.replace(self.lease, left)
         return len(journal), min(len(left), len(journal))

@@ -11,7 +11,7 @@ from .library import Buffer, Library
 DONE, BAD_REQUEST, ABSENT, CLOSED, BAD_FILE, NO_MEMORY = 0, 2, 3, 5, 6, 7
 KEPT_ROOM = 1 << 18  # bytes of a buffer that is kept
 OPEN_SERVER, TAKE, STANDING, EMPTIED, DUMP, OBJECT = b"s", b"T", b"I", b"V", b"D", b"O"
-ENTRIES, CLIENTS, HEAD, BORNE = b"E", b"Q", b"H", b"P"
+ENTRIES, CLIENTS, HEAD, BORNE, TRIMMED = b"E", b"Q", b"H", b"P", b"F"
 
 
 class NodeFailed(Exception):
@@ -104,6 +104,19 @@ class Node:
     def emptied(self) -> None:
         """All that was written is stored. Until then `written` tells it again."""
         self._is_emptied = True
+
+
+def trimmed(journal: bytes) -> bytes:
+    """The shorter journal of a server, without the history that no client needs."""
+    node = Node()
+    try:
+        node.open(journal)
+        status, told = node.ask_all([TRIMMED])[0]
+    finally:
+        node.close()
+    if status != DONE:
+        raise NodeFailed(f"trim: {status}")
+    return told
 
 
 def length_of(standing: Reply) -> int:

@@ -13,7 +13,6 @@ from .history import Busy
 from .node import Damaged, NodeFailed
 from .stores import Absent, Elsewhere, Fenced, StoreDown
 from .tokens import BadToken
-from .trimming import CantTrim
 
 log = logging.getLogger("realm_service")
 GENERATION = "Realm-Generation"
@@ -28,7 +27,7 @@ class Refused(Exception):
 
 KINDS: tuple[tuple[type[BaseException], int, int], ...] = (
     (BadMessage, 400, 0), (BadToken, 401, 0), (Forbidden, 403, 0), (Absent, 404, 0), (Outdated, 410, 0), (TooMuch, 413, 0),
-    (Busy, 503, LATER), (StoreDown, 503, LATER), (NodeFailed, 503, LATER), (Fenced, 503, RESTART), (Elsewhere, 503, RESTART), (Damaged, 500, 0), (CantTrim, 501, 0),
+    (Busy, 503, LATER), (StoreDown, 503, LATER), (NodeFailed, 503, LATER), (Fenced, 503, RESTART), (Elsewhere, 503, RESTART), (Damaged, 500, 0),
     (asyncio.TimeoutError, 503, LATER),
 )
 TRY_AGAIN = "the worker or its store doesn't answer as yet: try again"
