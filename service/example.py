@@ -5,7 +5,7 @@ usage: service/example.py FILE [NOTE..]
        service/example.py FILE --follow        prints the notes whenever they change
 
 REALM_TOKEN is the token that ./realm_service prints, REALM_URL the service (http://127.0.0.1:8480), REALM_HISTORY the history (notes). It
-stands on the Python package, whose library python/build.sh --library builds, or REALM_SYNC_LIBRARY names."""
+stands on the Python package, and takes the C library that ./realm_service built, unless REALM_SYNC_LIBRARY names another one."""
 
 import os
 import signal
@@ -13,7 +13,11 @@ import sys
 from collections.abc import Sequence
 from uuid import UUID
 
-sys.path.insert(0, os.path.join(os.path.dirname(os.path.dirname(os.path.abspath(__file__))), "python", "src"))
+TOP = os.path.dirname(os.path.dirname(os.path.abspath(__file__)))
+BUILT = os.path.join(TOP, "out", "librealm_sync.so")
+sys.path.insert(0, os.path.join(TOP, "python", "src"))
+if os.path.exists(BUILT):
+    os.environ.setdefault("REALM_SYNC_LIBRARY", BUILT)
 
 from realm_sync import Database, table  # noqa: E402
 

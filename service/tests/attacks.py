@@ -104,8 +104,8 @@ class Attacks:
         async with aiohttp.ClientSession(connector=aiohttp.TCPConnector(limit=0), trace_configs=[noting]) as self.session:
             if self.owner:
                 headers = {"Authorization": "Bearer " + self.ann}
-                async with self.session.get(f"{self.owner}/v1/histories/{self.history}/objects", headers=headers) as answer:
-                    self.check("another worker owns it", answer.status, 200)
+                async with self.session.get(f"{self.owner}/v1/histories/{self.history}/news?wait=0", headers=headers) as answer:
+                    self.check("another worker owns it", answer.status, 204)
             await self.whose()
             await self.garbage()
             await self.tokens()

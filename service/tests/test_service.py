@@ -141,6 +141,14 @@ class Suite:
             fields[name] = value
         return fields["id"], json.loads(fields["data"])
 
+    async def test_who_reads_makes_no_history(self):
+        for path in ("/objects", "/entries"):
+            self.assertEqual((await self.get(path, level="rule"))[0], 404)
+        self.assertEqual((await fetched(self.session, "POST", self.url + "/trim", authorized("ann", {HISTORY: "rule"})))[0], 404)
+        self.assertEqual(self.service.metric("realm_histories_owned"), 0)
+        self.assertEqual((await self.get("/news?wait=0", level="read"))[0], 404)
+        self.assertEqual((await self.get("/news?wait=0", level="write"))[0], 204)
+
     async def test_who_may_not_make_a_history_holds_up_nobody_who_may(self):
         bind = b"\x01" + b"u" * 16
         for number in range(10):

@@ -167,10 +167,10 @@ class Doors:
 
             return await self._at_owner(request, answer, message)
 
-    async def _at_owner(self, request: web.Request, answer: Answer, message: bytes | None = None) -> web.StreamResponse:
-        """What this worker answers where it has the history, and else what the owner does: a `message` of a device, or another request."""
+    async def _at_owner(self, request: web.Request, answer: Answer, message: bytes | None = None, makes: bool = False) -> web.StreamResponse:
+        """What this worker answers where it has the history, and else what the owner does: to a `message` of a device, or another request."""
         for is_last in (False, True):
-            visit = await self.visits.visit(request, is_device=message is not None)
+            visit = await self.visits.visit(request, message is not None, makes)
             try:
                 if visit.history is not None:
                     return await answer(visit, visit.history)
@@ -198,7 +198,7 @@ class Doors:
                 return web.Response(status=204)
             return web.json_response({"news": history.length})
 
-        return await self._at_owner(request, answer)
+        return await self._at_owner(request, answer, makes=True)  # (a device may ask before its first message comes)
 
     @_answered
     async def objects(self, request: web.Request) -> web.StreamResponse:

@@ -47,12 +47,12 @@ class Owners:
         if self.session is not None:
             await self.session.close()
 
-    async def find(self, name: str, caller: Caller, is_passed_on: bool) -> History | Elsewhere:
-        """The history, or who has it."""
+    async def find(self, name: str, makes: bool, is_passed_on: bool) -> History | Elsewhere:
+        """The history, or who has it. It is made where there is none, if the caller `makes` one."""
         suspect = None
         for _ in range(3):
             try:
-                return await self.histories.get(name, self.create and caller.writes, suspect)
+                return await self.histories.get(name, self.create and makes, suspect)
             except Elsewhere as elsewhere:
                 if is_passed_on or not elsewhere.address:
                     raise
@@ -130,7 +130,7 @@ class Owners:
             await asyncio.sleep(LATE_SECONDS)
             if is_late() and await self._hear(visit.owner) is not True:
                 with contextlib.suppress(StoreDown):
-                    if isinstance(await self.find(visit.name, visit.caller, False), History):
+                    if isinstance(await self.find(visit.name, False, False), History):
                         return
 
     async def _streamed(self, request: web.Request, answer: aiohttp.ClientResponse, headers: dict[str, str]) -> web.StreamResponse:

@@ -69,9 +69,9 @@ class Visits:
         (name, _), token = address_of(request), token_of(request)
         return (name, token, *self.caller(token, name))
 
-    async def visit(self, request: web.Request, is_device: bool = False) -> Visit:
-        """Finds the history. A device that says no generation is taken for one of the first; its messages count for the rate, and each
-        request of the others."""
+    async def visit(self, request: web.Request, is_device: bool = False, makes: bool = False) -> Visit:
+        """Finds the history, which a device `makes` whose user may write. One that says no generation is taken for one of the first; its
+        messages count for the rate, and each request of the others."""
         name, token, caller, until = self.admitted(request)
         if not self.is_open:
             raise StoreDown("the worker starts or stops")
@@ -79,7 +79,7 @@ class Visits:
             await self.limits.admit(caller.user, 0)
         try:
             async with asyncio.timeout(self.limits.config.message_seconds):
-                found = await self.owners.find(name, caller, HOP in request.headers)
+                found = await self.owners.find(name, caller.writes and (is_device or makes), HOP in request.headers)
         except asyncio.TimeoutError:
             raise StoreDown("nobody says in time who has the history") from None
         if isinstance(found, Elsewhere):
