@@ -45,8 +45,8 @@ class Faults:
 
     def noted(self, worker):
         """What a worker counted so far is kept, since it is about to end."""
-        self.fenced += worker.metric("realm_histories_fenced_total") or 0
-        self.failed += worker.metric("realm_batches_failed_total") or 0
+        self.fenced += worker.metric("realm_histories_fenced_total", 2) or 0
+        self.failed += worker.metric("realm_batches_failed_total", 2) or 0
 
     def database_name(self):
         return self.store["dsn"].rpartition("/")[2]

@@ -127,10 +127,10 @@ class Service:
         done = subprocess.run(given, env=self.env, stdout=subprocess.PIPE, stderr=subprocess.STDOUT, text=True, check=False)
         return done.returncode, done.stdout
 
-    def metric(self, name):
-        """The sum over the labels, or None where the service doesn't answer."""
+    def metric(self, name, seconds=30):
+        """The sum over the labels, or None where the service doesn't answer in time."""
         try:
-            text = get(self.base + "/metrics", seconds=2)[1]
+            text = get(self.base + "/metrics", seconds=seconds)[1]
         except OSError:
             return None
         return sum(float(line.split()[-1]) for line in text.splitlines() if line.split("{")[0].split(" ")[0] == name)
