@@ -23,7 +23,7 @@ from .visits import Visit, Visits
 log = logging.getLogger("realm_service")
 
 KEEP_ALIVE = 15.0  # seconds after which a stream of events says that it lives
-FIRST_COUNT, MOST_COUNT, PAGE_BYTES = 64, 4096, 1 << 20  # entries of a page, and about how many bytes of them
+FIRST_COUNT, MOST_COUNT, PAGE_BYTES = 1, 4096, 1 << 20  # entries of a page, and about how many bytes of them
 VERSION = re.compile(r"[0-9]{1,10}")
 EVENTS, LINES = "text/event-stream", "application/x-ndjson"
 
