@@ -178,7 +178,7 @@ class Doors:
                     await self.limits.admit(visit.caller.user, len(message))
                 return await self.owners.pass_on(visit, request, message)
             except Fenced:
-                if is_last:
+                if is_last or not self.visits.is_open:
                     raise  # else nothing of it was stored: whoever has the history now answers
         raise AssertionError
 
