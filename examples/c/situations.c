@@ -17,7 +17,7 @@
 #include <unistd.h>
 
 /* The calls of the system, of which one fails when it is told to. */
-static int write_error, sync_error, lock_error;
+static int write_error, sync_error, lock_error, writes, syncs;
 static const char *rename_from, *rename_to; /* done once, between an open and its lock */
 static ssize_t failing_write(int file, const void *bytes, size_t count);
 static int failing_fsync(int file);
@@ -31,11 +31,13 @@ static int failing_flock(int file, int how);
 #undef flock
 
 static ssize_t failing_write(int file, const void *bytes, size_t count) {
+    writes++;
     errno = write_error;
     return write_error ? -1 : write(file, bytes, count);
 }
 
 static int failing_fsync(int file) {
+    syncs++;
     errno = sync_error;
     return sync_error ? -1 : fsync(file);
 }
@@ -545,6 +547,83 @@ static void forked(void) {
     realm_close(&phone);
 }
 
+/* Several transactions at once: two writes and two syncs, a refusal that ends them, and a disk that fails. */
+static void together(void) {
+    realm_node phone;
+    realm_transaction adds[100];
+    size_t done;
+    for (size_t i = 0; i < 100; i++) adds[i] = (realm_transaction){2, ADD};
+    const char *path = fresh("together");
+    new_phone(&phone, path, 1);
+    make_list(&phone);
+    writes = syncs = 0;
+    must(realm_commit_all(&phone, adds, 100, &done), &phone);
+    printf("100 transactions at once: %d writes and %d syncs\n", writes, syncs);
+    expect(done == 100 && realm_number(&phone) == 101, "all are committed");
+    adds[3].edits = "[{\"op\":\"EraseObject\",\"table\":\"items\",\"key\":9}]";
+    tell("  one of them is refused", &phone, realm_commit_all(&phone, adds, 100, &done), REALM_REFUSED);
+    expect(done == 3, "those before it are committed");
+    adds[1].edits = "{}";
+    tell("  one of them is none", &phone, realm_commit_all(&phone, adds, 100, &done), REALM_BAD_REQUEST);
+    expect(done == 1 && standing(&phone).last == 105, "the one before it is committed");
+    must(realm_commit_all(&phone, adds, 0, &done), &phone);
+    realm_close(&phone);
+    must(realm_open_client(&phone, path), &phone);
+    expect(standing(&phone).last == 105, "all that was answered is there");
+    write_error = ENOSPC;
+    tell("  the disk is full", &phone, realm_commit_all(&phone, adds, 100, &done), REALM_CLOSED);
+    write_error = 0;
+    expect(done == 0, "none is committed");
+    realm_close(&phone);
+    must(realm_open_client(&phone, path), &phone);
+    expect(standing(&phone).last == 105, "and none stands in the file");
+    realm_close(&phone);
+}
+
+static off_t size_of(const char *path) {
+    struct stat it;
+    return stat(path, &it) == 0 ? it.st_size : 0;
+}
+
+/* A shorter file takes the place of the node's own, while it is open. */
+static void shrunk(void) {
+    realm_node phone, server, own = {0};
+    const char *path = fresh("shrunk"), *kept = fresh("served");
+    must(realm_open_server(&server, kept), &server);
+    new_phone(&phone, path, 1);
+    make_list(&phone);
+    add(&phone, 300);
+    for (int i = 0; i < 2; i++) must(sync_with(&phone, &server), &phone);
+    add(&phone, 5);
+    off_t before = size_of(path), served = size_of(kept);
+    must(realm_shrink(&phone), &phone);
+    must(realm_shrink(&server), &server);
+    expect(size_of(path) * 10 < before && size_of(kept) * 10 < served, "both files are short");
+    tell("another open of a file that was shrunk", &own, realm_open_client(&own, path), REALM_BUSY);
+    realm_close(&own);
+    expect(standing(&phone).unsent == 5 && standing(&phone).last == 306, "the phone is as it was");
+    write_error = ENOSPC;
+    tell("  no room for the shorter file", &phone, realm_shrink(&phone), REALM_NOT_SHRUNK);
+    write_error = 0;
+    add(&phone, 1);
+    rename(path, path_of("moved"));
+    tell("  the file was renamed", &phone, realm_shrink(&phone), REALM_NOT_SHRUNK);
+    rename(path_of("moved"), path);
+    must(sync_with(&phone, &server), &phone);
+    realm_close(&phone);
+    must(realm_open_client(&phone, path), &phone);
+    must(sync_with(&phone, &server), &phone);
+    expect(standing(&phone).unsent == 0 && item_has(&phone, "\"count\":306") && item_has(&server, "\"count\":306"), "nothing is lost");
+    sync_error = EIO;
+    tell("  a sync that fails", &phone, realm_shrink(&phone), REALM_NOT_SHRUNK);
+    sync_error = 0;
+    realm_close(&phone);
+    must(realm_open_client(&phone, NULL), &phone);
+    must(realm_shrink(&phone), &phone);
+    realm_close(&phone);
+    realm_close(&server);
+}
+
 static void requests(void) {
     realm_node phone, server;
     must(realm_open_server(&server, NULL), &server);
@@ -555,6 +634,7 @@ static void requests(void) {
     tell("edits that are no list", &phone, realm_commit(&phone, 1, "{}"), REALM_BAD_REQUEST);
     tell("edits that are none", &phone, realm_commit(&phone, 1, "[{\"op\":\"Updte\"}]"), REALM_BAD_REQUEST);
     tell("a name that is none", &phone, realm_object(&phone, "items"), REALM_BAD_REQUEST);
+    tell("a page that begins nowhere", &phone, realm_page(&phone, "{\"key\":1}", 10), REALM_BAD_REQUEST);
     tell("a message that is none", &phone, realm_take(&phone, "hello", 5), REALM_BAD_REQUEST);
     tell("a client's call on a server", &server, realm_commit(&server, 1, "[]"), REALM_BAD_REQUEST);
     tell("the ident 0", &phone, realm_retire(&phone, 0), REALM_BAD_REQUEST);
@@ -581,6 +661,8 @@ int main(int count, char **words) {
     renamed();
     closing();
     forked();
+    together();
+    shrunk();
     requests();
     printf("%s\n", wrong ? "WRONG" : "all as they should be");
     return wrong ? 1 : 0;

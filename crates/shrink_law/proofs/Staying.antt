@@ -18,7 +18,7 @@ plain_take zero h = no_more
 plain_take (suc n) no_more = no_more
 plain_take (suc n) (and_each h f) = and_each h (plain_take n f)
 
-plain_append : {rs ts : List ClientRecord} → ArePlain rs → ArePlain ts → ArePlain (rs ++ ts)
+pub plain_append : {rs ts : List ClientRecord} → ArePlain rs → ArePlain ts → ArePlain (rs ++ ts)
 plain_append no_more g = g
 plain_append (and_each h f) g = and_each h (plain_append f g)
 
@@ -179,7 +179,7 @@ module _ {I S : Type 0} (p : Profile I S) where
       let e = changes_alike hs c d a count in
       λ i. record { records = (e i).records; lines = (e i).answer; known = known }
 
-  frame_alike : (c d : Client I S) → Alike c d → (known : List (ℕ × ℕ)) (m : Message) → recover_frame p d known m ≡ recover_frame p c known m
+  pub frame_alike : (c d : Client I S) → Alike c d → (known : List (ℕ × ℕ)) (m : Message) → recover_frame p d known m ≡ recover_frame p c known m
   frame_alike c d a known (Retired ident by count) = λ i. if by == a.ident i then says_only ((ident, count) ∷ known) (IsHeir ident count) else says_only known (RecoveryLine.Refuses ResetRefusal.NotMine)
   frame_alike c d a known (Upload ident hs) = upload_alike c d a known (count_known ident known) hs
   frame_alike c d a known (Bind u) = refl
@@ -196,7 +196,7 @@ module _ {I S : Type 0} (p : Profile I S) where
   upload_plain c known None hs = no_more
   upload_plain c known (Some count) hs = changes_plain hs c count
 
-  frame_plain : (c : Client I S) (known : List (ℕ × ℕ)) (m : Message) → ArePlain (recover_frame p c known m).records
+  pub frame_plain : (c : Client I S) (known : List (ℕ × ℕ)) (m : Message) → ArePlain (recover_frame p c known m).records
   frame_plain c known (Retired ident by count) = on (by == c.ident)
     where
       on : (b : Bool) → ArePlain (if b then says_only ((ident, count) ∷ known) (IsHeir ident count) else says_only known (RecoveryLine.Refuses ResetRefusal.NotMine)).records

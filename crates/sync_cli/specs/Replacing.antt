@@ -1,5 +1,5 @@
--- The words of the command that trims a server's file where it stands.
-use Rattle.std.specs.Prelude.{◌≡◌, ℕ, List, [], ◌∷◌, codes}
+-- The words of the commands that write a node's file anew where it stands.
+use Rattle.std.specs.Prelude.{◌≡◌, ◌⊎◌, ℕ, List, [], ◌∷◌, codes}
 
 abbrev pub AsksToReplace : List (List ℕ) → Type 0
-AsksToReplace words = (file : List ℕ) × (words ≡ codes "trim" ∷ codes "--replace" ∷ file ∷ [])
+AsksToReplace words = (file : List ℕ) × ((words ≡ codes "trim" ∷ codes "--replace" ∷ file ∷ []) ⊎ (words ≡ codes "shrink" ∷ codes "--replace" ∷ file ∷ []))

@@ -1,4 +1,4 @@
-// A server's file that is trimmed where it stands.
+// A node's file that is written anew where it stands: a server's trimmed, or a client's short one.
 ghost use Rattle.std.specs.Prelude.{map, string_bytes, IfSome, IfNone};
 ghost use Rattle.sync_cli.specs.Replacing.{AsksToReplace};
 
@@ -10,7 +10,7 @@ use std::fs::File;
 use std::path::Path;
 use sync_io::Status;
 
-/// The path in the words `trim --replace FILE`; none where they are others.
+/// The path in the words `trim --replace FILE` or `shrink --replace FILE`; none where they are others.
 pub(crate) fn path_to_replace(words: &[String]) -> Option<&str>
     ensures some { IfSome result (λ _. AsksToReplace (map string_bytes words.now)) }
 {
@@ -18,11 +18,14 @@ pub(crate) fn path_to_replace(words: &[String]) -> Option<&str>
         [word, option, path] if word.as_str() == "trim" && option.as_str() == "--replace" => {
             Some(path.as_str())
         }
+        [word, option, path] if word.as_str() == "shrink" && option.as_str() == "--replace" => {
+            Some(path.as_str())
+        }
         _ => None,
     }
 }
 
-/// Writes the trimmed file of the server at a path to another path, and brings it to the disk.
+/// Writes the new file of the node at a path to another path, and brings it to the disk.
 fn write_beside(rt: &HostRuntime, words: &[String], path: &str, beside: &str) -> Status {
     let Ok(told) = fs::metadata(rt, path) else {
         return Status::DiskFault;
@@ -65,10 +68,18 @@ fn sync_folder(rt: &HostRuntime, path: Path<'_>) -> Status {
     }
 }
 
-/// Puts the trimmed file in the place of the server's, which is held. Where anything fails the server's file is as it was, unless
-/// it is only the folder that isn't brought to the disk: then one of the two stands there after a crash of the machine.
+/// What the name of the new file ends with, as long as it stands beside the old one.
+fn ending(words: &[String]) -> &'static str {
+    match words {
+        [word, ..] if word.as_str() == "shrink" => "shrunk",
+        _ => "trimmed",
+    }
+}
+
+/// Puts the new file in the place of the old one, which is held. Where anything fails the old file is as it was, unless it is only
+/// the folder that isn't brought to the disk: then one of the two stands there after a crash of the machine.
 fn put_in_place(rt: &HostRuntime, words: &[String], path: Path<'_>) -> Status {
-    let Ok(beside) = format!(in rt.alloc(); "{}.trimmed", path.as_str()) else {
+    let Ok(beside) = format!(in rt.alloc(); "{}.{}", path.as_str(), ending(words)) else {
         return Status::NoMemory;
     };
     let status = write_beside(rt, words, path.as_str(), beside.as_str());
@@ -83,9 +94,9 @@ fn put_in_place(rt: &HostRuntime, words: &[String], path: Path<'_>) -> Status {
     sync_folder(rt, path)
 }
 
-/// Trims the server's file at a path where it stands: the new file is written beside it, brought to the disk, and takes its
-/// place, while no other command writes to it. `words` ask for a trim.
-pub(crate) fn replace_trimmed(rt: &HostRuntime, words: &[String], path: &str) -> End {
+/// Trims the server's file at a path, or shrinks the client's, where it stands: the new file is written beside it, brought to the
+/// disk, and takes its place, while no other command writes to it. `words` ask for the new file.
+pub(crate) fn replace_file(rt: &HostRuntime, words: &[String], path: &str) -> End {
     let held = match hold(rt, path) {
         Ok(held) => held,
         Err(LockRefusal::Busy) => return End::Busy,

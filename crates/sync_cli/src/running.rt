@@ -3,7 +3,7 @@ ghost use Rattle.sync_cli.specs.Replacing.{AsksToReplace};
 ghost use Rattle.sync_top.specs.Jobs.{AsksFor};
 
 use super::end::End;
-use crate::replacing::{path_to_replace, replace_trimmed};
+use crate::replacing::{path_to_replace, replace_file};
 use file_lock::{LockRefusal, hold};
 use std::fs;
 use std::io::{BufWriter, Read, Write};
@@ -84,6 +84,7 @@ fn writes(command: FileCommand) -> bool {
         | FileCommand::Retire { ident: _ }
         | FileCommand::Rescue { after: _ }
         | FileCommand::Trim
+        | FileCommand::Shrink
         | FileCommand::Start { id: _ } => false,
     }
 }
@@ -172,8 +173,8 @@ pub fn run_words<I: Read + Drop, O: Write + Drop>(
         → (result ≡ End.Ran Status.BadWords) ⊎ (result ≡ End.Ran Status.NoMemory) }
 {
     match path_to_replace(words) {
-        // (the first two words ask for a trim)
-        Some(path) => replace_trimmed(rt, &words[..2], path),
+        // (the first two words ask for the new file)
+        Some(path) => replace_file(rt, &words[..2], path),
         None => run_command(rt, words, input, output),
     }
 }

@@ -10,7 +10,7 @@ use Rattle.sync_exchange.specs.Profile.{the_profile}
 use Rattle.sync_exchange.specs.Seen.{client_bytes, server_bytes}
 use Rattle.sync_words.specs.Messages.{message_read}
 use Rattle.sync_node.specs.Commands.{TellsText}
-use Rattle.sync_node.specs.FileCommands.{Does, IsFileFor, IsFileStatus, IsInputFor, MakesFile}
+use Rattle.sync_node.specs.FileCommands.{Does, IsFileFor, IsFileStatus, IsInputFor, MakesFile, MakesShort}
 use Rattle.sync_node.specs.Items.{frames_of, lines_of}
 use Rattle.sync_node.specs.Opening.{client_file, server_file}
 use Rattle.sync_node.specs.Recovering.{heard, recover_step, recovered}
@@ -50,6 +50,10 @@ module _ {L D : Type 0} (now : L → D) (content : D → Option (List ℕ)) (ima
   lent_does commands.Show t = lent_tells now content images moment since node_file shown status lent ended first last old new from to t
   lent_does commands.Trim t = lent_file texts.Trimmed t
   lent_does (commands.Start id) t = lent_file (texts.Started id) t
+  lent_does commands.Shrink t = record {
+    tells = lent_tells now content images moment since client_file (text_of errands.Shrink) status lent ended first last old new from to t.tells;
+    stands = λ b told. t.stands b (ap content from ∙ told);
+  }
 
 -- ---- where nothing failed and the file is the node's, the command is done, or memory ran out
 module _ {D : Type 0} (content : D → Option (List ℕ)) (images : D → List ℕ → Type 0) (moment : D → ℕ) (since : D → ℕ → List ℕ → Type 0) (left : Option (List ℕ)) (status : Status) (first last : D) (old new : Option (List ℕ)) (b : List ℕ) (told : content first ≡ Some b)
@@ -77,3 +81,4 @@ module _ {D : Type 0} (content : D → Option (List ℕ)) (images : D → List �
   does_all commands.Show t only file valid = text_all node_file shown t only file.0 file.1
   does_all commands.Trim t only file valid = text_all server_file (server_text texts.Trimmed) t.tells only file.0 file.1
   does_all (commands.Start id) t only file valid = text_all server_file (server_text (texts.Started id)) t.tells only file.0 file.1
+  does_all commands.Shrink t only file valid = text_all client_file (text_of errands.Shrink) t.tells only file.0 file.1

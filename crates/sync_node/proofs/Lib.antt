@@ -12,5 +12,6 @@ pub mod Telling
 pub mod Landed
 pub mod Objects
 pub mod Standing
+pub mod Shrunk
 pub mod Waiting
 pub mod FileCommands

@@ -3,6 +3,7 @@ use Rattle.std.specs.Prelude.{◌≡◌, ◌<◌, ◌≤◌, ◌^◌, ℕ, List,
 use Rattle.sync_disk.specs.Disk.{Told}
 use Rattle.sync_io.specs.declared.status.Status.{Status}
 use Rattle.sync_io.specs.declared.status.Status.TheVariants as statuses
+use Rattle.sync_model.specs.Clients.{ClientRecord}
 use Rattle.sync_model.specs.Servers.{ServerRecord}
 use Rattle.sync_exchange.specs.Seen.{client_bytes, server_bytes}
 use Rattle.sync_node.specs.Commands.{AnswersItems, TellsText}
@@ -10,7 +11,7 @@ use Rattle.sync_node.specs.Items.{frames_of, lines_of}
 use Rattle.sync_node.specs.Opening.{client_file, server_file}
 use Rattle.sync_node.specs.Recovering.{heard, recover_step}
 use Rattle.sync_node.specs.Runs.{IsNodeStatus, noting_runs, runs}
-use Rattle.sync_node.specs.Sending.{text_of}
+use Rattle.sync_node.specs.Sending.{StandsFor as ClientStandsFor, text_of}
 use Rattle.sync_node.specs.declared.sending.Errand.TheVariants as errands
 use Rattle.sync_node.specs.ServerTexts.{StandsFor, text_of as server_text}
 use Rattle.sync_node.specs.declared.server_text.ServerText.{ServerText}
@@ -33,6 +34,12 @@ module _ {D : Type 0} (content : D → Option (List ℕ)) (images : D → List �
     pub tells : TellsText content images moment images_since server_file (server_text what) status first last old new
     pub stands : Told (content first) (λ b. (records : List ServerRecord) → server_file b ≡ Ok records → status ≡ statuses.Done → StandsFor what records)
 
+  -- A client over a file writes the bytes of the file that may stand in its place, and adds no record. They stand for the records of
+  -- that file.
+  pub record MakesShort (moment : D → ℕ) (images_since : D → ℕ → List ℕ → Type 0) (status : Status) (first last : D) (old new : Option (List ℕ)) : Type 0 where
+    pub tells : TellsText content images moment images_since client_file (text_of errands.Shrink) status first last old new
+    pub stands : Told (content first) (λ b. (records : List ClientRecord) → client_file b ≡ Ok records → status ≡ statuses.Done → ClientStandsFor errands.Shrink records)
+
   -- each command
   abbrev pub Does : (moment : D → ℕ) (images_since : D → ℕ → List ℕ → Type 0) → FileCommand → Option (List ℕ) → Status → D → D → Option (List ℕ) → Option (List ℕ) → Type 0
   Does moment images_since commands.Edit left status first last old new = AnswersItems content images client_file client_bytes (λ records. runs edit_step records (lines_of left)) status first last old new
@@ -46,6 +53,7 @@ module _ {D : Type 0} (content : D → Option (List ℕ)) (images : D → List �
   Does moment images_since commands.Recover left status first last old new = AnswersItems content images client_file client_bytes (λ records. noting_runs recover_step heard [] records (frames_of left)) status first last old new
   Does moment images_since commands.Trim left status first last old new = MakesFile moment images_since texts.Trimmed status first last old new
   Does moment images_since (commands.Start id) left status first last old new = MakesFile moment images_since (texts.Started id) status first last old new
+  Does moment images_since commands.Shrink left status first last old new = MakesShort moment images_since status first last old new
 
 -- ---- valid inputs and files
 abbrev pub IsNodeFile : {R : Type 0} → (List ℕ → Result R ℕ) → List ℕ → Type 0
@@ -64,6 +72,7 @@ IsFileFor (commands.Rescue after) bytes = IsNodeFile client_file bytes
 IsFileFor commands.Recover bytes = IsNodeFile client_file bytes
 IsFileFor commands.Trim bytes = IsNodeFile server_file bytes
 IsFileFor (commands.Start id) bytes = IsNodeFile server_file bytes
+IsFileFor commands.Shrink bytes = IsNodeFile client_file bytes
 
 -- each line or frame is one of the command's
 abbrev pub IsInputFor : FileCommand → Option (List ℕ) → Type 0
@@ -78,6 +87,7 @@ IsInputFor (commands.Rescue after) left = Unit {0}
 IsInputFor commands.Recover left = IsValid is_message (frames_of left)
 IsInputFor commands.Trim left = Unit {0}
 IsInputFor (commands.Start id) left = Unit {0}
+IsInputFor commands.Shrink left = Unit {0}
 
 -- the ends of a command over a file; those that read nothing have none of reading
 abbrev pub IsFileStatus : FileCommand → Status → Type 0
@@ -92,6 +102,7 @@ IsFileStatus (commands.Rescue after) status = IsTellStatus status
 IsFileStatus commands.Recover status = IsNodeStatus status
 IsFileStatus commands.Trim status = IsTellStatus status
 IsFileStatus (commands.Start id) status = IsTellStatus status
+IsFileStatus commands.Shrink status = IsTellStatus status
 
 -- the commands that read no input
 abbrev pub ReadsNothing : FileCommand → Type 0
@@ -106,3 +117,4 @@ ReadsNothing (commands.Rescue after) = Unit {0}
 ReadsNothing commands.Recover = ⊥
 ReadsNothing commands.Trim = Unit {0}
 ReadsNothing (commands.Start id) = Unit {0}
+ReadsNothing commands.Shrink = Unit {0}

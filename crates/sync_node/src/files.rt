@@ -49,6 +49,8 @@ pub enum FileCommand {
     Trim,
     /// A server writes the file of a new client of this uuid, which begins with the server's objects.
     Start { id: Id },
+    /// A client writes the short file that may stand in place of its own.
+    Shrink,
 }
 
 /// Runs a command over a disk, and hands the disk back.
@@ -95,6 +97,7 @@ fn run_over<S: Source, K: Sink, D: Disk>(
         FileCommand::Rescue { after } => {
             write_of_client(alloc, sink, disk, Errand::Rescue { after })
         }
+        FileCommand::Shrink => write_of_client(alloc, sink, disk, Errand::Shrink),
         FileCommand::Show => show_node(alloc, sink, disk),
         FileCommand::Trim => write_of_server(alloc, sink, disk, ServerText::Trimmed),
         FileCommand::Start { id } => {

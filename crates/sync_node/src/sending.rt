@@ -1,5 +1,5 @@
-ghost use Rattle.std.specs.Prelude.{◌≡◌, ◌≤◌, ℕ, List, Some, Ok, Err, IfOk};
-ghost use Rattle.sync_disk.specs.Disk.{Rose};
+ghost use Rattle.std.specs.Prelude.{◌≡◌, ◌≤◌, ℕ, List, Some, Ok, Err, IfOk, OnOk};
+ghost use Rattle.sync_disk.specs.Disk.{Rose, Told};
 ghost use Rattle.sync_io.specs.Faults.{HasRisen};
 ghost use Rattle.sync_model.specs.Clients.{ClientRecord, ClientStep, client_of};
 ghost use Rattle.sync_model.specs.Messages.{Message as ModelMessage};
@@ -8,7 +8,7 @@ ghost use Rattle.sync_client.specs.Clients.{IsClientOf};
 ghost use Rattle.sync_client.specs.Sending.{Sends};
 ghost use Rattle.sync_node.specs.Commands.{TellsText};
 ghost use Rattle.sync_node.specs.Opening.{client_file};
-ghost use Rattle.sync_node.specs.Sending.{IsErrand, frames_of, retire, send, text_of};
+ghost use Rattle.sync_node.specs.Sending.{IsErrand, StandsFor, frames_of, retire, send, text_of};
 ghost use Rattle.sync_node.specs.Texts.{IsTellStatus};
 
 use crate::frame::frame_of;
@@ -20,6 +20,7 @@ use sync_data::{Ident, NoMemory};
 use sync_disk::Disk;
 use sync_io::{Sink, Status};
 use sync_messages::{Message, Retire};
+use sync_trim::short_file;
 use sync_words::{put, put_standing};
 
 /// What a client over a file is to write.
@@ -35,6 +36,8 @@ pub enum Errand {
     Retire { ident: Ident },
     /// What is unsent, from the number after this one on.
     Rescue { after: u32 },
+    /// The short file that may stand in place of its own.
+    Shrink,
 }
 
 /// The client's part of the report.
@@ -86,7 +89,8 @@ fn frames_of(alloc: Global, made: Result<Message, ClientRefusal>) -> Result<Vec<
 /// The text of an errand.
 fn text_of<D: Disk>(alloc: Global, client: &Client<D>, errand: Errand) -> Result<Vec<u8>, NoMemory>
     requires { IsErrand errand }
-    ensures { (records : List ClientRecord) → IsClientOf records client.now → IfOk result (λ text. text.items ≡ text_of errand records) }
+    ensures text { (records : List ClientRecord) → IsClientOf records client.now → IfOk result (λ text. text.items ≡ text_of errand records) }
+    ensures stands { (records : List ClientRecord) → IsClientOf records client.now → OnOk result (StandsFor errand records) }
 {
     match errand {
         Errand::Report => report(alloc, client),
@@ -94,6 +98,7 @@ fn text_of<D: Disk>(alloc: Global, client: &Client<D>, errand: Errand) -> Result
         Errand::Ask => frames_of(alloc, client.ask()),
         Errand::Retire { ident } => frames_of(alloc, retire(client, ident)),
         Errand::Rescue { after } => frames_of(alloc, client.upload_from(after)),
+        Errand::Shrink => short_file(alloc, client),
     }
 }
 
@@ -106,6 +111,7 @@ pub(crate) fn write_of_client<K: Sink, D: Disk>(
 ) -> Ended<D>
     requires { IsErrand errand }
     ensures tells { TellsText D.content D.images D.moment D.images_since client_file (text_of errand) result.status disk result.disk (K.taken sink.old) (K.taken sink.new) }
+    ensures stands { Told (D.content disk) (λ b. (records : List ClientRecord) → client_file b ≡ Ok records → result.status ≡ Status.Done → StandsFor errand records) }
     ensures bad_untouched { (place : ℕ) → result.status ≡ Status.BadFile place → sink.new ≡ sink.old }
     ensures origin { D.origin result.disk ≡ D.origin disk }
     ensures disk_faults { D.faults disk ≤ D.faults result.disk }

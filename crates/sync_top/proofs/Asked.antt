@@ -43,6 +43,7 @@ no_file_bad_words (commands.Retire ident) is = is
 no_file_bad_words (commands.Rescue after) is = is
 no_file_bad_words commands.Recover is = is
 no_file_bad_words commands.Trim is = is
+no_file_bad_words commands.Shrink is = is
 no_file_bad_words (commands.Start id) is = is
 
 no_bad_words : (job : Job) → IsJobStatus job statuses.BadWords → ⊥

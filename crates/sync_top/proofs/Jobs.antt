@@ -92,6 +92,7 @@ plain_more (commands.Retire ident) is = absurd is
 plain_more (commands.Rescue after) is = absurd is
 plain_more commands.Recover is = refl
 plain_more commands.Trim is = refl
+plain_more commands.Shrink is = refl
 plain_more (commands.Start id) is = absurd is
 
 plain_command : (command : FileCommand) → IsPlain command → IsFileCommand command
@@ -105,6 +106,7 @@ plain_command (commands.Retire ident) is = absurd is
 plain_command (commands.Rescue after) is = absurd is
 plain_command commands.Recover is = tt
 plain_command commands.Trim is = tt
+plain_command commands.Shrink is = tt
 plain_command (commands.Start id) is = absurd is
 
 none_plain : (command : FileCommand) → AreMore command [] → IsPlain command
@@ -118,6 +120,7 @@ none_plain (commands.Retire ident) is = cc
 none_plain (commands.Rescue after) is = cc
 none_plain commands.Recover is = tt
 none_plain commands.Trim is = tt
+none_plain commands.Shrink is = tt
 none_plain (commands.Start id) is = let none = is.1 in cc
 
 -- no command over a file has the word of an exchange
@@ -132,6 +135,7 @@ not_gen (commands.Retire ident) is = cc
 not_gen (commands.Rescue after) is = cc
 not_gen commands.Recover is = cc
 not_gen commands.Trim is = cc
+not_gen commands.Shrink is = cc
 not_gen (commands.Start id) is = cc
 
 -- what three words ask for, and nothing else
@@ -160,6 +164,7 @@ start_job word second third o is exact (jobs.File (commands.Retire ident)) = (λ
 start_job word second third o is exact (jobs.File (commands.Rescue after)) = (λ some. absurd ((exact (jobs.File (commands.Rescue after))).0 some), λ asks. let e = sym is ∙ asks.0 in cc)
 start_job word second third o is exact (jobs.File commands.Recover) = (λ some. absurd ((exact (jobs.File commands.Recover)).0 some), λ asks. let e = sym is ∙ asks.0 in cc)
 start_job word second third o is exact (jobs.File commands.Trim) = (λ some. absurd ((exact (jobs.File commands.Trim)).0 some), λ asks. let e = sym is ∙ asks.0 in cc)
+start_job word second third o is exact (jobs.File commands.Shrink) = (λ some. absurd ((exact (jobs.File commands.Shrink)).0 some), λ asks. let e = sym is ∙ asks.0 in cc)
 
 -- at most one word stands behind the file
 more_short : (command : FileCommand) (more : List (List ℕ)) → AreMore command more → length more ≤ 1
@@ -174,6 +179,7 @@ more_short commands.Serve more are = omega (arith, ap length are)
 more_short commands.Show more are = omega (arith, ap length are)
 more_short commands.Recover more are = omega (arith, ap length are)
 more_short commands.Trim more are = omega (arith, ap length are)
+more_short commands.Shrink more are = omega (arith, ap length are)
 
 -- more words ask for nothing
 pub none_long : (words : List (List ℕ)) → 4 ≤ length words → (job : Job) → (◌≡◌ {A = Option Job} None (Some job) → AsksFor job words) × (AsksFor job words → ◌≡◌ {A = Option Job} None (Some job))
@@ -196,6 +202,7 @@ none_start word none (jobs.File (commands.Retire ident)) = (λ some. cc, λ is. 
 none_start word none (jobs.File (commands.Rescue after)) = (λ some. cc, λ is. absurd is)
 none_start word none (jobs.File commands.Recover) = (λ some. cc, λ is. absurd is)
 none_start word none (jobs.File commands.Trim) = (λ some. cc, λ is. absurd is)
+none_start word none (jobs.File commands.Shrink) = (λ some. cc, λ is. absurd is)
 
 -- ---- all words
 -- one word

@@ -217,4 +217,5 @@ module _ (saves : Saves) where
     saves_at_end (commands.Retire ident) left status first last before after does = λ b told records file stood. tt
     saves_at_end (commands.Rescue after_) left status first last before after does = λ b told records file stood. tt
     saves_at_end commands.Trim left status first last before after does = λ b told records file stood. tt
+    saves_at_end commands.Shrink left status first last before after does = λ b told records file stood. tt
     saves_at_end (commands.Start id) left status first last before after does = λ b told records file stood. tt

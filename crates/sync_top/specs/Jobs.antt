@@ -36,6 +36,7 @@ command_word (commands.Retire ident) = codes "retire"
 command_word (commands.Rescue after) = codes "rescue"
 command_word commands.Recover = codes "recover"
 command_word commands.Trim = codes "trim"
+command_word commands.Shrink = codes "shrink"
 command_word (commands.Start id) = codes "start"
 
 -- the words after the file: a number or a uuid, where the command takes one

@@ -67,6 +67,7 @@ fn file_command_of(word: &str) -> Option<FileCommand>
         "show" => Some(FileCommand::Show),
         "recover" => Some(FileCommand::Recover),
         "trim" => Some(FileCommand::Trim),
+        "shrink" => Some(FileCommand::Shrink),
         _ => None,
     }
 }

@@ -14,9 +14,11 @@ ghost use Rattle.sync_model.specs.Worlds.{Edits, Event, IsReached, Made, World, 
 ghost use Rattle.gen_law.specs.Ends.{AllCaughtUp};
 ghost use Rattle.gen_law.specs.Generated.{events_of, world_by};
 ghost use Rattle.sync_node.specs.Items.{Items};
+ghost use Rattle.sync_node.specs.Opening.{client_file};
 ghost use Rattle.sync_node.specs.ServerTexts.{IsOwn};
 ghost use Rattle.sync_top.specs.Jobs.{most_turns};
 ghost use Rattle.sync_top.specs.Recoveries.{HeirRun, IsRecovery, IsSavedOnce, after_runs};
+ghost use Rattle.sync_top.specs.Shrinks.{IsAnsweredAlike};
 ghost use Rattle.sync_top.specs.Summaries.{equal_in};
 ghost use Rattle.sync_top.specs.Synced.{AgreeWhereQuiet, AllCatchUp};
 ghost use Rattle.sync_top.specs.Trims.{IsServedAlike, StaysOwn};
@@ -65,6 +67,11 @@ pub(crate) fn servers_keep()
 pub(crate) fn trims_hold()
     ensures alike { (records : List ServerRecord) → IsOwn records → IsServedAlike records }
     ensures own { (records : List ServerRecord) (frames : Items) → StaysOwn records frames }
+{}
+
+/// A client over the file that `shrink` writes of its own answers as over that one, whatever is done with both files.
+pub(crate) fn shrinks_hold()
+    ensures { (bytes : List ℕ) (records : List ClientRecord) → client_file bytes ≡ Ok records → IsAnsweredAlike records }
 {}
 
 /// However runs over an heir's file are repeated or stopped, each change of the old client is integrated or saved once.

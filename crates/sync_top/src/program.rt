@@ -15,6 +15,7 @@ ghost use Rattle.sync_top.specs.Playing.{Writes};
 ghost use Rattle.sync_top.specs.Recoveries.{SavesAtAnyEnd};
 ghost use Rattle.sync_node.specs.Texts.{IsDoneOrNoMemory};
 ghost use Rattle.sync_top.specs.Runs.{FollowsTold, Leaves, Passes, run_from, runs};
+ghost use Rattle.sync_top.specs.Shrinks.{ShrinksAlike};
 ghost use Rattle.sync_top.specs.Statuses.{IsJobStatus};
 ghost use Rattle.sync_top.specs.Summaries.{equal_in, summary_of};
 ghost use Rattle.sync_top.specs.Synced.{IsSynced, first};
@@ -22,7 +23,7 @@ ghost use Rattle.sync_top.specs.Trims.{ServesOwn, TrimsAlike};
 
 use super::generated::generate;
 use super::job::{Job, job_of};
-use super::laws::{exchanges_hold, generated_end_equal, recoveries_hold, trims_hold};
+use super::laws::{exchanges_hold, generated_end_equal, recoveries_hold, shrinks_hold, trims_hold};
 use super::lines::run_lines;
 use gen_law::generated_exchanges_refuse_nothing;
 use std::alloc::Global;
@@ -91,6 +92,9 @@ pub fn run<S: Source, K: Sink, D: Disk>(
     ensures trims { AsksFor (Job.File FileCommand.Trim) (map string_bytes words.now) → TrimsAlike (D.content disk.old) }
     ensures own { AsksFor (Job.File FileCommand.Serve) (map string_bytes words.now) → ServesOwn (D.content disk.old) (S.left source.old) }
 
+    // Over the file that `shrink` writes a client answers as over its own, whatever is done with both.
+    ensures shrinks { AsksFor (Job.File FileCommand.Shrink) (map string_bytes words.now) → ShrinksAlike (D.content disk.old) }
+
     // An heir's file: however runs are repeated and wherever this one ends, each change of the old client is integrated, or saved
     // once without what is listed as dropped, and never both.
     ensures saves { (command : FileCommand) → AsksFor (Job.File command) (map string_bytes words.now)
@@ -143,6 +147,7 @@ pub fn run<S: Source, K: Sink, D: Disk>(
         }
         Job::File { command } => {
             trims_hold();
+            shrinks_hold();
             recoveries_hold();
             run_file(alloc, command, source, sink, disk)
         }

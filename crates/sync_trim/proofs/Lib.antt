@@ -5,4 +5,5 @@ mod Crossed
 mod Floors
 mod States
 mod Whole
+mod Shorts
 mod Spelled

@@ -56,3 +56,8 @@ clients_back (r ∷ rs) all = and_each (client_back r all.0) (clients_back rs al
 pub on_ok : {A E : Type 0} {P : Type 0} (r : Result A E) → P → OnOk r P
 on_ok (Ok a) h = h
 on_ok (Err e) h = tt
+
+-- what an answer promises, where it is one
+pub on_put : {A E : Type 0} {P Q : Type 0} (r : Result A E) → (P → Q) → OnOk r P → OnOk r Q
+on_put (Ok a) f h = f h
+on_put (Err e) f h = tt

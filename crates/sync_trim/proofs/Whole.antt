@@ -16,7 +16,7 @@ use Rattle.sync_exchange.specs.Profile.{fits_changeset, the_profile}
 use Rattle.sync_trim.proofs.Pieces.{and_more}
 use Rattle.sync_trim.proofs.Crossed.{clients_left, counts_left, crossed_idents_left}
 
-each_part : {A B C : Type 0} (f : B → C) (h : A → B) (xs : List A) → map f (map h xs) ≡ map (λ x. f (h x)) xs
+pub each_part : {A B C : Type 0} (f : B → C) (h : A → B) (xs : List A) → map f (map h xs) ≡ map (λ x. f (h x)) xs
 each_part f h [] = refl
 each_part {A = A} f h (x ∷ xs) = ap (λ l. f (h x) ∷ l) (each_part f h xs)
 

@@ -1,6 +1,7 @@
 // The bytes of the files: journals of the records.
 ghost use Rattle.std.specs.Prelude.{◌≡◌, ◌++◌, ◌∷◌, [], List, ℕ, All, Some, map, false, IfOk, OnOk};
 ghost use Rattle.sync_journal.specs.Files.{AreBytes, IsFile};
+ghost use Rattle.sync_model.specs.Clients as model;
 ghost use Rattle.sync_model.specs.Each.{Each};
 ghost use Rattle.sync_model.specs.Starts.{started};
 ghost use Rattle.sync_model.specs.Trimmed.{trim_records};
@@ -8,13 +9,17 @@ ghost use Rattle.sync_exchange.specs.Profile.{the_profile};
 ghost use Rattle.sync_exchange.specs.Seen.{client_bytes, read_client, read_server, server_bytes};
 ghost use Rattle.sync_records.specs.Limits.{IsClientRecord, IsServerRecord};
 ghost use Rattle.sync_records.specs.Spelling.{client_spelling, server_spelling};
+ghost use Rattle.sync_client.specs.Clients.{IsClientOf};
+ghost use Rattle.shrink_law.specs.Short.{short_records};
 ghost use Rattle.server_memory.specs.Kept.{parts};
 ghost use Rattle.sync_server.specs.Serving.{is_closed, kept_of};
 
+use crate::shortening::shortened;
 use crate::starting::started;
 use crate::trimming::trimmed;
 use std::alloc::Global;
 use sync_base::{Id, NoMemory};
+use sync_client::Client;
 use sync_disk::Disk;
 use sync_journal::JournalBytes;
 use sync_records::{ClientRecord, ServerRecord};
@@ -100,6 +105,18 @@ pub fn started_file<D: Disk>(alloc: Global, server: &Server<D>, id: Id) -> Resul
     ensures back { OnOk result (Each (λ r. read_client (client_bytes r) ≡ Some r) (started the_profile id (parts (kept_of server.now)).second (parts (kept_of server.now)).len (parts (kept_of server.now)).objects)) }
 {
     let records = started(alloc, server, id)?;
+    let mut file = new(alloc)?;
+    put_client_records(alloc, &mut file, records.as_slice())?;
+    end(file)
+}
+
+/// The bytes of the short file that may stand in place of a client's file: a journal of the records that `shortened` answers.
+pub fn short_file<D: Disk>(alloc: Global, client: &Client<D>) -> Result<Vec<u8>, NoMemory>
+    ensures file { (of : List model.ClientRecord) → IsClientOf of client.now → IfOk result (λ bytes. IsFile (map client_bytes (short_records the_profile (model.client_of the_profile of))) bytes.items) }
+    // Each record is read back from its bytes.
+    ensures back { (of : List model.ClientRecord) → IsClientOf of client.now → OnOk result (Each (λ r. read_client (client_bytes r) ≡ Some r) (short_records the_profile (model.client_of the_profile of))) }
+{
+    let records = shortened(alloc, client)?;
     let mut file = new(alloc)?;
     put_client_records(alloc, &mut file, records.as_slice())?;
     end(file)

@@ -1,5 +1,5 @@
-//! Files that begin with a state in place of a history: a server's without what lies before its next floor, and a client's
-//! that begins with the server's objects.
+//! Files that begin with a state in place of a history: a server's without what lies before its next floor, a new client's
+//! that begins with the server's objects, and a client's without what it needs no more.
 #![tactic(auto)]
 
 mod bodies;
@@ -9,9 +9,11 @@ mod history;
 mod idents;
 mod lists;
 mod past;
+mod shortening;
 mod starting;
 mod trimming;
 
-pub use files::{started_file, trimmed_file};
+pub use files::{short_file, started_file, trimmed_file};
+pub use shortening::shortened;
 pub use starting::started;
 pub use trimming::trimmed;

@@ -46,7 +46,7 @@ fn put_form<D: Disk>(records: &mut Vec<ClientRecord>, server: &Server<D>) -> Res
 }
 
 /// Puts a Part with each of these bytes.
-fn put_parts(records: &mut Vec<ClientRecord>, bodies: Vec<Blob>) -> Result<(), NoMemory>
+pub(crate) fn put_parts(records: &mut Vec<ClientRecord>, bodies: Vec<Blob>) -> Result<(), NoMemory>
     ensures { OnOk result (map client_seen records.new.items ≡ map client_seen records.old.items ++ map (λ body. model.Part body) bodies.items) }
 {
     for body in bodies {

@@ -51,5 +51,5 @@ module _ {D : Type 0} {G : Ghosts D} (b : List ℕ) where
 
 -- an empty file has none
 pub no_records : records_of [] ≡ Good []
-unfolding records.records_of
+unfolding records.reading
 no_records = refl

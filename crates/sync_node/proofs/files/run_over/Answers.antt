@@ -79,3 +79,10 @@ returns-in-Start-clause-does g c =
     let ended = c.write_of_server-in-Start in
     subst (λ (command : FileCommand). Does D.content D.images D.moment D.images_since command (g.S.Source.left c.args.source.now) ended.result.status c.args.disk ended.result.disk (g.K.Sink.taken c.args.sink.now) (g.K.Sink.taken ended.new.sink)) (sym c.in-Start.is)
     (record { tells = ended.ensures.tells; stands = ended.ensures.stands })
+
+pub returns-in-Shrink-clause-does : goal.returns-in-Shrink-clause-does
+returns-in-Shrink-clause-does g c =
+    let D = g.D.Disk in
+    let ended = c.write_of_client-in-Shrink in
+    subst (λ (command : FileCommand). Does D.content D.images D.moment D.images_since command (g.S.Source.left c.args.source.now) ended.result.status c.args.disk ended.result.disk (g.K.Sink.taken c.args.sink.now) (g.K.Sink.taken ended.new.sink)) (sym c.in-Shrink.is)
+    (record { tells = ended.ensures.tells; stands = ended.ensures.stands })

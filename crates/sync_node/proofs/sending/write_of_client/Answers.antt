@@ -4,9 +4,9 @@ use Rattle.sync_journal.specs.Records.{records_of}
 use Rattle.sync_journal.specs.Records.Reading.{Good}
 use Rattle.sync_client.specs.Clients.{IsClientOf}
 use Rattle.sync_node.specs.Opening.{HoldsThose, client_file}
-use Rattle.sync_node.specs.Sending.{text_of}
+use Rattle.sync_node.specs.Sending.{StandsFor, text_of}
 use Rattle.sync_node.proofs.Opened.{client_holds, no_both, same_err, same_ok, tells_bad}
-use Rattle.sync_node.proofs.Telling.{open_no_write, open_tells, open_unmade, text_no_bad, text_no_fault, text_tells, writes_none}
+use Rattle.sync_node.proofs.Telling.{on_done, open_no_write, open_tells, open_undone, open_unmade, text_no_bad, text_no_fault, text_tells, writes_none}
 use Rattle.sync_node.proofs.sending.write_of_client.Goals as goal
 
 pub returns-clause-tells : goal.returns-clause-tells
@@ -17,7 +17,7 @@ returns-clause-tells g c =
     record {
       written = λ b told records file.
           let o = opened b told in
-          c.write_text-status.ensures.writes (text_of c.args.errand records) (c.text_of-text.ensures records (subst (λ rs. IsClientOf rs c.in-Ok.client) (same_ok (client_file b) o.records records o.file file) o.client));
+          c.write_text-status.ensures.writes (text_of c.args.errand records) (c.text_of-text.ensures.text records (subst (λ rs. IsClientOf rs c.in-Ok.client) (same_ok (client_file b) o.records records o.file file) o.client));
       bad_file = λ b told place is. absurd (text_no_bad status place only is);
       bad_place = λ b told place bad. let o = opened b told in absurd (no_both (client_file b) o.records place o.file bad);
       bad_unwritten = λ b told place bad. let o = opened b told in absurd (no_both (client_file b) o.records place o.file bad);
@@ -55,3 +55,12 @@ returns-in-Err-clause-only g c = open_tells c.in-Err.ended.status c.in-Err.ensur
 
 pub returns-clause-bad_untouched : goal.returns-clause-bad_untouched
 returns-clause-bad_untouched g c = λ place is. absurd (text_no_bad c.write_text-status.result place c.write_text-status.ensures.only is)
+
+pub returns-clause-stands : goal.returns-clause-stands
+returns-clause-stands g c = λ b told records file done.
+    let o = c.in-Ok.ensures.opened b told in
+    let client = subst (λ rs. IsClientOf rs c.in-Ok.client) (same_ok (client_file b) o.records records o.file file) o.client in
+    on_done c.text_of-text.result c.write_text-status.result (StandsFor c.args.errand records) (c.text_of-text.ensures.stands records client) c.write_text-status.ensures.made done
+
+pub returns-in-Err-clause-stands : goal.returns-in-Err-clause-stands
+returns-in-Err-clause-stands g c = λ b told records file done. absurd (open_undone c.in-Err.ended.status c.in-Err.ensures.only done)

@@ -134,6 +134,9 @@ returns-in-Replay-clause-complete_file g c = λ command asks. absurd (let e = sy
 pub returns-in-Replay-clause-trims : goal.returns-in-Replay-clause-trims
 returns-in-Replay-clause-trims g c = λ asks. absurd (let e = sym (asked_is (Some c.in-Some.job) (map string_bytes c.args.words.now) c.in-Some.ensures c.in-Some.job (jobs.File commands.Trim) refl asks) ∙ c.in-Replay.is in cc)
 
+pub returns-in-Replay-clause-shrinks : goal.returns-in-Replay-clause-shrinks
+returns-in-Replay-clause-shrinks g c = λ asks. absurd (let e = sym (asked_is (Some c.in-Some.job) (map string_bytes c.args.words.now) c.in-Some.ensures c.in-Some.job (jobs.File commands.Shrink) refl asks) ∙ c.in-Replay.is in cc)
+
 pub returns-in-Replay-clause-own : goal.returns-in-Replay-clause-own
 returns-in-Replay-clause-own g c = λ asks. absurd (let e = sym (asked_is (Some c.in-Some.job) (map string_bytes c.args.words.now) c.in-Some.ensures c.in-Some.job (jobs.File commands.Serve) refl asks) ∙ c.in-Replay.is in cc)
 
@@ -188,6 +191,9 @@ returns-in-Generate-clause-complete_file g c = λ command asks. absurd (let e = 
 
 pub returns-in-Generate-clause-trims : goal.returns-in-Generate-clause-trims
 returns-in-Generate-clause-trims g c = λ asks. absurd (let e = sym (asked_is (Some c.in-Some.job) (map string_bytes c.args.words.now) c.in-Some.ensures c.in-Some.job (jobs.File commands.Trim) refl asks) ∙ c.in-Generate.is in cc)
+
+pub returns-in-Generate-clause-shrinks : goal.returns-in-Generate-clause-shrinks
+returns-in-Generate-clause-shrinks g c = λ asks. absurd (let e = sym (asked_is (Some c.in-Some.job) (map string_bytes c.args.words.now) c.in-Some.ensures c.in-Some.job (jobs.File commands.Shrink) refl asks) ∙ c.in-Generate.is in cc)
 
 pub returns-in-Generate-clause-own : goal.returns-in-Generate-clause-own
 returns-in-Generate-clause-own g c = λ asks. absurd (let e = sym (asked_is (Some c.in-Some.job) (map string_bytes c.args.words.now) c.in-Some.ensures c.in-Some.job (jobs.File commands.Serve) refl asks) ∙ c.in-Generate.is in cc)
@@ -312,6 +318,9 @@ returns-in-File-clause-complete_file g c =
 pub returns-in-File-clause-trims : goal.returns-in-File-clause-trims
 returns-in-File-clause-trims g c = λ asks b told records file own. c.trims_hold.ensures.alike records own
 
+pub returns-in-File-clause-shrinks : goal.returns-in-File-clause-shrinks
+returns-in-File-clause-shrinks g c = λ asks b told records file. c.shrinks_hold.ensures b records file
+
 pub returns-in-File-clause-own : goal.returns-in-File-clause-own
 returns-in-File-clause-own g c = λ asks b told records file. each_item (λ frames. StaysOwn records frames) (λ frames. c.trims_hold.ensures.own records frames) (frames_of (g.S.Source.left c.args.source.now))
 
@@ -364,6 +373,9 @@ returns-in-None-clause-unread g c = λ command asks. absurd (none_asked None (ma
 
 pub returns-in-None-clause-trims : goal.returns-in-None-clause-trims
 returns-in-None-clause-trims g c = λ asks. absurd (none_asked None (map string_bytes c.args.words.now) c.in-None.ensures (jobs.File commands.Trim) refl asks)
+
+pub returns-in-None-clause-shrinks : goal.returns-in-None-clause-shrinks
+returns-in-None-clause-shrinks g c = λ asks. absurd (none_asked None (map string_bytes c.args.words.now) c.in-None.ensures (jobs.File commands.Shrink) refl asks)
 
 pub returns-in-None-clause-own : goal.returns-in-None-clause-own
 returns-in-None-clause-own g c = λ asks. absurd (none_asked None (map string_bytes c.args.words.now) c.in-None.ensures (jobs.File commands.Serve) refl asks)
