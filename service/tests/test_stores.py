@@ -110,6 +110,13 @@ class Suite:
         again = await self.store.acquire("family", False)
         self.assertEqual((again.generation, (await self.store.read(again)).devices), (2, {ANN: Device("ann", 1), BOB: Device("bob", 2)}))
 
+    async def test_nobody_else_reads_what_is_stored(self):
+        lease = await self.new()
+        await self.store.append(lease, 8, record(b"one"), [(ANN, "ann")])
+        at = getattr(self, "at", None)  # of PostgreSQL there is none
+        beside = [os.path.join(at, it) for it in os.listdir(at)] if at and os.path.isdir(at) else [at + it for it in ("", "-wal")] if at else []
+        self.assertEqual({os.stat(it).st_mode & 0o077 for it in beside} - {0}, set(), beside)
+
     async def test_removed_is_absent(self):
         lease = await self.new()
         await self.store.remove(lease)

@@ -29,6 +29,11 @@ def journal_end(journal: bytes) -> int:
     return place if len(journal) > place else 0
 
 
+def _private(path: str, flags: int) -> int:
+    """Opens a file that, where it is made, nobody else reads."""
+    return os.open(path, flags, 0o600)
+
+
 class Files:
     id: object = None
 
@@ -148,7 +153,7 @@ class Files:
         path = self._path(name, DEVICES)
         is_new = not os.path.exists(path)
         try:
-            with open(path, "r+b" if not is_new else "w+b") as file:
+            with open(path, "r+b" if not is_new else "w+b", opener=_private) as file:
                 whole = file.read()
                 file.seek(whole.rfind(b"\n") + 1)  # over a line that a crash cut
                 file.truncate()

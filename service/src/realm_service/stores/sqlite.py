@@ -52,12 +52,13 @@ class Sqlite:
         self.loop = asyncio.get_running_loop()
         try:
             self.link = await asyncio.to_thread(self._connected)
-        except sqlite3.Error as error:
+        except (sqlite3.Error, OSError) as error:
             os.close(self.lock)
             raise StoreDown(f"{self.path}: {error}") from error
         self.thread.start()
 
     def _connected(self) -> sqlite3.Connection:
+        os.close(os.open(self.path, os.O_RDWR | os.O_CREAT | os.O_CLOEXEC, 0o600))  # nobody else reads it, nor what SQLite puts beside it
         link = sqlite3.connect(self.path, isolation_level=None, check_same_thread=False)
         link.executescript(SCHEMA)
         return link
