@@ -3,6 +3,7 @@
 import asyncio
 import json
 import os
+import resource
 import shutil
 import signal
 import sqlite3
@@ -269,8 +270,38 @@ def new_client_of(tables):
     return client
 
 
-class OfFiles(Suite, unittest.IsolatedAsyncioTestCase):
-    kind = "files"
+class Limited:
+    """The stores that write files by themselves."""
+
+    async def test_files_that_may_not_grow(self):
+        """As on a disk that is full: nothing is acknowledged that isn't stored, questions are answered, and it goes on once there is room."""
+        async with Device(self.service.base, HISTORY, patience=5) as phone, Device(self.service.base, HISTORY, "bob") as tablet:
+            for device in (phone, tablet):
+                await device.sync()
+            limit, pid = resource.RLIMIT_FSIZE, self.service.process.pid
+            resource.prlimit(pid, limit, (self.most_bytes, resource.RLIM_INFINITY))
+            for number in range(20):
+                phone.note(f"note {number}", "x" * 20_000)
+            syncing = asyncio.create_task(phone.sync())
+            for _ in range(300):
+                if self.service.metric("realm_batches_failed_total") >= 2:
+                    break
+                await asyncio.sleep(0.1)
+            self.assertGreaterEqual(self.service.metric("realm_batches_failed_total"), 2)
+            self.assertEqual((syncing.done(), phone.client.standing().unsent), (False, 20))
+            await tablet.sync()
+            self.assertEqual(tablet.count(), 0)
+            resource.prlimit(pid, limit, (resource.RLIM_INFINITY, resource.RLIM_INFINITY))
+            await asyncio.wait_for(syncing, 120)
+            await tablet.sync()
+            self.service.kill()
+            self.service.start().ready()
+            self.assertEqual(lines((await self.get("/objects"))[1]), phone.dump())
+            self.assertEqual((tablet.dump(), tablet.count()), (phone.dump(), 20))
+
+
+class OfFiles(Limited, Suite, unittest.IsolatedAsyncioTestCase):
+    kind, most_bytes = "files", 60_000
 
     def backed_up(self):
         """While it runs: the journals first, then the devices."""
@@ -309,8 +340,8 @@ class OfFiles(Suite, unittest.IsolatedAsyncioTestCase):
             self.assertEqual([it["version"] for it in told], list(range(5002)))
 
 
-class OfSqlite(Suite, unittest.IsolatedAsyncioTestCase):
-    kind = "sqlite"
+class OfSqlite(Limited, Suite, unittest.IsolatedAsyncioTestCase):
+    kind, most_bytes = "sqlite", 200_000
 
     def backed_up(self):
         kept = os.path.join(folder(), "backup.db")
@@ -397,7 +428,8 @@ class Workers(unittest.IsolatedAsyncioTestCase):
     async def test_callers_whose_owner_is_gone_or_hangs_are_answered_by_the_other_worker(self):
         """One that was killed is replaced at once, within the call; one that hangs when its lease has ended."""
         store = {**stores("postgres"), "lease_seconds": 2.0}
-        asked = (("POST", "", b"\x04\x01\x00\x00", 200), ("GET", "/objects", None, 200), ("GET", "/entries", None, 200), ("GET", "/news?after=1&wait=0", None, 204))
+        asked = (("POST", "", b"\x04\x01\x00\x00", 200), ("GET", "/objects", None, 200), ("GET", "/entries", None, 200),
+                 ("GET", "/news?after=1&wait=0", None, 204))
         for ends in (signal.SIGKILL, signal.SIGSTOP):
             owner, other = (Service(store).start().ready() for _ in range(2))
             headers, names = authorized("ann", {"*": "write"}), [f"{ends.name}-{number}" for number in range(len(asked))]
@@ -406,7 +438,8 @@ class Workers(unittest.IsolatedAsyncioTestCase):
                     self.assertEqual((await fetched(self.session, "POST", f"{base}/v1/histories/{name}", headers, b"\x01" + b"u" * 16))[0], 200)
             owner.process.send_signal(ends)
             began = asyncio.get_running_loop().time()
-            calls = (fetched(self.session, method, f"{other.base}/v1/histories/{name}{path}", headers, body) for name, (method, path, body, _) in zip(names, asked))
+            calls = (fetched(self.session, method, f"{other.base}/v1/histories/{name}{path}", headers, body)
+                     for name, (method, path, body, _) in zip(names, asked))
             self.assertEqual([status for status, _ in await asyncio.gather(*calls)], [it[3] for it in asked])
             self.assertLess(asyncio.get_running_loop().time() - began, 20.0)
             owner.kill()
