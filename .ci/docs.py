@@ -54,7 +54,7 @@ def read(path):
 def documents():
     """README.md, docs/*.md, and the READMEs of other folders and of crates."""
     found = [os.path.join(TOP, "README.md")]
-    for folder in ("docs", "bench", "examples", "js", "python", "service", "wasm", "web"):
+    for folder in ("docs", "bench", "examples", "examples/shopping", "js", "python", "service", "wasm", "web"):
         at = os.path.join(TOP, folder)
         found += sorted(os.path.join(at, it) for it in os.listdir(at) if it.endswith(".md")) if os.path.isdir(at) else []
     for name in sorted(os.listdir(os.path.join(TOP, "crates"))):

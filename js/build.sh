@@ -16,9 +16,12 @@ if [ -z "$wasm" ]; then
     need wasm-opt binaryen
     module=$("$top/build" "$@" library.bc | tail -n 1)
     wasm=$(dirname "$module")/door.wasm
-    if [ ! -f "$wasm" ] || [ -n "$(find "$module" "$top"/wasm/*.py "$top"/wasm/*.c -newer "$wasm" -print)" ]; then
+    # (by what it is made of, since ./build marks a module that is current as new)
+    of=$(cat "$module" "$top"/wasm/*.py "$top"/wasm/*.c | sha256sum)
+    if [ ! -f "$wasm" ] || [ "$(cat "$wasm.of" 2>/dev/null)" != "$of" ]; then
         "$top/wasm/retarget.py" --door "$module" "$wasm.new"
         mv "$wasm.new" "$wasm"
+        echo "$of" >"$wasm.of"
     fi
 fi
 rm -rf "$here/dist"

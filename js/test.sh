@@ -27,6 +27,7 @@ tsc -p "$here/test/types"
 tsc -p "$top/examples/shopping/web" --noEmit
 node --test "$here"/test/*.test.mjs
 "$here/test/empty_project.sh"
+"$top/examples/shopping/lines.sh" shopping.mjs
 [ -z "$quick" ] || exit 0
 need chromium chromium
 "$top/examples/shopping/web/build.sh" >/dev/null

@@ -29,8 +29,10 @@ cd "$here"
 MYPYPATH=src "$python" -m mypy src tests "$top/examples/shopping"
 PYTHONPATH=src "$python" -m unittest discover -t . -s tests
 "$here/tests/empty_project.sh"
+"$top/examples/shopping/lines.sh" shopping.py
 [ -z "$quick" ] || exit 0
 for name in two_phones serve_sockets; do
     PYTHONPATH=src "$python" "examples/$name.py" | diff - "examples/$name.out"
 done
+[ -d "$top/js/dist" ] || "$top/js/build.sh" $trial >/dev/null
 "$here/tests/together/test.sh"

@@ -68,10 +68,13 @@ async function wordsOf(response: Response): Promise<string> {
   return (await response.text()).split('\n')[0]!.slice(0, 200);
 }
 
-/** An address, with the generation in which the client's file began behind the history's name: the first is said by the address as it is. */
+/**
+ * An address, with the generation in which the client's file began behind the history's name. For messages the first is said by the address as it
+ * is; whoever asks for something else without one is answered whatever the generation.
+ */
 function addressOf(url: string, generation: number, more = ''): URL {
   const at = new URL(url, globalThis.location?.href);
-  if (generation !== 1) at.pathname = at.pathname.replace(/(@\d+)?\/?$/, `@${generation}`);
+  if (generation !== 1 || more) at.pathname = at.pathname.replace(/(@\d+)?\/?$/, `@${generation}`);
   at.pathname += more;
   return at;
 }
@@ -97,7 +100,8 @@ async function* newsOf(at: (after: number, wait: number) => string, token: Token
         length = news;
       } else if (response.status === 204) length = Math.max(0, length);
       else {
-        length = -1; // a server without news, or one whose history was restored: the loop asks from time to time
+        if (response.status === OUTDATED) yield 0; // the loop is told why when it asks
+        length = -1; // a server without news: the loop asks from time to time
         await later(60_000, signal);
       }
     } catch {

@@ -58,7 +58,8 @@ class TestServer {
     if (this.isDown) return request.socket.destroy();
     if (!url.pathname.startsWith(HISTORY)) return this.file(url, response);
     if (this.refused.has((request.headers.authorization ?? '').replace('Bearer ', ''))) return response.writeHead(401).end();
-    if (this.isOutdated(url)) return response.writeHead(410, { 'realm-generation': this.generation }).end();
+    // (as in the service: a device that names no generation is of the first, and who asks for news without one is of any)
+    if (this.isOutdated(url, request.method === 'POST' ? 1 : this.generation)) return response.writeHead(410, { 'realm-generation': this.generation }).end();
     if (request.method === 'POST') {
       const reply = await this.take(await bodyOf(request)).catch(() => null);
       return response.writeHead(reply ? 200 : 400, { 'content-type': 'application/octet-stream' }).end(reply ?? '');
@@ -92,7 +93,7 @@ class TestServer {
     const offered = (request.headers['sec-websocket-protocol'] ?? '').split(',').map((it) => it.trim());
     const token = offered.find((it) => it.startsWith('bearer.'))?.slice(7) ?? '';
     if (this.refused.has(token)) return socket.end('HTTP/1.1 401 Unauthorized\r\n\r\n');
-    if (this.isOutdated(new URL(request.url, 'http://x'))) return socket.end('HTTP/1.1 410 Gone\r\n\r\n');
+    if (this.isOutdated(new URL(request.url, 'http://x'), 1)) return socket.end('HTTP/1.1 410 Gone\r\n\r\n');
     return this.web.handleUpgrade(request, socket, head, (it) => this.serve(it));
   }
 
@@ -112,7 +113,7 @@ class TestServer {
     });
   }
 
-  isOutdated(url) { return Number(/@(\d+)/.exec(url.pathname)?.[1] ?? 1) !== this.generation; }
+  isOutdated(url, unnamed) { return Number(/@(\d+)/.exec(url.pathname)?.[1] ?? unnamed) !== this.generation; }
   get port() { return this.http.address().port; }
   get origin() { return `http://127.0.0.1:${this.port}`; }
   get url() { return `${this.origin}${HISTORY}test`; }

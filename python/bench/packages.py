@@ -7,6 +7,7 @@ usage: PYTHONPATH=python/src python/bench/packages.py
 
 from __future__ import annotations
 
+import gzip
 import os
 import sqlite3
 import subprocess
@@ -15,6 +16,7 @@ import tempfile
 import time
 from collections.abc import Callable
 
+import realm_sync
 from realm_sync import Client, Counter, Database, Server, table
 
 COUNT = 10_000
@@ -66,7 +68,7 @@ def commits(folder: str) -> None:
     beside.close()
 
 
-def queries(folder: str) -> None:
+def queries() -> None:
     with Database(None, [Note]) as db:
         for part in range(0, COUNT, 1000):
             db.run(lambda tx: [tx.create(Note, id=it, text=f"note {it}", done=it % 3 == 0) for it in range(part, part + 1000)])
@@ -79,11 +81,21 @@ def queries(folder: str) -> None:
                     tx.update(Note, number * 7, text=f"changed {number}")
 
         timed("a commit beside a live query of 6,666 of them, in memory", 500, change)
-    beside = sqlite(f"{folder}/queries")
+    beside = sqlite(":memory:")
     beside.execute("BEGIN")
     add_sqlite(beside, 0, COUNT)
     beside.execute("COMMIT")
-    timed("beside: SELECT of the same, of SQLite", 1, lambda: beside.execute("SELECT * FROM notes WHERE NOT done ORDER BY text").fetchall())
+
+    def select() -> None:
+        beside.execute("SELECT * FROM notes WHERE NOT done ORDER BY text").fetchall()
+
+    def change_sqlite() -> None:
+        for number in range(20):
+            beside.execute("UPDATE notes SET text = ? WHERE id = ?", (f"changed {number}", number * 7))
+            select()
+
+    timed("beside: SELECT of the same, of SQLite", 1, select)
+    timed("beside: an UPDATE and the SELECT again, of SQLite in memory", 20, change_sqlite)
     beside.close()
 
 
@@ -143,10 +155,21 @@ def first_sync(folder: str) -> None:
         timed("a new device's first sync of 4,000 entries, onto a file", 1, lambda: other.sync(server.take))
 
 
+def sizes() -> None:
+    """The shared libraries, as they are on the disk."""
+    here = os.path.join(os.path.dirname(realm_sync.__file__), "librealm_sync.so")
+    mapped = {line.split()[-1] for line in open("/proc/self/maps", encoding="ascii") if "libsqlite3" in line}
+    for name, path in (("the shared library", here), *(("beside: SQLite's", it) for it in mapped)):
+        with open(path, "rb") as it:
+            data = it.read()
+        print(f"{name:66} {len(data):9} bytes, {len(gzip.compress(data))} by gzip")
+
+
 def main() -> None:
+    sizes()
     with tempfile.TemporaryDirectory(dir=os.environ.get("FOLDER")) as folder:
         commits(folder)
-        queries(folder)
+        queries()
         first_sync(folder)
         opening(folder, 10_000)
         opening(folder, 100_000)

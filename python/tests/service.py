@@ -62,10 +62,11 @@ class Service:
         for it in list(self._sockets):
             asyncio.run_coroutine_threadsafe(it.close(code=code), self._loop).result(10)
 
-    def _check(self, request: web.Request) -> None:
+    def _check(self, request: web.Request, unnamed: int = 1) -> None:
+        """A device that names no generation is of the first, and who asks for news without one is of any."""
         if request.headers.get("Authorization", "").removeprefix("Bearer ") not in self.tokens:
             raise web.HTTPUnauthorized
-        if int(request.match_info["name"].partition("@")[2] or 1) != self.generation:
+        if int(request.match_info["name"].partition("@")[2] or unnamed) != self.generation:
             raise web.HTTPGone(headers={"Realm-Generation": str(self.generation)})
 
     async def _take(self, message: bytes) -> bytes:
@@ -85,7 +86,7 @@ class Service:
         return web.Response(body=await self._take(await request.read()))
 
     async def _news(self, request: web.Request) -> web.Response:
-        self._check(request)
+        self._check(request, self.generation)
         after, wait = int(request.query["after"]), min(1.0, float(request.query["wait"]))
         if self.server.standing().cursor <= after:
             try:

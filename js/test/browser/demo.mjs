@@ -16,9 +16,17 @@ async function device(bench, browser, token, look = null) {
   return tab;
 }
 
+const KEYS = { Enter: [13, '\r'], Tab: [9], ' ': [32, ' '] };
+async function press(tab, key, times = 1) {
+  const [code, text] = KEYS[key];
+  for (let time = 0; time < times; time++) {
+    for (const type of ['keyDown', 'keyUp']) await tab.send('Input.dispatchKeyEvent', { type, key, code: key === ' ' ? 'Space' : key, windowsVirtualKeyCode: code, text });
+  }
+}
+
 async function type(tab, text) {
   await tab.send('Input.insertText', { text });
-  for (const kind of ['keyDown', 'keyUp']) await tab.send('Input.dispatchKeyEvent', { type: kind, key: 'Enter', code: 'Enter', windowsVirtualKeyCode: 13, text: '\r' });
+  await press(tab, 'Enter');
 }
 
 async function add(tab, title) {
@@ -135,24 +143,107 @@ test('a profile that was restored from a backup goes on by itself, and loses not
 
 test('names for a screen reader, the order of focus, a narrow window, and an install', async (bench) => {
   const browser = await bench.browser();
-  const tab = await device(bench, browser, 'reader', { width: 320, height: 640 });
+  const tab = await device(bench, browser, 'reader', { width: 320, height: 420 });
   await add(tab, 'A title that is longer than the whole window of a phone is wide, and then some');
+  await add(tab, 'Tomatoes, ripe ones');
+  await tag(tab, 'Tomatoes, ripe ones', 'market');
   const { nodes } = await tab.send('Accessibility.getFullAXTree');
   const controls = nodes.filter((it) => !it.ignored && ['button', 'textbox', 'checkbox', 'listitem'].includes(it.role?.value));
   for (const it of controls.filter(({ role }) => role.value !== 'listitem')) assert.ok(it.name?.value, `a ${it.role.value} without a name`);
   assert.ok(controls.some((it) => it.name.value.startsWith('One more of A title')), 'the row is named');
   assert.equal(await tab.evaluate('document.documentElement.scrollWidth <= innerWidth'), true);
+  const name = `${row('Tomatoes, ripe ones')}.querySelector('.name')`;
+  assert.equal(await tab.evaluate(`${name}.scrollWidth <= ${name}.clientWidth`), true, 'a short title is seen whole');
   const order = [];
   await tab.evaluate(`document.getElementById('pill').focus()`);
   for (let at = 0; at < 9; at++) {
     order.push(await tab.evaluate(`document.activeElement.id || document.activeElement.className || document.activeElement.textContent`));
-    for (const kind of ['keyDown', 'keyUp']) await tab.send('Input.dispatchKeyEvent', { type: kind, key: 'Tab', code: 'Tab', windowsVirtualKeyCode: 9 });
+    await press(tab, 'Tab');
   }
   assert.equal(order[0], 'pill');
   assert.ok(order.includes('title') && order.includes('tick') && order.includes('name'), order.join());
   const { errors, data } = await tab.send('Page.getAppManifest');
   assert.deepEqual(errors, []);
   assert.equal(JSON.parse(data).display, 'standalone');
-  if (pictures) await tab.picture(`${pictures}/shopping_narrow.png`);
+  if (!pictures) return order.join(' ');
+  await agree(tab);
+  await wait(1600); // what is new is lit up for a while, and facts are drawn each second
+  await tab.picture(`${pictures}/shopping_narrow.png`);
   return order.join(' ');
+});
+
+const focus = (tab) => tab.evaluate(`document.activeElement.getAttribute('aria-label') ?? document.activeElement.tagName`);
+
+test('by the keyboard alone: add, tick, tag, untag, remove, clear; the focus is never lost', async (bench) => {
+  const tab = await device(bench, await bench.browser(), 'keys');
+  await tab.evaluate(`document.getElementById('title').focus()`);
+  for (const it of ['Milk', 'Rye bread', 'Tea']) {
+    await type(tab, it);
+    await tab.until(`${row(it)} !== undefined`);
+  }
+  await press(tab, 'Tab', 2);
+  assert.equal(await focus(tab), 'Bought: Milk');
+  await press(tab, ' ');
+  await tab.until(`document.querySelector('#items li:last-child .name').value === 'Milk'`);
+  assert.equal(await focus(tab), 'Bought: Milk');
+  await tab.until(`!document.getElementById('clear').hidden`);
+  await press(tab, 'Tab', 5);
+  assert.equal(await focus(tab), 'Add a tag to Milk');
+  await type(tab, 'cold');
+  await tab.until(`${row('Milk')}.querySelector('.tag')?.textContent === 'cold'`);
+  await tab.evaluate(`${row('Milk')}.querySelector('.tag').focus()`);
+  await press(tab, 'Enter');
+  await tab.until(`${row('Milk')}.querySelector('.tag') === null`);
+  assert.equal(await focus(tab), 'Add a tag to Milk');
+  await press(tab, 'Tab');
+  await press(tab, 'Enter'); // clears what is bought
+  await tab.until(`document.querySelectorAll('#items li').length === 2`);
+  assert.equal(await focus(tab), 'What to buy');
+  await tab.evaluate(`${row('Rye bread')}.querySelector('.drop').focus()`);
+  await press(tab, 'Enter');
+  await tab.until(`document.querySelectorAll('#items li').length === 1`);
+  assert.equal(await focus(tab), 'Remove Tea');
+  await press(tab, 'Enter');
+  await tab.until(`document.querySelectorAll('#items li').length === 0`);
+  assert.equal(await focus(tab), 'What to buy');
+});
+
+/** Of each text that is shown, whether it stands out from its ground: by WCAG 2.2 at least 4.5 to 1. */
+const faintTexts = () => {
+  const canvas = document.createElement('canvas').getContext('2d', { willReadFrequently: true });
+  const bytesOf = (color) => {
+    canvas.clearRect(0, 0, 1, 1);
+    canvas.fillStyle = color;
+    canvas.fillRect(0, 0, 1, 1);
+    return [...canvas.getImageData(0, 0, 1, 1).data];
+  };
+  const light = ([r, g, b]) => [r, g, b].map((it) => it / 255).map((it) => (it <= 0.04045 ? it / 12.92 : ((it + 0.055) / 1.055) ** 2.4))
+    .reduce((sum, it, at) => sum + it * [0.2126, 0.7152, 0.0722][at], 0);
+  const groundOf = (element) => {
+    for (let it = element; it; it = it.parentElement) {
+      const color = bytesOf(getComputedStyle(it).backgroundColor);
+      if (color[3] === 255) return color;
+    }
+    return [255, 255, 255];
+  };
+  const hasText = (it) => (it.type !== 'checkbox' && it.value) || it.placeholder || [...it.childNodes].some((child) => child.nodeType === 3 && child.data.trim());
+  return [...document.querySelectorAll('body *')].filter((it) => hasText(it) && it.checkVisibility()).flatMap((it) => {
+    const isEmpty = it.placeholder && !it.value;
+    const [one, other] = [light(bytesOf(getComputedStyle(it, isEmpty ? '::placeholder' : null).color)), light(groundOf(it))];
+    const ratio = (Math.max(one, other) + 0.05) / (Math.min(one, other) + 0.05);
+    return ratio < 4.5 ? [`${it.className || it.id || it.tagName} ${ratio.toFixed(2)}`] : [];
+  });
+};
+
+test('light and dark: each text stands out from its ground', async (bench) => {
+  const browser = await bench.browser();
+  for (const isDark of [false, true]) {
+    const tab = await device(bench, browser, `looks ${isDark}`, { width: 420, height: 760, isDark });
+    for (const it of ['Milk', 'Rye bread']) await add(tab, it);
+    await tag(tab, 'Milk', 'cold');
+    await click(tab, 'Rye bread', '.tick');
+    await tab.evaluate(`document.activeElement.blur()`);
+    await wait(1600); // what is new is lit up for a while
+    assert.deepEqual(await tab.run(faintTexts), []);
+  }
 });

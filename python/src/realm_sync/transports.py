@@ -121,10 +121,10 @@ def _header(headers: Any, name: str) -> str:
 
 
 def _address(url: str, generation: int, more: str = "", **words: int) -> str:
-    """An address, with the generation in which the client's file began behind the history's name (the first is said by the address as it is), and
-    more behind that."""
+    """An address, with the generation in which the client's file began behind the history's name, and more behind that. For messages the first is
+    said by the address as it is; whoever asks for something else without one is answered whatever the generation."""
     parts = urllib.parse.urlsplit(url)
-    path = parts.path if generation == 1 else re.sub(r"(@\d+)?/?$", f"@{generation}", parts.path, count=1)
+    path = parts.path if generation == 1 and not more else re.sub(r"(@\d+)?/?$", f"@{generation}", parts.path, count=1)
     query = "&".join(filter(None, (parts.query, urllib.parse.urlencode(words))))
     return urllib.parse.urlunsplit(parts._replace(path=path + more, query=query))
 
@@ -176,7 +176,9 @@ class HttpTransport:
                 length, wait = max(length, found, 0), 25
             except urllib.error.HTTPError as why:
                 why.close()
-                length, wait = -1, 0  # a server without news, or one whose history was restored: the loop asks from time to time
+                if why.code == OUTDATED:
+                    callback()  # the loop is told why when it asks
+                length, wait = -1, 0  # a server without news: the loop asks from time to time
                 self._stopped.wait(30)
             except (OSError, ValueError, Error):
                 self._stopped.wait(30)
@@ -284,6 +286,8 @@ class WebSocketTransport:
     def exchange(self, message: bytes) -> bytes:
         socket = self._connected()
         with self._replies:
+            if self._socket is not socket:
+                raise ConnectionError("the connection was lost")
             self._reply, self._is_waiting = None, True
         try:
             socket.send_binary(message)

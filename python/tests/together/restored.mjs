@@ -7,6 +7,7 @@ globalThis.WebSocket ??= createRequire(import.meta.url)('/usr/share/nodejs/ws').
 const [folder, url] = process.argv.slice(2);
 const schema = defineSchema({ names: { name: key.text() }, sums: { name: key.text(), count: counter(), last: text() } });
 const sync = { url, token: process.env.REALM_TOKEN, retryFrom: 50 };
+setTimeout(() => { console.error('it is not told within a minute'); process.exit(1); }, 60_000).unref();
 const db = await openDatabase({ folder, schema });
 await db.write((tx) => tx.names.create({ name: 'unsent too' }));
 await db.startSync(sync);

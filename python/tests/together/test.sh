@@ -1,6 +1,7 @@
 #!/bin/sh
 # Both packages with the service of this repository: devices of each on one history, over HTTP and over WebSockets; and files that one package
-# encrypted and the other reads; and, where there is Chromium and the page (examples/shopping/web/build.sh), two browsers. It takes js/dist (js/build.sh), the shared library (python/build.sh --library) and what ./realm_service takes.
+# encrypted and the other reads; and, where there is Chromium and the page (examples/shopping/web/build.sh), two browsers. It takes js/dist
+# (js/build.sh), the shared library (python/build.sh --library) and what ./realm_service takes.
 set -eu
 here=$(cd "$(dirname "$(readlink -f "$0")")" && pwd)
 top=$(cd "$here/../../.." && pwd)
@@ -13,7 +14,7 @@ start() {
     (cd "$room" && exec "$top/realm_service" --folder "$room/histories" --listen "127.0.0.1:$port") >"$room/service" 2>&1 &
     service=$!
     for _ in $(seq 300); do
-        grep -q '^eyJ' "$room/service" && return
+        grep -qs '^eyJ' "$room/service" && return
         kill -0 "$service" 2>/dev/null || break
         sleep 0.2
     done

@@ -2,7 +2,7 @@
 
 import { addItem, db } from './data.js';
 import { drawItems } from './items.js';
-import { byId, make, told } from './page.js';
+import { byId, make, replaceButtons, told } from './page.js';
 import { drawSync } from './sync.js';
 
 let current: string | null = null;
@@ -12,15 +12,15 @@ function drawLists(): void {
   const open = new Map<string | null, number>();
   for (const { list } of db.items.where({ done: false }).toArray()) open.set(list, (open.get(list) ?? 0) + 1);
   const buttons = db.lists.sortBy('created').toArray().map(({ id, name }) => {
+    const isCurrent = id === current;
     const count = make('span', { class: 'count' }, String(open.get(id) ?? ''));
-    const button = make('button', { type: 'button', 'aria-pressed': String(id === current) }, name, count);
-    button.onclick = () => show(id);
-    button.ondblclick = () => rename(id, name);
+    const button = make('button', { type: 'button', 'aria-pressed': String(isCurrent), title: isCurrent ? 'Rename this list' : '' }, name, count);
+    button.onclick = () => (isCurrent ? rename(id, name) : show(id));
     return button;
   });
   const add = make('button', { type: 'button', 'aria-label': 'New list' }, '+');
   add.onclick = () => void newList();
-  byId('lists').replaceChildren(...buttons, add);
+  replaceButtons(byId('lists'), [...buttons, add]);
 }
 
 function rename(id: string, before: string): void {
@@ -54,7 +54,7 @@ db.lists.observe((lists) => {
 });
 db.onChange(() => {
   drawLists();
-  void drawSync(db.syncState);
+  void drawSync();
 });
 
 async function drawFacts(): Promise<void> {

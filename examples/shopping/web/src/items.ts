@@ -1,11 +1,12 @@
 // The rows of a list: each is drawn again where its object is another one, and moved where its place is.
 
 import { changeQuantity, db, eraseItems, type Item } from './data.js';
-import { byId, make, told } from './page.js';
+import { byId, make, replaceButtons, told } from './page.js';
 
 const rows = new Map<string, { row: HTMLLIElement; item: Item }>();
 
 export function drawItems(items: readonly Item[]): void {
+  const focused = document.activeElement as HTMLElement | null;
   const isFirst = rows.size === 0;
   const gone = new Set(rows.keys());
   const list = byId<HTMLUListElement>('items');
@@ -17,16 +18,24 @@ export function drawItems(items: readonly Item[]): void {
     rows.set(item.id, { row, item });
     if (list.children[place] !== row) list.insertBefore(row, list.children[place] ?? null);
   });
-  for (const id of gone) {
-    rows.get(id)!.row.remove();
-    rows.delete(id);
-  }
+  for (const id of gone) erase(id);
+  if (focused?.isConnected && focused !== document.activeElement) focused.focus(); // a row that is moved loses it
   byId('empty').hidden = items.length > 0;
   drawClear(items.filter((it) => it.done));
 }
 
+/** Takes a row away. Who was at it, by the keyboard, is at the next one then. */
+function erase(id: string): void {
+  const { row } = rows.get(id)!;
+  const next = row.nextElementSibling ?? row.previousElementSibling;
+  if (row.contains(document.activeElement)) (next?.querySelector<HTMLElement>('.drop') ?? byId('title')).focus();
+  row.remove();
+  rows.delete(id);
+}
+
 function drawClear(done: readonly Item[]): void {
   const clear = byId('clear');
+  if (done.length === 0 && clear === document.activeElement) byId('title').focus();
   clear.hidden = done.length === 0;
   clear.textContent = `Clear ${done.length} bought`;
   clear.onclick = () => void told(eraseItems(done.map((it) => it.id)));
@@ -44,7 +53,14 @@ function newRow(id: string, isNew: boolean): HTMLLIElement {
   more.onclick = () => void told(changeQuantity(id, 1));
   drop.onclick = () => void told(eraseItems([id]));
   const count = make('span', { class: 'count-of' }, less, make('output'), more);
-  const row = make('li', isNew ? { class: 'new' } : {}, tick, name, count, drop, make('span', { class: 'more' }));
+  const add = make('input', { class: 'add-tag', placeholder: '+ tag', maxlength: '24' });
+  add.onchange = () => {
+    const tag = add.value.trim();
+    add.value = '';
+    if (tag) void told(db.write((tx) => tx.items.at(id).tags.add(tag)));
+  };
+  const tags = make('span', { class: 'tags' });
+  const row = make('li', isNew ? { class: 'new' } : {}, tick, name, count, drop, make('span', { class: 'more' }, tags, add));
   row.dataset['id'] = id;
   if (isNew) setTimeout(() => row.classList.remove('new'), 1200);
   return row;
@@ -56,22 +72,21 @@ function fill(row: HTMLLIElement, item: Item): void {
   const [less, more] = row.querySelectorAll('.count-of button');
   const tick = row.querySelector<HTMLInputElement>('.tick')!;
   tick.checked = item.done;
-  for (const [element, name] of [[tick, `Bought: ${title}`], [less, `One less of ${title}`], [more, `One more of ${title}`], [row.querySelector('.drop'), `Remove ${title}`]] as const) {
-    element!.setAttribute('aria-label', name);
-  }
+  const names = [
+    [tick, `Bought: ${title}`], [less, `One less of ${title}`], [more, `One more of ${title}`], [row.querySelector('.drop'), `Remove ${title}`],
+    [row.querySelector('.add-tag'), `Add a tag to ${title}`],
+  ] as const;
+  for (const [element, name] of names) element!.setAttribute('aria-label', name);
   const name = row.querySelector<HTMLInputElement>('.name')!;
   if (document.activeElement !== name) name.value = title;
   row.querySelector('output')!.textContent = String(item.quantity);
-  drawTags(row.querySelector('.more')!, item);
+  replaceButtons(row.querySelector('.tags')!, chipsOf(item));
 }
 
-function drawTags(place: Element, item: Item): void {
-  const tags = [...item.tags].map((tag) => {
+function chipsOf(item: Item): HTMLElement[] {
+  return [...item.tags].map((tag) => {
     const chip = make('button', { type: 'button', class: 'tag', 'aria-label': `Remove the tag ${tag} from ${item.title}` }, tag);
     chip.onclick = () => void told(db.write((tx) => tx.items.at(item.id).tags.delete(tag)));
     return chip;
   });
-  const add = make('input', { class: 'add-tag', placeholder: '+ tag', 'aria-label': `Add a tag to ${item.title}`, maxlength: '24' });
-  add.onchange = () => { if (add.value.trim()) void told(db.write((tx) => tx.items.at(item.id).tags.add(add.value.trim()))); };
-  if (!place.contains(document.activeElement)) place.replaceChildren(...tags, add);
 }

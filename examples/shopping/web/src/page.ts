@@ -11,6 +11,13 @@ export function make<K extends keyof HTMLElementTagNameMap>(
   return element;
 }
 
+/** Puts others in place of the buttons that stand there. Who was at one of them, by the keyboard, is at the one in its place, or behind them all. */
+export function replaceButtons(place: Element, buttons: readonly HTMLElement[]): void {
+  const at = [...place.children].indexOf(document.activeElement as Element);
+  place.replaceChildren(...buttons);
+  if (at >= 0) (buttons[Math.min(at, buttons.length - 1)] ?? (place.nextElementSibling as HTMLElement | null))?.focus();
+}
+
 let timer = 0;
 
 /** Tells a person something, for a while. */

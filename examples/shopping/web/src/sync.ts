@@ -6,8 +6,10 @@ import { byId, make, toast, told } from './page.js';
 
 let isPaused = false;
 
-export async function drawSync(state: SyncState): Promise<void> {
+/** Where sync stands, in the button at the top. */
+export async function drawSync(): Promise<void> {
   const { unsent } = await db.stats();
+  const state = db.syncState; // as it is by now
   const waiting = unsent === 0 ? '' : unsent === 1 ? ' · 1 change waiting' : ` · ${unsent} changes waiting`;
   const said: Record<SyncState['status'], string> = {
     off: `Paused${waiting}`, connecting: 'Connecting', offline: `Offline${waiting}`, syncing: 'Syncing', upToDate: 'Up to date', recovering: 'Recovering',
@@ -42,7 +44,7 @@ byId('pill').onclick = () => {
   isPaused = !isPaused;
   void told(isPaused ? db.stopSync() : db.startSync(sync));
 };
-db.observeSync((state) => void drawSync(state));
+db.observeSync(() => void drawSync());
 db.onLost((lost) => toast(lost.map(words).join(' ')));
 db.onRecovered(({ saved, dropped }) => {
   const lost = dropped.length === 0 ? '' : `, and lost ${dropped.length} edits`;
