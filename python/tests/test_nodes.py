@@ -150,7 +150,7 @@ class UseTests(unittest.TestCase):
                 strokes = [call.args[1] for call in apply.call_args_list]
                 self.assertEqual([[stroke is None for stroke in it] for it in strokes], [[False, True, False, True]])
                 with self.assertRaises(BadEdit):
-                    client.commit_all([[row], ["none"]])
+                    client.commit_all([[row], ["none"]])  # type: ignore[list-item]
                 self.assertEqual(client.standing().last, 4)
                 with self.assertRaises(BrokenEdit) as caught:
                     client.commit_all([[row], [row, missing], [row]])
