@@ -26,7 +26,10 @@ test('schemas that differ are told before anything is sent, and a new client sav
   await laptop.recover();
   const recovery = await told;
   assert.equal(recovery.saved, 2);
-  assert.deepEqual(recovery.dropped.map((it) => [it.number, it.why.replace(/.*: /, '')]), [[1, 'the table exists'], [1, 'the column exists'], [1, 'the column exists'], [2, "the value doesn't fit the column"]].filter(([, why]) => recovery.dropped.some((it) => it.why.endsWith(why))));
+  assert.deepEqual(recovery.dropped.map((it) => [it.number, JSON.parse(it.edit).op, JSON.parse(it.edit).column, it.why.replace(/.*: /, '')]), [
+    [1, 'AddTable', undefined, 'the table exists'], [1, 'AddColumn', 'text', 'the column exists'], [1, 'AddColumn', 'due', 'the column exists'],
+    [2, 'Update', 'due', "the value doesn't fit the column"],
+  ]);
   await laptop.close();
   const again = await openDatabase({ schema: a, files, sync: { transport: net.transport(), ...fast } });
   await again.synced();
