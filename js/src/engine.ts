@@ -99,9 +99,9 @@ export class Engine {
     }
   }
 
-  /** The note of the last strokes. */
-  noted(): string {
-    return this.file.noted?.() ?? '';
+  /** The notes of the last strokes. */
+  noted(): readonly string[] {
+    return this.file.noted?.() ?? [];
   }
 
   /** The bytes of the file. */

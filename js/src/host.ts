@@ -269,8 +269,8 @@ export class Host {
   /** The numbers of the transactions that were handed under this name to another host, which then was killed: none where they don't stand. */
   outcome(by: string): Promise<number[]> {
     return this.alone(async () => {
-      const [first, count, whose] = this.engine.noted().split(' ');
-      const numbers = whose === by ? Array.from({ length: Number(count) }, (_, place) => Number(first) + place) : [];
+      const [first, count] = this.engine.noted().map((it) => it.split(' ')).find((it) => it[2] === by) ?? [0, 0];
+      const numbers = Array.from({ length: Number(count) }, (_, place) => Number(first) + place);
       return this.engine.standing().last >= (numbers.at(-1) ?? 0) ? numbers : [];
     });
   }

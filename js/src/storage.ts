@@ -6,11 +6,15 @@ export interface OpenFile {
   read(): Uint8Array | Promise<Uint8Array>;
   /** Does the strokes in order. When it returns, they are on the disk. */
   apply(strokes: readonly Stroke[], note?: string): void | Promise<void>;
-  /** The note of the last strokes that came with one: for whoever opens the file after a tab was killed. Only storages that tabs share have
-   * it. */
-  noted?(): string;
+  /**
+   * The notes of the last strokes that came with one, up to `MOST_NOTES`: for whoever opens the file after a tab was killed. Only storages that tabs share
+   * have them. So many tabs may wait for an answer at a time, each for one.
+   */
+  noted?(): readonly string[];
   close(): void | Promise<void>;
 }
+
+export const MOST_NOTES = 64;
 
 /** The files of one database, by name. */
 export interface Files {

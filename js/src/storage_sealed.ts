@@ -141,8 +141,8 @@ class SealedFile implements OpenFile {
     replay(plain, this.image);
   }
 
-  noted(): string {
-    return this.inner.noted?.() ?? '';
+  noted(): readonly string[] {
+    return this.inner.noted?.() ?? [];
   }
 
   close(): void | Promise<void> {

@@ -54,7 +54,6 @@ async function start(form: WorkerStart): Promise<void> {
     if (data.close) {
       asked.close();
       await host.close().catch(() => {}); // the tab ends this worker, and with it what is open
-      all.postMessage({ gone: epoch });
       return scope.postMessage({ closed: true });
     }
     scope.postMessage({ reply: await replyTo(host, data.ask as Question, optionsOf) });

@@ -1,4 +1,8 @@
 // Tests one after the other, each with a server of its own and with browsers that are ended with it.
+import { spawnSync } from 'node:child_process';
+import fs from 'node:fs';
+import os from 'node:os';
+import path from 'node:path';
 import { startServer } from '../server.mjs';
 import { Chromium } from './cdp.mjs';
 
@@ -19,6 +23,17 @@ class Bench {
     const browser = await Chromium.start(profile);
     this.browsers.add(browser);
     return browser;
+  }
+
+  /** A browser whose profile is on a disk of its own, that has room for some 40 MB, and what makes room for 20 more. Null where this machine lets nobody
+   * mount one. */
+  async smallDisk() {
+    if (spawnSync('unshare', ['-rm', 'true']).status !== 0) return null;
+    const profile = fs.mkdtempSync(path.join(os.tmpdir(), 'sdk-small-'));
+    const mounted = 'mount -t tmpfs -o size=70m tmpfs "$0" && head -c 20m /dev/zero >"$0/ballast" && exec "$@"';
+    const browser = await Chromium.start(profile, ['unshare', '-rm', 'sh', '-c', mounted, profile]);
+    this.browsers.add(browser);
+    return { browser, makeRoom: () => fs.unlinkSync(`/proc/${browser.process.pid}/root${profile}/ballast`) };
   }
 
   /** A tab of an empty page with the package. */

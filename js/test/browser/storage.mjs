@@ -53,32 +53,59 @@ for (const storage of ['opfs', 'indexeddb']) {
   });
 }
 
-test('opfs: a full disk refuses a transaction, and the database goes on', async (bench) => {
+/** Writes days of a megabyte and more each, until five in a row are refused. Answers what became of each. */
+const fill = `(async () => {
+  const said = [];
+  const noise = () => Array.from(crypto.getRandomValues(new Uint8Array(50000)), (it) => it.toString(16).padStart(2, '0')).join('');
+  for (let day = 1; day < 100 && (said.length < 5 || said.slice(-5).includes('done')); day++) {
+    const note = Array.from({ length: 12 }, noise).join('');
+    said.push(await db.write((tx) => tx.days.create({ day, note })).then(() => 'done', (error) => error.name));
+  }
+  return said;
+})()`;
+const days = 'db.days.toArray().map((it) => it.day)';
+const daysDone = (said) => [0, ...said.flatMap((it, place) => (it === 'done' ? [place + 1] : []))];
+
+for (const storage of ['opfs', 'indexeddb']) {
+  test(`${storage}: a disk that has no room left refuses transactions, and with room made the database goes on`, async (bench) => {
+    const small = await bench.smallDisk();
+    if (!small) return 'NOT TRIED: this machine lets nobody mount a small disk';
+    const tab = await bench.tab(small.browser);
+    const open = `open({ storage: '${storage}' })`;
+    await tab.evaluate(`${open}.then(() => db.write((tx) => tx.days.create({ day: 0 })))`);
+    const said = await tab.evaluate(fill);
+    // (a browser that says no more than that a write failed is told by the name of that)
+    assert.ok(said.includes('done') && said.every((it) => ['done', 'StorageFull', 'StorageFailed'].includes(it)), said.join());
+    assert.deepEqual(await tab.evaluate(days), daysDone(said));
+    small.makeRoom();
+    await tab.until(`db.write((tx) => tx.days.create({ day: 999 })).then(() => true)`);
+    await tab.send('Page.reload');
+    await wait(100);
+    await tab.ready();
+    await tab.evaluate(open);
+    assert.deepEqual(await tab.evaluate(days), [...daysDone(said), 999]);
+    return `${said.filter((it) => it === 'done').length} writes, then ${said.at(-1)}`;
+  });
+}
+
+test('opfs: a full quota refuses a transaction, and the database goes on', async (bench) => {
   const { origin } = bench.server;
   const tab = await bench.tab(await bench.browser());
   await tab.evaluate(`open({ storage: 'opfs' }).then(() => db.write((tx) => tx.days.create({ day: 0 })))`);
   const { usage } = await tab.evaluate('navigator.storage.estimate()');
   await tab.send('Storage.overrideQuotaForOrigin', { origin, quotaSize: usage + 3_000_000 });
-  const said = await tab.evaluate(`(async () => {
-    const said = [];
-    const noise = () => Array.from(crypto.getRandomValues(new Uint8Array(50000)), (it) => it.toString(16).padStart(2, '0')).join('');
-    for (let day = 1; day <= 20; day++) {
-      const note = Array.from({ length: 12 }, noise).join('');
-      said.push(await db.write((tx) => tx.days.create({ day, note })).then(() => 'done', (error) => error.name));
-    }
-    return said;
-  })()`);
+  const said = await tab.evaluate(fill);
   assert.ok(said.includes('StorageFull'), said.join());
   assert.ok(said.every((it) => it === 'done' || it === 'StorageFull'), said.join());
-  const shown = await tab.evaluate('db.days.toArray().map((it) => it.day)');
-  assert.deepEqual(shown, [0, ...said.map((it, place) => (it === 'done' ? place + 1 : null)).filter((it) => it !== null)]);
+  const shown = await tab.evaluate(days);
+  assert.deepEqual(shown, daysDone(said));
   await tab.send('Storage.overrideQuotaForOrigin', { origin });
-  await tab.evaluate(`db.write((tx) => tx.days.create({ day: 99, note: 'x'.repeat(100000) }))`);
+  await tab.evaluate(`db.write((tx) => tx.days.create({ day: 999, note: 'x'.repeat(100000) }))`);
   await tab.send('Page.reload');
   await wait(100);
   await tab.ready();
   await tab.evaluate(`open({ storage: 'opfs' })`);
-  assert.deepEqual(await tab.evaluate('db.days.toArray().map((it) => it.day)'), [...shown, 99]);
+  assert.deepEqual(await tab.evaluate(days), [...shown, 999]);
   return said.join(' ');
 });
 

@@ -2,75 +2,100 @@
 import assert from 'node:assert/strict';
 import { test, wait } from './harness.mjs';
 
-const adding = (count) => `(async () => { for (let i = 0; i < ${count}; i++) await add(); return ${count}; })()`;
-const sum = (counts) => counts.reduce((one, other) => one + other, 0);
-
-/** Four tabs; what the system has is enough, since the machine isn't stopped here. */
+/** Four tabs, and the key of an object that all add to; what the system has is enough, since the machine isn't stopped here. */
 async function openTabs(bench, browser, storage, isSynced) {
   const sync = isSynced ? `, sync: { url: '${bench.server.socketUrl}', token: 'tabs' }` : '';
   const tabs = [];
+  let id;
   for (let at = 0; at < 4; at++) {
     const tab = await bench.tab(browser);
     await tab.evaluate(`open({ storage: '${storage}', durability: 'relaxed'${sync} })`);
-    if (at === 0) await tab.evaluate(`db.write((tx) => tx.days.create({ day: 1, note: '0' }))`);
-    tabs.push(tab);
+    id ??= await tab.evaluate(`db.write((tx) => tx.items.create({ title: '0' }))`);
+    await tab.until(`db.items.get('${id}')`);
+    tabs.push(Object.assign(tab, { name: at }));
   }
-  return tabs;
+  return { tabs, id };
+}
+
+const hosts = async (tabs) => (await Promise.all(tabs.map((it) => it.evaluate('db.isHost')))).filter(Boolean).length;
+
+/** Once another tab has the files and all show the same: what was added, and the marks. A tab that is closed goes on until its process ends. */
+async function settled(tabs, id) {
+  for (const end = Date.now() + 60_000; Date.now() < end; await wait(50)) {
+    const isHosted = (await hosts(tabs)) === 1;
+    const [one, ...others] = await Promise.all(tabs.map((it) => it.evaluate(`added('${id}')`)));
+    if (isHosted && others.every((it) => JSON.stringify(it) === JSON.stringify(one))) return one;
+  }
+  throw new Error('the tabs never showed the same');
+}
+
+/** While all tabs add, the one with the files is closed, three times. Each transaction must stand once: as many were added as there are marks, all that
+ * were answered are there, and of the closed tab a beginning. */
+async function addAndClose({ tabs, id }, add, count) {
+  let marks = [];
+  const answered = [];
+  for (let round = 0; tabs.length > 1; round++) {
+    const [host, ...others] = tabs;
+    const writing = others.map(async (tab) => {
+      const mine = Array.from({ length: count }, (_, at) => `${tab.name}.${round}.${at}`);
+      await tab.evaluate(`(async () => { for (const mark of ${JSON.stringify(mine)}) await ${add}('${id}', mark); })()`);
+      answered.push(...mine);
+    });
+    host.evaluate(`(async () => { localStorage.last = -1; for (let at = 0; ; at++) { await ${add}('${id}', 'host.${round}.' + at); localStorage.last = at; } })()`).catch(() => {});
+    await wait(120);
+    await host.close();
+    await Promise.all(writing);
+    tabs.shift();
+    const { sum, marks: all } = await settled(tabs, id);
+    assert.equal(sum, all.length, 'each transaction counts once');
+    const missing = answered.filter((it) => !all.includes(it));
+    assert.deepEqual(missing, [], 'what was answered is there');
+    const ofHost = all.filter((it) => it.startsWith(`host.${round}.`)).map((it) => Number(it.split('.')[2])).sort((a, b) => a - b);
+    assert.deepEqual(ofHost, ofHost.map((_, at) => at), 'of the closed tab a beginning');
+    assert.ok(ofHost.length > Number(await tabs[0].evaluate('localStorage.last')), 'all that it was answered');
+    marks = all;
+  }
+  return `${marks.length} additions`;
 }
 
 for (const storage of ['opfs', 'indexeddb']) {
   for (const isSynced of [false, true]) {
-    test(`${storage}: four tabs write at once, and the one with the files is closed${isSynced ? ', while it syncs' : ''}`, async (bench) => {
-      const tabs = await openTabs(bench, await bench.browser(), storage, isSynced);
-      assert.deepEqual(await Promise.all(tabs.map((it) => it.evaluate('db.isHost'))), [true, false, false, false]);
-      let want = sum(await Promise.all(tabs.map((tab) => tab.evaluate(adding(50)))));
-      for (const tab of tabs) await tab.until(`db.days.get(1).note === '200'`);
-      for (let round = 0; round < 3; round++) {
-        const [host, ...others] = tabs;
-        const writing = others.map((tab) => tab.evaluate(adding(40)));
-        host.evaluate(`(async () => { let mine = 0; localStorage.mine = 0; for (;;) { await add(); localStorage.mine = ++mine; } })()`).catch(() => {});
-        await wait(120);
-        await host.close();
-        want += sum(await Promise.all(writing));
-        tabs.shift();
-        const mine = Number(await tabs[0].evaluate('localStorage.mine'));
-        await wait(500); // the others' last changes are on their way to this tab
-        const total = Number(await tabs[0].evaluate('db.days.get(1).note'));
-        // The closed tab's last one may have been written and not told.
-        assert.ok(total >= want + mine && total <= want + mine + 1, `${total} of ${want} + ${mine}`);
-        want = total;
-        for (const tab of tabs) await tab.until(`db.days.get(1).note === '${total}'`);
-        assert.equal((await Promise.all(tabs.map((it) => it.evaluate('db.isHost')))).filter(Boolean).length, 1);
-      }
-      return `${want} additions`;
+    test(`${storage}: four tabs read, change and write at once, and the one with the files is closed${isSynced ? ', while it syncs' : ''}`, async (bench) => {
+      const opened = await openTabs(bench, await bench.browser(), storage, isSynced);
+      assert.deepEqual(await Promise.all(opened.tabs.map((it) => it.evaluate('db.isHost'))), [true, false, false, false]);
+      return addAndClose(opened, 'add', 40);
     });
   }
 }
 
-test('additions of four tabs that read nothing: each counts once, also where the tab with the files is closed', async (bench) => {
-  const browser = await bench.browser();
-  const tabs = await openTabs(bench, browser, 'opfs', false);
-  const id = await tabs[0].evaluate(`db.write((tx) => tx.items.create({ title: 'sum' }))`);
-  const more = `db.write((tx) => tx.items.at('${id}').quantity.add(1))`;
-  let want = 0;
-  while (tabs.length > 1) {
-    for (const tab of tabs) await tab.until(`db.items.get('${id}')?.quantity === ${want}`);
-    const [host, ...others] = tabs;
-    const writing = others.map((tab) => tab.evaluate(`(async () => { for (let i = 0; i < 60; i++) await ${more}; })()`));
-    host.evaluate(`(async () => { localStorage.mine = 0; for (let mine = 0; ;) { await ${more}; localStorage.mine = ++mine; } })()`).catch(() => {});
-    await wait(90 + 40 * tabs.length);
+test('four tabs that add and read nothing, and the one with the files is closed', async (bench) =>
+  addAndClose(await openTabs(bench, await bench.browser(), 'opfs', false), 'addBlind', 60));
+
+for (const storage of ['opfs', 'indexeddb']) {
+  test(`${storage}: what several tabs asked of a tab that ended without an answer stands once`, async (bench) => {
+    const browser = await bench.browser();
+    const host = await bench.tab(browser);
+    const makeWorker = `() => new Worker('/js/test/browser/mute_worker.js', { type: 'module' })`;
+    await host.evaluate(`open({ storage: '${storage}', makeWorker: ${makeWorker} })`);
+    const id = await host.evaluate(`db.write((tx) => tx.items.create({ title: '0' }))`);
+    const others = [];
+    for (let at = 0; at < 3; at++) {
+      others.push(await bench.tab(browser));
+      await others[at].evaluate(`open({ storage: '${storage}' })`);
+      await others[at].until(`db.items.get('${id}')`);
+    }
+    await others[0].evaluate(`new BroadcastChannel('mute').postMessage(true)`);
+    await wait(200);
+    for (const [at, tab] of others.entries()) {
+      await tab.evaluate(`void (globalThis.asked = ${at === 2 ? 'add' : 'addBlind'}('${id}', 'mark ${at}'))`);
+      await wait(200);
+    }
     await host.close();
-    await Promise.all(writing);
-    tabs.shift();
-    want += 60 * tabs.length + Number(await tabs[0].evaluate('localStorage.mine'));
-    await wait(300); // the others' last changes are on their way to this tab
-    const total = await tabs[0].evaluate(`db.items.get('${id}').quantity`);
-    // The closed tab's last one may have been written and not told.
-    assert.ok(total === want || total === want + 1, `${total} of ${want}`);
-    want = total;
-  }
-  return `${want} additions`;
-});
+    for (const tab of others) await tab.evaluate('asked');
+    const { sum, marks } = await settled(others, id);
+    assert.deepEqual([sum, marks], [3, ['mark 0', 'mark 1', 'mark 2']]);
+  });
+}
 
 test('a worker that cannot be loaded, and one that is not there any more, are errors', async (bench) => {
   const tab = await bench.tab(await bench.browser());
