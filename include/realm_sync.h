@@ -42,7 +42,8 @@ enum realm_status {
     REALM_NO_MEMORY = 7,       /* close the node, and open its file again */
     REALM_BUSY = 9,            /* another open holds the file */
     REALM_FORKED_PROCESS = 10, /* another process opened the node, and fork left it here: close it; nothing was done */
-    REALM_STALE = 11           /* nothing more is to be sent: realm_text_of_stale says why; nothing was done */
+    REALM_STALE = 11,          /* nothing more is to be sent: realm_text_of_stale says why; nothing was done */
+    REALM_NOT_SHRUNK = 12      /* no shorter file could be put in the place of the node's: realm_words says why; both are as before */
 };
 
 /* A client or a server. reply[0] is the last answer's status, and what follows is the answer, valid until the next call. All bytes 0 are a
@@ -66,6 +67,8 @@ typedef struct realm_node {
     bool held_up;       /* the last message was refused by a mismatch */
     uint8_t stale;      /* why nothing more is to be sent: a realm_stale */
     const char *wrong;  /* what was expected of a request that this header refused */
+    char *path;         /* its file's, as it was given */
+    uint8_t unshrunk;   /* why the last realm_shrink left the file: a realm_reason */
 } realm_node;
 
 /* Why a client refuses, and what the numbers beside it say: docs/FORMATS.md, "Refusals by number". */
@@ -255,6 +258,7 @@ REALM_SYNC_API void realm_close(realm_node *node) {
         realm_node_free(node->host);
         free(node->reply);
         free(node->strokes);
+        free(node->path);
     }
     memset(node, 0, sizeof *node);
 }
@@ -273,6 +277,9 @@ REALM_SYNC_API int realm_open(realm_node *node, char verb, const char *path) {
     int status = realm_make(node, verb);
     if (status != REALM_DONE) return status;
     if (!path || !*path) return realm_ask_of(node, verb, NULL, 0);
+    node->path = (char *)malloc(strlen(path) + 1);
+    if (!node->path) return realm_fail(node, REALM_OUT_OF_MEMORY);
+    strcpy(node->path, path);
     int why = realm_file_open(path, &node->file);
     if (!why) why = realm_file_request(node->file, verb, &request, &len);
     status = why ? realm_fail(node, why) : realm_turn(node, request, len);
@@ -340,6 +347,7 @@ REALM_SYNC_API const char *realm_text_of_status(int status) {
     case REALM_BUSY: return "another open holds the file: try again later";
     case REALM_FORKED_PROCESS: return "another process opened this node, and fork copied it: close it here, and open a file in this process";
     case REALM_STALE: return "nothing more is sent from this file";
+    case REALM_NOT_SHRUNK: return "no shorter file is there, and the node and its file are as before";
     default: return "unknown";
     }
 }
@@ -371,6 +379,8 @@ REALM_SYNC_API const char *realm_text_of_reason(int reason) {
         "the links in the path lead back to it: give another path",
         "the system has no such names: give another path",
         "the user's share of the disk is full: make room in it, close the node, and open its file again",
+        "the file that is open doesn't stand at its path any more: close the node, and open the file where it is",
+        "a file that is open can't be replaced on Windows: close the node, and put the bytes of realm_trim in its place",
     };
     return reason >= 0 && (size_t)reason < sizeof texts / sizeof texts[0] ? texts[reason] : "unknown";
 }
@@ -486,6 +496,8 @@ REALM_SYNC_API const char *realm_words(const realm_node *node, int status, char 
         snprintf(text, room, "from byte %" PRIu64 " on %s", realm_bad_place(node), realm_text_of_status(status));
     else if (status == REALM_STALE)
         snprintf(text, room, "%s", realm_text_of_stale(node->stale));
+    else if (status == REALM_NOT_SHRUNK)
+        snprintf(text, room, "%s: %s", realm_text_of_status(status), realm_text_of_reason(node->unshrunk));
     else if (status == REALM_CLOSED && node->reason && node->error)
         snprintf(text, room, "%s (error %d of the system)", realm_text_of_reason(node->reason), (int)node->error);
     else
@@ -773,6 +785,22 @@ REALM_SYNC_API int realm_object(realm_node *node, const char *name) {
     return name ? realm_told(node, realm_ask_of(node, 'O', name, strlen(name)), expected) : realm_expect(node, expected);
 }
 
+/* So many objects of a table, in the order of their keys, a line of JSON each: `from` is {"table":"notes"} for the first ones, and
+ * {"table":"notes","key":1} for those behind that key. Fewer come where the table ends. */
+REALM_SYNC_API int realm_page(realm_node *node, const char *from, uint32_t count) {
+    static const char expected[] = "from: expected {\"table\":NAME}, or {\"table\":NAME,\"key\":KEY}";
+    if (!from) return realm_expect(node, expected);
+    size_t len = strlen(from);
+    uint8_t *body = (uint8_t *)malloc(len + 4);
+    node->reply_len = 0;
+    if (!body) return REALM_NO_MEMORY;
+    realm_put_number(body, count);
+    memcpy(body + 4, from, len);
+    int status = realm_ask_of(node, 'J', body, len + 4);
+    free(body);
+    return realm_told(node, status, expected);
+}
+
 /* What the last realm_line, realm_commit or realm_take may have changed of a client's objects, a line of JSON for each place:
  * docs/FORMATS.md, "Places". What none of them covers is as it was; of a list with "front" and "back" so many of its first and its last
  * elements, as the least of each says. */
@@ -844,10 +872,40 @@ REALM_SYNC_API bool realm_next_change(const realm_node *node, size_t *at, realm_
 
 /* ---- the whole life of a history */
 
-/* The bytes of the file that may stand in place of the server's (realm_bytes): without the history that no client needs. The host puts
- * it there while no node has the file open, and opens it. */
-REALM_SYNC_API int realm_trim(realm_node *server) {
-    return realm_told(server, realm_ask_of(server, 'F', NULL, 0), "node: expected a server, and this is a client");
+/* The bytes of the file that may stand in place of the node's own (realm_bytes): a server's without the history that no client needs, a client's
+ * with what its calls read, and nothing of what it took. A host that keeps its files itself puts it there while no node has the file open,
+ * and opens it; realm_shrink does all of that. */
+REALM_SYNC_API int realm_trim(realm_node *node) { return realm_ask_of(node, 'F', NULL, 0); }
+
+/* Opens the node anew over the bytes that the last call answered. */
+REALM_SYNC_API int realm_open_answer(realm_node *node) {
+    uint8_t answer[9];
+    node->reply[0] = node->is_client ? 'c' : 's';
+    realm_node_turn(node->host, node->reply, node->reply_len, answer, sizeof answer);
+    if (answer[0] != REALM_DONE) return realm_fail(node, answer[0] == REALM_NO_MEMORY ? REALM_OUT_OF_MEMORY : REALM_WRONG_FILE);
+    node->reply[0] = REALM_DONE;
+    node->reply_len = 1;
+    return realm_land(node, REALM_DONE);
+}
+
+/* Puts the file of realm_trim in the place of the node's own, under its lock, and goes on over it: it is written beside the old one, synced, and takes
+ * its name at once, so a stop leaves the one or the other, whole, and nothing that was answered is lost. The client uploads again what the
+ * server may have, which does no harm. REALM_NOT_SHRUNK where no shorter file can be written. */
+REALM_SYNC_API int realm_shrink(realm_node *node) {
+    bool replaced = true;
+    int status = realm_trim(node);
+    if (status != REALM_DONE) return status;
+    if (node->file) {
+        int why = realm_file_replace(node->path, node->is_client ? ".shrunk" : ".trimmed", node->reply + 1, node->reply_len - 1, &node->file, &replaced);
+        node->unshrunk = (uint8_t)why;
+        if (why && replaced) return realm_fail(node, why);
+        if (why) {
+            node->error = realm_file_error();
+            node->reply_len = 0;
+            return REALM_NOT_SHRUNK;
+        }
+    }
+    return realm_open_answer(node);
 }
 
 /* The bytes of the file of a new client with that uuid, of 16 bytes, that begins with the server's objects (realm_bytes). */

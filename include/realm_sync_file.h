@@ -28,6 +28,7 @@
 #include <windows.h>
 #else
 #include <fcntl.h>
+#include <stdio.h>
 #include <sys/file.h>
 #include <sys/stat.h>
 #include <sys/types.h>
@@ -70,7 +71,9 @@ enum realm_reason {
     REALM_WRONG_FILE = 20,     /* the file is another one's, or damaged */
     REALM_LINKS_GO_ROUND = 21, /* the links in the path lead back to it */
     REALM_BAD_NAME = 22,       /* the system has no such names */
-    REALM_SHARE_FULL = 23      /* the user's share of the disk is full */
+    REALM_SHARE_FULL = 23,     /* the user's share of the disk is full */
+    REALM_RENAMED = 24,        /* the file that is open doesn't stand at its path any more */
+    REALM_NOT_ON_WINDOWS = 25  /* a file that is open can't be replaced there */
 };
 
 /* ---- the system's calls */
@@ -170,11 +173,23 @@ REALM_SYNC_API int realm_file_write(realm_file file, const uint8_t *bytes, size_
 
 REALM_SYNC_API int realm_file_sync(realm_file file) { return FlushFileBuffers((HANDLE)file) ? REALM_NO_REASON : REALM_SYNC_FAILED; }
 
+REALM_SYNC_API int realm_file_replace(const char *path, const char *suffix, const uint8_t *bytes, size_t len, realm_file *file, bool *replaced) {
+    (void)path, (void)suffix, (void)bytes, (void)len, (void)file;
+    *replaced = false;
+    return REALM_NOT_ON_WINDOWS;
+}
+
 #else
 
 #if defined __linux__ && !defined _POSIX_C_SOURCE
 /* unistd.h hides it where a header of the system was included before this one, and C alone was asked for. */
 int fsync(int file);
+#endif
+
+#if defined __GLIBC__ && !defined __cplusplus && !defined __USE_XOPEN2K8
+/* The same of these. */
+int fchmod(int file, mode_t mode);
+ssize_t readlink(const char *path, char *bytes, size_t room);
 #endif
 
 REALM_SYNC_API int realm_file_error(void) { return errno; }
@@ -349,6 +364,86 @@ REALM_SYNC_API int realm_file_sync(realm_file file) {
     do failed = fsync((int)file);
     while (failed && errno == EINTR);
     return failed ? REALM_SYNC_FAILED : REALM_NO_REASON;
+}
+
+enum { REALM_PATH_ROOM = 4096, REALM_MOST_LINKS = 40 };
+
+/* The path behind the links that a path's last name may be, with a suffix, in a room of REALM_PATH_ROOM bytes twice. */
+REALM_SYNC_API int realm_path_behind(const char *path, const char *suffix, char *real, char *beside) {
+    char link[REALM_PATH_ROOM];
+    if (strlen(path) >= REALM_PATH_ROOM) return REALM_LONG_PATH;
+    strcpy(real, path);
+    for (int links = 0; links < REALM_MOST_LINKS; links++) {
+        ssize_t len = readlink(real, link, sizeof link - 1);
+        if (len < 0) {
+            if (errno != EINVAL) return realm_open_reason(errno, real);
+            if (strlen(real) + strlen(suffix) >= REALM_PATH_ROOM) return REALM_LONG_PATH;
+            strcat(strcpy(beside, real), suffix);
+            return REALM_NO_REASON;
+        }
+        link[len] = 0;
+        char *slash = strrchr(real, '/');
+        size_t folder = link[0] == '/' || !slash ? 0 : (size_t)(slash + 1 - real);
+        if (folder + (size_t)len >= REALM_PATH_ROOM) return REALM_LONG_PATH;
+        strcpy(real + folder, link);
+    }
+    return REALM_LINKS_GO_ROUND;
+}
+
+/* A file of that path with these bytes, synced and locked; there is none where it fails. */
+REALM_SYNC_API int realm_file_make(const char *path, mode_t mode, const uint8_t *bytes, size_t len, realm_file *file) {
+    int flags = O_RDWR | O_CREAT | O_EXCL;
+#ifdef O_CLOEXEC
+    flags |= O_CLOEXEC;
+#endif
+    unlink(path);
+    int made = realm_above_standard(open(path, flags, 0600));
+    if (made < 0) return realm_open_reason(errno, path);
+    int why = fcntl(made, F_SETFD, FD_CLOEXEC) == 0 && fchmod(made, mode & 07777) == 0 ? REALM_NO_REASON : REALM_NOT_OPENED;
+    if (!why) why = realm_file_write(made, bytes, len, 0);
+    if (!why) why = realm_file_sync(made);
+    if (!why && !realm_file_lock(made)) why = REALM_NO_LOCKS;
+    *file = made;
+    if (!why) return REALM_NO_REASON;
+    int error = errno;
+    unlink(path);
+    close(made);
+    errno = error;
+    return why;
+}
+
+/* Puts a file with these bytes in the place of one that is open and locked. It is written beside it, with its permissions, synced and locked, and
+ * takes its name at once: a stop leaves the one or the other, whole. Until it is `*replaced` the old one is as it was; then `*file` is the
+ * new one. */
+REALM_SYNC_API int realm_file_replace(const char *path, const char *suffix, const uint8_t *bytes, size_t len, realm_file *file, bool *replaced) {
+    char real[REALM_PATH_ROOM], beside[REALM_PATH_ROOM];
+    struct stat opened, named;
+    realm_file made = 0;
+    *replaced = false;
+    int why = realm_path_behind(path, suffix, real, beside);
+    if (why) return why == REALM_NO_FOLDER ? (int)REALM_RENAMED : why;
+    if (fstat((int)*file, &opened) != 0 || stat(real, &named) != 0) return realm_open_reason(errno, real);
+    if (opened.st_dev != named.st_dev || opened.st_ino != named.st_ino) {
+        errno = 0;
+        return REALM_RENAMED;
+    }
+    why = realm_file_make(beside, opened.st_mode, bytes, len, &made);
+    if (why) return why;
+    if (rename(beside, real) != 0) {
+        why = realm_open_reason(errno, real);
+        int error = errno;
+        unlink(beside);
+        close((int)made);
+        errno = error;
+        return why;
+    }
+    *replaced = true;
+    why = realm_folder_sync(real);
+    int error = errno;
+    close((int)*file);
+    *file = made;
+    errno = error;
+    return why;
 }
 
 #endif

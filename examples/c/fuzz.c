@@ -2,7 +2,7 @@
  *
  * Each input is about a server and two clients, over files or in memory, new or met, by its first byte. Then it is a list of steps: an
  * arbitrary request to one of them, a line, an edit, a round of the sync, a message with changed bytes, an old message again, a file with
- * changed bytes that is opened. What must hold is checked after each: a status that there is, no byte written past the room for a
+ * changed bytes that is opened, a shorter file in the place of a node's own. What must hold is checked after each: a status that there is, no byte written past the room for a
  * reply, a refusal that changes nothing, a node's own file that opens again, and, where no step was hostile, that all end with the same
  * objects. Sanitizers and libFuzzer's limits see to the rest.
  *
@@ -154,7 +154,7 @@ static void look(int number, uint8_t verb, int status) {
     bool is_stale = status == REALM_STALE && hostile;
     check(is_stale || (status >= REALM_DONE && status <= REALM_BAD_FILE && status != 4), "a status that there is, and no end of memory");
     check(is_stale || status == REALM_CLOSED || node->reply_len > 0, "an answer");
-    check((status == REALM_REFUSED) == (why.number > 0 && why.number <= REALM_TOO_LATE), "a refusal has its number");
+    check((status == REALM_REFUSED) == (why.number > 0 && why.number <= REALM_BAD_CHANGE), "a refusal has its number");
     realm_words(node, status, words, sizeof words);
     count_answer(verb, (uint8_t)status, &why);
 }
@@ -270,7 +270,8 @@ static void pass_changed(source *from, int client) {
     uint8_t how = next_byte(from), body[4] = {0};
     char verb = verbs[how % 5];
     body[0] = (uint8_t)(how / 5 % 4);
-    hostile = hostile || verb == 'G';
+    /* an Upload that leaves out changes is refused as another server's would be */
+    hostile = hostile || verb == 'G' || (verb == 'U' && body[0] > 0);
     if (ask(client, verb, body, verb == 'U' || verb == 'G' ? 4 : 0) == REALM_DONE) pass(from, client, how >> 5 & 3, how >> 7);
 }
 
@@ -349,6 +350,58 @@ static void open_again(source *from, int number) {
     free(request);
 }
 
+/* A copy of what the last call answered. */
+static uint8_t *copy_answer(int number, size_t *len) {
+    const uint8_t *bytes = realm_bytes(&nodes[number], len);
+    uint8_t *copy = (uint8_t *)malloc(*len + 1);
+    check(copy != NULL, "memory");
+    if (*len > 0) memcpy(copy, bytes, *len);
+    return copy;
+}
+
+/* Opens a node over the file that may stand in place of its own: it stands where it did, and has the same objects. */
+static void shrink(int number) {
+    realm_node *node = &nodes[number];
+    realm_place before, after;
+    size_t len, had, has;
+    if (detached[number] || realm_standing(node, &before) != REALM_DONE) return;
+    /* a client that comes later may need what the server gave up */
+    if (number == SERVER) hostile = true;
+    check(realm_dump(node) == REALM_DONE, "the objects");
+    uint8_t *objects = copy_answer(number, &had);
+    check(realm_trim(node) == REALM_DONE, "a shorter file");
+    uint8_t *file = copy_answer(number, &len);
+    if (node->file) check(ftruncate((int)node->file, 0) == 0 && !realm_file_write(node->file, file, len, 0), "a file is written");
+    check(open_node(number, file, len) == REALM_DONE, "a shorter file opens");
+    detached[number] = false;
+    check(realm_standing(node, &after) == REALM_DONE && memcmp(&before, &after, sizeof after) == 0, "a node over its shorter file stands where it did");
+    check(realm_dump(node) == REALM_DONE, "the objects");
+    const uint8_t *bytes = realm_bytes(node, &has);
+    check(has == had && memcmp(bytes, objects, has) == 0, "a node over its shorter file has the same objects");
+    free(objects);
+    free(file);
+}
+
+/* What is only read, and shorter files. */
+static void read_more(source *from, int number, unsigned what) {
+    size_t len = 0, at = 0;
+    const uint8_t *run = NULL;
+    if (what == 1 || what == 3 || what == 7) run = next_run(from, &len);
+    if (what == 5 || what == 6) at = next_byte(from) % KEPT;
+    switch (what) {
+    case 1: ask(number, 'J', run, len); break;
+    case 2: shrink(number); break;
+    case 3: ask(number, 'E', run, len); break;
+    case 4: ask(number, 'Q', NULL, 0); break;
+    case 5:
+    case 6:
+        if (kept[at].bytes) ask(number, what == 5 ? 'H' : 'P', kept[at].bytes, kept[at].len);
+        break;
+    case 7: ask(number, 'S', run, len); break;
+    default: ask(number, 'I', NULL, 0);
+    }
+}
+
 /* ---- one input */
 
 /* A node is made by the first step that needs it. A client gets its uuid and form 2, and where they have met the first one has a table,
@@ -399,7 +452,7 @@ static void step(source *from) {
         hostile = true;
         if (number == SECOND) look(number, 'c', open_node(number, run, len));
         break;
-    default: ask(number, 'I', NULL, 0);
+    default: read_more(from, number, how / NODES / 12);
     }
 }
 

@@ -119,6 +119,9 @@ static void print_objects(realm_node *node) {
     expect(realm_dump(node), "objects", node);
     const uint8_t *lines = realm_bytes(node, &len);
     printf("%.*s", (int)len, (const char *)lines);
+    expect(realm_page(node, "{\"table\":\"notes\",\"key\":1}", 10), "page", node);
+    lines = realm_bytes(node, &len);
+    printf("behind note 1: %.*s", (int)len, (const char *)lines);
 }
 
 int main(void) {

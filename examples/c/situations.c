@@ -580,6 +580,50 @@ static void together(void) {
     realm_close(&phone);
 }
 
+static off_t size_of(const char *path) {
+    struct stat it;
+    return stat(path, &it) == 0 ? it.st_size : 0;
+}
+
+/* A shorter file takes the place of the node's own, while it is open. */
+static void shrunk(void) {
+    realm_node phone, server, own = {0};
+    const char *path = fresh("shrunk"), *kept = fresh("served");
+    must(realm_open_server(&server, kept), &server);
+    new_phone(&phone, path, 1);
+    make_list(&phone);
+    add(&phone, 300);
+    for (int i = 0; i < 2; i++) must(sync_with(&phone, &server), &phone);
+    add(&phone, 5);
+    off_t before = size_of(path), served = size_of(kept);
+    must(realm_shrink(&phone), &phone);
+    must(realm_shrink(&server), &server);
+    expect(size_of(path) * 10 < before && size_of(kept) * 10 < served, "both files are short");
+    tell("another open of a file that was shrunk", &own, realm_open_client(&own, path), REALM_BUSY);
+    realm_close(&own);
+    expect(standing(&phone).unsent == 5 && standing(&phone).last == 306, "the phone is as it was");
+    write_error = ENOSPC;
+    tell("  no room for the shorter file", &phone, realm_shrink(&phone), REALM_NOT_SHRUNK);
+    write_error = 0;
+    add(&phone, 1);
+    rename(path, path_of("moved"));
+    tell("  the file was renamed", &phone, realm_shrink(&phone), REALM_NOT_SHRUNK);
+    rename(path_of("moved"), path);
+    must(sync_with(&phone, &server), &phone);
+    realm_close(&phone);
+    must(realm_open_client(&phone, path), &phone);
+    must(sync_with(&phone, &server), &phone);
+    expect(standing(&phone).unsent == 0 && item_has(&phone, "\"count\":306") && item_has(&server, "\"count\":306"), "nothing is lost");
+    sync_error = EIO;
+    tell("  a sync that fails", &phone, realm_shrink(&phone), REALM_NOT_SHRUNK);
+    sync_error = 0;
+    realm_close(&phone);
+    must(realm_open_client(&phone, NULL), &phone);
+    must(realm_shrink(&phone), &phone);
+    realm_close(&phone);
+    realm_close(&server);
+}
+
 static void requests(void) {
     realm_node phone, server;
     must(realm_open_server(&server, NULL), &server);
@@ -590,6 +634,7 @@ static void requests(void) {
     tell("edits that are no list", &phone, realm_commit(&phone, 1, "{}"), REALM_BAD_REQUEST);
     tell("edits that are none", &phone, realm_commit(&phone, 1, "[{\"op\":\"Updte\"}]"), REALM_BAD_REQUEST);
     tell("a name that is none", &phone, realm_object(&phone, "items"), REALM_BAD_REQUEST);
+    tell("a page that begins nowhere", &phone, realm_page(&phone, "{\"key\":1}", 10), REALM_BAD_REQUEST);
     tell("a message that is none", &phone, realm_take(&phone, "hello", 5), REALM_BAD_REQUEST);
     tell("a client's call on a server", &server, realm_commit(&server, 1, "[]"), REALM_BAD_REQUEST);
     tell("the ident 0", &phone, realm_retire(&phone, 0), REALM_BAD_REQUEST);
@@ -617,6 +662,7 @@ int main(int count, char **words) {
     closing();
     forked();
     together();
+    shrunk();
     requests();
     printf("%s\n", wrong ? "WRONG" : "all as they should be");
     return wrong ? 1 : 0;

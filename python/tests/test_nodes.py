@@ -10,7 +10,7 @@ from collections.abc import Callable
 from typing import Any
 from unittest import mock
 
-from realm_sync import BadEdit, BadRequest, BrokenEdit, Busy, Client, Edits, OtherProcess, Reason, Refused, Server
+from realm_sync import BadEdit, BadRequest, BrokenEdit, Busy, Client, Edits, NotShrunk, OtherProcess, Reason, Refused, Server
 from realm_sync.storage import FileStorage
 
 LONG = 5_000  # transactions of a history that a Download doesn't bring at once
@@ -158,6 +158,58 @@ class UseTests(unittest.TestCase):
                 self.assertEqual(client.standing().last, 5)
             with Client(path) as client:
                 self.assertEqual(client.standing().last, 5)
+
+    def test_files_are_shrunk(self) -> None:
+        with tempfile.TemporaryDirectory() as folder:
+            path, beside = os.path.join(folder, "file"), os.path.join(folder, "server")
+            link = os.path.join(folder, "link")
+            os.symlink("file", link)
+            with new_client(1, link) as client, Server(beside) as server:
+                make_table(client)
+                for _ in range(200):
+                    add(client)
+                client.sync(server.take)
+                client.sync(server.take)
+                add(client)
+                os.chmod(path, 0o640)
+                before, length, standing = list(client.lines()), os.path.getsize(path), client.standing()
+                client.shrink()
+                self.assertTrue(os.path.islink(link))
+                self.assertEqual(os.stat(path).st_mode & 0o777, 0o640)
+                self.assertLess(os.path.getsize(path), length // 10)
+                with self.assertRaises(Busy):
+                    Client(path)
+                self.assertEqual((list(client.lines()), client.standing()), (before, standing))
+                add(client)
+                client.sync(server.take)
+                length = os.path.getsize(beside)
+                server.shrink()
+                self.assertLess(os.path.getsize(beside), length // 10)
+                add(client)
+                client.sync(server.take)
+                with mock.patch("os.replace", side_effect=OSError(28, "full")), self.assertRaises(NotShrunk):
+                    client.shrink()
+                add(client)
+            with Client(path) as client, Server(beside) as server:
+                client.sync(server.take)
+                self.assertEqual(list(client.lines()), list(server.lines()))
+                self.assertEqual(client.standing().last, 205)
+            self.assertEqual(sorted(os.listdir(folder)), ["file", "link", "server"])
+
+    def test_pages(self) -> None:
+        with new_client(1) as client:
+            make_table(client)
+            with client.transaction() as edits:
+                for key in range(2, 8):
+                    edits.create("items", key)
+            keys = lambda page: [row["key"] for row in page]  # noqa: E731
+            self.assertEqual(keys(client.page("items", count=3)), [1, 2, 3])
+            self.assertEqual(keys(client.page("items", 3, count=3)), [4, 5, 6])
+            self.assertEqual(keys(client.page("items", 6)), [7])
+            self.assertEqual(client.page("items", 7), [])
+            self.assertEqual(client.page("items", 3, count=0), [])
+            self.assertEqual(client.page("none"), [])
+            self.assertEqual(client.page("items"), list(client.objects("items")))
 
     def test_a_new_device_gets_a_long_history(self) -> None:
         with new_client(1) as first, new_client(2) as second, Server() as server:

@@ -7,7 +7,7 @@ use sync_host::Host;
 const ROOM: usize = 64;
 
 /// Requests to one place after the other, and their replies.
-const CLIENT: [(&[u8], &[u8]); 21] = [
+const CLIENT: [(&[u8], &[u8]); 25] = [
     (b"I", b"\x05"),
     (b"c", b"\0"),
     // A journal without records is made.
@@ -58,9 +58,17 @@ const CLIENT: [(&[u8], &[u8]); 21] = [
         b"C",
         b"\0{\"back\":1,\"column\":\"l\",\"front\":0,\"key\":5,\"table\":\"q\"}\n",
     ),
+    // A table in pages.
+    (
+        b"J\x09\0\0\0{\"table\":\"q\"}",
+        b"\0{\"cells\":{\"l\":[8,7]},\"key\":5,\"table\":\"q\"}\n",
+    ),
+    (b"J\x09\0\0\0{\"table\":\"q\",\"key\":5}", b"\0"),
+    (b"J\0\0\0\0{\"table\":\"q\"}", b"\0"),
+    (b"J\x09\0\0{\"table\":\"q\"}", b"\x02"),
 ];
 
-const OTHERS: [(&[u8], &[u8]); 16] = [
+const OTHERS: [(&[u8], &[u8]); 18] = [
     (b"", b"\x02"),
     (b"?", b"\x02"),
     (b"s", b"\0"),
@@ -90,6 +98,9 @@ const OTHERS: [(&[u8], &[u8]); 16] = [
     (b"cRSYNCJ02\0\0", b"\x06\x07\0\0\0\0\0\0\0"),
     (b"G\0\0\0\0", b"\x05"),
     (b"x", b"\0"),
+    // The short file of a client that has nothing.
+    (b"c", b"\0"),
+    (b"F", b"\0RSYNCJ01\0"),
 ];
 
 /// Messages are looked at where no node stands.

@@ -3,6 +3,7 @@ pub mod Untold
 pub mod Floats
 pub mod NodeKinds
 pub mod Objects
+pub mod Pages
 pub mod Files
 pub mod Lasting
 pub mod Heads

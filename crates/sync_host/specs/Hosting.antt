@@ -14,14 +14,15 @@ use Rattle.sync_exchange.specs.Seen.{client_bytes, server_bytes}
 use Rattle.sync_messages.specs.Reading.{message_in}
 use Rattle.server_memory.specs.Kept.{parts}
 use Rattle.sync_server.specs.Serving.{kept_of}
-use Rattle.sync_host.specs.Heirs.{heir_answer, inherited_in}
+use Rattle.sync_host.specs.Heirs.{heir_answer, inherited_in, word_in}
 use Rattle.sync_host.specs.Histories.{ClientsTold, EntriesTold, range_in}
 use Rattle.sync_host.specs.Objects.{ObjectTold, object_form_of_line}
 use Rattle.sync_host.specs.Outboxes.{CrashLeaves, client_start, client_strokes, server_start, server_strokes}
+use Rattle.sync_host.specs.Pages.{PageAsked}
 use Rattle.sync_host.specs.Places.{place_lines}
 use Rattle.sync_host.specs.Replies.{reply_bytes}
 use Rattle.sync_host.specs.Steps.{Answer, Answers, ClientStands, IfTold, SentSo, Serves, ServerStands, Spares, Tells, errand, line_answer, message_read, server_standing, standing_of, stored_after, take_answer}
-use Rattle.sync_host.specs.Trimming.{TellsStarted, TellsTrimmed, id_in}
+use Rattle.sync_host.specs.Trimming.{TellsShort, TellsStarted, TellsTrimmed, id_in}
 use Rattle.sync_host.specs.Verbs.{is_call}
 use Rattle.sync_host.specs.declared.hosted.HostedClient.{HostedClient}
 use Rattle.sync_host.specs.declared.hosted.HostedServer.{HostedServer}
@@ -66,10 +67,13 @@ pub record ClientAnswers (verb : Verb) (body : List ℕ) (old : HostedClient) (r
   pub stored_stays : verb ≡ verbs.Line → new.stored ≡ old.stored
   -- a message to send
   pub sends : (records : List ClientRecord) → ClientStands records old.client → IfSome (errand verb body old.stored (client_of the_profile records)) (λ did. IfTold reply (SentSo did.answer reply))
+  -- the file that it makes
+  pub shortens : verb ≡ verbs.Trim → (records : List ClientRecord) → ClientStands records old.client → IfTold reply (TellsShort records reply)
   -- what is read
   pub dumps : verb ≡ verbs.Dump → (records : List ClientRecord) → ClientStands records old.client → IfTold reply (reply_bytes reply ≡ 0 ∷ dump (client_of the_profile records).objects)
   pub changes : verb ≡ verbs.Changed → IfTold reply (reply_bytes reply ≡ 0 ∷ place_lines old.changed.items)
   pub tells : verb ≡ verbs.Object → (records : List ClientRecord) → ClientStands records old.client → IfTold reply (ObjectTold (object_form_of_line body) (client_of the_profile records).objects reply)
+  pub pages : verb ≡ verbs.Page → (records : List ClientRecord) → ClientStands records old.client → IfTold reply (PageAsked (word_in body) (client_of the_profile records).objects reply)
   pub stands : verb ≡ verbs.Standing → (records : List ClientRecord) → ClientStands records old.client → reply ≡ replies.Standing (standing_of (client_of the_profile records))
 
 -- a server, of whatever records it stands for
@@ -87,4 +91,5 @@ pub record ServerAnswers (verb : Verb) (body : List ℕ) (old : HostedServer) (r
   pub starts : verb ≡ verbs.Start → IfTold reply (TellsStarted (id_in body) (parts (kept_of old.server)) reply)
   pub dumps : verb ≡ verbs.Dump → IfTold reply (reply_bytes reply ≡ 0 ∷ dump (parts (kept_of old.server)).objects)
   pub tells : verb ≡ verbs.Object → IfTold reply (ObjectTold (object_form_of_line body) (parts (kept_of old.server)).objects reply)
+  pub pages : verb ≡ verbs.Page → IfTold reply (PageAsked (word_in body) (parts (kept_of old.server)).objects reply)
   pub stands : verb ≡ verbs.Standing → reply ≡ replies.Standing (server_standing (parts (kept_of old.server)).len)

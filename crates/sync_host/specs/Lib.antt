@@ -5,6 +5,7 @@ pub mod Steps
 pub mod Places
 pub mod Opening
 pub mod Objects
+pub mod Pages
 pub mod Outboxes
 pub mod Hosting
 pub mod Nodes

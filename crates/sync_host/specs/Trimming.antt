@@ -1,11 +1,13 @@
--- The files that a server makes: its own without the history that no client needs, and one of a client that begins with its objects.
+-- The files that a node makes: its own without what it needs no more, and a server one of a client that begins with its objects.
 use Rattle.std.specs.Prelude.{◌≡◌, ℕ, List, ◌∷◌, map, Option, None, Some}
 use Rattle.sync_data.specs.declared.instr.Instr.{Instr}
 use Rattle.sync_base.specs.States.{State}
 use Rattle.sync_exchange.specs.Profile.{the_profile}
 use Rattle.sync_exchange.specs.Seen.{client_bytes, read_client, read_server, server_bytes}
+use Rattle.shrink_law.specs.Short.{short_records}
 use Rattle.sync_io.specs.Formats.{all_in, bytes_in}
 use Rattle.sync_journal.specs.Files.{IsFile}
+use Rattle.sync_model.specs.Clients.{ClientRecord, client_of}
 use Rattle.sync_model.specs.Each.{Each}
 use Rattle.sync_model.specs.Parts.{Parts}
 use Rattle.sync_model.specs.Starts.{started}
@@ -33,3 +35,7 @@ id_in bytes = all_in (bytes_in 16) bytes
 abbrev pub TellsStarted : Option (List ℕ) → Parts Instr State → Reply → Type 0
 TellsStarted None kept reply = reply ≡ replies.BadRequest
 TellsStarted (Some id) kept reply = TellsFile client_bytes read_client (started the_profile id kept.second kept.len kept.objects) reply
+
+-- the short file that may stand in place of a client's
+abbrev pub TellsShort : List ClientRecord → Reply → Type 0
+TellsShort records reply = TellsFile client_bytes read_client (short_records the_profile (client_of the_profile records)) reply

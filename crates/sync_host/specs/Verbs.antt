@@ -18,6 +18,7 @@ verb_of byte =
     else if byte == 71 then Some verbs.Retire
     else if byte == 68 then Some verbs.Dump
     else if byte == 79 then Some verbs.Object
+    else if byte == 74 then Some verbs.Page
     else if byte == 67 then Some verbs.Changed
     else if byte == 73 then Some verbs.Standing
     else if byte == 70 then Some verbs.Trim
@@ -50,6 +51,7 @@ is_to_node verbs.Ask = true
 is_to_node verbs.Retire = true
 is_to_node verbs.Dump = true
 is_to_node verbs.Object = true
+is_to_node verbs.Page = true
 is_to_node verbs.Changed = true
 is_to_node verbs.Standing = true
 is_to_node verbs.Trim = true
@@ -77,6 +79,7 @@ is_new verbs.Ask = true
 is_new verbs.Retire = true
 is_new verbs.Dump = true
 is_new verbs.Object = true
+is_new verbs.Page = true
 is_new verbs.Changed = true
 is_new verbs.Standing = true
 is_new verbs.Trim = true

@@ -23,7 +23,7 @@ use sync_reset::Dropped;
 /// The most bytes of a changeset.
 const MOST_BYTES: usize = 16_777_216;
 
-fn word_of(bytes: &[u8]) -> Result<(u32, &[u8]), MessageRefusal>
+pub(crate) fn word_of(bytes: &[u8]) -> Result<(u32, &[u8]), MessageRefusal>
     ensures { Gives (λ x. (x.0, x.1.now)) result (word_in bytes.now) }
 {
     match bytes.split_first_chunk::<4>() {

@@ -11,9 +11,10 @@ use crate::answers::{dump, send};
 use crate::heir::inherit;
 use crate::history::{clients, entries};
 use crate::object::object;
+use crate::page::page;
 use crate::places::{changed_by_line, tell};
 use crate::reply::Reply;
-use crate::trimming::{started, trimmed};
+use crate::trimming::{shortened, started, trimmed};
 use crate::verb::Verb;
 use crate::{client, server};
 use outbox_disk::OutboxDisk;
@@ -167,8 +168,10 @@ impl HostedClient {
             Verb::Inherit => inherit(alloc, &mut self.client, body),
             Verb::Dump => dump(alloc, self.client.objects()),
             Verb::Object => object(alloc, self.client.objects(), body),
+            Verb::Page => page(alloc, self.client.objects(), body),
             Verb::Changed => tell(alloc, &self.changed),
             Verb::Standing => client::standing(&self.client),
+            Verb::Trim => shortened(alloc, &self.client),
             _ => self.errand(alloc, verb, body),
         }
     }
@@ -193,6 +196,7 @@ impl HostedServer {
             Verb::Take => server::take(alloc, &mut self.server, body),
             Verb::Dump => dump(alloc, self.server.objects()),
             Verb::Object => object(alloc, self.server.objects(), body),
+            Verb::Page => page(alloc, self.server.objects(), body),
             Verb::Standing => server::standing(&self.server),
             Verb::Trim => trimmed(alloc, &self.server),
             Verb::Start => started(alloc, &self.server, body),

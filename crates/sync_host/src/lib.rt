@@ -12,6 +12,7 @@ mod hosted;
 mod node;
 mod object;
 mod opening;
+mod page;
 mod places;
 mod refusals;
 mod reply;

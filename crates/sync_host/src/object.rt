@@ -21,7 +21,7 @@ pub(crate) struct ObjectName {
     pub key: Key,
 }
 
-fn json_of_line(alloc: Global, line: &[u8]) -> Result<Json, TextRefusal>
+pub(crate) fn json_of_line(alloc: Global, line: &[u8]) -> Result<Json, TextRefusal>
     ensures { ReadsBy view result (line_data line.now) }
 {
     let Ok(text) = str::from_utf8(line) else {
@@ -35,7 +35,7 @@ fn json_of_line(alloc: Global, line: &[u8]) -> Result<Json, TextRefusal>
 }
 
 #[tactic(auto, unfolding(crate::specs::Objects::object_form))]
-fn object_from(alloc: Global, json: &Json) -> Result<ObjectName, TextRefusal>
+pub(crate) fn object_from(alloc: Global, json: &Json) -> Result<ObjectName, TextRefusal>
     ensures { Reads result (object_form (view json.now)) }
 {
     exactly(json, 2)?;

@@ -30,11 +30,13 @@ pub enum Verb {
     Dump,
     /// Asks for one object.
     Object,
+    /// Asks for a page of the objects of a table.
+    Page,
     /// Asks what the last line or message may have changed.
     Changed,
     /// Asks where the node stands.
     Standing,
-    /// Asks a server for the file that may stand in place of its own.
+    /// Asks for the file that may stand in place of the node's own.
     Trim,
     /// Asks a server for the file of a client that begins with its objects.
     Start,
@@ -73,6 +75,7 @@ impl Verb {
             b'G' => Some(Verb::Retire),
             b'D' => Some(Verb::Dump),
             b'O' => Some(Verb::Object),
+            b'J' => Some(Verb::Page),
             b'C' => Some(Verb::Changed),
             b'I' => Some(Verb::Standing),
             b'F' => Some(Verb::Trim),

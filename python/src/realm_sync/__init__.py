@@ -19,8 +19,8 @@ from .checks import BadEdit
 from .database import Database, LostEdit
 from .door import Standing
 from .errors import (
-    BadFile, BadRequest, BrokenEdit, Busy, Closed, Endless, Error, InvalidValue, NeedsAttention, OtherProcess, OutOfMemory, Outdated, Reason, Refused,
-    SchemaConflict, StorageFailed, StorageFull, Unauthorized, WrongKey,
+    BadFile, BadRequest, BrokenEdit, Busy, Closed, Endless, Error, InvalidValue, NeedsAttention, NotShrunk, OtherProcess, OutOfMemory, Outdated, Reason,
+    Refused, SchemaConflict, StorageFailed, StorageFull, Unauthorized, WrongKey,
 )  # fmt: skip
 from .node import Client, Edits, Server, kept_ends
 from .problems import Conflict, Problem
@@ -34,7 +34,7 @@ from .transports import CallTransport, HttpTransport, TokenSource, Transport, We
 
 __all__ = [
     "BadEdit", "BadFile", "BadRequest", "BrokenEdit", "Busy", "CallTransport", "Client", "Closed", "Conflict", "Counter", "Database", "Dropped",
-    "Edits", "Endless", "Error", "HttpTransport", "InvalidValue", "LostEdit", "NeedsAttention", "OtherProcess", "OutOfMemory", "Outdated",
+    "Edits", "Endless", "Error", "HttpTransport", "InvalidValue", "LostEdit", "NeedsAttention", "NotShrunk", "OtherProcess", "OutOfMemory", "Outdated",
     "Problem", "Query", "Reason", "Recovery", "Refused", "RowChange", "SchemaConflict", "SchemaError", "Server", "Standing",
     "StorageFailed", "StorageFull", "SyncOptions", "SyncState", "Table", "TokenSource", "Transaction", "Transport", "Unauthorized",
     "WebSocketTransport", "WrongKey", "delete_database", "kept_ends", "link", "table",

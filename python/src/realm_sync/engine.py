@@ -2,10 +2,10 @@
 
 from __future__ import annotations
 
-from collections.abc import Iterator, Sequence
+from collections.abc import Callable, Iterator, Sequence
 
 from .door import DONE, Door, Reply, Standing, expect_done, number_of, standing_of
-from .errors import StorageFailed, WrongKey
+from .errors import NotShrunk, StorageFailed, WrongKey
 from .messages import DOWNLOAD, Change, Entry, Head, borne_in, head_in
 from .sealed import is_sealed
 from .storage import Storage, Stroke, Write
@@ -17,7 +17,7 @@ class Engine:
     """A client or a server that is open. One call at a time."""
 
     def __init__(self, storage: Storage, kind: bytes = CLIENT) -> None:
-        self._storage, self._door, self._failed = storage, Door(), False
+        self._storage, self._kind, self._door, self._failed = storage, kind, Door(), False
         try:
             data = storage.read()
             if is_sealed(data):
@@ -97,6 +97,21 @@ class Engine:
         except KeyError:
             pass
         return None
+
+    def shrink(self, rewrite: Callable[[bytes, str], None]) -> None:
+        """Goes on over a file without what the node needs no more, once `rewrite` has put it in the place of its own. After `NotShrunk` all is as
+        before; where anything else fails the engine is of no use any more."""
+        self.settle()
+        data = self.ask(b"F")
+        try:
+            rewrite(data, ".shrunk" if self._kind == CLIENT else ".trimmed")
+            expect_done(self._door.turn(self._kind, data))
+        except NotShrunk:
+            raise
+        except BaseException:
+            self._failed = True
+            raise
+        self.settle()
 
     def data(self) -> bytes:
         """The bytes of the file."""

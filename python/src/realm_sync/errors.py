@@ -139,6 +139,10 @@ class StorageFull(StorageFailed):
     """The storage is full. Nothing of the transaction stands; with room made it can be written again."""
 
 
+class NotShrunk(Error):
+    """No file without what the node needs no more could be put in the place of its own; both are as before."""
+
+
 class Busy(Error):
     """Another process, or another place in this one, has the file open."""
 

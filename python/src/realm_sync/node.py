@@ -31,7 +31,7 @@ from .checks import as_written, checked, is_key, is_name
 from .door import Standing, number_of, to_json
 from .engine import CLIENT, SERVER, Engine
 from .errors import BadRequest, BrokenEdit, Closed, Endless, Reason, Refused
-from .storage import FileImage, FileStorage, Storage
+from .storage import FileImage, FileStorage
 from .talk import Talk
 
 Json = Any
@@ -145,7 +145,7 @@ class Edits:
             self.number, self.places = self._client.commit_changed(self.edits, self.ms)
 
 
-def _storage_at(path: str | os.PathLike[str] | None) -> Storage:
+def _storage_at(path: str | os.PathLike[str] | None) -> FileImage | FileStorage:
     if path is None:
         return FileImage()
     return FileStorage(os.fspath(path))
@@ -156,7 +156,8 @@ class _Node:
 
     def __init__(self, path: str | os.PathLike[str] | None, kind: bytes) -> None:
         self._lock = threading.RLock()
-        self._open: Engine | None = Engine(_storage_at(path), kind)
+        self._storage = _storage_at(path)
+        self._open: Engine | None = Engine(self._storage, kind)
 
     @property
     def _engine(self) -> Engine:
@@ -176,6 +177,20 @@ class _Node:
             engine, self._open = self._open, None
             if engine:
                 engine.close()
+
+    def shrink(self) -> None:
+        """Puts a file without what the node needs no more in the place of its own, and goes on over it: of a server one without the history that no
+        client needs, of a client one with its unsent transactions and its objects. A stop leaves the one or the other, whole, and nothing that
+        was answered is lost. `NotShrunk` where no such file could be put there: all is as before."""
+        with self._lock:
+            self._engine.shrink(self._storage.rewrite)
+
+    def page(self, table: str, behind: Json = None, count: int = 1000) -> list[Line]:
+        """So many objects of a table, in the order of their keys, from the first behind a key on; without one, from the first of all."""
+        name = {"table": table} if behind is None else {"table": table, "key": behind}
+        with self._lock:
+            text = self._engine.ask(b"J", count.to_bytes(4, "little") + to_json(name).encode()).decode()
+        return [json.loads(line) for line in text.split("\n")[:-1]]
 
     def lines(self) -> Iterator[Line]:
         """All tables, columns and objects as they are now, one after the other: docs/FORMATS.md, "Report and dump"."""

@@ -6,10 +6,11 @@ import errno
 import fcntl
 import os
 import re
+import stat
 from collections.abc import Sequence
 from typing import NamedTuple, Protocol
 
-from .errors import Busy, OtherProcess, StorageFailed, StorageFull
+from .errors import Busy, NotShrunk, OtherProcess, StorageFailed, StorageFull
 
 
 class Write(NamedTuple):
@@ -68,6 +69,10 @@ class FileImage:
             if it is not None:
                 self.write(it.place, it.data)
 
+    def rewrite(self, data: bytes, suffix: str) -> None:
+        """From now on it has these bytes."""
+        self.data = bytearray(data)
+
     def close(self) -> None:
         """A file in memory is kept by who made it."""
 
@@ -123,6 +128,7 @@ class FileStorage:
 
     def __init__(self, path: str) -> None:
         self._process = os.getpid()
+        self._path = path
         self._file = self._locked(path)
 
     @staticmethod
@@ -176,6 +182,51 @@ class FileStorage:
         while data:
             done = os.pwrite(self._file, data, place)
             place, data = place + done, data[done:]
+
+    def rewrite(self, data: bytes, suffix: str) -> None:
+        """Puts a file with these bytes in this one's place, under its lock: it is written beside it, with its permissions, synced and locked, and takes its
+        name at once, so that a stop leaves the one or the other, whole. `NotShrunk` where this one stays."""
+        self._check()
+        path = os.path.realpath(self._path)
+        beside = path + suffix
+        try:
+            opened = os.fstat(self._file)
+            if not os.path.samestat(opened, os.stat(path)):
+                raise NotShrunk(f"{path} is another file by now")
+            made = self._made(beside, data, stat.S_IMODE(opened.st_mode))
+            try:
+                os.replace(beside, path)
+            except OSError:
+                os.close(made)
+                os.unlink(beside)
+                raise
+        except OSError as why:
+            raise NotShrunk(f"no shorter file could be put in the place of {path}: {why.strerror}") from why
+        os.close(self._file)
+        self._file = made
+        try:
+            sync_folder(path)
+        except OSError as why:
+            raise StorageFailed(f"the storage failed: {why.strerror}") from why
+
+    @staticmethod
+    def _made(path: str, data: bytes, mode: int) -> int:
+        """A new file of that path with these bytes, synced and locked."""
+        if os.path.lexists(path):
+            os.unlink(path)
+        file = os.open(path, os.O_RDWR | os.O_CREAT | os.O_EXCL | os.O_CLOEXEC, 0o600)
+        try:
+            os.fchmod(file, mode)
+            view, place = memoryview(data), 0
+            while place < len(data):
+                place += os.pwrite(file, view[place:], place)
+            os.fsync(file)
+            fcntl.flock(file, fcntl.LOCK_EX | fcntl.LOCK_NB)
+        except OSError:
+            os.close(file)
+            os.unlink(path)
+            raise
+        return file
 
     def close(self) -> None:
         if self._file >= 0:

@@ -27,9 +27,11 @@ returns-in-Line c = let call : is_call c.args.verb ≡ true = ap is_call c.in-Li
   stored = λ is. absurd (cc);
   stored_stays = λ is. c.line.ensures.stored;
   sends = λ records is. subst (λ (verb : Verb). IfSome (errand verb c.args.body.now c.args.self.now.stored (client_of the_profile records)) (λ did. IfTold c.line.result (SentSo did.answer c.line.result))) (sym c.in-Line.is) tt;
+  shortens = λ is. absurd (cc);
   dumps = λ is. absurd (cc);
   changes = λ is. absurd (cc);
   tells = λ is. absurd (cc);
+  pages = λ is. absurd (cc);
   stands = λ is. absurd (cc);
 }
 
@@ -51,9 +53,11 @@ returns-in-Take c = let call : is_call c.args.verb ≡ true = ap is_call c.in-Ta
   stored = λ is. c.take.ensures.stored;
   stored_stays = λ is. absurd (cc);
   sends = λ records is. subst (λ (verb : Verb). IfSome (errand verb c.args.body.now c.args.self.now.stored (client_of the_profile records)) (λ did. IfTold c.take.result (SentSo did.answer c.take.result))) (sym c.in-Take.is) tt;
+  shortens = λ is. absurd (cc);
   dumps = λ is. absurd (cc);
   changes = λ is. absurd (cc);
   tells = λ is. absurd (cc);
+  pages = λ is. absurd (cc);
   stands = λ is. absurd (cc);
 }
 
@@ -75,8 +79,10 @@ returns-in-Inherit c = let call : is_call c.args.verb ≡ true = ap is_call c.in
   stored = λ is. absurd (cc);
   stored_stays = λ is. absurd (cc);
   sends = λ records is. subst (λ (verb : Verb). IfSome (errand verb c.args.body.now c.args.self.now.stored (client_of the_profile records)) (λ did. IfTold c.inherit.result (SentSo did.answer c.inherit.result))) (sym c.in-Inherit.is) tt;
+  shortens = λ is. absurd (cc);
   dumps = λ is. absurd (cc);
   changes = λ is. absurd (cc);
   tells = λ is. absurd (cc);
+  pages = λ is. absurd (cc);
   stands = λ is. absurd (cc);
 }

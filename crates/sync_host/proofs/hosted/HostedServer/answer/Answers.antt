@@ -20,5 +20,6 @@ returns-in-Take c = record {
   clients = λ is. absurd (cc);
   dumps = λ is. absurd (cc);
   tells = λ is. absurd (cc);
+  pages = λ is. absurd (cc);
   stands = λ is. absurd (cc);
 }
