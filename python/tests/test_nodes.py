@@ -202,10 +202,9 @@ class UseTests(unittest.TestCase):
             with client.transaction() as edits:
                 for key in range(2, 8):
                     edits.create("items", key)
-            keys = lambda page: [row["key"] for row in page]  # noqa: E731
-            self.assertEqual(keys(client.page("items", count=3)), [1, 2, 3])
-            self.assertEqual(keys(client.page("items", 3, count=3)), [4, 5, 6])
-            self.assertEqual(keys(client.page("items", 6)), [7])
+            self.assertEqual([row["key"] for row in client.page("items", count=3)], [1, 2, 3])
+            self.assertEqual([row["key"] for row in client.page("items", 3, count=3)], [4, 5, 6])
+            self.assertEqual([row["key"] for row in client.page("items", 6)], [7])
             self.assertEqual(client.page("items", 7), [])
             self.assertEqual(client.page("items", 3, count=0), [])
             self.assertEqual(client.page("none"), [])
