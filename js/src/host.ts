@@ -266,12 +266,21 @@ export class Host {
     this.talk = new Talk(engine);
   }
 
-  /** The numbers of the transactions that were handed under this name to another host, which then was killed: none where they don't stand. */
+  /**
+   * The numbers of the transactions that were handed under this name to another host, which then was killed: none where they don't stand. They are noted
+   * before they are written, so what was noted later by the same numbers came in their place.
+   */
   outcome(by: string): Promise<number[]> {
     return this.alone(async () => {
-      const [first, count] = this.engine.noted().map((it) => it.split(' ')).find((it) => it[2] === by) ?? [0, 0];
-      const numbers = Array.from({ length: Number(count) }, (_, place) => Number(first) + place);
-      return this.engine.standing().last >= (numbers.at(-1) ?? 0) ? numbers : [];
+      const notes = this.engine.noted().map((it) => {
+        const [first, count, whose] = it.split(' ');
+        return { first: Number(first), end: Number(first) + Number(count), whose };
+      });
+      const at = notes.findIndex(({ whose }) => whose === by);
+      if (at < 0) return [];
+      const { first, end } = notes[at]!;
+      const stands = this.engine.standing().last >= end - 1 && notes.slice(at + 1).every((it) => it.first >= end);
+      return stands ? Array.from({ length: end - first }, (_, place) => first + place) : [];
     });
   }
 

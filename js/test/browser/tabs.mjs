@@ -97,6 +97,33 @@ for (const storage of ['opfs', 'indexeddb']) {
   });
 }
 
+test('opfs: what was noted and never written is written by the next tab, also where another one was quicker', async (bench) => {
+  const browser = await bench.browser();
+  const host = await bench.tab(browser);
+  await host.evaluate(`open({ storage: 'opfs', makeWorker: () => new Worker('/js/test/browser/stuck_worker.js', { type: 'module' }) })`);
+  const id = await host.evaluate(`db.write((tx) => tx.items.create({ title: '0' }))`);
+  const [quick, slow] = [await bench.tab(browser), await bench.tab(browser)];
+  for (const tab of [quick, slow]) {
+    await tab.evaluate(`open({ storage: 'opfs' })`);
+    await tab.until(`db.items.get('${id}')`);
+  }
+  // The slow one asks what became of its transaction when the quick one has written.
+  await slow.evaluate(`{
+    const { postMessage } = BroadcastChannel.prototype;
+    BroadcastChannel.prototype.postMessage = function (said) { setTimeout(() => postMessage.call(this, said), said.ask?.method === 'outcome' ? 1500 : 0); };
+    new BroadcastChannel('stuck').postMessage(true);
+  }`);
+  await wait(200);
+  await slow.evaluate(`void (globalThis.asked = addBlind('${id}', 'slow'))`);
+  await wait(300);
+  await quick.evaluate(`void (globalThis.asked = addBlind('${id}', 'quick'))`);
+  await wait(100);
+  await host.close();
+  for (const tab of [quick, slow]) await tab.evaluate('asked');
+  const { sum, marks } = await settled([quick, slow], id);
+  assert.deepEqual([sum, marks], [2, ['quick', 'slow']]);
+});
+
 test('a worker that cannot be loaded, and one that is not there any more, are errors', async (bench) => {
   const tab = await bench.tab(await bench.browser());
   const said = await tab.evaluate(`open({ makeWorker: () => new Worker('/nowhere.js', { type: 'module' }) }).catch((error) => error.message)`);
