@@ -150,7 +150,7 @@ class UseTests(unittest.TestCase):
                 strokes = [call.args[1] for call in apply.call_args_list]
                 self.assertEqual([[stroke is None for stroke in it] for it in strokes], [[False, True, False, True]])
                 with self.assertRaises(BadEdit):
-                    client.commit_all([[row], ["none"]])
+                    client.commit_all([[row], ["none"]])  # type: ignore[list-item]
                 self.assertEqual(client.standing().last, 4)
                 with self.assertRaises(BrokenEdit) as caught:
                     client.commit_all([[row], [row, missing], [row]])
@@ -202,7 +202,10 @@ class UseTests(unittest.TestCase):
             with client.transaction() as edits:
                 for key in range(2, 8):
                     edits.create("items", key)
-            keys = lambda page: [row["key"] for row in page]  # noqa: E731
+
+            def keys(page: list[dict[str, Any]]) -> list[Any]:
+                return [row["key"] for row in page]
+
             self.assertEqual(keys(client.page("items", count=3)), [1, 2, 3])
             self.assertEqual(keys(client.page("items", 3, count=3)), [4, 5, 6])
             self.assertEqual(keys(client.page("items", 6)), [7])
