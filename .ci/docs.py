@@ -14,7 +14,8 @@
   text is an error.
 - The number in VERSION is that of the C header and of the packages.
 - The table of docs/HEADLINE.md has the crates and the lines that bench/definitions.py counts for the headline.
-- Each block ```rust FILE has only lines of that file, in their order, but for lines `// ..`.
+- Each block ```rust FILE has only lines of that file, in their order, but for lines `// ..`. So has each other block with a path behind its
+  kind; the packages' tests run those programs, and compare what they print.
 
 usage: .ci/docs.py [--quiet] [--links] [--program FILE]
 
@@ -295,7 +296,7 @@ def main():
         if os.path.dirname(os.path.dirname(path)) == os.path.join(TOP, "crates"):
             check_files(path)
         for block in blocks:
-            if block.words[:1] == ["rust"] and len(block.words) == 2:
+            if len(block.words) == 2 and (block.words[0] == "rust" or "/" in block.words[1]):
                 check_quoted(path, block)
         one, two = check_commands(path, blocks, program)
         ran, by_hand = ran + one, by_hand + two

@@ -26,6 +26,7 @@ need node nodejs
 tsc -p "$here/test/types"
 tsc -p "$top/examples/shopping/web" --noEmit
 node --test "$here"/test/*.test.mjs
+node "$here/examples/first.mjs" | diff - "$here/examples/first.out"
 "$here/test/empty_project.sh"
 "$top/examples/shopping/lines.sh" shopping.mjs
 [ -z "$quick" ] || exit 0

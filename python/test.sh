@@ -28,6 +28,7 @@ done
 cd "$here"
 MYPYPATH=src "$python" -m mypy src tests "$top/examples/shopping"
 PYTHONPATH=src "$python" -m unittest discover -t . -s tests
+PYTHONPATH=src "$python" examples/first.py | diff - examples/first.out
 "$here/tests/empty_project.sh"
 "$top/examples/shopping/lines.sh" shopping.py
 [ -z "$quick" ] || exit 0
