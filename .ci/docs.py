@@ -12,6 +12,9 @@
 
   A block `sh by-hand` isn't run: it takes too long, or needs what isn't here. They are counted. Any other block `sh` without a
   text is an error.
+- docs/CRATES.md is what .ci/crates.py makes of the crates' READMEs.
+- No sentence of the pages for readers (PLAIN) has more than 40 words, no cell of a table more than 300 characters, and no page more than
+  800 lines.
 - The number in VERSION is that of the C header and of the packages.
 - The table of docs/HEADLINE.md has the crates and the lines that bench/definitions.py counts for the headline.
 - Each block ```rust FILE has only lines of that file, in their order, but for lines `// ..`. So has each other block with a path behind its
@@ -30,9 +33,16 @@ import subprocess
 import sys
 import tempfile
 
+sys.dont_write_bytecode = True
+import crates as crates_page  # noqa: E402
+
 TOP = os.path.dirname(os.path.dirname(os.path.abspath(__file__)))
 BUILT = os.path.join(TOP, "crates", "realm_sync", "out", "realm_sync")
 SECONDS = 120
+
+# The pages whose sentences and cells are kept short, by the beginnings of their paths.
+PLAIN = ("README.md", "docs/GUARANTEES.md", "docs/guarantees/", "docs/HEADLINE.md", "docs/CRATES.md", "docs/GLOSSARY.md", "docs/RECIPES.md")
+MOST_WORDS, MOST_CHARACTERS, MOST_LINES = 40, 300, 800
 
 FENCE = re.compile(r"^```(.*)$")
 HEADING = re.compile(r"^#{1,6} +(.*?) *$")
@@ -55,9 +65,9 @@ def read(path):
 
 
 def documents():
-    """README.md, docs/*.md, and the READMEs of other folders and of crates."""
+    """README.md, docs/*.md, docs/guarantees/*.md, and the READMEs of other folders and of crates."""
     found = [os.path.join(TOP, "README.md")]
-    for folder in ("docs", "bench", "examples", "examples/shopping", "js", "python", "service", "wasm", "web"):
+    for folder in ("docs", "docs/guarantees", "bench", "examples", "examples/shopping", "js", "python", "service", "wasm", "web"):
         at = os.path.join(TOP, folder)
         found += sorted(os.path.join(at, it) for it in os.listdir(at) if it.endswith(".md")) if os.path.isdir(at) else []
     for name in sorted(os.listdir(os.path.join(TOP, "crates"))):
@@ -115,8 +125,11 @@ def headings(path):
 
 
 def check_crates():
-    """Each crate has its row in docs/CRATES.md."""
-    rows = read(os.path.join(TOP, "docs", "CRATES.md"))
+    """Each crate has its row in docs/CRATES.md, which is made of their READMEs."""
+    path, page = os.path.join(TOP, "docs", "CRATES.md"), crates_page.page()
+    rows = read(path)
+    if rows != page:
+        problem(path, 1, "it isn't what .ci/crates.py makes of the crates' READMEs")
     for number, line in enumerate(read(os.path.join(TOP, "crates.txt")).splitlines(), 1):
         name = line.split(":")[0].split()
         if ":" in line and not line.startswith("#") and f"`{name[0]}`" not in rows:
@@ -134,6 +147,38 @@ def check_links(path, prose):
                 problem(path, line, f"the link {target} leads nowhere")
             elif part and part not in map(anchor, headings(file)):
                 problem(path, line, f"the link {target} names no heading")
+
+
+def paragraphs(prose):
+    """The paragraphs, items of lists and cells of tables in a document's prose: the line of each, whether it is a cell, and its text."""
+    found, at = [], None
+    for line, text in prose:
+        text = text.strip()
+        item = re.match(r"(?:[-*>]|\d+\.) +(.*)", text)
+        if text.startswith("|"):
+            found += [[line, True, it.strip()] for it in re.split(r"(?<!\\)\|", text.strip("|"))]
+        elif item or (text and not text.startswith(("#", "<!--")) and at is None):
+            at = [line, False, item[1] if item else text]
+            found.append(at)
+            continue
+        elif text and not text.startswith(("#", "<!--")) and at is not None:
+            at[2] += " " + text
+            continue
+        at = None
+    return found
+
+
+def check_plain(path, prose):
+    """Sentences, cells and pages that are too long."""
+    if prose and prose[-1][0] > MOST_LINES:
+        problem(path, MOST_LINES, f"a page has at most {MOST_LINES} lines")
+    for line, is_cell, text in paragraphs(prose):
+        if is_cell and len(text) > MOST_CHARACTERS:
+            problem(path, line, f"a cell of {len(text)} characters; at most {MOST_CHARACTERS}: {text[:50]}..")
+        for sentence in re.split(r"(?<=[.?!])[)*\"]*\s+", re.sub(r"\]\([^()]*\)", "]", text)):
+            words = sum(bool(re.search(r"\w", it)) for it in sentence.split())
+            if words > MOST_WORDS:
+                problem(path, line, f"a sentence of {words} words; at most {MOST_WORDS}: {sentence[:50]}..")
 
 
 def check_paths(path, prose):
@@ -293,6 +338,8 @@ def main():
         prose, blocks = parsed(path)
         check_links(path, prose)
         check_paths(path, prose)
+        if os.path.relpath(path, TOP).startswith(PLAIN):
+            check_plain(path, prose)
         if os.path.dirname(os.path.dirname(path)) == os.path.join(TOP, "crates"):
             check_files(path)
         for block in blocks:
