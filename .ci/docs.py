@@ -41,7 +41,8 @@ BUILT = os.path.join(TOP, "crates", "realm_sync", "out", "realm_sync")
 SECONDS = 120
 
 # The pages whose sentences and cells are kept short, by the beginnings of their paths.
-PLAIN = ("README.md", "docs/GUARANTEES.md", "docs/guarantees/", "docs/HEADLINE.md", "docs/CRATES.md", "docs/GLOSSARY.md", "docs/RECIPES.md")
+PLAIN = ("README.md", "docs/GUARANTEES.md", "docs/guarantees/", "docs/HEADLINE.md", "docs/CRATES.md", "docs/GLOSSARY.md", "docs/TRUST.md", "docs/PLANTED.md",
+         "docs/RECIPES.md")
 MOST_WORDS, MOST_CHARACTERS, MOST_LINES = 40, 300, 800
 
 FENCE = re.compile(r"^```(.*)$")
