@@ -15,6 +15,14 @@
 - docs/CRATES.md is what .ci/crates.py makes of the crates' READMEs.
 - No sentence of the pages for readers (PLAIN) has more than 40 words, no cell of a table more than 300 characters, and no page more than
   800 lines.
+- Each figure that a page shows of a measurement is that of bench/results.csv, by its last row of the workload, the size and the unit:
+
+      <!-- result WORKLOAD; SIZE; UNIT -->VALUE          one figure
+      <!-- results PREFIX; UNIT -->                      the table below: a row is a workload, `PREFIX ROW`, and a column a size
+      <!-- results PREFIX; SIZE; columns -->             the same, but a column is a unit
+      <!-- results WORKLOAD; rows; columns -->           a row is a size, and a column a unit
+
+  A column `exponent from SIZE` is worked out from that size and the last one.
 - The number in VERSION is that of the C header and of the packages.
 - The table of docs/HEADLINE.md has the crates and the lines that bench/definitions.py counts for the headline.
 - Each block ```rust FILE has only lines of that file, in their order, but for lines `// ..`. So has each other block with a path behind its
@@ -26,6 +34,8 @@ The program is crates/realm_sync/out/realm_sync, where `rt ci` and ./realm_sync 
 is an error, unless --links asks for everything else alone. --quiet tells errors alone.
 """
 import argparse
+import csv
+import math
 import os
 import re
 import signal
@@ -42,7 +52,7 @@ SECONDS = 120
 
 # The pages whose sentences and cells are kept short, by the beginnings of their paths.
 PLAIN = ("README.md", "docs/GUARANTEES.md", "docs/guarantees/", "docs/HEADLINE.md", "docs/CRATES.md", "docs/GLOSSARY.md", "docs/TRUST.md", "docs/PLANTED.md",
-         "docs/RECIPES.md")
+         "docs/RECIPES.md", "docs/LIMITS.md", "docs/SCALING.md", "docs/BENCHES.md")
 MOST_WORDS, MOST_CHARACTERS, MOST_LINES = 40, 300, 800
 
 FENCE = re.compile(r"^```(.*)$")
@@ -176,7 +186,7 @@ def check_plain(path, prose):
     for line, is_cell, text in paragraphs(prose):
         if is_cell and len(text) > MOST_CHARACTERS:
             problem(path, line, f"a cell of {len(text)} characters; at most {MOST_CHARACTERS}: {text[:50]}..")
-        for sentence in re.split(r"(?<=[.?!])[)*\"]*\s+", re.sub(r"\]\([^()]*\)", "]", text)):
+        for sentence in re.split(r"(?<=[.?!])[)*\"]*\s+", re.sub(r"\]\([^()]*\)|<!--.*?-->", "]", text)):
             words = sum(bool(re.search(r"\w", it)) for it in sentence.split())
             if words > MOST_WORDS:
                 problem(path, line, f"a sentence of {words} words; at most {MOST_WORDS}: {sentence[:50]}..")
@@ -278,6 +288,69 @@ def check_commands(path, blocks, program):
     return ran, by_hand
 
 
+def figure(text):
+    """A figure as it is compared: a number, or a text where it is more than one."""
+    plain = re.sub(r"(?<=\d),(?=\d{3})", "", text.strip())
+    return float(plain) if re.fullmatch(r"[\d.]+", plain) else plain
+
+
+def results():
+    """The last value of each workload, size and unit."""
+    with open(os.path.join(TOP, "bench", "results.csv"), encoding="utf-8", newline="") as it:
+        return {(row["workload"], row["size"], row["unit"]): figure(row["value"]) for row in csv.DictReader(it)}
+
+
+def cells_of(text):
+    return [re.sub(r"<!--.*?-->|[`*]", "", it).strip() for it in re.split(r"(?<!\\)\|", text.strip().strip("|"))]
+
+
+def shown(prose):
+    """The figures that a document's markers claim: the line of each, its workload, size and unit, and the figure."""
+    marks = re.compile(r"<!-- result ([^;]+); ([^;]+); ([^;]+) -->([\d.,]*\d)")
+    for line, text in prose:
+        yield from ((line, it[1], it[2], it[3], it[4]) for it in marks.finditer(text))
+    lines = dict(prose)
+    for line, text in prose:
+        mark = re.fullmatch(r"<!-- results ([^;]+);(?: ([^;]+);)? ([^;]+) -->", text)
+        if not mark:
+            continue
+        prefix, size, unit = mark.groups()
+        head, at = cells_of(lines[line + 1]), line + 3
+        while lines.get(at, "").startswith("|"):
+            row = cells_of(lines[at])
+            for name, value in zip(head[1:], row[1:]):
+                plain = re.sub(r"(?<=\d),(?=\d{3})", "", name)
+                if value and size == "rows":
+                    yield at, prefix, re.sub(r"(?<=\d),(?=\d{3})", "", row[0]), plain, value
+                elif value and size:
+                    yield at, f"{prefix} {row[0]}", size, plain, value
+                elif value and not name.startswith("exponent"):
+                    yield at, f"{prefix} {row[0]}", plain, unit, value
+            at += 1
+
+
+def check_exponents(path, prose):
+    """The exponents of tables with results: from the size that the column names to the last one."""
+    lines = dict(prose)
+    for line in (line for line, text in prose if text.startswith("<!-- results ") and "| exponent from" in lines[line + 1]):
+        head = [it.replace(",", "") for it in cells_of(lines[line + 1])]
+        first, last = head.index(head[-1].split()[-1]), len(head) - 2
+        at = line + 3
+        while lines.get(at, "").startswith("|"):
+            row = cells_of(lines[at])
+            worked_out = math.log(float(row[last]) / float(row[first])) / math.log(int(head[last]) / int(head[first]))
+            if abs(float(row[-1]) - worked_out) > 0.011:
+                problem(path, at, f"the exponent is {worked_out:.2f}")
+            at += 1
+
+
+def check_results(path, prose):
+    known = results()
+    for line, workload, size, unit, value in shown(prose):
+        if known.get((workload, size, unit)) != figure(value):
+            problem(path, line, f"{value} isn't the value of `{workload}; {size}; {unit}` in bench/results.csv: {known.get((workload, size, unit))}")
+
+
 def check_headline():
     """The definitions on which the headline rests, crate by crate, are as many lines as docs/HEADLINE.md says."""
     path = os.path.join(TOP, "docs", "HEADLINE.md")
@@ -339,6 +412,8 @@ def main():
         prose, blocks = parsed(path)
         check_links(path, prose)
         check_paths(path, prose)
+        check_results(path, prose)
+        check_exponents(path, prose)
         if os.path.relpath(path, TOP).startswith(PLAIN):
             check_plain(path, prose)
         if os.path.dirname(os.path.dirname(path)) == os.path.join(TOP, "crates"):

@@ -7,7 +7,7 @@ microseconds, is in it. The edits and the object's name are made anew for each c
 
 Over a file also one Upload of 4,001 changes to a server, and the Download of them to a client, both over files of their own.
 
-usage: bench/embedding.py [FILE]        (with a FILE, over new files of that name and 500 commits in place of memory)
+usage: bench/embedding.py [--save MACHINE] [FILE]        (with a FILE, over new files of that name and 500 commits in place of memory)
 """
 import os
 import statistics
@@ -15,6 +15,8 @@ import subprocess
 import sys
 import tempfile
 import time
+
+from results import keeper
 
 TOP = os.path.dirname(os.path.dirname(os.path.abspath(__file__)))
 RUNS, OBJECTS = 20_000, 1_000
@@ -90,6 +92,7 @@ def from_python(file):
 
 
 def main():
+    keep = keeper(sys.argv)
     file = sys.argv[1:2]
     with tempfile.TemporaryDirectory() as folder:
         load = os.getloadavg()[0]
@@ -99,6 +102,10 @@ def main():
     for name, title in TITLES.items():
         aims = " ".join(map(str, AIMS.get(name, ())))
         print(f"{title:>40}  {c[name][0]:7.2f} {c[name][1]:7.2f}  {python[name][0]:7.2f} {python[name][1]:7.2f}  {aims if not file else '':>6}")
+        for language, (median, decile) in {"C": c[name], "Python": python[name]}.items():
+            if not file:
+                keep(f"embedding {title}", f"{language}, median", median, "us")
+                keep(f"embedding {title}", f"{language}, ninth decile", decile, "us")
     for name, title in (("upload", "an Upload of 4,001 changes"), ("download", "a Download of 4,001 entries")):
         if name in c:
             print(f"{title:>40}  {c[name][0] / 1e3:.1f} milliseconds, {c[name][1]:.0f} syncs")

@@ -1,7 +1,7 @@
 #!/usr/bin/env python3
 """Times `replay` on written exchanges of growing size, and `gen`: seconds, how they grow, and the most memory.
 
-usage: bench/exchanges.py [--only NAME,..] [--sizes N,..] [--turns N,..] [--times T] [--perf] [--program PATH]
+usage: bench/exchanges.py [--only NAME,..] [--sizes N,..] [--turns N,..] [--times T] [--perf] [--program PATH] [--save MACHINE]
 
   objects      one client that never meets the server makes N transactions: a new object and an update of it
   apart        N objects; one client updates a number in each, the other a text in each
@@ -54,6 +54,8 @@ import subprocess
 import sys
 import tempfile
 import time
+
+from results import keeper
 
 TOP = os.path.dirname(os.path.dirname(os.path.abspath(__file__)))
 BUILT = os.path.join(TOP, "crates", "realm_sync", "out", "realm_sync")
@@ -594,6 +596,8 @@ def measure(name, sizes, options):
         if before and best.seconds > 0:
             exponent = f"{math.log(best.seconds / before[1]) / math.log(size / before[0]):.2f}"
         print(f"{'':>10}  {size:8d}  {best.seconds:8.3f}  {best.processor:9.3f}  {exponent:>10}  {best.megabytes:9.1f}", flush=True)
+        for value, unit in ((best.seconds, "s"), (best.processor, "processor s"), (best.megabytes, "MB")):
+            options.keep(f"exchanges {name}", size, value, unit)
         before = (size, best.seconds)
     if options.perf:
         profile(options.program, words, given)
@@ -608,6 +612,7 @@ def numbers(text):
 
 
 def main():
+    keep = keeper(sys.argv)
     parser = argparse.ArgumentParser(usage=__doc__.split("\n")[2][7:], add_help=True)
     parser.add_argument("--only", default=",".join([*EXCHANGES, "gen"]))
     parser.add_argument("--sizes", type=numbers, default=[250, 500, 1000, 2000, 4000])
@@ -615,6 +620,7 @@ def main():
     parser.add_argument("--times", type=int, default=2)
     parser.add_argument("--perf", action="store_true")
     parser.add_argument("--program", default=None)
+    parser.set_defaults(keep=keep)
     options = parser.parse_args()
     if options.program is None:
         # the script beside README.md builds the program where it is missing or old

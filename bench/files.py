@@ -1,7 +1,7 @@
 #!/usr/bin/env python3
 """Times the commands over files: commits per second of `edit`, and changes per second of `serve` and `take`.
 
-usage: bench/files.py [--changes N] [--times T] [--folder FOLDER] [--program PATH]
+usage: bench/files.py [--changes N] [--times T] [--folder FOLDER] [--program PATH] [--save MACHINE]
 
 A client makes N transactions of one addition each (1,000 where it is left out, 4,096 at most), a server takes them in one
 upload, and another client takes them in one download. What a message or a line adds is durable before it is answered: two
@@ -19,7 +19,17 @@ import sys
 import tempfile
 import time
 
+from results import keeper
+
 TOP = os.path.dirname(os.path.dirname(os.path.abspath(__file__)))
+
+# What each command's row is called in docs/BENCHES.md.
+ROWS = {
+    "edit": "edit, one line a change",
+    "serve": "serve, one upload",
+    "take": "take, one download",
+    "bare": "two writes and two syncs a change, without the program",
+}
 BUILT = os.path.join(TOP, "crates", "realm_sync", "out", "realm_sync")
 MEMORY = "/dev/shm"
 
@@ -140,6 +150,7 @@ def measured(options, where, count_syncs):
 
 
 def main():
+    keep = keeper(sys.argv)
     parser = argparse.ArgumentParser(usage=__doc__.split("\n")[2][7:])
     parser.add_argument("--changes", type=int, default=1000)
     parser.add_argument("--times", type=int, default=3)
@@ -166,6 +177,8 @@ def main():
             f"{name:>6}  {count / disk:9.0f}  {each[0]:7.0f}  {count / memory:15.0f}  {each[1]:7.1f}"
             f"  {each[0] - each[1]:14.0f}  {number:>7}"
         )
+        keep(f"files {ROWS[name]}", options.changes, count / disk, "a second on a disk")
+        keep(f"files {ROWS[name]}", options.changes, count / memory, "a second in memory")
 
 
 if __name__ == "__main__":

@@ -7,7 +7,7 @@ takes the history. Then it times the opening of the server's file (`serve` witho
 exponent since the number before (1 where the time grows with the number of entries), the most memory and the bytes of the file. Each
 time is the least of three.
 
-usage: bench/openings.py [COUNT ..]          (1,000, 10,000 and 100,000 where they are left out)
+usage: bench/openings.py [--save MACHINE] [COUNT ..]          (1,000, 10,000 and 100,000 where they are left out)
 """
 import json
 import math
@@ -18,6 +18,7 @@ import tempfile
 import time
 
 from replay import BUILD, PROGRAM
+from results import keeper
 
 COUNTS = [1_000, 10_000, 100_000]
 MOST = 4_096  # changes of one upload
@@ -100,6 +101,7 @@ def measured(folder, count):
 
 
 def main():
+    keep = keeper(sys.argv)
     counts = [int(word) for word in sys.argv[1:]] or COUNTS
     subprocess.run(BUILD, stdin=subprocess.DEVNULL, stdout=subprocess.DEVNULL, check=True)
     print("file     entries  seconds  exponent       MB  bytes of the file")
@@ -112,6 +114,8 @@ def main():
                     exponent = f"{math.log(seconds / before[name][1]) / math.log(count / before[name][0]):.2f}"
                 before[name] = count, seconds
                 print(f"{name:7s} {count:8d}  {seconds:7.3f}  {exponent:>8}  {peak / 1e6:7.1f}  {os.path.getsize(path):17d}", flush=True)
+                keep(f"opening {name}", count, seconds, "s")
+                keep(f"opening {name}", count, peak / 1e6, "MB")
 
 
 if __name__ == "__main__":

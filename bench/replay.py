@@ -11,7 +11,7 @@ the bytes for each transaction; and then, of the largest size, the seconds of ea
 
 With --perf it also groups the samples of `perf record` by the library in which each was taken.
 
-usage: bench/replay.py [--perf] [N ..]
+usage: bench/replay.py [--perf] [--save MACHINE] [N ..]
 """
 import collections
 import json
@@ -21,6 +21,8 @@ import subprocess
 import sys
 import tempfile
 import time
+
+from results import keeper
 
 TOP = os.path.dirname(os.path.dirname(os.path.abspath(__file__)))
 PROGRAM = os.environ.get("REALM_SYNC", os.path.join(TOP, "crates", "realm_sync", "out", "realm_sync"))
@@ -112,6 +114,7 @@ def sampled(count):
 
 
 def main():
+    keep = keeper(sys.argv)
     words = sys.argv[1:]
     with_perf = "--perf" in words
     sizes = [int(word) for word in words if word != "--perf"] or SIZES
@@ -125,6 +128,7 @@ def main():
             exponent = f"{math.log(run.seconds / before[1].seconds) / math.log(count / before[0]):.2f}"
             memory = f"{(run.peak - before[1].peak) / (count - before[0]):.0f}"
         print(f"{count:12d}  {run.seconds:7.3f}  {count / run.seconds:19.0f}  {exponent:>8}  {run.peak / 1e6:7.1f}  {memory:>17}")
+        keep("replay of one client", count, run.seconds, "s")
         before = (count, run)
     count, run = before
     print(f"\nof {count} transactions, {run.seconds:.3f} s:")

@@ -19,6 +19,7 @@ import tempfile
 
 from openings import MOST, UUID, born, catch_up, line, run
 from replay import BUILD, PROGRAM
+from results import keeper
 
 # a folder in memory, where there is one: a sync costs nothing there
 MEMORY = "/dev/shm" if os.path.isdir("/dev/shm") else None
@@ -154,7 +155,7 @@ def opened(path):
     return min(seconds for seconds, _ in runs), max(peak for _, peak in runs)
 
 
-def table(count):
+def table(count, keep):
     print("entries an object  KB whole  short    s whole  short   MB whole  short")
     for each in (1, 2, 10, 100):
         with tempfile.TemporaryDirectory() as folder:
@@ -169,9 +170,13 @@ def table(count):
             rows.append((os.path.getsize(client), *opened(client)))
             (b0, s0, m0), (b1, s1, m1) = rows
             print(f"{each:17d} {b0 / 1e3:9,.0f} {b1 / 1e3:6,.0f} {s0:10.3f} {s1:6.3f} {m0 / 1e6:10.1f} {m1 / 1e6:6.1f}", flush=True)
+            for unit, values in {"KB": (b0 / 1e3, b1 / 1e3), "s": (s0, s1), "MB": (m0 / 1e6, m1 / 1e6)}.items():
+                keep("short file", each, values[0], unit)
+                keep("short file", each, values[1], f"{unit}, short")
 
 
 def main():
+    keep = keeper(sys.argv)
     words = sys.argv[1:]
     if not words or words[0] not in ("drawn", "table"):
         sys.exit(__doc__)
@@ -180,7 +185,7 @@ def main():
     if words[0] == "drawn":
         drawn(*(numbers + [1_000, 1][len(numbers):]))
     else:
-        table(*(numbers or [100_000]))
+        table(numbers[0] if numbers else 100_000, keep)
 
 
 if __name__ == "__main__":

@@ -12,14 +12,16 @@ without the work, and both once more for a client that isn't there. Each run is 
   end, front, random   10,000 insertions into a list of N elements, at its end, its front, at drawn places
   one-set, one-dict    N insertions into one set, one dictionary
 
-usage: bench/store.py [--sizes N,..] [WORK ..]          (all, and 12,500 to 100,000, where they are left out)
+usage: bench/store.py [--sizes N,..] [--save MACHINE] [WORK ..]          (all, and 12,500 to 100,000, where they are left out)
 """
 import argparse
 import math
 import random
 import subprocess
+import sys
 
 from replay import BUILD, Run, text
+from results import keeper
 
 COLUMNS = [("n", "Int", "One"), ("l", "Int", "List"), ("s", "Int", "Set"), ("d", "Int", "Dict")]
 SIZES = [12_500, 25_000, 50_000, 100_000]
@@ -123,6 +125,7 @@ def measured(work, size):
 
 
 def main():
+    keep = keeper(sys.argv)
     parser = argparse.ArgumentParser(usage=__doc__.split("usage: ")[1].split("  ")[0])
     parser.add_argument("--sizes", type=lambda words: [int(word) for word in words.split(",")], default=SIZES)
     parser.add_argument("works", nargs="*", metavar="WORK")
@@ -139,6 +142,7 @@ def main():
             each = 1e9 * took / count
             exponent = "" if before is None else f"{1 + math.log(each / before[0]) / math.log(size / before[1]):.2f}"
             print(f"{work:8s} {size:7d}  {took:7.3f}  {each:11.0f}  {exponent:>8}", flush=True)
+            keep(f"store {work}", size, each, "ns")
             before = each, size
 
 
