@@ -347,6 +347,10 @@ def check_exponents(path, prose):
 
 def check_results(path, prose):
     known = results()
+    marks = re.compile(r"<!-- result [^;]+; [^;]+; [^;]+ -->[\d.,]*\d|<!-- results [^;]+;(?: [^;]+;)? [^;]+ -->$")
+    for line, text in prose:
+        if text.count("<!-- result") != len(marks.findall(text)):
+            problem(path, line, "a marker of a result that can't be read, or has no figure behind it")
     for line, workload, size, unit, value in shown(prose):
         if known.get((workload, size, unit)) != figure(value):
             problem(path, line, f"{value} isn't the value of `{workload}; {size}; {unit}` in bench/results.csv: {known.get((workload, size, unit))}")
