@@ -53,8 +53,8 @@ SECONDS = 120
 # The pages whose sentences and cells are kept short, by the beginnings of their paths.
 PLAIN = ("README.md", "docs/GUARANTEES.md", "docs/guarantees/", "docs/HEADLINE.md", "docs/TRUST.md", "docs/PLANTED.md", "docs/CRATES.md",
          "docs/ARCHITECTURE.md", "docs/GLOSSARY.md", "docs/LIMITS.md", "docs/SCALING.md", "docs/BENCHES.md", "docs/EMBEDDING.md", "docs/CONFLICTS.md",
-         "docs/RECIPES.md", "docs/PORTING.md", "docs/STORAGE.md", "docs/SERVICE.md", "docs/DECISIONS.md", "docs/CHANGES.md", "examples/README.md", "python/README.md",
-         "js/README.md", "web/README.md", "wasm/README.md")
+         "docs/RECIPES.md", "docs/PORTING.md", "docs/STORAGE.md", "docs/SERVICE.md", "docs/DECISIONS.md", "docs/CHANGES.md", "examples/README.md",
+         "python/README.md", "js/README.md", "web/README.md", "wasm/README.md")
 MOST_WORDS, MOST_CHARACTERS, MOST_LINES = 40, 300, 800
 
 FENCE = re.compile(r"^```(.*)$")
