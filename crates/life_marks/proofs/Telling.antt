@@ -1,15 +1,9 @@
 -- What is told of lives from a number on, run by run.
-use Rattle.std.proofs.Common.{◌≡◌, ℕ, zero, suc, ◌+◌, ◌-◌, ◌<◌, ◌≤◌, List, ◌∷◌, ◌++◌, length, get_or, drop, take, replicate, drop-cons, refl, sym, ap, ◌∙◌, add-one, append_assoc, arith}
+use Rattle.std.proofs.Common.{◌≡◌, ℕ, zero, suc, ◌+◌, ◌-◌, ◌<◌, ◌≤◌, List, ◌∷◌, ◌++◌, length, get_or, drop, take, replicate, refl, sym, ap, ◌∙◌, append_assoc, arith}
 use Rattle.std.proofs.lemmas.List.{append-nil}
 use Rattle.life_bytes.specs.declared.run.Run.{Run}
 use Rattle.life_bytes.specs.Runs.{Lives, lives_of}
-
--- what is left begins with this run
-left_is : (runs : List Run) (i : ℕ) (run : Run) → i < length runs → run ≡ get_or runs i run → lives_of (drop i runs) ≡ replicate run.count run.life ++ lives_of (drop (i + 1) runs)
-left_is runs i run lt is =
-    ap lives_of (drop-cons runs i run lt)
-    ∙ ap (λ (x : Run). replicate x.count x.life ++ lives_of (drop (suc i) runs)) (sym is)
-    ∙ ap (λ (k : ℕ). replicate run.count run.life ++ lives_of (drop k runs)) (sym (add-one i))
+use Rattle.life_bytes.proofs.RunLaws.{left_is}
 
 drop_behind : (n skipped : ℕ) (x : List ℕ) (xs : Lives) → n ≤ skipped → drop skipped (replicate n x ++ xs) ≡ drop (skipped - n) xs
 drop_behind zero skipped x xs le = ap (λ (k : ℕ). drop k xs) (omega arith)

@@ -6,7 +6,7 @@ pub returns-then-skipped-count : goal.returns-then-skipped-count
 returns-then-skipped-count c = λ more. skips c.args.told.now more c.args.life c.args.count c.args.skipped c.args.left (omega (arith, c.if-skipped-count.true))
 
 pub returns-then-left-there : goal.returns-then-left-there
-returns-then-left-there c = λ more. tells_few c.args.told.now c.tell_one.new.told more c.args.life c.args.count c.args.skipped c.args.left (omega (arith, c.if-skipped-count.false)) (omega (arith, c.if-left-there.true)) c.in_ok-tell_one.ensures
+returns-then-left-there c = λ more. tells_few c.args.told.now c.push.new.told more c.args.life c.args.count c.args.skipped c.args.left (omega (arith, c.if-skipped-count.false)) (omega (arith, c.if-left-there.true)) c.in_ok-push.ensures.ok
 
 pub returns : goal.returns
-returns c = λ more. tells_all c.args.told.now c.tell_one-2.new.told more c.args.life c.args.count c.args.skipped c.args.left (omega (arith, c.if-skipped-count.false)) (omega (arith, c.if-left-there.false)) c.in_ok-tell_one-2.ensures
+returns c = λ more. tells_all c.args.told.now c.push-2.new.told more c.args.life c.args.count c.args.skipped c.args.left (omega (arith, c.if-skipped-count.false)) (omega (arith, c.if-left-there.false)) c.in_ok-push-2.ensures.ok
