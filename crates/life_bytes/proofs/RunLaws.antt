@@ -1,5 +1,5 @@
 -- Runs and the lives that they have: those of lives are the fewest, and lives are those of their runs.
-use Rattle.std.proofs.Common.{◌≡◌, ℕ, zero, suc, ◌+◌, ◌-◌, ◌<◌, ◌≤◌, Bool, true, false, cond, leb, List, [], ◌∷◌, ◌++◌, length, get_or, set, drop, replicate, drop-cons, Option, Some, None, refl, sym, ap, ◌∙◌, add-one, append_assoc, arith, length-append, All}
+use Rattle.std.proofs.Common.{◌≡◌, ℕ, zero, suc, ◌+◌, ◌-◌, ◌<◌, ◌≤◌, Bool, true, false, cond, leb, List, [], ◌∷◌, ◌++◌, length, get_or, set, drop, replicate, drop-cons, Option, Some, None, refl, sym, ap, ◌∙◌, add-one, append_assoc, arith, length-append, subst, All}
 use Rattle.std.specs.Prelude.{not, ◌&&◌, bytes_eq, slice_get}
 use Rattle.std.specs.List.{AllByRecursion}
 use Rattle.std.proofs.lemmas.Bool.{and_parts, and_from, not-true, le-leb, leb-true, leb-false}
@@ -224,6 +224,51 @@ no_run_more runs life n lives some is holds full are =
     let back : runs_of (lives ++ replicate n life) ≡ pushed life n runs = ap runs_of (sym more) ∙ runs_again None (pushed life n runs) (pushed_apart life n runs some p.0) in
     let few : length (runs_of (lives ++ replicate n life)) ≤ most_runs = are.few in
     omega (arith, few, ap length back, leb-false (length (pushed life n runs)) most_runs full)
+
+-- ---- fewer lives can be spelled where more can
+
+-- the runs are no more than the others, and the first is of the same life
+abbrev Begins : List Run → List Run → Type 0
+Begins [] ys = Unit {0}
+Begins (x ∷ xs) [] = ⊥
+Begins (x ∷ xs) (y ∷ ys) = (x.life ≡ y.life) × (length xs ≤ length ys)
+
+begins_len : (xs ys : List Run) → Begins xs ys → length xs ≤ length ys
+begins_len [] ys begins = omega arith
+begins_len (x ∷ xs) [] begins = absurd begins
+begins_len (x ∷ xs) (y ∷ ys) begins = omega (arith, begins.1)
+
+first_begins : (life : List ℕ) (y : Run) (ys : List Run) (b : Bool) → bytes_eq life y.life ≡ b → Begins (run_of 1 life ∷ []) (cond b (run_of (y.count + 1) y.life ∷ ys) (run_of 1 life ∷ y ∷ ys))
+first_begins life y ys true e = (same_is life y.life e, omega arith)
+first_begins life y ys false e = (refl, omega arith)
+
+both_begin : (life : List ℕ) (x y : Run) (xs ys : List Run) (b : Bool) → x.life ≡ y.life → length xs ≤ length ys
+    → Begins (cond b (run_of (x.count + 1) x.life ∷ xs) (run_of 1 life ∷ x ∷ xs)) (cond b (run_of (y.count + 1) y.life ∷ ys) (run_of 1 life ∷ y ∷ ys))
+both_begin life x y xs ys true same le = (same, le)
+both_begin life x y xs ys false same le = (refl, omega (arith, le))
+
+in_front_begins : (life : List ℕ) (xs ys : List Run) → Begins xs ys → Begins (in_front life xs) (in_front life ys)
+in_front_begins life [] [] begins = (refl, omega arith)
+in_front_begins life [] (y ∷ ys) begins = first_begins life y ys (bytes_eq life y.life) refl
+in_front_begins life (x ∷ xs) [] begins = absurd begins
+in_front_begins life (x ∷ xs) (y ∷ ys) begins =
+    subst
+    (λ (l : List ℕ). Begins (in_front life (x ∷ xs)) (cond (bytes_eq life l) (run_of (y.count + 1) y.life ∷ ys) (run_of 1 life ∷ y ∷ ys)))
+    begins.0
+    (both_begin life x y xs ys (bytes_eq life x.life) begins.0 begins.1)
+
+runs_begin : (xs ys : Lives) → Begins (runs_of xs) (runs_of (xs ++ ys))
+runs_begin [] ys = tt
+runs_begin (x ∷ xs) ys = in_front_begins x (runs_of xs) (runs_of (xs ++ ys)) (runs_begin xs ys)
+
+pub fewer_are : (xs ys : Lives) → AreLives (xs ++ ys) → AreLives xs
+fewer_are xs ys are =
+    let few : length (runs_of (xs ++ ys)) ≤ most_runs = are.few in
+    let within : length (xs ++ ys) ≤ most_numbers = are.within in
+    record {
+      few = omega (arith, few, begins_len (runs_of xs) (runs_of (xs ++ ys)) (runs_begin xs ys));
+      within = omega (arith, within, length-append xs ys);
+    }
 
 -- ---- the life of a number
 

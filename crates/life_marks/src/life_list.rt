@@ -1,5 +1,6 @@
-ghost use Rattle.std.specs.Prelude.{◌≡◌, ◌++◌, ◌∷◌, [], length, replicate, drop, take, slice_get, IfOk, OnOk, OnErr};
-ghost use Rattle.life_bytes.specs.Runs.{Lives, lives_of};
+ghost use Rattle.std.specs.Prelude.{◌≡◌, ◌-◌, ◌++◌, ◌∷◌, [], Err, length, min, replicate, drop, take, slice_get, OnOk, OnErr};
+ghost use Rattle.life_bytes.specs.Runs.{AreLives, lives_of};
+ghost use Rattle.life_bytes.specs.declared.runs.RunsRefusal.TheVariants.{Full};
 
 use life_bytes::{Life, Run, Runs, RunsRefusal, life_at, put_lives};
 use std::alloc::Global;
@@ -82,46 +83,37 @@ impl LifeList {
         Ok(())
     }
 
-    /// Puts the lives of so many numbers, from this one on, behind those runs; of fewer where there are no more.
+    /// Puts the lives of so many numbers, from this one on, behind those runs; of fewer where there are no more. Refused, some of
+    /// them may be there.
     pub fn tell(&self, from: u32, count: u32, told: &mut Runs) -> Result<(), RunsRefusal>
-        ensures { OnOk result (told.new ≡ told.old ++ take count (drop from self.now)) }
+        ensures ok { OnOk result (told.new ≡ told.old ++ take count (drop from self.now)) }
+        ensures full { result ≡ Err Full → ¬ (AreLives (told.old ++ take count (drop from self.now))) }
     {
         tell(self.runs.as_slice(), from, count, told)
     }
 }
 
 fn tell(runs: &[Run], from: u32, count: u32, told: &mut Runs) -> Result<(), RunsRefusal>
-    ensures { OnOk result (told.new ≡ told.old ++ take count (drop from (lives_of runs.now))) }
+    ensures ok { OnOk result (told.new ≡ told.old ++ take count (drop from (lives_of runs.now))) }
+    ensures full { result ≡ Err Full → ¬ (AreLives (told.old ++ take count (drop from (lives_of runs.now)))) }
 {
     let mut skipped = from;
     let mut left = count;
     for run in runs {
-        let (skips, lacks) = tell_run(run.life, run.count, skipped, left, told)?;
-        skipped = skips;
-        left = lacks;
+        let here = told_of(run.count, skipped, left);
+        match told.push(run.life, here) {
+            Ok(()) => {}
+            Err(why) => return Err(why),
+        }
+        skipped = skipped.saturating_sub(run.count);
+        left -= here;
     }
     Ok(())
 }
 
-/// Puts those of so many numbers of one life behind the runs that aren't skipped, as many as are left to tell. It answers how many
-/// are left to skip and to tell.
-fn tell_run(
-    life: Life,
-    count: u32,
-    skipped: u32,
-    left: u32,
-    told: &mut Runs,
-) -> Result<(u32, u32), RunsRefusal>
-    ensures { (more : Lives) → IfOk result (λ r. told.new ++ take r.1 (drop r.0 more) ≡ told.old ++ take left (drop skipped (replicate count life ++ more))) }
+/// How many of a run's numbers are told, where so many are still skipped, and so many are left to tell.
+fn told_of(count: u32, skipped: u32, left: u32) -> u32
+    ensures { result ≡ min (count - skipped) left }
 {
-    if skipped >= count {
-        return Ok((skipped - count, left));
-    }
-    let there = count - skipped;
-    if left <= there {
-        told.push(life, left)?;
-        return Ok((0, 0));
-    }
-    told.push(life, there)?;
-    Ok((0, left - there))
+    count.saturating_sub(skipped).min(left)
 }
