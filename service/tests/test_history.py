@@ -22,7 +22,7 @@ class Listening(unittest.IsolatedAsyncioTestCase):
     async def asyncSetUp(self):
         store = Files(os.path.join(folder(), "histories"))
         await store.start("")
-        self.histories = Histories(store, HistoriesConfig(), 30, None)
+        self.histories = Histories(store, HistoriesConfig(), 30)
         self.history = await self.histories.get("family", True)
         self.heard = []
 

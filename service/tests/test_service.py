@@ -159,18 +159,6 @@ class Suite:
             (_, (status, _)) = await asyncio.gather(*asked)
             self.assertEqual(status, 200)
 
-    async def test_trimming_without_a_program(self):
-        other = Service(stores(self.kind), histories={"program": "/nowhere/realm_sync"}).start().ready()
-        async with Device(other.base, HISTORY) as phone:
-            phone.note("milk", "buy milk")
-            await phone.sync()
-            url = f"{other.base}/v1/histories/{HISTORY}"
-            self.assertEqual((await fetched(self.session, "POST", url + "/trim", authorized("boss", {"*": "rule"})))[0], 501)
-            phone.note("bread", "buy bread")
-            await phone.sync()
-        other.stop()
-
-    @unittest.skipUnless(os.environ.get("REALM_SYNC"), "REALM_SYNC names no program to trim with")
     async def test_trimming_while_devices_change(self):
         async with Device(self.service.base, HISTORY) as phone, Device(self.service.base, HISTORY) as tablet:
             for device in (phone, tablet):

@@ -11,9 +11,8 @@ import uuid
 
 from support import cluster, folder
 
-from realm_service.messages import journal_end
 from realm_service.stores import Absent, Device, Elsewhere, Fenced, StoreDown
-from realm_service.stores.files import Files
+from realm_service.stores.files import Files, journal_end
 from realm_service.stores.postgres import Postgres
 from realm_service.stores.sqlite import Sqlite
 

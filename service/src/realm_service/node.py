@@ -11,6 +11,7 @@ from .library import Buffer, Library
 DONE, BAD_REQUEST, ABSENT, CLOSED, BAD_FILE, NO_MEMORY = 0, 2, 3, 5, 6, 7
 KEPT_ROOM = 1 << 18  # bytes of a buffer that is kept
 OPEN_SERVER, TAKE, STANDING, EMPTIED, DUMP, OBJECT = b"s", b"T", b"I", b"V", b"D", b"O"
+ENTRIES, CLIENTS, HEAD, BORNE, TRIMMED = b"E", b"Q", b"H", b"P", b"F"
 
 
 class NodeFailed(Exception):
@@ -105,9 +106,27 @@ class Node:
         self._is_emptied = True
 
 
+def trimmed(journal: bytes) -> bytes:
+    """The shorter journal of a server, without the history that no client needs."""
+    node = Node()
+    try:
+        node.open(journal)
+        status, told = node.ask_all([TRIMMED])[0]
+    finally:
+        node.close()
+    if status != DONE:
+        raise NodeFailed(f"trim: {status}")
+    return told
+
+
 def length_of(standing: Reply) -> int:
     """How many entries the history has, by the reply to STANDING."""
     return int.from_bytes(standing.told[4:8], "little")
+
+
+def uuids_of(clients: Reply) -> dict[int, bytes]:
+    """Which uuid each ident is, by the reply to CLIENTS: behind the floor 28 bytes for each, from ident 1 on, of which the first 16 are it."""
+    return {1 + at // 28: clients.told[4 + at : 20 + at] for at in range(0, len(clients.told) - 4, 28)}
 
 
 def _unpacked(told: bytes) -> list[Reply]:

@@ -11,9 +11,9 @@ from aiohttp import WSMsgType, web
 
 from . import metrics
 from .devices import Caller, Forbidden
+from .heads import BadMessage
 from .history import History
 from .limits import in_time
-from .messages import BadMessage
 from .refusals import RESTART, Refused, refusal_of, response_of
 from .stores import Fenced
 from .tokens import BadToken

@@ -21,6 +21,14 @@ THREADS = 32  # syncs at once: a file system joins them
 Answer = typing.TypeVar("Answer")
 
 
+def journal_end(journal: bytes) -> int:
+    """The place of the closed gate of a journal (docs/FORMATS.md, "The journal"), which isn't damaged; a shorter file counts as empty."""
+    place = 8
+    while len(journal) > place and journal[place] == 1:
+        place += 5 + int.from_bytes(journal[place + 1 : place + 5], "big")
+    return place if len(journal) > place else 0
+
+
 def _private(path: str, flags: int) -> int:
     """Opens a file that, where it is made, nobody else reads."""
     return os.open(path, flags, 0o600)

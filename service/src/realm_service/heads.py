@@ -1,0 +1,127 @@
+"""What messages are about, and what they bear, as the library tells it: docs/FORMATS.md, "Messages for a host"."""
+
+import dataclasses
+import struct
+import threading
+import typing
+from collections.abc import Iterator
+
+from .node import BORNE, DONE, HEAD, Node, NodeFailed
+
+BIND, IDENT, UPLOAD, ASK, DOWNLOAD, REFUSED, STORED, ASK2, RETIRE, ASK_TABLES = 1, 2, 3, 4, 5, 6, 7, 8, 9, 11
+NAMES = {BIND: "bind", UPLOAD: "upload", ASK: "ask", ASK2: "ask", ASK_TABLES: "ask", RETIRE: "retire"}  # what clients say
+PLACES, EACH = struct.Struct("<B16s7I"), struct.Struct("<IIQI")
+
+
+class BadMessage(Exception):
+    """No message, or one for clients."""
+
+
+@dataclasses.dataclass(frozen=True)
+class Head:
+    """What a message is about. What it hasn't got is 0."""
+
+    tables: frozenset[str]
+    tag: int
+    uuid: bytes
+    ident: int
+    by: int
+    count: int
+    first: int
+    second: int
+    third: int
+    fourth: int
+
+    @property
+    def speaker(self) -> int:
+        """The ident under which a client says it."""
+        return self.by if self.tag == RETIRE else self.ident
+
+    @property
+    def version(self) -> int:
+        """From which version on a client's message meets the history. Of an Upload's changes the lowest base counts, since the server skips
+        those that it has: a first one of these may have any base."""
+        return self.fourth if self.tag == UPLOAD else self.first
+
+
+class Entry(typing.NamedTuple):
+    """An entry of a history: its version, counted from 0; the ident of the client that made it, and that client's number of it; its time in
+    milliseconds since the epoch; and the bytes of its changeset."""
+
+    version: int
+    ident: int
+    number: int
+    ms: int
+    changeset: bytes
+
+
+_nodes = threading.local()
+
+
+def _answered(request: bytes) -> bytes:
+    """What a node answers in which nothing stands. Each thread has one."""
+    node = getattr(_nodes, "node", None) or Node()
+    _nodes.node = None
+    try:
+        status, told = node.ask_all([request])[0]
+    except NodeFailed:
+        node.close()
+        raise
+    _nodes.node = node
+    if status != DONE:
+        raise BadMessage("no message")
+    return told
+
+
+def look(message: bytes) -> Head:
+    """What a message is about; raises BadMessage."""
+    told = _answered(HEAD + message)
+    return Head(_tables(told[PLACES.size :]), *PLACES.unpack_from(told))
+
+
+def look_at_asked(message: bytes) -> Head:
+    """What a client's message is about; raises BadMessage."""
+    head = look(message)
+    if head.tag not in NAMES:
+        raise BadMessage("no message for a server")
+    return head
+
+
+def _tables(spelled: bytes) -> frozenset[str]:
+    """As a message spells them: how many, and each as its length and so many bytes. Both numbers are small, and have one byte."""
+    names, place = list[str](), 1
+    while place < len(spelled):
+        end = place + 1 + spelled[place]
+        names.append(spelled[place + 1 : end].decode())
+        place = end
+    return frozenset(names)
+
+
+def borne(message: bytes) -> bytes:
+    """The changes or entries of a message; raises BadMessage."""
+    return _answered(BORNE + message)
+
+
+def entries(version: int, told: bytes) -> Iterator[Entry]:
+    """The entries from a version on, as a Download bears them, or the node tells them."""
+    place = 0
+    while place < len(told):
+        ident, number, ms, size = EACH.unpack_from(told, place)
+        place += EACH.size + size
+        yield Entry(version, ident, number, ms, told[place - size : place])
+        version += 1
+
+
+def spelled(number: int) -> bytes:
+    """A number as in a message."""
+    parts = bytearray()
+    while number > 127:
+        parts.append(number & 127 | 128)
+        number >>= 7
+    return bytes([*parts, number])
+
+
+def question(ident: int, version: int, tables: frozenset[str]) -> bytes:
+    """An AskTables for what these tables get of the entries from a version on. It settles nothing, so the server keeps nothing of it."""
+    names = b"".join(spelled(len(it)) + it for it in sorted(name.encode() for name in tables))
+    return bytes([ASK_TABLES]) + b"".join(map(spelled, (ident, version, 0, 2, len(tables)))) + names
