@@ -2,9 +2,12 @@
 
 import asyncio
 import contextlib
+import dataclasses
 import errno
+import fcntl
 import os
 import random
+import threading
 import unittest
 import unittest.mock
 import uuid
@@ -100,6 +103,27 @@ class Suite:
         await self.store.release(lease)
         again = await self.store.acquire("family", False)
         self.assertEqual(tuple(await self.store.read(again)), (b"RSYNCJ01" + record(b"short")[:-1] + record(b"next"), {ANN: Device("ann", 1)}))
+
+    async def test_no_shorter_journal_in_place_of_what_was_appended_since(self):
+        lease = await self.new()
+        await self.store.append(lease, 8, record(b"one"), [])
+        before = dataclasses.replace(lease)
+        await self.store.append(lease, 16, record(b"two"), [])
+        with self.assertRaises(Fenced):
+            await self.store.replace(before, FIRST)
+        await self.store.append(lease, 24, record(b"three"), [])
+        want = b"RSYNCJ01" + record(b"one")[:-1] + record(b"two")[:-1] + record(b"three")
+        self.assertEqual((await self.store.read(lease)).journal, want)
+
+    async def test_a_lease_that_is_read_again_knows_its_length(self):
+        lease = await self.new()
+        await self.store.append(lease, 8, record(b"one"), [])
+        await self.store.release(lease)
+        again = await self.store.acquire("family", False)
+        await self.store.read(again)
+        self.assertEqual(again.length, 16)
+        await self.store.replace(again, FIRST)
+        self.assertEqual((await self.store.read(again)).journal, FIRST)
 
     async def test_generations_stay_with_devices(self):
         lease = await self.new()
@@ -223,6 +247,37 @@ class OfFiles(Suite, unittest.IsolatedAsyncioTestCase):
     def _files(self, lease):
         """Which files have the names now."""
         return [os.stat(os.path.join(self.at, lease.name + end)).st_ino for end in (".realm", ".devices")]
+
+    async def test_an_exchange_of_which_a_sync_fails(self):
+        """The old journal or the new one is there, whole, and is written anew once it is read."""
+        for failing, want in ((1, b"RSYNCJ01" + record(b"long")), (2, FIRST)):  # of the new file, of the folder
+            lease = await self.new(f"family-{failing}")
+            await self.store.append(lease, 8, record(b"long"), [])
+            with unittest.mock.patch("os.fsync", Failing(failing)), self.assertRaises(StoreDown):
+                await self.store.replace(lease, FIRST)
+            await self.store.release(lease)
+            again = await self.store.acquire(lease.name, False)
+            left = os.stat(os.path.join(self.at, lease.name + ".realm")).st_ino
+            self.assertEqual((await self.store.read(again)).journal, want)
+            self.assertNotEqual(os.stat(os.path.join(self.at, lease.name + ".realm")).st_ino, left)
+
+    async def test_nobody_has_the_lock_while_files_are_exchanged(self):
+        """As a command over files would: it locks what stands at the path, and looks whether that still stands there."""
+        lease, path, got, ended = await self.new(), os.path.join(self.at, "family.realm"), [], threading.Event()
+
+        def lock():
+            while not ended.is_set():
+                with open(path, "r+b") as file, contextlib.suppress(BlockingIOError):
+                    fcntl.flock(file, fcntl.LOCK_EX | fcntl.LOCK_NB)
+                    if os.path.samestat(os.fstat(file.fileno()), os.stat(path)):
+                        got.append(file.name)
+
+        locking = asyncio.create_task(asyncio.to_thread(lock))
+        for number in range(100):
+            await self.store.replace(lease, b"RSYNCJ01" + record(b"%d" % number))
+        ended.set()
+        await locking
+        self.assertEqual(got, [])
 
     async def test_a_file_that_somebody_cut_isnt_appended_to(self):
         lease = await self.new()

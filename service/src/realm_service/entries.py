@@ -13,7 +13,7 @@ from collections.abc import Iterator
 from aiohttp import web
 
 from .heads import Entry
-from .history import AHEAD, GIVEN_UP, History, NoEntries
+from .history import AHEAD, GIVEN_UP, PAGE_BYTES, History, NoEntries, Page
 from .limits import in_time
 from .node import NodeFailed
 from .refusals import GENERATION, Refused
@@ -23,7 +23,7 @@ from .visits import Visit, Visits
 log = logging.getLogger("realm_service")
 
 KEEP_ALIVE = 15.0  # seconds after which a stream of events says that it lives
-FIRST_COUNT, MOST_COUNT, PAGE_BYTES = 1, 4096, 1 << 20  # entries of a page, and about how many bytes of them
+FIRST_COUNT, MOST_COUNT = 1, 4096  # entries that are asked at once
 VERSION = re.compile(r"[0-9]{1,10}")
 EVENTS, LINES = "text/event-stream", "application/x-ndjson"
 
@@ -44,14 +44,13 @@ def _first(request: web.Request) -> int:
     return int(given) + is_resumed
 
 
-class _Page:
-    """Some entries, and how many are asked next: by their sizes so far, since one may have 16 MiB."""
+class _Lines:
+    """A page as lines, and how many entries are asked next: by their sizes so far, since one may have megabytes."""
 
-    def __init__(self, found: list[Entry], count: int, history: History):
-        uuids = history.devices.uuids if history.devices else {}
-        self.lines = [(it.version, _line(it, uuids.get(it.ident))) for it in found]
-        size = sum(len(it.changeset) for it in found)
-        self.next_count = max(1, min(2 * count, MOST_COUNT, count * PAGE_BYTES // max(1, size)))
+    def __init__(self, page: Page, count: int):
+        self.lines = [(it.version, _line(it, page.uuids.get(it.ident))) for it in page.entries]
+        size = sum(len(it.changeset) for it in page.entries)
+        self.next_count = max(1, min(2 * count, MOST_COUNT, len(page.entries) * PAGE_BYTES // max(1, size)))
 
     def body(self, is_events: bool) -> bytes:
         if is_events:
@@ -111,7 +110,7 @@ class Entries:
                 request.transport.abort()  # so that the client sees that there is more
         return stream.response
 
-    async def _told(self, stream: _Stream, visit: Visit, page: _Page, version: int, is_followed: bool) -> None:
+    async def _told(self, stream: _Stream, visit: Visit, page: _Lines, version: int, is_followed: bool) -> None:
         history = typing.cast(History, visit.history)
         with self._grown(history) as grown:
             while True:
@@ -124,10 +123,10 @@ class Entries:
                     return
                 page = await self._page(history, version, page.next_count, visit)
 
-    async def _page(self, history: History, version: int, count: int, visit: Visit) -> _Page:
+    async def _page(self, history: History, version: int, count: int, visit: Visit) -> _Lines:
         await self.visits.limits.admit(visit.caller.user, 0)
         try:
-            return _Page(await history.entries(version, count, visit.caller.tables), count, history)
+            return _Lines(await history.entries(version, count, visit.caller.tables), count)
         except NoEntries as refusal:
             raise _refused(refusal) from refusal
 

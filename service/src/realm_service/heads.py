@@ -112,6 +112,17 @@ def entries(version: int, told: bytes) -> Iterator[Entry]:
         version += 1
 
 
+def first_bytes(size: int, found: Iterator[Entry]) -> list[Entry]:
+    """The first of these entries, up to the one that brings their changesets above that size."""
+    taken = list[Entry]()
+    for entry in found:
+        taken.append(entry)
+        size -= len(entry.changeset)
+        if size < 0:
+            break
+    return taken
+
+
 def spelled(number: int) -> bytes:
     """A number as in a message."""
     parts = bytearray()

@@ -13,7 +13,7 @@ from collections.abc import Callable, Iterator
 
 from . import metrics
 from .devices import Caller, Devices, Forbidden, Outdated, TooMuch
-from .heads import BIND, IDENT, NAMES, REFUSED, UPLOAD, BadMessage, Entry, Head, borne, entries, look, look_at_asked, question
+from .heads import BIND, IDENT, NAMES, REFUSED, UPLOAD, BadMessage, Entry, Head, borne, entries, first_bytes, look, look_at_asked, question
 from .node import (
     ABSENT,
     BAD_REQUEST,
@@ -22,13 +22,13 @@ from .node import (
     ENTRIES,
     STANDING,
     TAKE,
+    TRIMMED,
     Damaged,
     Node,
     NodeFailed,
     Reply,
     Written,
     length_of,
-    trimmed,
     uuids_of,
 )
 from .stores import Fenced, Lease, StoreDown
@@ -40,6 +40,7 @@ if typing.TYPE_CHECKING:
 log = logging.getLogger("realm_service")
 GIVEN_UP, AHEAD = 71, 63  # codes of a refusal
 BATCH_MESSAGES, BATCH_BYTES = 256, 16 << 20
+PAGE_BYTES = 1 << 20  # of changesets, after which a page of entries ends
 DECLINED = (Forbidden, BadMessage, Outdated, TooMuch)
 Listener = Callable[[int | None], None]  # told the length when it has grown, and None when the history is another worker's
 
@@ -56,6 +57,13 @@ class NoEntries(Exception):
         self.code = code
 
 
+class Page(typing.NamedTuple):
+    """Some entries, and which uuid each ident is."""
+
+    entries: list[Entry]
+    uuids: dict[int, bytes]
+
+
 @dataclasses.dataclass(eq=False)
 class _Work:
     """What waits: a caller's message, or with no caller a request that changes nothing. No request is a trim."""
@@ -65,6 +73,7 @@ class _Work:
     caller: Caller | None = None
     listener: Listener | None = None
     head: Head | None = None
+    uuids: dict[int, bytes] = dataclasses.field(default_factory=dict)  # by ident, as they are when it is answered
     began: float = dataclasses.field(default_factory=time.monotonic)
 
     def fail(self, error: BaseException) -> None:
@@ -100,30 +109,34 @@ class History:
         reply: Reply = await self._put(_Work(request, self._future()))
         return reply
 
-    async def entries(self, version: int, count: int, tables: frozenset[str] | None) -> list[Entry]:
-        """Entries from a version on, `count` of them at most or as many as a Download has; none where the history ends there. With `tables`
-        what these get of each."""
+    async def entries(self, version: int, count: int, tables: frozenset[str] | None) -> Page:
+        """Entries from a version on; none where the history ends there. They are `count` at most, and end with the one that brings them above
+        PAGE_BYTES. With `tables` what these get of each, and as many as a Download has."""
         length = await self.known_length()
         if version > length:
             raise NoEntries(AHEAD)
         if version == length:
-            return []
+            return Page([], {})
         if tables is not None:
             return await self._entries_of(version, tables)
-        status, told = await self.read(ENTRIES + version.to_bytes(4, "little") + count.to_bytes(4, "little"))
+        work = _Work(ENTRIES + version.to_bytes(4, "little") + count.to_bytes(4, "little"), self._future())
+        status, told = await self._put(work)
         if status == ABSENT:
             raise NoEntries(GIVEN_UP)
-        return list(entries(version, told))
+        return Page(first_bytes(PAGE_BYTES, entries(version, told)), work.uuids)
 
-    async def _entries_of(self, version: int, tables: frozenset[str]) -> list[Entry]:
+    async def _entries_of(self, version: int, tables: frozenset[str]) -> Page:
         """By a question under the first ident, which settles nothing, so that the server keeps nothing of it."""
-        status, told = await self.read(TAKE + question(1, version, tables))
+        work = _Work(TAKE + question(1, version, tables), self._future())
+        status, told = await self._put(work)
+        if status == BAD_REQUEST:
+            raise Forbidden("entries are told of 1 to 64 tables, whose names have 1 to 63 bytes, and the token is for others")
         if status != DONE:
             raise NodeFailed(f"entries: {status}")
-        head = look(told)
+        head = await self.histories.work_aside(look, told)
         if head.tag == REFUSED:
             raise NoEntries(head.second)
-        return list(entries(head.first, await self.histories.work_aside(borne, told)))
+        return Page(list(entries(head.first, await self.histories.work_aside(borne, told))), work.uuids)
 
     @contextlib.contextmanager
     def listening(self, listener: Listener) -> Iterator[None]:
@@ -285,6 +298,7 @@ class History:
             if work.future.done():
                 continue
             if tag is None:
+                work.uuids = self.devices.uuids if self.devices else {}
                 work.future.set_result(Reply(status, told))
             elif status == DONE:
                 work.future.set_result(told)
@@ -339,13 +353,25 @@ class History:
         return length_of(standing), uuids_of(clients)
 
     async def _trim(self) -> tuple[int, int]:
-        """The node is opened again from what is left."""
+        """Puts the shorter journal that the node tells in the place of the stored one. No message is at work meanwhile, and the node has just what
+        is stored; if somebody else appended all the same, the store refuses. The node is opened again from what is left."""
+        if self.node is None:
+            await self._open()
+        left = await self.histories.work(self._shorter)
+        before = self.lease.length + 1  # the closed gate is a byte
+        if len(left) >= before:
+            return before, before
+        await self.histories.store.replace(self.lease, left)
         self.let_go()
-        journal, _ = await self.histories.store.read(self.lease)
-        left = await self.histories.work(trimmed, journal)
-        if len(left) < len(journal):
-            await self.histories.store.replace(self.lease, left)
-        return len(journal), min(len(left), len(journal))
+        return before, len(left)
+
+    def _shorter(self) -> bytes:
+        """The journal without the history that no client needs."""
+        assert self.node is not None
+        status, told = self.node.ask_all([TRIMMED])[0]
+        if status != DONE:
+            raise NodeFailed(f"trim: {status}")
+        return told
 
     def let_go(self) -> None:
         """Lets the node go; what it was asked is stored, or void."""

@@ -106,19 +106,6 @@ class Node:
         self._is_emptied = True
 
 
-def trimmed(journal: bytes) -> bytes:
-    """The shorter journal of a server, without the history that no client needs."""
-    node = Node()
-    try:
-        node.open(journal)
-        status, told = node.ask_all([TRIMMED])[0]
-    finally:
-        node.close()
-    if status != DONE:
-        raise NodeFailed(f"trim: {status}")
-    return told
-
-
 def length_of(standing: Reply) -> int:
     """How many entries the history has, by the reply to STANDING."""
     return int.from_bytes(standing.told[4:8], "little")
