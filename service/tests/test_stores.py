@@ -12,7 +12,7 @@ import unittest
 import unittest.mock
 import uuid
 
-from support import cluster, folder
+from support import PATIENCE, cluster, folder
 
 from realm_service.stores import Absent, Device, Elsewhere, Fenced, StoreDown
 from realm_service.stores.files import Files, journal_end
@@ -328,7 +328,7 @@ class OfSqlite(Suite, unittest.IsolatedAsyncioTestCase):
     async def test_a_fault_ends_one_job(self):
         lease = await self.new()
         with self.assertRaises(ZeroDivisionError):
-            await asyncio.wait_for(self.store._do(lambda link: 1 // 0), 5)
+            await asyncio.wait_for(self.store._do(lambda link: 1 // 0), PATIENCE)
         await self.store.append(lease, 8, record(b"one"), [])
         self.assertEqual((await self.store.read(lease)).journal, b"RSYNCJ01" + record(b"one"))
 
@@ -431,9 +431,16 @@ class OfPostgres(Suite, unittest.IsolatedAsyncioTestCase):
         finally:
             link.terminate()
 
+    async def _sleeper(self):
+        """A worker that never renews its lease, and what it hears of lapses: however slow the machine is, it hears nothing by itself."""
+        sleeper, heard = await self.other(0.6), []
+        sleeper.tasks[0].cancel()
+        sleeper.on_lapse(heard.append)
+        return sleeper, heard
+
     async def _taken_when_lapsed(self):
-        """The history `taken`, without a suspicion, once the lease has ended by the database's clock: a renewal may have been on its way."""
-        ends = asyncio.get_running_loop().time() + 60
+        """The history `taken`, without a suspicion, once the lease has ended by the database's clock."""
+        ends = asyncio.get_running_loop().time() + PATIENCE
         while asyncio.get_running_loop().time() < ends:
             with contextlib.suppress(Elsewhere):
                 return await self.store.acquire("taken", True)
@@ -442,10 +449,8 @@ class OfPostgres(Suite, unittest.IsolatedAsyncioTestCase):
 
     async def test_a_lease_that_lapsed(self):
         """Who slept past its lease answers what nobody took, and nothing of what was taken, also when it is awake again."""
-        sleeper, heard = await self.other(0.6), []
-        sleeper.on_lapse(heard.append)
+        sleeper, heard = await self._sleeper()
         taken, kept = await sleeper.acquire("taken", True), await sleeper.acquire("kept", True)
-        sleeper.tasks[0].cancel()
         self.assertEqual((await self._taken_when_lapsed()).epoch, 2)
         with self.assertRaises(Fenced):
             await sleeper.check(taken)
@@ -457,10 +462,8 @@ class OfPostgres(Suite, unittest.IsolatedAsyncioTestCase):
         await sleeper.check(kept)
 
     async def test_a_lapse_is_told_as_soon_as_it_can_be(self):
-        sleeper, heard = await self.other(0.6), []
-        sleeper.on_lapse(heard.append)
+        sleeper, heard = await self._sleeper()
         await sleeper.acquire("taken", True)
-        sleeper.tasks[0].cancel()
         await self._taken_when_lapsed()
         run = sleeper._run
 
