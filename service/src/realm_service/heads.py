@@ -1,23 +1,26 @@
 """What messages are about, and what they bear, as the library tells it: docs/FORMATS.md, "Messages for a host"."""
 
+import ctypes
 import dataclasses
 import struct
 import threading
 import typing
 from collections.abc import Iterator
 
-from .node import BORNE, DONE, HEAD, Node, NodeFailed
+from .node import BORNE, DONE, HEAD, Node, Reply
 
 BIND, IDENT, UPLOAD, ASK, DOWNLOAD, REFUSED, STORED, ASK2, RETIRE, ASK_TABLES = 1, 2, 3, 4, 5, 6, 7, 8, 9, 11
 NAMES = {BIND: "bind", UPLOAD: "upload", ASK: "ask", ASK2: "ask", ASK_TABLES: "ask", RETIRE: "retire"}  # what clients say
 PLACES, EACH = struct.Struct("<B16s7I"), struct.Struct("<IIQI")
+ROOM = 1 + PLACES.size + 1 + 64 * 64  # of a head: its status, and at most 64 tables of 63 bytes, each behind its length
+NO_TABLES = frozenset[str]()
 
 
 class BadMessage(Exception):
     """No message, or one for clients."""
 
 
-@dataclasses.dataclass(frozen=True)
+@dataclasses.dataclass(slots=True)
 class Head:
     """What a message is about. What it hasn't got is 0."""
 
@@ -55,28 +58,26 @@ class Entry(typing.NamedTuple):
     changeset: bytes
 
 
-_nodes = threading.local()
+class _Looking(threading.local):
+    """A thread's node, in which nothing stands, and the room for a head."""
+
+    def __init__(self) -> None:
+        self.node, self.room = Node(), ctypes.create_string_buffer(ROOM)
 
 
-def _answered(request: bytes) -> bytes:
-    """What a node answers in which nothing stands. Each thread has one."""
-    node = getattr(_nodes, "node", None) or Node()
-    _nodes.node = None
-    try:
-        status, told = node.ask_all([request])[0]
-    except NodeFailed:
-        node.close()
-        raise
-    _nodes.node = node
-    if status != DONE:
+_looking = _Looking()
+
+
+def _answered(reply: Reply) -> bytes:
+    if reply.status != DONE:
         raise BadMessage("no message")
-    return told
+    return reply.told
 
 
 def look(message: bytes) -> Head:
     """What a message is about; raises BadMessage."""
-    told = _answered(HEAD + message)
-    return Head(_tables(told[PLACES.size :]), *PLACES.unpack_from(told))
+    told = _answered(_looking.node.ask_shortly(HEAD + message, _looking.room))
+    return Head(_tables(told) if len(told) > PLACES.size else NO_TABLES, *PLACES.unpack_from(told))
 
 
 def look_at_asked(message: bytes) -> Head:
@@ -87,19 +88,19 @@ def look_at_asked(message: bytes) -> Head:
     return head
 
 
-def _tables(spelled: bytes) -> frozenset[str]:
-    """As a message spells them: how many, and each as its length and so many bytes. Both numbers are small, and have one byte."""
-    names, place = list[str](), 1
-    while place < len(spelled):
-        end = place + 1 + spelled[place]
-        names.append(spelled[place + 1 : end].decode())
+def _tables(told: bytes) -> frozenset[str]:
+    """Those behind the places of a head: how many, and each as its length and so many bytes. Both numbers are small, and have one byte."""
+    names, place = list[str](), PLACES.size + 1
+    while place < len(told):
+        end = place + 1 + told[place]
+        names.append(told[place + 1 : end].decode())
         place = end
     return frozenset(names)
 
 
 def borne(message: bytes) -> bytes:
     """The changes or entries of a message; raises BadMessage."""
-    return _answered(BORNE + message)
+    return _answered(_looking.node.ask_all([BORNE + message])[0])
 
 
 def entries(version: int, told: bytes) -> Iterator[Entry]:

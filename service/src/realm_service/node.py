@@ -91,6 +91,14 @@ class Node:
             raise NodeFailed("the node closed, or memory ran out")
         return _unpacked(told)[first:]
 
+    def ask_shortly(self, request: bytes, room: ctypes.Array[ctypes.c_char]) -> Reply:
+        """The same of one request whose reply has room there: for what is asked of every message."""
+        size = self._library.one_turn(self._at, request, len(request), room, len(room))
+        told = ctypes.string_at(room, min(size, len(room)))
+        if size > len(room) or not told or told[0] in (CLOSED, NO_MEMORY):
+            raise NodeFailed("the node closed, memory ran out, or the reply has no room")
+        return Reply(told[0], told[1:])
+
     def written(self) -> Written:
         gate = ctypes.c_uint64()
         outbox, tail = _scratch.outbox, _scratch.tail

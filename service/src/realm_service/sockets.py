@@ -91,6 +91,8 @@ class Sockets:
                     visit = await self.visits.visit(request, is_device=True)
                     other = await self._other(visit, request)
                 return await self._opened(request, visit, other)
+        except ConnectionError as error:  # the caller is gone before the socket is open: no fault of the service
+            return response_of(Refused(503, str(error)))
         except Exception as error:
             return response_of(error)
 
