@@ -23,7 +23,7 @@ from .visits import Visit, Visits
 log = logging.getLogger("realm_service")
 
 KEEP_ALIVE = 15.0  # seconds after which a stream of events says that it lives
-FIRST_COUNT, MOST_COUNT = 1, 4096  # entries that are asked at once
+FIRST_COUNT, MOST_COUNT = 4, 4096  # entries that are asked at once
 VERSION = re.compile(r"[0-9]{1,10}")
 EVENTS, LINES = "text/event-stream", "application/x-ndjson"
 
