@@ -111,6 +111,10 @@ class Trimming(Case):
         self.trimming = asyncio.create_task(self.history.trim())
         await self.histories.store.is_asked.wait()
 
+    async def asyncTearDown(self):
+        self.histories.store.may.set()  # also where a test failed before it did
+        await super().asyncTearDown()
+
     def path(self):
         return os.path.join(self.at, "family.realm")
 

@@ -7,7 +7,6 @@ import errno
 import fcntl
 import os
 import random
-import threading
 import unittest
 import unittest.mock
 import uuid
@@ -261,23 +260,27 @@ class OfFiles(Suite, unittest.IsolatedAsyncioTestCase):
             self.assertEqual((await self.store.read(again)).journal, want)
             self.assertNotEqual(os.stat(os.path.join(self.at, lease.name + ".realm")).st_ino, left)
 
-    async def test_nobody_has_the_lock_while_files_are_exchanged(self):
-        """As a command over files would: it locks what stands at the path, and looks whether that still stands there."""
-        lease, path, got, ended = await self.new(), os.path.join(self.at, "family.realm"), [], threading.Event()
+    async def test_nobody_gets_the_lock_while_files_are_exchanged(self):
+        """Neither of the old file, up to its last moment, nor of the new one, from its first: as another command would try it."""
+        lease, path, rename, is_free = await self.new(), os.path.join(self.at, "family.realm"), os.rename, []
 
         def lock():
-            while not ended.is_set():
-                with open(path, "r+b") as file, contextlib.suppress(BlockingIOError):
+            with open(path, "r+b") as file:
+                try:
                     fcntl.flock(file, fcntl.LOCK_EX | fcntl.LOCK_NB)
-                    if os.path.samestat(os.fstat(file.fileno()), os.stat(path)):
-                        got.append(file.name)
+                    is_free.append(True)
+                except BlockingIOError:
+                    is_free.append(False)
 
-        locking = asyncio.create_task(asyncio.to_thread(lock))
-        for number in range(100):
-            await self.store.replace(lease, b"RSYNCJ01" + record(b"%d" % number))
-        ended.set()
-        await locking
-        self.assertEqual(got, [])
+        def exchange(old, new):
+            lock()
+            rename(old, new)
+            lock()
+
+        with unittest.mock.patch("os.rename", exchange):
+            await self.store.replace(lease, b"RSYNCJ01" + record(b"other"))
+        lock()
+        self.assertEqual(is_free, [False, False, False])
 
     async def test_a_file_that_somebody_cut_isnt_appended_to(self):
         lease = await self.new()

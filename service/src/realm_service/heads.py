@@ -76,7 +76,7 @@ def _answered(reply: Reply) -> bytes:
 
 def look(message: bytes) -> Head:
     """What a message is about; raises BadMessage."""
-    told = _answered(_looking.node.ask_shortly(HEAD + message, _looking.room))
+    told = _answered(_looking.node.ask_into(_looking.room, HEAD + message))
     return Head(_tables(told) if len(told) > PLACES.size else NO_TABLES, *PLACES.unpack_from(told))
 
 

@@ -91,8 +91,8 @@ class Node:
             raise NodeFailed("the node closed, or memory ran out")
         return _unpacked(told)[first:]
 
-    def ask_shortly(self, request: bytes, room: ctypes.Array[ctypes.c_char]) -> Reply:
-        """The same of one request whose reply has room there: for what is asked of every message."""
+    def ask_into(self, room: ctypes.Array[ctypes.c_char], request: bytes) -> Reply:
+        """Hands one request over whose reply has room there: by a single call, for what is asked of each message."""
         size = self._library.one_turn(self._at, request, len(request), room, len(room))
         told = ctypes.string_at(room, min(size, len(room)))
         if size > len(room) or not told or told[0] in (CLOSED, NO_MEMORY):
