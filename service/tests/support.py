@@ -44,9 +44,9 @@ def authorized(user, realm, **more):
     return {"Authorization": "Bearer " + token(user, realm, **more)}
 
 
-async def until(is_so):
+async def until(is_so, seconds=PATIENCE):
     """Waits until something is so, which it is at last if nothing is wrong. Whether it is."""
-    ends = time.monotonic() + PATIENCE
+    ends = time.monotonic() + seconds
     while time.monotonic() < ends:
         if is_so():
             return True

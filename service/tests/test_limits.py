@@ -87,16 +87,22 @@ class OfOneWorker(unittest.IsolatedAsyncioTestCase):
             for number in range(30):
                 phone.note(f"note {number}", "x" * 500_000)
                 await phone.sync()
-        cut = slow.metric("realm_connections_too_slow_total")
         for path in ("/objects", "/entries"):
+            self.assertTrue(await self._is_cut(slow, path), path)
+        slow.kill()
+
+    async def _is_cut(self, slow, path):
+        """Whether one that asks and takes nothing is cut. It asks again now and then: a busy machine may answer 503, which is soon taken."""
+        before = slow.metric("realm_connections_too_slow_total")
+        for _ in range(6):
             with socket.socket() as made:
                 made.setsockopt(socket.SOL_SOCKET, socket.SO_RCVBUF, 4096)
                 made.connect(("127.0.0.1", slow.port))
                 headers = f"GET /v1/histories/{HISTORY}{path} HTTP/1.1\r\nHost: x\r\nAuthorization: Bearer {token('ann', {HISTORY: 'read'})}\r\n\r\n"
                 made.sendall(headers.encode())
-                self.assertTrue(await until(lambda: slow.metric("realm_connections_too_slow_total") > cut), path)
-                cut = slow.metric("realm_connections_too_slow_total")
-        slow.kill()
+                if await until(lambda: slow.metric("realm_connections_too_slow_total") > before, PATIENCE / 6):
+                    return True
+        return False
 
     async def test_messages_that_arent_whole_take_no_more_than_their_room(self):
         limits = {"in_flight_bytes": 8 << 20, "message_bytes": 4 << 20, "message_seconds": 600.0}  # (nobody is cut for the time it takes)

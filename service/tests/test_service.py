@@ -445,13 +445,16 @@ class Workers(unittest.IsolatedAsyncioTestCase):
         bind, ask = b"\x01" + b"u" * 16, b"\x04\x01\x00\x00"
         self.assertEqual((await fetched(self.session, "POST", f"{here.base}/v1/histories/{HISTORY}", headers, bind))[0], 200)
         async with aiohttp.ClientSession(connector=aiohttp.TCPConnector(limit=0)) as session:
-            opened = []
-            for _ in range(15):  # (not all at the same moment: a worker waits some seconds for the owner's handshake)
-                opened += await asyncio.gather(*(session.ws_connect(f"{there.base}/v1/histories/{HISTORY}", headers=headers) for _ in range(10)))
-            for it in opened:
-                await it.send_bytes(ask)
-            replies = [await it.receive(timeout=PATIENCE) for it in opened]
-            self.assertEqual({it.data[:1] for it in replies}, {b"\x05"})
+            kept_open = []
+
+            async def answered():
+                opened = await session.ws_connect(f"{there.base}/v1/histories/{HISTORY}", headers=headers)
+                kept_open.append(opened)
+                await opened.send_bytes(ask)
+                return (await opened.receive(timeout=PATIENCE)).data
+
+            for _ in range(30):  # (not all at the same moment: a worker waits some seconds for the owner's handshake)
+                self.assertEqual(set(await asyncio.gather(*(answered() for _ in range(5)))), {b"\x05\x01\x00\x00"})
         self.assertGreaterEqual(there.metric("realm_relayed_total"), 150)
         for it in (here, there):
             self.assertEqual(it.stop(), 0)
