@@ -12,7 +12,7 @@ from support import folder
 from test_stores import Failing
 
 from realm_service.config import HistoriesConfig
-from realm_service.devices import Caller
+from realm_service.devices import Caller, Forbidden
 from realm_service.histories import Histories
 from realm_service.stores import Fenced, StoreDown
 from realm_service.stores.files import Files
@@ -94,6 +94,36 @@ class Listening(Case):
             self.assertIn("family", self.histories.owned)
         await self.histories._sweep_once(self.history.used + 1)
         self.assertNotIn("family", self.histories.owned)
+
+
+class Entries(Case):
+    async def asyncSetUp(self):
+        await super().asyncSetUp()
+        self.client = new_client()
+        for _ in range(5):
+            self.added(self.client)
+        await self.said(self.history, self.client, 3)
+
+    async def test_their_devices_are_told_also_where_the_node_is_let_go_at_once(self):
+        """As for room: whoever asked goes on a little later than the answer is there."""
+        reply = self.history._reply
+
+        def replied(*given):
+            reply(*given)
+            self.history.let_go()
+
+        with unittest.mock.patch.object(self.history, "_reply", replied):
+            page = await self.history.entries(2, 3, None)
+        self.assertEqual([(it.version, it.ident, it.number) for it in page.entries], [(2, 1, 3), (3, 1, 4), (4, 1, 5)])
+        self.assertEqual(page.uuids, {1: self.client.uuid.bytes})
+
+    async def test_what_some_tables_get_of_them(self):
+        page = await self.history.entries(0, 4, frozenset({"notes"}))
+        self.assertEqual([it.version for it in page.entries], list(range(6)))
+        self.assertEqual((await self.history.entries(6, 4, frozenset({"notes"}))).entries, [])
+        for tables in (frozenset(), frozenset({"x" * 64}), frozenset(f"table {number}" for number in range(65))):
+            with self.assertRaises(Forbidden):
+                await self.history.entries(0, 4, tables)
 
 
 class Trimming(Case):

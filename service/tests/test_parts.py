@@ -22,7 +22,7 @@ from support import SECRET, TOP, folder
 from realm_service import config as configs
 from realm_service.devices import Caller, Devices, Forbidden, Outdated
 from realm_service.doors import Doors
-from realm_service.heads import BadMessage, Entry, borne, entries, look, look_at_asked, question
+from realm_service.heads import BadMessage, Entry, borne, entries, first_bytes, look, look_at_asked, question
 from realm_service.histories import Histories
 from realm_service.openapi import described
 from realm_service.refusals import Refused
@@ -59,8 +59,8 @@ class Messages(unittest.TestCase):
         self.assertEqual((given.speaker, given.version, given.count), (1, 7, 3))
 
     def test_what_is_none(self):
-        for given in ("", "63616263", "02" + "00" * 16 + "01", "01616263", "01" + "00" * 17, "03", "04" + "ff" * 20, "04810000" + "00", "05010000", "09", "0901",
-                      "0701" + "01", "0b02000001", "0b020000010161", "0b0200000101ff", "03ac020201ac020003010000", "03010101000002ff",
+        for given in ("", "63616263", "02" + "00" * 16 + "01", "01616263", "01" + "00" * 17, "03", "04" + "ff" * 20, "04810000" + "00", "05010000",
+                      "09", "0901", "0701" + "01", "0b02000001", "0b020000010161", "0b0200000101ff", "03ac020201ac020003010000", "03010101000002ff",
                       "03018120" + "01000000" * 4097, "0b0200000141" + "0161" * 65):  # more than a message has
             with self.assertRaises(BadMessage, msg=given):
                 said(given)
@@ -76,6 +76,15 @@ class Messages(unittest.TestCase):
         self.assertEqual(list(entries(look(given).first, borne(given))),
                          [Entry(7, 1, 1, 0, bytes.fromhex("010000")), Entry(8, 2, 300, 5, b"\xff")])
         self.assertEqual(list(entries(2, borne(bytes.fromhex("05010200")))), [])
+
+    def test_a_page_ends_by_its_bytes(self):
+        found = [Entry(version, 1, 1 + version, 0, b"0123456789") for version in range(5)]
+        for size, count in ((0, 1), (9, 1), (10, 2), (25, 3), (50, 5)):
+            self.assertEqual(first_bytes(size, iter(found)), found[:count])
+
+    def test_the_largest_head_has_room(self):
+        names = frozenset(f"{number:063d}" for number in range(64))
+        self.assertEqual(look(question((1 << 32) - 1, 0, names)).tables, names)
 
     def test_questions(self):
         self.assertEqual(question(1, 0, frozenset({"q", "a"})), bytes.fromhex("0b0100000202016101") + b"q")
