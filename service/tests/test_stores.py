@@ -15,7 +15,7 @@ from support import PATIENCE, cluster, folder
 
 from realm_service.stores import Absent, Device, Elsewhere, Fenced, StoreDown
 from realm_service.stores.files import Files, journal_end
-from realm_service.stores.postgres import Postgres
+from realm_service.stores.postgres import MOST_LINKS, Postgres
 from realm_service.stores.sqlite import Sqlite
 
 FIRST = b"RSYNCJ01\x00"  # a journal without records: what a node writes into an empty one
@@ -468,20 +468,30 @@ class OfPostgres(Suite, unittest.IsolatedAsyncioTestCase):
         sleeper, heard = await self._sleeper()
         await sleeper.acquire("taken", True)
         await self._taken_when_lapsed()
-        run = sleeper._run
+        run = sleeper._run_own
 
         async def failing(how, sql, *given, **more):
             if "FROM history WHERE owner" in sql:
                 raise StoreDown("cut")
             return await run(how, sql, *given, **more)
 
-        sleeper._run = failing
+        sleeper._run_own = failing
         with self.assertRaises(StoreDown):
             await sleeper.renew()
         self.assertFalse(await sleeper.ready())
-        sleeper._run = run
+        sleeper._run_own = run
         await sleeper.renew()
         self.assertEqual((heard, await sleeper.ready()), ([set()], True))
+
+    async def test_the_lease_waits_for_no_caller(self):
+        """It is renewed while callers have all of the other connections."""
+        for _ in range(MOST_LINKS):
+            await self.store.links.room.acquire()
+        self.store.valid_until = 0.0
+        await asyncio.wait_for(self.store.renew(), PATIENCE)
+        self.assertGreater(self.store.valid_until, 0.0)
+        for _ in range(MOST_LINKS):
+            self.store.links.room.release()
 
     async def test_what_is_no_database(self):
         for dsn in (cluster().dsn("none"), "postgresql://realm@127.0.0.1:1/none", "here"):

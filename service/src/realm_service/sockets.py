@@ -103,7 +103,14 @@ class Sockets:
     async def _opened(self, request: web.Request, visit: Visit, other: aiohttp.ClientWebSocketResponse | None) -> web.StreamResponse:
         most = self.limits.config.message_bytes
         socket = web.WebSocketResponse(max_msg_size=most, heartbeat=HEARTBEAT, timeout=2, compress=False, protocols=("realm",))
-        await socket.prepare(request)
+        try:
+            if request.transport is None:
+                raise ConnectionResetError("the caller is gone")
+            await socket.prepare(request)
+        except Exception:
+            if other is not None:
+                await other.close()
+            raise
         self.open.add(socket)
         try:
             if other is not None:
