@@ -6,16 +6,18 @@ has_packages() {
     "$1" -c "import sys, aiohttp, jwt, cryptography, prometheus_client; sys.exit(sys.version_info < (3, 11))" 2>/dev/null
 }
 
+lacks() {
+    echo "${0##*/}: it takes $1 and these packages: apt-get install $packages" >&2
+    exit 1
+}
+
 python=
 for it in ${PYTHON:-python3 /usr/bin/python3}; do
     if [ -z "$python" ] && has_packages "$it"; then
         python=$it
     fi
 done
-if [ -z "$python" ]; then
-    echo "${0##*/}: it takes Python 3.11 and these packages: apt-get install $packages" >&2
-    exit 1
-fi
+[ -n "$python" ] || lacks "Python 3.11"
 
 if [ -z "$REALM_SYNC_LIBRARY" ]; then
     REALM_SYNC_LIBRARY="$top/out/librealm_sync.so"
@@ -24,6 +26,7 @@ fi
 REALM_SERVICE_TURNS="$top/out/librealm_turns.so"
 turns=$top/service/src/realm_service/turns.c
 if [ ! -e "$REALM_SERVICE_TURNS" ] || [ "$turns" -nt "$REALM_SERVICE_TURNS" ]; then
+    command -v cc >/dev/null || lacks "a C compiler"
     mkdir -p "$top/out"
     cc -O2 -std=c11 -fPIC -shared -Wall -Wextra -Wpedantic -Werror "$turns" -o "$REALM_SERVICE_TURNS" || exit
 fi

@@ -5,7 +5,7 @@
 #     service/test.sh PROGRAM [WORD..]        a program of service/tests: faults.py, attacks.py, load.py, many.py, heavy.py, bench.py
 #
 # As root it installs by apt-get what it lacks (.ci/packages.sh); else it says what to install. REALM_SYNC_LIBRARY names another library than
-# the one that examples/c/library.sh builds, REALM_SYNC the program that trims.
+# the one that examples/c/library.sh builds.
 top=$(cd "$(dirname "$(readlink -f "$0")")/.." && pwd) || exit 1
 packages="python3-aiohttp python3-jwt python3-cryptography python3-prometheus-client python3-asyncpg python3-uvloop postgresql gcc libc6-dev"
 
@@ -17,10 +17,6 @@ has_all() {
 has_all || "$top/.ci/packages.sh" service || exit
 PYTHON=${PYTHON:-/usr/bin/python3}
 . "$top/service/environment.sh"
-if [ -z "$REALM_SYNC" ] && [ -x "$top/crates/realm_sync/out/realm_sync" ]; then
-    REALM_SYNC=$top/crates/realm_sync/out/realm_sync
-fi
-export REALM_SYNC
 if [ "$1" != --quick ]; then
     [ $# -gt 0 ] || { sed -n '2,9s/^# \{0,1\}//p' "$top/service/test.sh"; exit 1; }
     program=$top/service/tests/$1

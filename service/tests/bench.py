@@ -104,7 +104,7 @@ def echoing(seconds, clients):
 
 
 PARTS = (("realm_service/node.py", "the node and the way to it"), ("realm_service/stores", "the store"), ("asyncpg", "asyncpg"), ("uvloop", "uvloop"),
-         ("prometheus", "metrics"), ("aiohttp", "aiohttp"), ("realm_service/messages.py", "heads of messages"),
+         ("prometheus", "metrics"), ("aiohttp", "aiohttp"), ("realm_service/heads.py", "heads of messages"),
          ("realm_service/limits.py", "limits"), ("realm_service/history.py", "batches"), ("realm_service", "the rest of the service"))
 
 

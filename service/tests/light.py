@@ -6,7 +6,7 @@ import time
 import link
 from load import Process
 
-from realm_service.messages import ASK2, UPLOAD, Reader, spelled
+from realm_service.heads import ASK2, DOWNLOAD, STORED, UPLOAD, look, spelled
 
 # docs/FORMATS.md, "Changesets": the strings notes, all and count; one AddInteger of the cell (notes, all, count) by 1.
 ADDITION = b"\x01\x03\x05notes\x03all\x05count\x01\x06\x00\x01\x01\x02\x02"
@@ -29,11 +29,10 @@ class Speaker:
 
     def take(self, reply):
         """The tag of a reply; of a Download the cursor moves on."""
-        if reply[0] == 5:
-            read = Reader(reply, 1)
-            _, version, count = (read.number() for _ in range(3))
-            self.cursor = version + count
-        return reply[0]
+        head = look(reply)
+        if head.tag == DOWNLOAD:
+            self.cursor = head.second
+        return head.tag
 
 
 class LightProcess(Process):
@@ -44,7 +43,7 @@ class LightProcess(Process):
         device.speaker = speaker
         while not ended.done():
             await self.think()
-            for message, tag in ((speaker.upload(), 7), (None, 5)):
+            for message, tag in ((speaker.upload(), STORED), (None, DOWNLOAD)):
                 reply = await self.sent(device, message or speaker.ask())
                 if speaker.take(reply) != tag:
                     raise RuntimeError(f"a reply {reply[:8].hex()} in place of one of tag {tag}")

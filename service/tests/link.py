@@ -11,7 +11,7 @@ from collections.abc import AsyncIterator
 
 import aiohttp
 
-from realm_service.messages import ASK, ASK2, ASK_TABLES
+from realm_service.heads import ASK, ASK2, ASK_TABLES
 from realm_service.refusals import GENERATION, TOO_BIG
 
 HEARTBEAT = 20.0  # seconds

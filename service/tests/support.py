@@ -1,5 +1,6 @@
 """What the tests share: services and databases that they start themselves, on free ports of this machine alone."""
 
+import asyncio
 import atexit
 import json
 import logging
@@ -24,7 +25,7 @@ from realm_service.tokens import Tokens  # noqa: E402
 signal.signal(signal.SIGTERM, lambda *_: sys.exit("terminated"))  # so that what is to be done at the end is done
 logging.getLogger("asyncio").setLevel(logging.ERROR)  # (it tells each step of a test that takes its time)
 SECRET = "a secret of the tests alone, which nobody else has"
-START_SECONDS, STOP_SECONDS = 180, 120  # (of a machine that is busy otherwise)
+START_SECONDS, STOP_SECONDS, PATIENCE = 180, 120, 120  # (of a machine that is busy otherwise)
 PLAIN = os.path.join(os.path.dirname(os.path.abspath(__file__)), "plain")  # has no uvloop, whatever the system has
 LOCAL = urllib.request.build_opener(urllib.request.ProxyHandler({}))  # whatever the environment says
 
@@ -41,6 +42,16 @@ def token(user, realm, seconds=3600, device=None):
 
 def authorized(user, realm, **more):
     return {"Authorization": "Bearer " + token(user, realm, **more)}
+
+
+async def until(is_so, seconds=PATIENCE):
+    """Waits until something is so, which it is at last if nothing is wrong. Whether it is."""
+    ends = time.monotonic() + seconds
+    while time.monotonic() < ends:
+        if is_so():
+            return True
+        await asyncio.sleep(0.05)
+    return is_so()
 
 
 def folder():

@@ -22,12 +22,12 @@ from support import SECRET, TOP, folder
 from realm_service import config as configs
 from realm_service.devices import Caller, Devices, Forbidden, Outdated
 from realm_service.doors import Doors
+from realm_service.heads import BadMessage, Entry, borne, entries, first_bytes, look, look_at_asked, question
 from realm_service.histories import Histories
-from realm_service.messages import BadMessage, Entry, Head, NoEntries, entries, head, ident_of, journal_end, question
 from realm_service.openapi import described
 from realm_service.refusals import Refused
 from realm_service.stores import Device
-from realm_service.stores.files import Files
+from realm_service.stores.files import Files, journal_end
 from realm_service.tokens import BadToken, Tokens
 from realm_service.visits import address_of
 
@@ -36,43 +36,59 @@ QUERIES = {"news": {"after", "wait"}, "objects": {"table", "key"}, "entries": {"
 A, B, C = (bytes([number]) * 16 for number in (1, 2, 3))
 
 
+def said(text):
+    """What is known of a client's message, in hexadecimal digits."""
+    return look_at_asked(bytes.fromhex(text))
+
+
 class Messages(unittest.TestCase):
     """The bytes are the examples of docs/FORMATS.md, or written by its tables."""
 
     def test_heads(self):
-        self.assertEqual(head(bytes([1]) + A), Head(1, uuid=A))
-        self.assertEqual(head(bytes.fromhex("04010000")), Head(4, ident=1))
-        self.assertEqual(head(bytes.fromhex("0805ac02ac02")), Head(8, ident=5, version=300))
-        self.assertEqual(head(bytes.fromhex("090201")), Head(9, ident=1, retired=2))
-        self.assertEqual(head(bytes.fromhex("0b020000010101") + b"q"), Head(11, ident=2, tables=frozenset({"q"})))
-        self.assertEqual(head(bytes.fromhex("03ac0201" + "01ac020003010000")), Head(3, ident=300, version=300, changes=1))
-        self.assertEqual(head(bytes.fromhex("030100")), Head(3, ident=1))
+        self.assertEqual(said("01" + A.hex()).uuid, A)
+        for given, speaker, version in (("04010000", 1, 0), ("0805ac02ac02", 5, 300), ("0b020000010101" + "71", 2, 0), ("090201", 1, 0), ("030100", 1, 0),
+                                        ("03ac0201" + "01ac020003010000", 300, 300)):
+            self.assertEqual((said(given).speaker, said(given).version), (speaker, version), given)
+        self.assertEqual((said("090201").ident, said("090201").by), (2, 1))
+        self.assertEqual(said("03ac0201" + "01ac020003010000").count, 1)
+        self.assertEqual((said("04010000").tables, said("0b020000020201610171").tables), (frozenset(), frozenset({"a", "q"})))
 
     def test_the_lowest_base_counts(self):
         """The server skips changes that it has, whatever their bases are."""
-        self.assertEqual(head(bytes.fromhex("030103" + "09ffffffff0f0000" + "0a0700026162" + "0b080000")), Head(3, ident=1, version=7, changes=3))
+        given = said("030103" + "09ffffffff0f0000" + "0a0700026162" + "0b080000")
+        self.assertEqual((given.speaker, given.version, given.count), (1, 7, 3))
 
     def test_what_is_none(self):
-        for given in ("", "63616263", "02" + "00" * 16 + "01", "01616263", "01" + "00" * 17, "03", "04" + "ff" * 20, "05010000", "09", "0901",
-                      "0b02000001", "0b020000010161", "0b0200000101ff", "03ac020201ac020003010000", "03010101000002ff",
+        for given in ("", "63616263", "02" + "00" * 16 + "01", "01616263", "01" + "00" * 17, "03", "04" + "ff" * 20, "04810000" + "00", "05010000",
+                      "09", "0901", "0701" + "01", "0b02000001", "0b020000010161", "0b0200000101ff", "03ac020201ac020003010000", "03010101000002ff",
                       "03018120" + "01000000" * 4097, "0b0200000141" + "0161" * 65):  # more than a message has
             with self.assertRaises(BadMessage, msg=given):
-                head(bytes.fromhex(given))
+                said(given)
 
     def test_replies(self):
-        self.assertEqual(ident_of(bytes([2]) + A + bytes.fromhex("ac02")), (A, 300))
-        self.assertIsNone(ident_of(bytes.fromhex("0501000101010003010000")))
-        self.assertEqual(list(entries(bytes.fromhex("0501000101010003010000"))), [Entry(0, 1, 1, 0, bytes.fromhex("010000"))])
-        self.assertEqual(list(entries(bytes.fromhex("05010200"))), [])
-        with self.assertRaises(NoEntries) as told:
-            entries(bytes.fromhex("0601004709"))
-        self.assertEqual((told.exception.code, told.exception.place), (71, 9))
-        with self.assertRaises(BadMessage):
-            entries(bytes.fromhex("0201"))
+        told = look(bytes([2]) + A + bytes.fromhex("ac02"))
+        self.assertEqual((told.tag, told.uuid, told.ident), (2, A, 300))
+        told = look(bytes.fromhex("0601004709"))
+        self.assertEqual((told.tag, told.second, told.third), (6, 71, 9))
+
+    def test_entries(self):
+        given = bytes.fromhex("050107" + "02" + "01010003010000" + "02ac020501ff")
+        self.assertEqual(list(entries(look(given).first, borne(given))),
+                         [Entry(7, 1, 1, 0, bytes.fromhex("010000")), Entry(8, 2, 300, 5, b"\xff")])
+        self.assertEqual(list(entries(2, borne(bytes.fromhex("05010200")))), [])
+
+    def test_a_page_ends_by_its_bytes(self):
+        found = [Entry(version, 1, 1 + version, 0, b"0123456789") for version in range(5)]
+        for size, count in ((0, 1), (9, 1), (10, 2), (25, 3), (50, 5)):
+            self.assertEqual(first_bytes(size, iter(found)), found[:count])
+
+    def test_the_largest_head_has_room(self):
+        names = frozenset(f"{number:063d}" for number in range(64))
+        self.assertEqual(look(question((1 << 32) - 1, 0, names)).tables, names)
 
     def test_questions(self):
-        self.assertEqual(question(1, 300, None), bytes.fromhex("0801ac0200"))
         self.assertEqual(question(1, 0, frozenset({"q", "a"})), bytes.fromhex("0b0100000202016101") + b"q")
+        self.assertEqual(look(question(300, 300, frozenset({"q"}))).version, 300)
 
     def test_the_end_of_a_journal(self):
         made = bytes.fromhex("5253594e434a303101000000110100000000000040008000000000000001")
@@ -84,58 +100,58 @@ class Messages(unittest.TestCase):
 class Admission(unittest.TestCase):
     def setUp(self):
         self.devices = Devices({A: Device("ann", 1), B: Device("bob", 1)}, 1, 3)
-        for number, it in ((1, A), (2, B)):
-            self.devices.named(bytes([2]) + it + bytes([number]))
+        self.devices.uuids = {1: A, 2: B}
+
+    def passes(self, caller, given):
+        self.assertIsNone(self.devices.admit(caller, said(given)))
 
     def refused(self, caller, given, kind=Forbidden):
         with self.assertRaises(kind):
-            self.devices.admit(caller, given)
+            self.devices.admit(caller, said(given))
 
     def test_own_idents_alone(self):
         ann, bob = Caller("ann", True), Caller("bob", True)
-        for tag in (3, 4, 8, 11):
-            self.assertIsNone(self.devices.admit(ann, Head(tag, ident=1)))
-            self.refused(bob, Head(tag, ident=1))
-            self.refused(ann, Head(tag, ident=99))
-            self.refused(ann, Head(tag, ident=0))
+        for tag, rest in (("03", "00"), ("04", "0000"), ("08", "0000"), ("0b", "0000010101" + "71")):
+            self.passes(ann, tag + "01" + rest)
+            self.refused(bob, tag + "01" + rest)
+            self.refused(ann, tag + "63" + rest)
 
     def test_bindings(self):
-        ann = Caller("ann", True)
-        self.assertIsNone(self.devices.admit(ann, Head(1, uuid=A)))
-        self.refused(ann, Head(1, uuid=B))
-        self.assertEqual(self.devices.admit(ann, Head(1, uuid=C)), C)
-        self.refused(Caller("ann", True, device=A), Head(1, uuid=C))
-        self.refused(Caller("ann", True, device=B), Head(4, ident=1))
+        ann, bind = Caller("ann", True), [f"01{number:02x}" + f"{number:02x}" * 15 for number in range(6)]
+        self.passes(ann, bind[1])
+        self.refused(ann, bind[2])
+        self.assertEqual(self.devices.admit(ann, said(bind[3])), C)
+        self.refused(Caller("ann", True, device=A), bind[3])
+        self.refused(Caller("ann", True, device=B), "04010000")
         for number in (4, 5):
             self.devices.bound(bytes([number]) * 16, "ann")
-        self.refused(ann, Head(1, uuid=C))
+        self.refused(ann, bind[3])
 
     def test_readers_and_retirements(self):
         reader, ann, ruler = Caller("ann", False), Caller("ann", True), Caller("ann", True, rules=True)
-        self.refused(reader, Head(3, ident=1))
-        self.assertIsNone(self.devices.admit(reader, Head(4, ident=1)))
-        self.refused(reader, Head(9, ident=1, retired=1))
-        self.refused(ann, Head(9, ident=1, retired=2))
-        self.refused(ann, Head(9, ident=2, retired=1))
-        self.assertIsNone(self.devices.admit(ruler, Head(9, ident=1, retired=2)))
+        self.refused(reader, "030100")
+        self.passes(reader, "04010000")
+        self.refused(reader, "090101")
+        self.refused(ann, "090201")
+        self.refused(ann, "090102")
+        self.passes(ruler, "090201")
 
     def test_tables(self):
         ann = Caller("ann", True, tables=frozenset({"notes", "tags"}))
-        self.refused(ann, Head(4, ident=1))
-        self.refused(ann, Head(8, ident=1))
-        self.refused(ann, Head(11, ident=1, tables=frozenset({"notes", "diary"})))
-        self.assertIsNone(self.devices.admit(ann, Head(11, ident=1, tables=frozenset({"notes"}))))
-        self.assertIsNone(self.devices.admit(ann, Head(3, ident=1)))
+        self.refused(ann, "04010000")
+        self.refused(ann, "08010000")
+        self.refused(ann, "0b0100000202" + "05" + b"diary".hex() + "05" + b"notes".hex())
+        self.passes(ann, "0b0100000201" + "05" + b"notes".hex())
+        self.passes(ann, "030100")
 
     def test_generations(self):
-        later = Devices({A: Device("ann", 1)}, 2, 3)
-        later.named(bytes([2]) + A + b"\1")
-        self.devices = later
-        self.refused(Caller("ann", True), Head(4, ident=1), Outdated)
-        self.refused(Caller("ann", True), Head(1, uuid=A), Outdated)
-        self.refused(Caller("bob", True), Head(1, uuid=A))
-        later.bound(C, "ann")
-        self.assertEqual(later.known[C], Device("ann", 2))
+        self.devices = Devices({A: Device("ann", 1)}, 2, 3)
+        self.devices.uuids = {1: A}
+        self.refused(Caller("ann", True), "04010000", Outdated)
+        self.refused(Caller("ann", True), "01" + A.hex(), Outdated)
+        self.refused(Caller("bob", True), "01" + A.hex())
+        self.devices.bound(C, "ann")
+        self.assertEqual(self.devices.known[C], Device("ann", 2))
 
 
 def encoded(number):
@@ -193,7 +209,7 @@ class Page(unittest.IsolatedAsyncioTestCase):
 
     async def test_it_names_each_door(self):
         store = Files(folder())
-        doors = Doors(Histories(store, configs.HistoriesConfig(), 30, None), Tokens(SECRET), "", configs.Config())
+        doors = Doors(Histories(store, configs.HistoriesConfig(), 30), Tokens(SECRET), "", configs.Config())
         routes = {(it.method.lower(), it.resource.canonical) for it in doors._app().router.routes() if it.method != "HEAD"}
         paths = described()["paths"]
         self.assertEqual(routes - {("get", "/")}, {(method, path) for path, methods in paths.items() for method in methods})

@@ -13,7 +13,7 @@ import unittest
 import aiohttp
 from devices import Device, new_client
 from link import Turned
-from support import LOCAL, TOP, Service, authorized, cluster, folder, free_port, get, stores, token
+from support import PATIENCE, TOP, Service, authorized, cluster, folder, free_port, get, stores, token, until
 
 HISTORY = "family-7"
 
@@ -76,11 +76,7 @@ class Suite:
         async with Device(self.service.base, HISTORY) as phone, Device(self.service.base, HISTORY) as tablet:
             phone.note("milk", "buy milk")
             await phone.sync()
-            for _ in range(60):
-                if self.service.metric("realm_histories_open") == 0:
-                    break
-                await asyncio.sleep(0.1)
-            self.assertEqual(self.service.metric("realm_histories_open"), 0)
+            self.assertTrue(await until(lambda: self.service.metric("realm_histories_open") == 0))
             await tablet.sync()
             self.assertEqual(tablet.texts(), phone.texts())
 
@@ -97,7 +93,7 @@ class Suite:
             phone.note("milk", "buy milk")
             await phone.sync()
             self.assertEqual(await waiting, (200, '{"news": 3}'))
-            self.assertTrue(await asyncio.wait_for(told, 10))
+            self.assertTrue(await asyncio.wait_for(told, PATIENCE))
             self.assertEqual(tablet.texts(), phone.texts())
             await live.aclose()
 
@@ -137,7 +133,7 @@ class Suite:
     @staticmethod
     async def _event(stream):
         fields = {}
-        while line := (await asyncio.wait_for(stream.content.readline(), 10)).decode().rstrip("\n"):
+        while line := (await asyncio.wait_for(stream.content.readline(), PATIENCE)).decode().rstrip("\n"):
             name, _, value = line.partition(": ")
             fields[name] = value
         return fields["id"], json.loads(fields["data"])
@@ -159,18 +155,6 @@ class Suite:
             (_, (status, _)) = await asyncio.gather(*asked)
             self.assertEqual(status, 200)
 
-    async def test_trimming_without_a_program(self):
-        other = Service(stores(self.kind), histories={"program": "/nowhere/realm_sync"}).start().ready()
-        async with Device(other.base, HISTORY) as phone:
-            phone.note("milk", "buy milk")
-            await phone.sync()
-            url = f"{other.base}/v1/histories/{HISTORY}"
-            self.assertEqual((await fetched(self.session, "POST", url + "/trim", authorized("boss", {"*": "rule"})))[0], 501)
-            phone.note("bread", "buy bread")
-            await phone.sync()
-        other.stop()
-
-    @unittest.skipUnless(os.environ.get("REALM_SYNC"), "REALM_SYNC names no program to trim with")
     async def test_trimming_while_devices_change(self):
         async with Device(self.service.base, HISTORY) as phone, Device(self.service.base, HISTORY) as tablet:
             for device in (phone, tablet):
@@ -295,16 +279,12 @@ class Limited:
             for number in range(20):
                 phone.note(f"note {number}", "x" * 20_000)
             syncing = asyncio.create_task(phone.sync())
-            for _ in range(300):
-                if self.service.metric("realm_batches_failed_total") >= 2:
-                    break
-                await asyncio.sleep(0.1)
-            self.assertGreaterEqual(self.service.metric("realm_batches_failed_total"), 2)
+            self.assertTrue(await until(lambda: self.service.metric("realm_batches_failed_total") >= 2))
             self.assertEqual((syncing.done(), phone.client.standing().unsent), (False, 20))
             await tablet.sync()
             self.assertEqual(tablet.count(), 0)
             resource.prlimit(pid, limit, (resource.RLIM_INFINITY, resource.RLIM_INFINITY))
-            await asyncio.wait_for(syncing, 120)
+            await asyncio.wait_for(syncing, PATIENCE)
             await tablet.sync()
             self.service.kill()
             self.service.start().ready()
@@ -419,7 +399,7 @@ class Workers(unittest.IsolatedAsyncioTestCase):
             live = tablet.link.live()
             told = asyncio.create_task(live.__anext__())
             await phone.sync()
-            await asyncio.wait_for(told, 10)
+            await asyncio.wait_for(told, PATIENCE)
             self.assertEqual(phone.texts(), tablet.texts())
             await live.aclose()
 
@@ -465,11 +445,16 @@ class Workers(unittest.IsolatedAsyncioTestCase):
         bind, ask = b"\x01" + b"u" * 16, b"\x04\x01\x00\x00"
         self.assertEqual((await fetched(self.session, "POST", f"{here.base}/v1/histories/{HISTORY}", headers, bind))[0], 200)
         async with aiohttp.ClientSession(connector=aiohttp.TCPConnector(limit=0)) as session:
-            opened = await asyncio.gather(*(session.ws_connect(f"{there.base}/v1/histories/{HISTORY}", headers=headers) for _ in range(150)))
-            for it in opened:
-                await it.send_bytes(ask)
-            replies = [await it.receive(timeout=10) for it in opened]
-            self.assertEqual({it.data[:1] for it in replies}, {b"\x05"})
+            kept_open = []
+
+            async def answered():
+                opened = await session.ws_connect(f"{there.base}/v1/histories/{HISTORY}", headers=headers)
+                kept_open.append(opened)
+                await opened.send_bytes(ask)
+                return (await opened.receive(timeout=PATIENCE)).data
+
+            for _ in range(30):  # (not all at the same moment: a worker waits some seconds for the owner's handshake)
+                self.assertEqual(set(await asyncio.gather(*(answered() for _ in range(5)))), {b"\x05\x01\x00\x00"})
         self.assertGreaterEqual(there.metric("realm_relayed_total"), 150)
         for it in (here, there):
             self.assertEqual(it.stop(), 0)
@@ -487,7 +472,7 @@ class Workers(unittest.IsolatedAsyncioTestCase):
         async with Device(self.service.base, HISTORY) as phone:
             await phone.sync()
             self.assertEqual(self.service.stop(), 0)
-            got = await phone.link.socket.receive(timeout=5)
+            got = await phone.link.socket.receive(timeout=PATIENCE)
             self.assertEqual((got.type, phone.link.socket.close_code), (aiohttp.WSMsgType.CLOSE, 1012))
             phone.link.base = self.other.base
             phone.note("milk", "buy milk")

@@ -2,19 +2,20 @@
 
 import asyncio
 import contextlib
+import dataclasses
 import errno
+import fcntl
 import os
 import random
 import unittest
 import unittest.mock
 import uuid
 
-from support import cluster, folder
+from support import PATIENCE, cluster, folder
 
-from realm_service.messages import journal_end
 from realm_service.stores import Absent, Device, Elsewhere, Fenced, StoreDown
-from realm_service.stores.files import Files
-from realm_service.stores.postgres import Postgres
+from realm_service.stores.files import Files, journal_end
+from realm_service.stores.postgres import MOST_LINKS, Postgres
 from realm_service.stores.sqlite import Sqlite
 
 FIRST = b"RSYNCJ01\x00"  # a journal without records: what a node writes into an empty one
@@ -101,6 +102,27 @@ class Suite:
         await self.store.release(lease)
         again = await self.store.acquire("family", False)
         self.assertEqual(tuple(await self.store.read(again)), (b"RSYNCJ01" + record(b"short")[:-1] + record(b"next"), {ANN: Device("ann", 1)}))
+
+    async def test_no_shorter_journal_in_place_of_what_was_appended_since(self):
+        lease = await self.new()
+        await self.store.append(lease, 8, record(b"one"), [])
+        before = dataclasses.replace(lease)
+        await self.store.append(lease, 16, record(b"two"), [])
+        with self.assertRaises(Fenced):
+            await self.store.replace(before, FIRST)
+        await self.store.append(lease, 24, record(b"three"), [])
+        want = b"RSYNCJ01" + record(b"one")[:-1] + record(b"two")[:-1] + record(b"three")
+        self.assertEqual((await self.store.read(lease)).journal, want)
+
+    async def test_a_lease_that_is_read_again_knows_its_length(self):
+        lease = await self.new()
+        await self.store.append(lease, 8, record(b"one"), [])
+        await self.store.release(lease)
+        again = await self.store.acquire("family", False)
+        await self.store.read(again)
+        self.assertEqual(again.length, 16)
+        await self.store.replace(again, FIRST)
+        self.assertEqual((await self.store.read(again)).journal, FIRST)
 
     async def test_generations_stay_with_devices(self):
         lease = await self.new()
@@ -225,6 +247,41 @@ class OfFiles(Suite, unittest.IsolatedAsyncioTestCase):
         """Which files have the names now."""
         return [os.stat(os.path.join(self.at, lease.name + end)).st_ino for end in (".realm", ".devices")]
 
+    async def test_an_exchange_of_which_a_sync_fails(self):
+        """The old journal or the new one is there, whole, and is written anew once it is read."""
+        for failing, want in ((1, b"RSYNCJ01" + record(b"long")), (2, FIRST)):  # of the new file, of the folder
+            lease = await self.new(f"family-{failing}")
+            await self.store.append(lease, 8, record(b"long"), [])
+            with unittest.mock.patch("os.fsync", Failing(failing)), self.assertRaises(StoreDown):
+                await self.store.replace(lease, FIRST)
+            await self.store.release(lease)
+            again = await self.store.acquire(lease.name, False)
+            left = os.stat(os.path.join(self.at, lease.name + ".realm")).st_ino
+            self.assertEqual((await self.store.read(again)).journal, want)
+            self.assertNotEqual(os.stat(os.path.join(self.at, lease.name + ".realm")).st_ino, left)
+
+    async def test_nobody_gets_the_lock_while_files_are_exchanged(self):
+        """Neither of the old file, up to its last moment, nor of the new one, from its first: as another command would try it."""
+        lease, path, rename, is_free = await self.new(), os.path.join(self.at, "family.realm"), os.rename, []
+
+        def lock():
+            with open(path, "r+b") as file:
+                try:
+                    fcntl.flock(file, fcntl.LOCK_EX | fcntl.LOCK_NB)
+                    is_free.append(True)
+                except BlockingIOError:
+                    is_free.append(False)
+
+        def exchange(old, new):
+            lock()
+            rename(old, new)
+            lock()
+
+        with unittest.mock.patch("os.rename", exchange):
+            await self.store.replace(lease, b"RSYNCJ01" + record(b"other"))
+        lock()
+        self.assertEqual(is_free, [False, False, False])
+
     async def test_a_file_that_somebody_cut_isnt_appended_to(self):
         lease = await self.new()
         await self.store.append(lease, 8, record(b"one"), [])
@@ -274,7 +331,7 @@ class OfSqlite(Suite, unittest.IsolatedAsyncioTestCase):
     async def test_a_fault_ends_one_job(self):
         lease = await self.new()
         with self.assertRaises(ZeroDivisionError):
-            await asyncio.wait_for(self.store._do(lambda link: 1 // 0), 5)
+            await asyncio.wait_for(self.store._do(lambda link: 1 // 0), PATIENCE)
         await self.store.append(lease, 8, record(b"one"), [])
         self.assertEqual((await self.store.read(lease)).journal, b"RSYNCJ01" + record(b"one"))
 
@@ -377,9 +434,16 @@ class OfPostgres(Suite, unittest.IsolatedAsyncioTestCase):
         finally:
             link.terminate()
 
+    async def _sleeper(self):
+        """A worker that never renews its lease, and what it hears of lapses: however slow the machine is, it hears nothing by itself."""
+        sleeper, heard = await self.other(0.6), []
+        sleeper.tasks[0].cancel()
+        sleeper.on_lapse(heard.append)
+        return sleeper, heard
+
     async def _taken_when_lapsed(self):
-        """The history `taken`, without a suspicion, once the lease has ended by the database's clock: a renewal may have been on its way."""
-        ends = asyncio.get_running_loop().time() + 60
+        """The history `taken`, without a suspicion, once the lease has ended by the database's clock."""
+        ends = asyncio.get_running_loop().time() + PATIENCE
         while asyncio.get_running_loop().time() < ends:
             with contextlib.suppress(Elsewhere):
                 return await self.store.acquire("taken", True)
@@ -388,10 +452,8 @@ class OfPostgres(Suite, unittest.IsolatedAsyncioTestCase):
 
     async def test_a_lease_that_lapsed(self):
         """Who slept past its lease answers what nobody took, and nothing of what was taken, also when it is awake again."""
-        sleeper, heard = await self.other(0.6), []
-        sleeper.on_lapse(heard.append)
+        sleeper, heard = await self._sleeper()
         taken, kept = await sleeper.acquire("taken", True), await sleeper.acquire("kept", True)
-        sleeper.tasks[0].cancel()
         self.assertEqual((await self._taken_when_lapsed()).epoch, 2)
         with self.assertRaises(Fenced):
             await sleeper.check(taken)
@@ -403,25 +465,33 @@ class OfPostgres(Suite, unittest.IsolatedAsyncioTestCase):
         await sleeper.check(kept)
 
     async def test_a_lapse_is_told_as_soon_as_it_can_be(self):
-        sleeper, heard = await self.other(0.6), []
-        sleeper.on_lapse(heard.append)
+        sleeper, heard = await self._sleeper()
         await sleeper.acquire("taken", True)
-        sleeper.tasks[0].cancel()
         await self._taken_when_lapsed()
-        run = sleeper._run
+        run = sleeper._run_own
 
         async def failing(how, sql, *given, **more):
             if "FROM history WHERE owner" in sql:
                 raise StoreDown("cut")
             return await run(how, sql, *given, **more)
 
-        sleeper._run = failing
+        sleeper._run_own = failing
         with self.assertRaises(StoreDown):
             await sleeper.renew()
         self.assertFalse(await sleeper.ready())
-        sleeper._run = run
+        sleeper._run_own = run
         await sleeper.renew()
         self.assertEqual((heard, await sleeper.ready()), ([set()], True))
+
+    async def test_the_lease_waits_for_no_caller(self):
+        """It is renewed while callers have all of the other connections."""
+        for _ in range(MOST_LINKS):
+            await self.store.links.room.acquire()
+        self.store.valid_until = 0.0
+        await asyncio.wait_for(self.store.renew(), PATIENCE)
+        self.assertGreater(self.store.valid_until, 0.0)
+        for _ in range(MOST_LINKS):
+            self.store.links.room.release()
 
     async def test_what_is_no_database(self):
         for dsn in (cluster().dsn("none"), "postgresql://realm@127.0.0.1:1/none", "here"):

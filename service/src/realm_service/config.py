@@ -47,7 +47,6 @@ class HistoriesConfig:
     waiting: int = 1024  # messages of one history
     user_devices: int = 50  # of one user in one history
     merge_pairs: int = 20_000_000  # changes of one Upload, times the entries that they haven't seen
-    program: str = ""  # realm_sync, which trims
 
 
 @dataclasses.dataclass

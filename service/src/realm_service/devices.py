@@ -2,7 +2,7 @@
 
 import dataclasses
 
-from .messages import ASK_TABLES, BIND, RETIRE, UPLOAD, Head, ident_of
+from .heads import ASK_TABLES, BIND, RETIRE, UPLOAD, Head
 from .stores import Device
 
 
@@ -40,13 +40,7 @@ class Devices:
     def __init__(self, known: dict[bytes, Device], generation: int, most: int):
         self.known, self.generation = dict(known), generation
         self.most = most  # of one user: each ident costs the server memory
-        self.uuids: dict[int, bytes] = {}  # by ident
-
-    def named(self, reply: bytes) -> None:
-        """The node gave a uuid its ident, where the reply is an Ident."""
-        given = ident_of(reply)
-        if given:
-            self.uuids[given[1]] = given[0]
+        self.uuids: dict[int, bytes] = {}  # by ident, as the node says
 
     def bound(self, uuid: bytes, user: str) -> None:
         self.known[uuid] = Device(user, self.generation)
@@ -55,15 +49,15 @@ class Devices:
         """Lets a message through, or raises. Answers the uuid that becomes this user's by it, else None."""
         if head.tag == BIND:
             return self._bind(caller, head.uuid)
-        self._own(caller, self.uuids.get(head.ident), "the ident is another one's")
+        self._own(caller, self.uuids.get(head.speaker), "the ident is another one's")
         if head.tag in (UPLOAD, RETIRE) and not caller.writes:
             raise Forbidden("the user may only read")
         if head.tag == RETIRE and not caller.rules:
-            retired = self.known.get(self.uuids.get(head.retired, b""))
+            retired = self.known.get(self.uuids.get(head.ident, b""))
             if retired is None or retired.user != caller.user:
                 raise Forbidden("the device to retire is another one's")
         if caller.tables is not None and head.tag not in (UPLOAD, RETIRE):
-            if head.tag != ASK_TABLES or head.tables is None or not head.tables <= caller.tables:
+            if head.tag != ASK_TABLES or not head.tables <= caller.tables:
                 raise Forbidden("the token is for some tables alone: subscribe to " + ", ".join(sorted(caller.tables)))
         return None
 

@@ -15,10 +15,10 @@ from aiohttp import web
 from .config import Config
 from .devices import Forbidden
 from .entries import Entries
+from .heads import BadMessage
 from .histories import Histories
 from .history import History
 from .limits import Guarded, Guards, Limits, in_time
-from .messages import BadMessage
 from .node import ABSENT, DONE, DUMP, OBJECT
 from .openapi import PAGE, described
 from .owners import LONGEST_WAIT, WORKER, Owners

@@ -12,9 +12,9 @@ from collections.abc import Iterator
 
 from aiohttp import web
 
-from .history import History
+from .heads import Entry
+from .history import AHEAD, GIVEN_UP, PAGE_BYTES, History, NoEntries, Page
 from .limits import in_time
-from .messages import AHEAD, GIVEN_UP, Entry, NoEntries, entries
 from .node import NodeFailed
 from .refusals import GENERATION, Refused
 from .stores import Fenced, StoreDown
@@ -23,6 +23,7 @@ from .visits import Visit, Visits
 log = logging.getLogger("realm_service")
 
 KEEP_ALIVE = 15.0  # seconds after which a stream of events says that it lives
+FIRST_COUNT, MOST_COUNT = 4, 4096  # entries that are asked at once
 VERSION = re.compile(r"[0-9]{1,10}")
 EVENTS, LINES = "text/event-stream", "application/x-ndjson"
 
@@ -43,13 +44,13 @@ def _first(request: web.Request) -> int:
     return int(given) + is_resumed
 
 
-class _Page:
-    """The entries from a version on that one question brings."""
+class _Lines:
+    """A page as lines, and how many entries are asked next: by their sizes so far, since one may have megabytes."""
 
-    def __init__(self, told: bytes | None, history: History):
-        uuids = history.devices.uuids if history.devices else {}
-        found = entries(told) if told is not None else ()
-        self.lines = [(it.version, _line(it, uuids.get(it.ident))) for it in found]
+    def __init__(self, page: Page, count: int):
+        self.lines = [(it.version, _line(it, page.uuids.get(it.ident))) for it in page.entries]
+        size = sum(len(it.changeset) for it in page.entries)
+        self.next_count = max(1, min(2 * count, MOST_COUNT, len(page.entries) * PAGE_BYTES // max(1, size)))
 
     def body(self, is_events: bool) -> bytes:
         if is_events:
@@ -98,7 +99,7 @@ class Entries:
         version = _first(request)
         stream = _Stream(request, history.lease.generation, self.visits.limits.config.message_seconds)
         is_followed = request.query.get("follow", "1" if stream.is_events else "0") == "1"
-        page = await self._page(history, version, visit)
+        page = await self._page(history, version, FIRST_COUNT, visit)
         await stream.response.prepare(request)
         try:
             await self._told(stream, visit, page, version, is_followed)
@@ -109,7 +110,7 @@ class Entries:
                 request.transport.abort()  # so that the client sees that there is more
         return stream.response
 
-    async def _told(self, stream: _Stream, visit: Visit, page: _Page, version: int, is_followed: bool) -> None:
+    async def _told(self, stream: _Stream, visit: Visit, page: _Lines, version: int, is_followed: bool) -> None:
         history = typing.cast(History, visit.history)
         with self._grown(history) as grown:
             while True:
@@ -117,15 +118,15 @@ class Entries:
                 while page.lines:
                     await stream.write(page.body(stream.is_events))
                     version = page.lines[-1][0] + 1
-                    page = await self._page(history, version, visit)
+                    page = await self._page(history, version, page.next_count, visit)
                 if not is_followed or not await self._waited(grown, visit, stream):
                     return
-                page = await self._page(history, version, visit)
+                page = await self._page(history, version, page.next_count, visit)
 
-    async def _page(self, history: History, version: int, visit: Visit) -> _Page:
+    async def _page(self, history: History, version: int, count: int, visit: Visit) -> _Lines:
         await self.visits.limits.admit(visit.caller.user, 0)
         try:
-            return _Page(await history.entries(version, visit.caller.tables), history)
+            return _Lines(await history.entries(version, count, visit.caller.tables), count)
         except NoEntries as refusal:
             raise _refused(refusal) from refusal
 

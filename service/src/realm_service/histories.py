@@ -6,7 +6,7 @@ import concurrent.futures
 import logging
 import time
 import typing
-from collections.abc import Awaitable, Callable
+from collections.abc import Callable
 
 from . import metrics
 from .config import HistoriesConfig
@@ -20,7 +20,6 @@ NODE_BYTES, NODE_FACTOR = 40 << 10, 20
 OPENERS = 4  # threads
 
 Answer = typing.TypeVar("Answer")
-Trimmer = Callable[[bytes], Awaitable[bytes]]
 
 
 def weight(journal_bytes: int) -> int:
@@ -34,8 +33,8 @@ def _looked_at(task: asyncio.Task[History]) -> None:
 
 
 class Histories:
-    def __init__(self, store: Store, config: HistoriesConfig, message_seconds: float, trimmer: Trimmer):
-        self.store, self.message_seconds, self.trimmer = store, message_seconds, trimmer
+    def __init__(self, store: Store, config: HistoriesConfig, message_seconds: float):
+        self.store, self.message_seconds = store, message_seconds
         self.idle_seconds, self.most_bytes = config.idle_seconds, config.open_bytes
         self.most_waiting, self.most_devices, self.most_pairs = config.waiting, config.user_devices, config.merge_pairs
         self.owned: dict[str, History] = {}

@@ -13,23 +13,55 @@ from collections.abc import Callable, Iterator
 
 from . import metrics
 from .devices import Caller, Devices, Forbidden, Outdated, TooMuch
-from .messages import AHEAD, BIND, NAMES, UPLOAD, BadMessage, Head, NoEntries, head, question
-from .node import BAD_REQUEST, DONE, STANDING, TAKE, Damaged, Node, NodeFailed, Reply, Written, length_of
+from .heads import BIND, IDENT, NAMES, REFUSED, UPLOAD, BadMessage, Entry, Head, borne, entries, first_bytes, look, look_at_asked, question
+from .node import (
+    ABSENT,
+    BAD_REQUEST,
+    CLIENTS,
+    DONE,
+    ENTRIES,
+    STANDING,
+    TAKE,
+    TRIMMED,
+    Damaged,
+    Node,
+    NodeFailed,
+    Reply,
+    Written,
+    length_of,
+    uuids_of,
+)
 from .stores import Fenced, Lease, StoreDown
-from .trimming import CantTrim
-from .weights import Sizes
+from .weights import LIGHT_MESSAGE, Sizes
 
 if typing.TYPE_CHECKING:
     from .histories import Histories
 
 log = logging.getLogger("realm_service")
+GIVEN_UP, AHEAD = 71, 63  # codes of a refusal
 BATCH_MESSAGES, BATCH_BYTES = 256, 16 << 20
+PAGE_BYTES = 1 << 20  # of changesets, after which a page of entries ends
 DECLINED = (Forbidden, BadMessage, Outdated, TooMuch)
 Listener = Callable[[int | None], None]  # told the length when it has grown, and None when the history is another worker's
 
 
 class Busy(Exception):
     """Too much waits: try again later."""
+
+
+class NoEntries(Exception):
+    """There are no entries from that version on: GIVEN_UP, AHEAD, or another code of the server's refusal."""
+
+    def __init__(self, code: int):
+        super().__init__(f"code {code}")
+        self.code = code
+
+
+class Page(typing.NamedTuple):
+    """Some entries, and which uuid each ident is."""
+
+    entries: list[Entry]
+    uuids: dict[int, bytes]
 
 
 @dataclasses.dataclass(eq=False)
@@ -41,6 +73,7 @@ class _Work:
     caller: Caller | None = None
     listener: Listener | None = None
     head: Head | None = None
+    uuids: dict[int, bytes] = dataclasses.field(default_factory=dict)  # by ident, as they are when it is answered
     began: float = dataclasses.field(default_factory=time.monotonic)
 
     def fail(self, error: BaseException) -> None:
@@ -66,7 +99,9 @@ class History:
 
     async def ask(self, caller: Caller, message: bytes, listener: Listener | None = None) -> bytes:
         """The reply to a caller's message."""
-        reply: bytes = await self._put(_Work(message, self._future(), caller, listener, head(message)))
+        is_small = len(message) <= LIGHT_MESSAGE
+        head = look_at_asked(message) if is_small else await self.histories.work_aside(look_at_asked, message)
+        reply: bytes = await self._put(_Work(message, self._future(), caller, listener, head))
         return reply
 
     async def read(self, request: bytes) -> Reply:
@@ -74,17 +109,34 @@ class History:
         reply: Reply = await self._put(_Work(request, self._future()))
         return reply
 
-    async def entries(self, version: int, tables: frozenset[str] | None) -> bytes | None:
-        """A Download of the entries from a version on, or None where the history has no device and so no entries. It is asked under the
-        first ident and settles nothing, so the server keeps nothing of it."""
-        if await self.known_length() == 0:
-            if version > 0:
-                raise NoEntries(AHEAD, 0)
-            return None
-        status, told = await self.read(TAKE + question(1, version, tables))
+    async def entries(self, version: int, count: int, tables: frozenset[str] | None) -> Page:
+        """Entries from a version on; none where the history ends there. They are `count` at most, and end with the one that brings them above
+        PAGE_BYTES. With `tables` what these get of each, and as many as a Download has."""
+        length = await self.known_length()
+        if version > length:
+            raise NoEntries(AHEAD)
+        if version == length:
+            return Page([], {})
+        if tables is not None:
+            return await self._entries_of(version, tables)
+        work = _Work(ENTRIES + version.to_bytes(4, "little") + count.to_bytes(4, "little"), self._future())
+        status, told = await self._put(work)
+        if status == ABSENT:
+            raise NoEntries(GIVEN_UP)
+        return Page(first_bytes(PAGE_BYTES, entries(version, told)), work.uuids)
+
+    async def _entries_of(self, version: int, tables: frozenset[str]) -> Page:
+        """By a question under the first ident, which settles nothing, so that the server keeps nothing of it."""
+        work = _Work(TAKE + question(1, version, tables), self._future())
+        status, told = await self._put(work)
+        if status == BAD_REQUEST:
+            raise Forbidden("entries are told of 1 to 64 tables, whose names have 1 to 63 bytes, and the token is for others")
         if status != DONE:
             raise NodeFailed(f"entries: {status}")
-        return told
+        head = await self.histories.work_aside(look, told)
+        if head.tag == REFUSED:
+            raise NoEntries(head.second)
+        return Page(list(entries(head.first, await self.histories.work_aside(borne, told))), work.uuids)
 
     @contextlib.contextmanager
     def listening(self, listener: Listener) -> Iterator[None]:
@@ -158,10 +210,10 @@ class History:
             self.histories.forget(self)
         else:
             metrics.FAILED.labels(type(error).__name__).inc()
-            if not isinstance(error, (StoreDown, NodeFailed, CantTrim)):
+            if not isinstance(error, (StoreDown, NodeFailed)):
                 log.error("%s: a batch failed", self.name, exc_info=error)
         for work in batch:
-            work.fail(error if isinstance(error, (Fenced, Damaged, CantTrim)) else StoreDown(str(error)))
+            work.fail(error if isinstance(error, (Fenced, Damaged)) else StoreDown(str(error)))
 
     async def _answer(self, batch: list[_Work]) -> None:
         if not batch:
@@ -208,8 +260,8 @@ class History:
         """A call into the node can't be stopped, so a message that would be at work too long isn't begun."""
         behind = max(0, (self.length or 0) - given.version)
         most = self.histories.most_pairs
-        if given.changes * behind > most:
-            raise TooMuch(f"{given.changes} changes meet {behind} entries, and at most {most} pairs are merged at once: send less")
+        if given.tag == UPLOAD and given.count * behind > most:
+            raise TooMuch(f"{given.count} changes meet {behind} entries, and at most {most} pairs are merged at once: send less")
 
     def _is_light(self, work: _Work) -> bool:
         return work.head is not None and self.sizes.is_light(work.head, len(work.request or b""))
@@ -238,14 +290,15 @@ class History:
         uploaders: set[Listener | None] = set()
         for work, (status, told) in zip(admitted, replies):
             tag = work.head.tag if work.head else None
-            if tag == BIND and self.devices is not None:
-                self.devices.named(told)
+            if tag == BIND and status == DONE:
+                self._named(told)
             if tag == UPLOAD:
                 uploaders.add(work.listener)
             metrics.ANSWERED[NAMES[tag] if tag else "read"].inc()
             if work.future.done():
                 continue
             if tag is None:
+                work.uuids = self.devices.uuids if self.devices else {}
                 work.future.set_result(Reply(status, told))
             elif status == DONE:
                 work.future.set_result(told)
@@ -253,6 +306,12 @@ class History:
                 work.fail(BadMessage("no message") if status == BAD_REQUEST else NodeFailed(str(status)))
         if uploaders:
             self._tell_news(self.sizes.length, uploaders)
+
+    def _named(self, told: bytes) -> None:
+        """The node gave a uuid its ident, where it says so."""
+        head = look(told)
+        if head.tag == IDENT and self.devices is not None:
+            self.devices.uuids[head.ident] = head.uuid
 
     def _tell_news(self, length: int, but: set[Listener | None]) -> None:
         known, self.length = self.length, length
@@ -279,8 +338,7 @@ class History:
                 self.devices = Devices(devices, self.lease.generation, self.histories.most_devices)
                 await self.histories.work_aside(self.node.open, journal)
                 await self._store(self.node.written(), [], 0)
-                length = await self.histories.work_aside(self._learn, list(devices))
-                await self._store(self.node.written(), [], length)
+                length, self.devices.uuids = await self.histories.work_aside(self._learn)
                 self.sizes = Sizes(length, self.sizes.size)
                 self._tell_news(length, set())  # of an append that failed, and was stored all the same
             except BaseException:
@@ -288,22 +346,32 @@ class History:
                 raise
         metrics.OPENED.inc()
 
-    def _learn(self, uuids: list[bytes]) -> int:
-        """Whose each ident is, and how long the history is: a Bind that is repeated answers the same ident."""
-        assert self.node is not None and self.devices is not None
-        *replies, standing = self.node.ask_all([*(TAKE + bytes([BIND]) + uuid for uuid in uuids), STANDING])
-        for reply in replies:
-            self.devices.named(reply.told)
-        return length_of(standing)
+    def _learn(self) -> tuple[int, dict[int, bytes]]:
+        """How long the history is, and which uuid each ident is."""
+        assert self.node is not None
+        clients, standing = self.node.ask_all([CLIENTS, STANDING])
+        return length_of(standing), uuids_of(clients)
 
     async def _trim(self) -> tuple[int, int]:
-        """The node is opened again from what is left."""
+        """Puts the shorter journal that the node tells in the place of the stored one. No message is at work meanwhile, and the node has just what
+        is stored; if somebody else appended all the same, the store refuses. The node is opened again from what is left."""
+        if self.node is None:
+            await self._open()
+        left = await self.histories.work(self._shorter)
+        before = self.lease.length + 1  # the closed gate is a byte
+        if len(left) >= before:
+            return before, before
+        await self.histories.store.replace(self.lease, left)
         self.let_go()
-        journal, _ = await self.histories.store.read(self.lease)
-        left = await self.histories.trimmer(journal)
-        if len(left) < len(journal):
-            await self.histories.store.replace(self.lease, left)
-        return len(journal), min(len(left), len(journal))
+        return before, len(left)
+
+    def _shorter(self) -> bytes:
+        """The journal without the history that no client needs."""
+        assert self.node is not None
+        status, told = self.node.ask_all([TRIMMED])[0]
+        if status != DONE:
+            raise NodeFailed(f"trim: {status}")
+        return told
 
     def let_go(self) -> None:
         """Lets the node go; what it was asked is stored, or void."""

@@ -56,6 +56,8 @@ class Library:
         self.new.argtypes, self.new.restype = [ctypes.POINTER(at)], ctypes.c_bool
         self.free = realm_sync.realm_node_free
         self.free.argtypes, self.free.restype = [at], None
+        self.one_turn = realm_sync.realm_node_turn
+        self.one_turn.argtypes, self.one_turn.restype = [at, ctypes.c_char_p, size, ctypes.c_char_p, size], size
         self.turn = ctypes.cast(realm_sync.realm_node_turn, at)
         self.turns = turns.realm_turns
         self.turns.argtypes, self.turns.restype = [at, at, ctypes.c_char_p, size, buffer], size

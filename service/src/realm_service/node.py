@@ -11,6 +11,7 @@ from .library import Buffer, Library
 DONE, BAD_REQUEST, ABSENT, CLOSED, BAD_FILE, NO_MEMORY = 0, 2, 3, 5, 6, 7
 KEPT_ROOM = 1 << 18  # bytes of a buffer that is kept
 OPEN_SERVER, TAKE, STANDING, EMPTIED, DUMP, OBJECT = b"s", b"T", b"I", b"V", b"D", b"O"
+ENTRIES, CLIENTS, HEAD, BORNE, TRIMMED = b"E", b"Q", b"H", b"P", b"F"
 
 
 class NodeFailed(Exception):
@@ -90,6 +91,14 @@ class Node:
             raise NodeFailed("the node closed, or memory ran out")
         return _unpacked(told)[first:]
 
+    def ask_into(self, room: ctypes.Array[ctypes.c_char], request: bytes) -> Reply:
+        """Hands one request over whose reply has room there: by a single call, for what is asked of each message."""
+        size = self._library.one_turn(self._at, request, len(request), room, len(room))
+        told = ctypes.string_at(room, min(size, len(room)))
+        if size > len(room) or not told or told[0] in (CLOSED, NO_MEMORY):
+            raise NodeFailed("the node closed, memory ran out, or the reply has no room")
+        return Reply(told[0], told[1:])
+
     def written(self) -> Written:
         gate = ctypes.c_uint64()
         outbox, tail = _scratch.outbox, _scratch.tail
@@ -108,6 +117,11 @@ class Node:
 def length_of(standing: Reply) -> int:
     """How many entries the history has, by the reply to STANDING."""
     return int.from_bytes(standing.told[4:8], "little")
+
+
+def uuids_of(clients: Reply) -> dict[int, bytes]:
+    """Which uuid each ident is, by the reply to CLIENTS: behind the floor 28 bytes for each, from ident 1 on, of which the first 16 are it."""
+    return {1 + at // 28: clients.told[4 + at : 20 + at] for at in range(0, len(clients.told) - 4, 28)}
 
 
 def _unpacked(told: bytes) -> list[Reply]:

@@ -7,7 +7,7 @@ _STATUSES = {
     "400": "no message, no WebSocket, or a parameter that isn't one", "401": "no token, or one that doesn't hold", "403": "not this caller's",
     "404": "no such history, name or object", "410": "another generation, or entries that are no more: begin anew",
     "413": "too large, or too much to merge at once", "429": "too many", "500": "a journal that is damaged, or a fault of the service",
-    "501": "there is no program to trim with", "503": "try again",
+    "503": "try again",
 }
 _NAME = {
     "name": "history", "in": "path", "required": True, "schema": {"type": "string", "pattern": "^[A-Za-z0-9_][A-Za-z0-9_.-]{0,127}(@[0-9]+)?$"},
@@ -42,7 +42,7 @@ def described() -> dict[str, typing.Any]:
         one + "/entries": {"get": _operation("Entries from a version on: lines of JSON, or server-sent events by Accept", [
             ("from", "integer", "the first version; a Last-Event-ID says the last one that the caller has"),
             ("follow", "integer", "1: go on with those that come; of events the default")], {"200": "entries"}, "400")},
-        one + "/trim": {"post": _operation("Gives up what all devices have settled", [], {"200": "{\"before\": BYTES, \"after\": BYTES}"}, "501")},
+        one + "/trim": {"post": _operation("Gives up what all devices have settled", [], {"200": "{\"before\": BYTES, \"after\": BYTES}"})},
     }
     for path, text in (("/healthz", "alive"), ("/readyz", "takes work"), ("/metrics", "Prometheus' text"), ("/openapi.json", "this")):
         paths[path] = {"get": {"summary": text, "security": [], "responses": {"200": {"description": text}}}}

@@ -7,10 +7,10 @@ import typing
 from collections.abc import AsyncIterator
 
 from .config import BadConfig, Config
-from .messages import journal_end
 from .node import STANDING, Damaged, Node, NodeFailed, length_of
 from .server import store_of, tokens_of
 from .stores import Absent, Elsewhere, Fenced, Lease, Store, Stored, StoreDown
+from .stores.files import journal_end
 from .tokens import LEVELS
 
 

@@ -8,12 +8,11 @@ from aiohttp import web
 
 from . import metrics
 from .devices import Forbidden, Outdated, TooMuch
+from .heads import BadMessage
 from .history import Busy
-from .messages import BadMessage
-from .node import Damaged
+from .node import Damaged, NodeFailed
 from .stores import Absent, Elsewhere, Fenced, StoreDown
 from .tokens import BadToken
-from .trimming import CantTrim
 
 log = logging.getLogger("realm_service")
 GENERATION = "Realm-Generation"
@@ -28,14 +27,16 @@ class Refused(Exception):
 
 KINDS: tuple[tuple[type[BaseException], int, int], ...] = (
     (BadMessage, 400, 0), (BadToken, 401, 0), (Forbidden, 403, 0), (Absent, 404, 0), (Outdated, 410, 0), (TooMuch, 413, 0),
-    (Busy, 503, LATER), (StoreDown, 503, LATER), (Fenced, 503, RESTART), (Elsewhere, 503, RESTART), (Damaged, 500, 0), (CantTrim, 501, 0),
+    (Busy, 503, LATER), (StoreDown, 503, LATER), (NodeFailed, 503, LATER), (Fenced, 503, RESTART), (Elsewhere, 503, RESTART), (Damaged, 500, 0),
     (asyncio.TimeoutError, 503, LATER),
 )
+TRY_AGAIN = "the worker or its store doesn't answer as yet: try again"
 WORDS: dict[type[BaseException], str] = {
     asyncio.TimeoutError: "the history is at work on a long message: try again later, and send less at once",
     Fenced: "the history has moved to another worker: try again",
     Elsewhere: "another worker has the history: try again",
-    StoreDown: "the worker or its store doesn't answer as yet: try again",
+    StoreDown: TRY_AGAIN,
+    NodeFailed: TRY_AGAIN,
     Absent: "there is no such history, and the token may not make it",
 }
 
@@ -46,7 +47,7 @@ class _Noted:
     at = 0.0
 
     def __call__(self, error: BaseException) -> None:
-        if isinstance(error, (Elsewhere, StoreDown)) and time.monotonic() - self.at >= 1:
+        if isinstance(error, (Elsewhere, StoreDown, NodeFailed)) and time.monotonic() - self.at >= 1:
             self.at = time.monotonic()
             log.warning("callers are to try again: %s", error)
 

@@ -16,7 +16,6 @@ from .stores import Elsewhere, Store
 from .stores.files import Files
 from .stores.sqlite import Sqlite
 from .tokens import Tokens
-from .trimming import Trimmer
 
 log = logging.getLogger("realm_service")
 STOP_SECONDS = 20.0
@@ -55,7 +54,7 @@ async def run(config: Config, is_default: bool = False) -> None:
     tokens, store = tokens_of(config), store_of(config)
     host, _, port = config.service.listen.rpartition(":")
     address = config.service.address or f"http://{host}:{port}"
-    histories = Histories(store, config.histories, config.limits.message_seconds, Trimmer(config.histories.program))
+    histories = Histories(store, config.histories, config.limits.message_seconds)
     doors = Doors(histories, tokens, address, config)
     ended = asyncio.Event()
     for number in (signal.SIGTERM, signal.SIGINT):

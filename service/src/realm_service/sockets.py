@@ -11,9 +11,9 @@ from aiohttp import WSMsgType, web
 
 from . import metrics
 from .devices import Caller, Forbidden
+from .heads import BadMessage
 from .history import History
 from .limits import in_time
-from .messages import BadMessage
 from .refusals import RESTART, Refused, refusal_of, response_of
 from .stores import Fenced
 from .tokens import BadToken
@@ -91,6 +91,8 @@ class Sockets:
                     visit = await self.visits.visit(request, is_device=True)
                     other = await self._other(visit, request)
                 return await self._opened(request, visit, other)
+        except ConnectionError as error:  # the caller is gone before the socket is open: no fault of the service
+            return response_of(Refused(503, str(error)))
         except Exception as error:
             return response_of(error)
 
@@ -101,7 +103,14 @@ class Sockets:
     async def _opened(self, request: web.Request, visit: Visit, other: aiohttp.ClientWebSocketResponse | None) -> web.StreamResponse:
         most = self.limits.config.message_bytes
         socket = web.WebSocketResponse(max_msg_size=most, heartbeat=HEARTBEAT, timeout=2, compress=False, protocols=("realm",))
-        await socket.prepare(request)
+        try:
+            if request.transport is None:
+                raise ConnectionResetError("the caller is gone")
+            await socket.prepare(request)
+        except Exception:
+            if other is not None:
+                await other.close()
+            raise
         self.open.add(socket)
         try:
             if other is not None:

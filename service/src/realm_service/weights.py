@@ -2,7 +2,7 @@
 
 import collections
 
-from .messages import BIND, RETIRE, UPLOAD, Head
+from .heads import BIND, RETIRE, UPLOAD, Head
 
 LIGHT_MESSAGE, LIGHT_DOWNLOAD = 4 << 10, 64 << 10  # bytes
 LIGHT_MERGE = 1 << 20  # bytes of an Upload, times those of the entries that it meets

@@ -92,7 +92,8 @@ class Store(typing.Protocol):
         """Raises Fenced where another owner may have appended."""
 
     async def replace(self, lease: Lease, journal: bytes) -> None:
-        """Puts a shorter journal in place of the old one, which ends with its closed gate."""
+        """Puts a shorter journal, which ends with its closed gate, in place of the old one: all of it or nothing, and only if nothing was
+        appended since the lease was brought up to date."""
 
     async def raise_generation(self, lease: Lease) -> None:
         """Says that the history was restored: the lease has the new generation."""

@@ -21,6 +21,14 @@ THREADS = 32  # syncs at once: a file system joins them
 Answer = typing.TypeVar("Answer")
 
 
+def journal_end(journal: bytes) -> int:
+    """The place of the closed gate of a journal (docs/FORMATS.md, "The journal"), which isn't damaged; a shorter file counts as empty."""
+    place = 8
+    while len(journal) > place and journal[place] == 1:
+        place += 5 + int.from_bytes(journal[place + 1 : place + 5], "big")
+    return place if len(journal) > place else 0
+
+
 def _private(path: str, flags: int) -> int:
     """Opens a file that, where it is made, nobody else reads."""
     return os.open(path, flags, 0o600)
@@ -169,7 +177,9 @@ class Files:
         if lease.name in self.doubtful:
             self._write_anew(lease)
         devices, lease.generation = self._noted(lease.name)
-        return Stored(self._journal(lease), devices)
+        journal = self._journal(lease)
+        lease.length = journal_end(journal)
+        return Stored(journal, devices)
 
     def _write_anew(self, lease: Lease) -> None:
         """A system may take for written what a failed sync left; so all of both files is written once more."""
@@ -177,7 +187,7 @@ class Files:
         if os.path.exists(path):
             with open(path, "rb") as file:
                 os.close(self._put(path, file.read()))
-        self._replace(lease, self._journal(lease))
+        self._exchange(lease, self._journal(lease))
         self.doubtful.discard(lease.name)
 
     @staticmethod
@@ -203,8 +213,8 @@ class Files:
     def _append(self, lease: Lease, gate: int, tail: bytes, claims: Claims) -> None:
         """The users of new devices come first, so that no device ever has an ident and no user."""
         self._is_ours(lease)
-        if tail and not self._is_closed(lease.file, gate):
-            raise Fenced(f"{lease.name}: somebody appended, or cut it")
+        if tail:
+            self._ends_at(lease, gate)
         if claims:
             self._note(lease.name, [f"{uuid.hex()} {lease.generation} {user}" for uuid, user in claims])
         try:
@@ -222,9 +232,14 @@ class Files:
             lease.length = gate + len(tail) - 1
 
     @staticmethod
-    def _is_closed(file: int, gate: int) -> bool:
-        """Whether the journal ends there as yet."""
-        return os.fstat(file).st_size <= SMALL if gate == 0 else os.pread(file, 1, gate) not in (b"", b"\x01")
+    def _ends_at(lease: Lease, gate: int) -> None:
+        """Raises Fenced where the journal doesn't end at that gate any more."""
+        if gate == 0:
+            is_closed = os.fstat(lease.file).st_size <= SMALL
+        else:
+            is_closed = os.pread(lease.file, 1, gate) not in (b"", b"\x01")
+        if not is_closed:
+            raise Fenced(f"{lease.name}: somebody appended, or cut it")
 
     @staticmethod
     def _write(file: int, data: bytes, place: int) -> None:
@@ -234,13 +249,25 @@ class Files:
 
     def _replace(self, lease: Lease, journal: bytes) -> None:
         self._is_ours(lease)
-        file = self._put(self._path(lease.name, JOURNAL), journal)
+        self._ends_at(lease, lease.length)
+        self._exchange(lease, journal)
+
+    def _exchange(self, lease: Lease, journal: bytes) -> None:
+        """Puts a file of this journal in the old one's place. The lock of the old one is held until that of the new one is."""
+        try:
+            file = self._put(self._path(lease.name, JOURNAL), journal)
+        except StoreDown:
+            self.doubtful.add(lease.name)  # the new file may have the name, in a folder that isn't synced
+            raise
         os.close(lease.file)
         lease.file, lease.length = file, max(0, len(journal) - 1)
 
     def _put(self, path: str, data: bytes) -> int:
         """Puts a file of these bytes in a name's place; answers it open."""
-        file = os.open(path + NEW, os.O_RDWR | os.O_CREAT | os.O_TRUNC | os.O_CLOEXEC, 0o600)
+        try:
+            file = os.open(path + NEW, os.O_RDWR | os.O_CREAT | os.O_TRUNC | os.O_CLOEXEC, 0o600)
+        except OSError as error:
+            raise StoreDown(str(error)) from error
         self._lock(file)  # held before the name is its own
         try:
             self._write(file, data, 0)

@@ -17,7 +17,7 @@ from .writers import LOST, Writer, connected
 
 log = logging.getLogger("realm_service")
 SCHEMA_LOCK = 7291  # two workers that start at once make the tables one after the other
-MOST_LINKS = 8  # connections for all but appends
+MOST_LINKS = 8  # connections for all but appends and the lease
 
 ACQUIRE = """
 WITH gone AS (DELETE FROM worker WHERE id = $3)
@@ -47,6 +47,31 @@ RAISE = "UPDATE history SET generation = generation + 1 WHERE id = $1 AND epoch 
 REMOVE = "DELETE FROM history WHERE id = $1 AND epoch = $2 AND length = $3 RETURNING id"
 
 
+class _Links:
+    """So many connections at most. The driver's own pool keeps to the first host that answered, also after another one has taken its place."""
+
+    def __init__(self, dsn: str, most: int):
+        self.dsn, self.room = dsn, asyncio.Semaphore(most)
+        self.free: list[asyncpg.Connection] = []
+
+    @contextlib.asynccontextmanager
+    async def one(self) -> AsyncIterator[asyncpg.Connection]:
+        async with self.room:
+            link = self.free.pop() if self.free else None
+            if link is None or link.is_closed():
+                link = await connected(self.dsn)
+            try:
+                yield link
+            except BaseException:
+                link.terminate()
+                raise
+            self.free.append(link)
+
+    def end(self) -> None:
+        for link in self.free:
+            link.terminate()
+
+
 class Postgres:
     def __init__(self, dsn: str, seconds: float = 3.0, writers: int = 2, join_rows: int = 256):
         self.dsn, self.seconds, self.join_rows = dsn, seconds, join_rows
@@ -56,8 +81,8 @@ class Postgres:
         self.told: OnLapse = lambda _: None
         self.writers = [Writer(dsn) for _ in range(writers)]
         self.tasks: list[asyncio.Task[None]] = []
-        self.links: list[asyncpg.Connection] = []
-        self.room = asyncio.Semaphore(MOST_LINKS)
+        self.links = _Links(dsn, MOST_LINKS)
+        self.own = _Links(dsn, 1)  # of the lease, which waits for no caller
 
     def on_lapse(self, told: OnLapse) -> None:
         self.told = told
@@ -65,7 +90,7 @@ class Postgres:
     async def start(self, address: str) -> None:
         self.address = address
         try:
-            async with self._link() as link:
+            async with self.own.one() as link:
                 await self._prepare(link)
         except (asyncpg.PostgresError, *LOST, ValueError) as error:  # such as a name of a database that there isn't
             raise StoreDown(f"PostgreSQL: {type(error).__name__}: {error}") from error
@@ -90,9 +115,9 @@ class Postgres:
         for task in self.tasks:
             task.cancel()
         with contextlib.suppress(StoreDown):
-            await self._run("execute", "DELETE FROM worker WHERE id = $1", self.id, seconds=5)
-        for link in self.links:
-            link.terminate()
+            await self._run_own("execute", "DELETE FROM worker WHERE id = $1", self.id, seconds=5)
+        self.links.end()
+        self.own.end()
 
     async def ready(self) -> bool:
         return time.monotonic() < self.valid_until
@@ -103,12 +128,12 @@ class Postgres:
     async def renew(self) -> None:
         """The lease of all that is ours. Where it had ended, or another worker had declared this one dead, each history is looked at."""
         asked = time.monotonic()
-        if not await self._run("fetchval", RENEW, self.id, self.seconds, seconds=self.seconds):
-            await self._run("execute", BEGIN, self.id, self.address, self.seconds, seconds=self.seconds)
+        if not await self._run_own("fetchval", RENEW, self.id, self.seconds, seconds=self.seconds):
+            await self._run_own("execute", BEGIN, self.id, self.address, self.seconds, seconds=self.seconds)
             self.lapses += 1
         lapses = self.lapses
         if self.told_lapses != lapses:  # also one that couldn't be told when it was seen
-            rows = await self._run("fetch", "SELECT id, epoch FROM history WHERE owner = $1", self.id)
+            rows = await self._run_own("fetch", "SELECT id, epoch FROM history WHERE owner = $1", self.id)
             self.told({(row["id"], row["epoch"]) for row in rows})
             self.told_lapses = lapses
         self.valid_until = asked + self.seconds
@@ -121,23 +146,16 @@ class Postgres:
             except StoreDown as error:
                 log.warning("the lease isn't renewed: %s", error)
 
-    @contextlib.asynccontextmanager
-    async def _link(self) -> AsyncIterator[asyncpg.Connection]:
-        """A connection. The driver's own pool keeps to the first host that answered, also after another one has taken its place."""
-        async with self.room:
-            link = self.links.pop() if self.links else None
-            if link is None or link.is_closed():
-                link = await connected(self.dsn)
-            try:
-                yield link
-            except BaseException:
-                link.terminate()
-                raise
-            self.links.append(link)
-
     async def _run(self, how: str, *given: object, seconds: float = 10) -> typing.Any:
+        return await self._run_by(self.links, how, *given, seconds=seconds)
+
+    async def _run_own(self, how: str, *given: object, seconds: float = 10) -> typing.Any:
+        return await self._run_by(self.own, how, *given, seconds=seconds)
+
+    @staticmethod
+    async def _run_by(links: _Links, how: str, *given: object, seconds: float) -> typing.Any:
         try:
-            async with self._link() as link:
+            async with links.one() as link:
                 return await getattr(link, how)(*given, timeout=seconds)
         except (asyncpg.PostgresError, *LOST) as error:
             raise StoreDown(f"{type(error).__name__}: {error}") from error
@@ -159,7 +177,7 @@ class Postgres:
 
     async def read(self, lease: Lease) -> Stored:
         try:
-            async with self._link() as link, link.transaction(isolation="repeatable_read", readonly=True):
+            async with self.links.one() as link, link.transaction(isolation="repeatable_read", readonly=True):
                 row = await link.fetchrow("SELECT epoch, volume, length, generation FROM history WHERE id = $1", lease.id)
                 if not row or row["epoch"] != lease.epoch:
                     raise Fenced(lease.name)
