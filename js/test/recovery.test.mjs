@@ -63,6 +63,28 @@ test('a file that was restored from a backup: a new client takes over by itself'
   await db.close();
 });
 
+test('a list that became shorter meanwhile: the new client keeps what is unsent of it, at another place', async () => {
+  const net = await server();
+  const files = new MemoryFiles();
+  let db = await online(net, files);
+  const id = await db.write((tx) => tx.items.create({ title: 'Pasta', steps: ['boil', 'salt'] }));
+  await db.synced();
+  const backup = files.files.get('client-1').bytes();
+  await db.write((tx) => tx.items.at(id).steps.remove(0));
+  await db.synced();
+  await db.close();
+  files.files.set('client-1', new FileImage(backup));
+  db = await memory(files);
+  await db.write((tx) => tx.items.at(id).steps.push('serve'));
+  const told = new Promise((done) => db.onRecovered(done));
+  await db.startSync({ transport: net.transport(), ...fast });
+  const recovery = await told;
+  assert.deepEqual([recovery.saved, recovery.dropped], [1, []]);
+  await db.synced();
+  assert.deepEqual(db.items.get(id).steps, ['salt', 'serve']);
+  await db.close();
+});
+
 test('an ident that was retired: a new client takes over by itself, cut off at each message', async () => {
   for (let cut = 1; cut < 14; cut++) {
     const net = await server();

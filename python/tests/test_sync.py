@@ -205,6 +205,29 @@ class Recovering(unittest.TestCase):
             self.assertEqual([it.day for it in db[Day]], [1, 2, 3, 4, 5, 6])
         self.assertEqual(os.listdir(os.path.dirname(self.path)), ["db"])
 
+    def test_a_list_that_became_shorter_meanwhile_keeps_what_is_unsent(self) -> None:
+        with self.net.database(self.path) as db:
+            with db.write() as tx:
+                key = tx.create(Item, title="Pasta", steps=["boil", "salt"])
+            self.assertTrue(db.synced(30))
+            with open(self.path, "rb") as file:
+                backup = file.read()
+            with db.write() as tx:
+                del tx.at(Item, key, "steps")[0]
+            self.assertTrue(db.synced(30))
+        with open(self.path, "wb") as other:
+            other.write(backup)
+        told: list[Recovery] = []
+        with Database(self.path, TYPES) as db:
+            with db.write() as tx:
+                tx.at(Item, key, "steps").append("serve")
+            db.on_recovered(told.append)
+            db.start_sync(self.net.transport(), options=FAST)
+            until(lambda: bool(told))
+            self.assertTrue(db.synced(30))
+            self.assertEqual((told[0].saved, told[0].dropped), (1, ()))
+            self.assertEqual([it.steps for it in db[Item]], [("salt", "serve")])
+
     def test_a_restored_file_that_is_asked_about_sends_nothing(self) -> None:
         self.restored()
         self.net.sent.clear()
