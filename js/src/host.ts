@@ -455,29 +455,38 @@ export class Host {
     if (ident === 0 && unsent > 0) throw new NeedsAttention({ ...problem, text: `${problem.text}; this client has no ident yet`, isRecoverable: false });
     const before = this.state;
     this.setState({ status: 'recovering', problem });
-    const heir = await this.openHeir(problem);
-    const takeover = new Takeover(heir, (message) => this.exchange(message), problem);
     const { transport } = this.syncOptions ?? {};
-    try {
-      if (transport && problem.generation) transport.generation = problem.generation;
-      await takeover.join(this.engine.standing());
-      const recovery = await this.alone(async () => {
-        const done = await takeover.inherit(this.engine);
-        if (problem.generation) await this.agreeOn(problem.generation);
-        await this.replaced(heir, problem);
-        return done;
-      });
-      this.hasRecovered = true;
-      this.tell({ event: 'recovered', recovery });
-      this.loop?.resume();
-      return true;
-    } catch (error) {
-      if (this.engine !== heir) await heir.close();
-      if (error instanceof Refused) await this.discardHeir();
-      if (transport) transport.generation = this.serverGeneration;
-      this.setState(before);
-      throw error;
+    for (;;) {
+      const heir = await this.openHeir(problem);
+      try {
+        if (transport && problem.generation) transport.generation = problem.generation;
+        if (await this.putInPlace(heir, problem)) return true;
+        await heir.close();
+        await this.discardHeir();
+      } catch (error) {
+        if (this.engine !== heir) await heir.close();
+        if (error instanceof Refused) await this.discardHeir();
+        if (transport) transport.generation = this.serverGeneration;
+        this.setState(before);
+        throw error;
+      }
     }
+  }
+
+  /** False where the new client has to be begun anew. */
+  private async putInPlace(heir: Engine, problem: Problem): Promise<boolean> {
+    const takeover = new Takeover(heir, (message) => this.exchange(message), problem);
+    if (!(await takeover.join(this.engine.standing()))) return false;
+    const recovery = await this.alone(async () => {
+      const done = await takeover.inherit(this.engine);
+      if (problem.generation) await this.agreeOn(problem.generation);
+      await this.replaced(heir, problem);
+      return done;
+    });
+    this.hasRecovered = true;
+    this.tell({ event: 'recovered', recovery });
+    this.loop?.resume();
+    return true;
   }
 
   /** The new client that had begun to take over, or another one: one of another server is never gone on with. */

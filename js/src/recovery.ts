@@ -51,20 +51,23 @@ export class Takeover {
     this.talk = new Talk(heir);
   }
 
-  /** The new client takes the history, retires the old one, and takes what that had sent before. */
-  async join(old: Standing): Promise<void> {
+  /** The new client takes the history, retires the old one, and takes what that had sent before. False where it has to be begun anew. */
+  async join(old: Standing): Promise<boolean> {
     await born(this.heir);
     await this.takeAll();
     // At another server the old ident may be somebody else's: it is left alone, and nothing of the old client is in that history. One that was
     // restored is the same as it was once: what it has of the old client isn't saved again, and its service takes no more of it.
     if (this.problem.kind === 'otherServer') {
       if (this.problem.generation) this.own = await this.changesOfOld(old.ident);
-      return;
+      return true;
     }
     const other = await this.retire(old.ident);
     await this.takeAll();
     this.own = await this.changesOfOld(old.ident);
-    if (other !== null) this.savedByOther = changesOf(other, await this.heir.bytes());
+    if (other === null) return true;
+    this.savedByOther = changesOf(other, await this.heir.bytes());
+    // What a try that was cut off has saved already, the other one may have sent since.
+    return this.heir.standing().last === 0;
   }
 
   private async changesOfOld(ident: number): Promise<ReadonlyMap<number, bigint>> {

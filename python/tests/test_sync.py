@@ -9,11 +9,17 @@ import tempfile
 import threading
 import time
 import unittest
+from unittest import mock
 
 from realm_sync import CallTransport, Client, Closed, Database, Error, LostEdit, NeedsAttention, Recovery, Refused, SchemaConflict, Server, SyncState, table
+from realm_sync.client import DatabaseClient
 from realm_sync.messages import ASK2, BIND, DOWNLOAD, REFUSED, STORED, UPLOAD
 
 from .common import FAST, TYPES, Day, Item, Net, edit, keys, until
+
+
+def _down() -> bytes:
+    raise OSError("down")
 
 
 class Agreement(unittest.TestCase):
@@ -284,6 +290,32 @@ class Recovering(unittest.TestCase):
             self.assertTrue(db.synced(30))
         for db in dbs:
             self.assertEqual([it.day for it in db[Day]], [1, 2, 3, 4, 5, 6, 10, 11])
+        self.assertEqual(self.net.server.standing().cursor, 4 + 3 + 1 + 1)
+
+    def test_a_takeover_of_a_copy_that_ended_before_it_was_in_place_leaves_nothing_out(self) -> None:
+        self.restored()
+        path = f"{self.path}.copy"
+        shutil.copy(self.path, path)
+        # The other one takes the place first, and sends its changes last.
+        self.net.answer = lambda message: _down() if message[0] == UPLOAD else None
+        other, told = Database(self.path, TYPES, self.net.transport(), options=FAST), list[Recovery]()
+        self.addCleanup(other.close)
+        other.on_recovered(told.append)
+        until(lambda: bool(told))
+        with mock.patch.object(DatabaseClient, "replaced", side_effect=Closed("the process ends here")), Database(path, TYPES) as db:
+            with db.write() as tx:
+                tx.create(Day, day=11)
+            db.start_sync(self.net.transport(), options=FAST)
+            self.assertRaises(NeedsAttention, db.synced, 30)
+        self.net.answer = lambda message: None
+        self.assertTrue(other.synced(30))
+        with Database(path, TYPES) as db:
+            with db.write() as tx:
+                tx.create(Day, day=12)
+            db.start_sync(self.net.transport(), options=FAST)
+            self.assertTrue(db.synced(30))
+            self.assertEqual([it.day for it in db[Day]], [1, 2, 3, 4, 5, 6, 11, 12])
+        # What both have was sent by the other one, and isn't sent again.
         self.assertEqual(self.net.server.standing().cursor, 4 + 3 + 1 + 1)
 
     def test_another_server_is_never_taken_for_this_one(self) -> None:

@@ -408,19 +408,22 @@ class Database:
         takeover = self._client.takeover(transport.exchange, problem)
         try:
             transport.generation = problem.generation or transport.generation
-            takeover.join()
-            with self._lock:
-                recovery = takeover.replace()
-                self._has_recovered = True
-                self._recoveries += 1
-                self._refresh()
-                return recovery
+            if takeover.join():
+                with self._lock:
+                    recovery = takeover.replace()
+                    self._has_recovered = True
+                    self._recoveries += 1
+                    self._refresh()
+                    return recovery
         except BaseException as why:
             takeover.close()
             if isinstance(why, Refused):
                 self._client.discard_heir()
             transport.generation = self._client.generation
             raise
+        takeover.close()
+        self._client.discard_heir()
+        return self._take_over(transport, problem)
 
     def on_recovered(self, callback: Callable[[Recovery], None]) -> Stop:
         """Calls back with what a new client saved of what the old one had unsent, and what was lost."""

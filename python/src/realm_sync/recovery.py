@@ -70,21 +70,23 @@ class Takeover:
         # What another new client saved that had taken the old one's place before: that of a copy of this file.
         self._saved_by_other: list[Change] = []
 
-    def join(self, old: Standing) -> None:
-        """The heir takes the history, retires the old client, and takes what that had sent before."""
+    def join(self, old: Standing) -> bool:
+        """The heir takes the history, retires the old client, and takes what that had sent before. False where it has to be begun anew."""
         born(self._heir)
         self._take_all()
         # At another server the old ident may be somebody else's: it is left alone, and nothing of the old client is in that history. One that was
         # restored is the same as it was once: what it has of the old client isn't saved again, and its service takes no more of it.
         is_other, other = self._problem.cause == "other server", 0
         if is_other and not self._problem.generation:
-            return
+            return True
         if not is_other:
             other = self._retire(old.ident)
             self._take_all()
         journal = self._heir.data()
         self._own = {it.number: it.ms for it in history_of(old.ident, journal)}
         self._saved_by_other = history_of(other, journal) if other else []
+        # What a try that was cut off has saved already, the other one may have sent since.
+        return not other or self._heir.standing().last == 0
 
     def _take_all(self) -> None:
         """It sends no change: one that it saved in a try that was cut off is in no history before it has taken the old client's place."""
