@@ -15,17 +15,23 @@ export const four = (number: number): Uint8Array => {
 
 export class Engine {
   private isFailed = false;
+  private isClosed = false;
 
   private constructor(private readonly door: Door, private readonly file: OpenFile) {}
 
-  /** Opens the client of a file, or a new one. */
+  /** Opens the client of a file, or a new one. Where that fails the file is closed. */
   static async open(module: WebAssembly.Module, file: OpenFile, kind: 'c' | 's' = 'c'): Promise<Engine> {
     const engine = new Engine(new Door(module), file);
-    const bytes = await file.read();
-    if (isSealed(bytes)) throw new WrongKey('the file is encrypted: open it with its key');
-    expectDone(engine.door.turn(kind, bytes));
-    await engine.settle();
-    return engine;
+    try {
+      const bytes = await file.read();
+      if (isSealed(bytes)) throw new WrongKey('the file is encrypted: open it with its key');
+      expectDone(engine.door.turn(kind, bytes));
+      await engine.settle();
+      return engine;
+    } catch (error) {
+      await engine.close();
+      throw error;
+    }
   }
 
   /** A request, without its strokes. */
@@ -86,7 +92,8 @@ export class Engine {
   entriesOf(message: Uint8Array): Entry[] {
     const head = this.head(message);
     if (head?.tag !== Tag.Download) return [];
-    return borneIn(this.ask('P', message)).map(({ first, second, ms, body }, place) => ({ version: head.first + place, origin: first, number: second, ms, body }));
+    const entries = borneIn(this.ask('P', message));
+    return entries.map(({ first, second, ms, body }, place) => ({ version: head.first + place, origin: first, number: second, ms, body }));
   }
 
   /** The unsent changes of the client, as they were made. One without an ident tells none: the core makes no Upload of it. */
@@ -114,6 +121,8 @@ export class Engine {
   }
 
   async close(): Promise<void> {
+    if (this.isClosed) return;
+    this.isClosed = true;
     this.door.close();
     await this.file.close();
   }

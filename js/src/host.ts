@@ -11,7 +11,7 @@ import { LostEdits, type LostForm } from './lost.js';
 import type { Put } from './mirror.js';
 import { isTakenOverByItself, type Problem } from './problems.js';
 import { Takeover, born, type Recovery } from './recovery.js';
-import type { Files } from './storage.js';
+import type { Files, OpenFile } from './storage.js';
 import { SyncLoop, inTurn, type LoopOptions, type SyncState, type Transport } from './sync.js';
 import { Talk, refusalOf } from './talk.js';
 import { parseLine, textOfKey } from './values.js';
@@ -73,18 +73,23 @@ const reasonName = (generation: number): string => `reason-${generation}`;
 const SERVER_GENERATION = 'generation';
 const NOTE = 4096;
 
-/** Keeps something small beside the client's file. */
-async function keepNote(files: Files, name: string, note: unknown): Promise<void> {
+/** Opens a file for some work, and closes it. */
+async function inFile<T>(files: Files, name: string, work: (file: OpenFile) => T | Promise<T>): Promise<T> {
   const file = await files.open(name);
-  await file.apply([{ place: 0, bytes: utf8(JSON.stringify(note).padEnd(NOTE)) }, 'sync']);
-  await file.close();
+  try {
+    return await work(file);
+  } finally {
+    await file.close();
+  }
 }
+
+/** Keeps something small beside the client's file. */
+const keepNote = (files: Files, name: string, note: unknown): Promise<void> =>
+  inFile(files, name, (file) => file.apply([{ place: 0, bytes: utf8(JSON.stringify(note).padEnd(NOTE)) }, 'sync']));
 
 /** Null where it was cut off before it was written. */
 async function noteOf<T>(files: Files, name: string): Promise<T | null> {
-  const file = await files.open(name);
-  const text = textOf(await file.read());
-  await file.close();
+  const text = textOf(await inFile(files, name, (file) => file.read()));
   try {
     return JSON.parse(text) as T;
   } catch {
@@ -142,12 +147,17 @@ export class Host {
     const found = numbers.filter((it) => it > 0).sort((a, b) => a - b);
     const generation = found[0] ?? 1;
     const engine = await Engine.open(module, await files.open(nameOf(generation)));
-    await born(engine);
-    const heir = found[1] ?? null;
-    const reason = heir === null ? null : await noteOf<Problem>(files, reasonName(heir));
-    const host = new Host(module, files, engine, generation, heir, reason);
-    if ((await files.names()).includes(SERVER_GENERATION)) host.serverGeneration = (await noteOf<number>(files, SERVER_GENERATION)) ?? 1;
-    return host;
+    try {
+      await born(engine);
+      const heir = found[1] ?? null;
+      const reason = heir === null ? null : await noteOf<Problem>(files, reasonName(heir));
+      const host = new Host(module, files, engine, generation, heir, reason);
+      if ((await files.names()).includes(SERVER_GENERATION)) host.serverGeneration = (await noteOf<number>(files, SERVER_GENERATION)) ?? 1;
+      return host;
+    } catch (error) {
+      await engine.close();
+      throw error;
+    }
   }
 
   listen(listener: (event: HostEvent) => void): () => void {
@@ -514,9 +524,8 @@ export class Host {
   private async replaced(heir: Engine, problem: Problem): Promise<void> {
     const before = this.generation;
     if (problem.kind === 'otherServer' || problem.kind === 'damaged') {
-      const kept = await this.files.open(`kept-${before}`);
-      await kept.apply([{ place: 0, bytes: await this.engine.bytes() }, 'sync']);
-      await kept.close();
+      const bytes = await this.engine.bytes();
+      await inFile(this.files, `kept-${before}`, (kept) => kept.apply([{ place: 0, bytes }, 'sync']));
     }
     await this.engine.close();
     this.use(heir);

@@ -20,7 +20,7 @@ class Bytes {
   constructor(readonly bytes: Uint8Array) {}
 
   byte(): number {
-    if (this.at >= this.bytes.length) throw new RangeError('a message ends early');
+    if (this.at >= this.bytes.length) throw new RangeError('the bytes end early');
     return this.bytes[this.at++]!;
   }
 
@@ -47,7 +47,7 @@ class Bytes {
   }
 
   run(length: number): Uint8Array {
-    if (length > this.bytes.length - this.at) throw new RangeError('a message ends early');
+    if (length > this.bytes.length - this.at) throw new RangeError('the bytes end early');
     this.at += length;
     return this.bytes.subarray(this.at - length, this.at);
   }
@@ -86,8 +86,8 @@ export function headOf(told: Uint8Array): Head {
   return { tag: told[0]!, ident: at(0), by: at(1), count: at(2), first: at(3), second: at(4), third: at(5) };
 }
 
-/** A change that an Upload bears, of which `first` is the number and `second` the base, or an entry of a Download, of which they are the origin and the
- * number. */
+/** A change that an Upload bears, of which `first` is the number and `second` the base, or an entry of a Download, of which they are the origin
+ * and the number. */
 export interface Borne { readonly first: number; readonly second: number; readonly ms: bigint; readonly body: Uint8Array }
 
 /** What the core tells that a message bears. */

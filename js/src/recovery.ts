@@ -124,8 +124,8 @@ export class Takeover {
     return { problem: this.problem, integrated, saved, dropped };
   }
 
-  /** The new client takes a change of the old one as its transaction of that number, unless a try that was cut off did. Answers the edits that it couldn't
-   * keep. */
+  /** The new client takes a change of the old one as its transaction of that number, unless a try that was cut off did. Answers the edits that
+   * it couldn't keep. */
   private save(ident: number, { number, ms, body }: Change, place: number): Dropped[] {
     // For the core the changes of an old client begin behind those that are in the history: they are counted from the first one that isn't.
     const head = new Uint8Array(28), view = new DataView(head.buffer);

@@ -20,10 +20,14 @@ export class FailingFiles extends MemoryFiles {
   strokes = 0;
   /** Whether the disk is gone: nothing can be opened. */
   isGone = false;
+  /** How many files are open. */
+  opened = 0;
 
   async open(name) {
     if (this.isGone) throw Object.assign(new Error('the disk is gone'), { code: 'EIO' });
-    return super.open(name);
+    const file = await super.open(name);
+    this.opened += 1;
+    return { ...file, close: () => { this.opened -= 1; } };
   }
 
   stroke() {

@@ -311,6 +311,7 @@ test('a takeover that ended at any stroke of its disk goes on after the next ope
     isWhole = files.failAt > 0;
     files.failAt = 0;
     await db.close();
+    assert.equal(files.opened, 0, `stroke ${cut}`);
     db = await online(net, files);
     await db.synced();
     assert.deepEqual(db.days.toArray().map((it) => it.day), [1, 2, 3, 4, 5, 6], `stroke ${cut}`);

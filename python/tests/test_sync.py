@@ -2,6 +2,7 @@
 
 from __future__ import annotations
 
+import errno
 import os
 import random
 import shutil
@@ -291,6 +292,32 @@ class Recovering(unittest.TestCase):
         for db in dbs:
             self.assertEqual([it.day for it in db[Day]], [1, 2, 3, 4, 5, 6, 10, 11])
         self.assertEqual(self.net.server.standing().cursor, 4 + 3 + 1 + 1)
+
+    def test_a_takeover_that_ended_at_any_sync_of_its_disk_goes_on_after_the_next_opening(self) -> None:
+        fsync, left, is_whole, folder = os.fsync, 0, False, os.path.dirname(self.path)
+
+        def failing(file: int) -> None:
+            nonlocal left
+            left -= 1
+            if left == 0:
+                raise OSError(errno.EIO, "the process ends here")
+            fsync(file)
+
+        cut = 0
+        while not is_whole:
+            cut += 1
+            self.net, self.path = Net(), f"{folder}/{cut}"
+            self.restored()
+            left, told = cut, list[Recovery]()
+            with Database(self.path, TYPES) as db, mock.patch("os.fsync", failing):
+                db.on_recovered(told.append)
+                db.start_sync(self.net.transport(), options=FAST)
+                until(lambda told=told: left <= 0 or bool(told))  # type: ignore[misc]
+                is_whole = left > 0
+            with self.net.database(self.path) as db:
+                self.assertTrue(db.synced(30), f"sync {cut}")
+                self.assertEqual([it.day for it in db[Day]], [1, 2, 3, 4, 5, 6], f"sync {cut}")
+            self.assertEqual(self.net.server.standing().cursor, 4 + 3, f"sync {cut}")
 
     def test_a_takeover_of_a_copy_that_ended_before_it_was_in_place_leaves_nothing_out(self) -> None:
         self.restored()

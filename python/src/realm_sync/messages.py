@@ -34,8 +34,8 @@ class Head(NamedTuple):
 
 
 class Borne(NamedTuple):
-    """A change that an Upload bears, of which `first` is the number and `second` the base, or an entry of a Download, of which they are the origin and
-    the number."""
+    """A change that an Upload bears, of which `first` is the number and `second` the base, or an entry of a Download, of which they are the origin
+    and the number."""
 
     first: int
     second: int
@@ -100,7 +100,7 @@ class _Bytes:
 
     def run(self, length: int) -> bytes:
         if length > len(self.data) - self.at:
-            raise IndexError("a message ends early")
+            raise IndexError("the bytes end early")
         self.at += length
         return self.data[self.at - length : self.at]
 
