@@ -115,6 +115,8 @@ export class Host {
   private isClosed = false;
   private syncOptions: SyncOptions | null = null;
   private recovering: Promise<boolean> | null = null;
+  /** Ends the message of a new client that waits for its answer. */
+  private asking: AbortController | null = null;
   /** Whether a new client took over since the last time that all was up to date. */
   private hasRecovered = false;
   private waitingForToken: ((token: string | null) => void)[] = [];
@@ -445,11 +447,14 @@ export class Host {
     if (this.syncOptions) this.syncOptions.transport.generation = generation;
   }
 
+  /** A new client's message, which waits no longer once the database is closed. */
   private exchange(message: Uint8Array): Promise<Uint8Array> {
-    if (!this.syncOptions) throw new RealmError('this database has no sync');
+    if (!this.syncOptions || this.isClosed) throw new RealmError('this database has no sync');
     const late = new AbortController();
+    this.asking = late;
     const timer = setTimeout(() => late.abort(), this.syncOptions.timeout ?? DEFAULTS.timeout);
-    return this.syncOptions.transport.exchange(message, late.signal).finally(() => clearTimeout(timer));
+    const ended = new Promise<never>((_, fail) => { late.signal.onabort = () => fail(new RealmError('no answer came')); });
+    return Promise.race([this.syncOptions.transport.exchange(message, late.signal), ended]).finally(() => clearTimeout(timer));
   }
 
   /** A new client takes this one's place, and saves what this one has unsent. Until it has all, this one goes on; if it is cut off, it is
@@ -549,6 +554,8 @@ export class Host {
     this.loop?.stop();
     this.loop = null;
     this.giveToken(null);
+    this.asking?.abort();
+    await this.recovering?.catch(() => {});
     await this.queue;
     await this.engine.close();
     await this.files.close();

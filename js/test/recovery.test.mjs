@@ -356,6 +356,30 @@ test('a takeover that ended at any stroke, of a copy whose other one was there f
   }
 });
 
+test('a database that is closed in the middle of a takeover leaves its files alone, also when an answer comes late', async () => {
+  for (const tag of [Tag.Bind, Tag.Ask2, Tag.Retire]) {
+    const net = await server();
+    const files = new FailingFiles();
+    let db = await restored(net, files);
+    const transport = net.transport();
+    let answer = null;
+    const waiting = (message) => new Promise((done) => { answer = () => done(transport.exchange(message)); });
+    const slow = { exchange: (message) => (message[0] === tag && files.opened > 1 ? waiting(message) : transport.exchange(message)) };
+    await db.startSync({ transport: slow, ...fast });
+    while (!answer) await new Promise((done) => setTimeout(done, 2));
+    await db.close();
+    assert.equal(files.opened, 0);
+    const before = files.strokes;
+    answer();
+    await new Promise((done) => setTimeout(done, 20));
+    assert.equal(files.strokes, before);
+    db = await online(net, files);
+    await db.synced();
+    assert.deepEqual(db.days.toArray().map((it) => it.day), [1, 2, 3, 4, 5, 6]);
+    await db.close();
+  }
+});
+
 test('a problem that no new client settles is no reason for one', async () => {
   const net = await server();
   const files = new MemoryFiles();
