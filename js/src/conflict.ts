@@ -1,9 +1,8 @@
 // Which definition makes a change and the history not merge: by the two changesets, for a person to read.
 
 import type { Engine } from './engine.js';
-import { editsOf, entriesOf } from './messages.js';
+import { editsOf } from './messages.js';
 import type { Conflict } from './problems.js';
-import { unsentOf } from './recovery.js';
 
 interface Definition {
   readonly op: string;
@@ -26,8 +25,8 @@ const definitionsIn = (body: Uint8Array): Definition[] => editsOf(body).filter(i
 
 /** The first definition that the unsent change `number` and the entry at `version` of this Download give in two ways. */
 export function conflictIn(engine: Engine, message: Uint8Array, version: number, number: number): Conflict | null {
-  const entry = entriesOf(message)?.find((it) => it.version === version);
-  const change = entry && [...unsentOf(engine)].find((it) => it.number === number);
+  const entry = engine.entriesOf(message).find((it) => it.version === version);
+  const change = entry && [...engine.unsent()].find((it) => it.number === number);
   if (!change) return null;
   const theirs = definitionsIn(entry.body);
   for (const mine of definitionsIn(change.body)) {

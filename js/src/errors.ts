@@ -5,7 +5,7 @@ import type { Conflict, Problem } from './problems.js';
 /** Why a client refuses: docs/FORMATS.md, "Refusals by number". */
 export const REASONS = [
   'None', 'NotBorn', 'AlreadyBorn', 'NotNamed', 'TooLarge', 'NumbersFull', 'OldForm', 'NotSubscribed', 'Break', 'NotMine', 'IdentDiffers',
-  'Gap', 'BadBody', 'OldEntry', 'Mismatch', 'Forked', 'NotApplicable', 'WasRefused', 'Subscribed', 'TooLate',
+  'Gap', 'BadBody', 'OldEntry', 'Mismatch', 'Forked', 'NotApplicable', 'WasRefused', 'Subscribed', 'TooLate', 'Skips', 'BadChange',
 ] as const;
 export type Reason = (typeof REASONS)[number];
 

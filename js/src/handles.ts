@@ -3,7 +3,7 @@
 import { InvalidValue } from './errors.js';
 import { isSame } from './mirror.js';
 import type { ColumnForm, CounterHandle, DictHandle, ListHandle, SetHandle } from './schema.js';
-import { atJson } from './values.js';
+import { atJson, wellFormed } from './values.js';
 
 export type Draft = Record<string, unknown>;
 
@@ -15,6 +15,8 @@ export interface Cell {
   /** Adds an edit of the cell. */
   edit(op: string, more?: string): void;
   json(value: unknown): string;
+  /** An element, or a value of the cell, as it is read back of its JSON. */
+  read(json: string): unknown;
   /** The object as this transaction reads it; null where it isn't there. */
   draft(): Draft | null;
   /** From now on the transaction rests on what it read. */
@@ -40,7 +42,8 @@ class CounterEditor implements CounterHandle {
     this.cell.edit('AddInteger', `,"amount":${this.cell.json(amount)}`);
     const row = this.cell.draft();
     if (!row || row[name] === null) return;
-    row[name] = field.big ? BigInt.asIntN(64, (row[name] as bigint) + BigInt(amount)) : (row[name] as number) + Number(amount);
+    const sum = BigInt.asIntN(64, BigInt(row[name] as number | bigint) + BigInt(amount));
+    row[name] = field.big ? sum : Number(sum);
   }
 }
 
@@ -50,11 +53,12 @@ class SetEditor implements SetHandle<unknown> {
   private change(op: string, does: 'add' | 'delete', values: unknown[]): void {
     const { name } = this.cell.column;
     for (const value of values) {
-      this.cell.edit(op, `,"value":${this.cell.json(value)}`);
+      const json = this.cell.json(value);
+      this.cell.edit(op, `,"value":${json}`);
       const row = this.cell.draft();
       if (!row) continue;
       const next = new Set(row[name] as Set<unknown>);
-      next[does](value);
+      next[does](this.cell.read(json));
       row[name] = next;
     }
   }
@@ -82,23 +86,24 @@ class DictEditor implements DictHandle<unknown> {
     if (!row) return;
     const entries = Object.assign(Object.create(null), row[this.cell.column.name]);
     make(entries);
-    row[this.cell.column.name] = entries;
+    row[this.cell.column.name] = Object.freeze(entries);
   }
 
   set(at: string, value: unknown): void {
-    this.cell.edit('DictUpdate', `,"at":${atJson(at, this.cell.where)},"value":${this.cell.json(value)}`);
-    this.change((entries) => { entries[at] = value; });
+    const json = this.cell.json(value);
+    this.cell.edit('DictUpdate', `,"at":${atJson(at, this.cell.where)},"value":${json}`);
+    this.change((entries) => { entries[wellFormed(at)] = this.cell.read(json); });
   }
 
   delete(at: string): void {
     this.cell.edit('DictErase', `,"at":${atJson(at, this.cell.where)}`);
-    this.change((entries) => { delete entries[at]; });
+    this.change((entries) => { delete entries[wellFormed(at)]; });
   }
 
   clear(): void {
     this.cell.edit('Clear');
     const row = this.cell.draft();
-    if (row) row[this.cell.column.name] = Object.create(null);
+    if (row) row[this.cell.column.name] = Object.freeze(Object.create(null));
   }
 }
 
@@ -111,7 +116,7 @@ class ListEditor implements ListHandle<unknown> {
     cell.hasRead();
   }
 
-  /** The elements, as a list of this transaction's own. */
+  /** The elements, as a list of this transaction's own, until they are read. */
   private own(): unknown[] {
     const row = this.cell.draft();
     if (!row) return [];
@@ -139,9 +144,9 @@ class ListEditor implements ListHandle<unknown> {
     this.place(place, this.length);
     const own = this.own();
     for (const value of values) {
-      this.cell.edit('ListInsert', `,"place":${place},"prior":${own.length},"value":${this.cell.json(value)}`);
-      if (place === own.length) own.push(value);
-      else own.splice(place, 0, value);
+      const json = this.cell.json(value);
+      this.cell.edit('ListInsert', `,"place":${place},"prior":${own.length},"value":${json}`);
+      own.splice(place, 0, this.cell.read(json));
       place += 1;
     }
   }
@@ -149,8 +154,9 @@ class ListEditor implements ListHandle<unknown> {
   replace(place: number, value: unknown): void {
     this.place(place, this.length - 1);
     const own = this.own();
-    this.cell.edit('ListUpdate', `,"place":${place},"prior":${own.length},"value":${this.cell.json(value)}`);
-    own[place] = value;
+    const json = this.cell.json(value);
+    this.cell.edit('ListUpdate', `,"place":${place},"prior":${own.length},"value":${json}`);
+    own[place] = this.cell.read(json);
   }
 
   remove(place: number, count = 1): void {
@@ -163,7 +169,8 @@ class ListEditor implements ListHandle<unknown> {
   }
 
   removeValue(value: unknown): boolean {
-    const place = this.own().findIndex((it) => isSame(it, value));
+    const element = this.cell.read(this.cell.json(value));
+    const place = this.own().findIndex((it) => isSame(it, element));
     if (place < 0) return false;
     this.remove(place);
     return true;

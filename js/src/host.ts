@@ -11,7 +11,7 @@ import { LostEdits, type LostForm } from './lost.js';
 import type { Put } from './mirror.js';
 import { isTakenOverByItself, type Problem } from './problems.js';
 import { Takeover, born, type Recovery } from './recovery.js';
-import type { Files } from './storage.js';
+import type { Files, OpenFile } from './storage.js';
 import { SyncLoop, inTurn, type LoopOptions, type SyncState, type Transport } from './sync.js';
 import { Talk, refusalOf } from './talk.js';
 import { parseLine, textOfKey } from './values.js';
@@ -73,18 +73,23 @@ const reasonName = (generation: number): string => `reason-${generation}`;
 const SERVER_GENERATION = 'generation';
 const NOTE = 4096;
 
-/** Keeps something small beside the client's file. */
-async function keepNote(files: Files, name: string, note: unknown): Promise<void> {
+/** Opens a file for some work, and closes it. */
+async function inFile<T>(files: Files, name: string, work: (file: OpenFile) => T | Promise<T>): Promise<T> {
   const file = await files.open(name);
-  await file.apply([{ place: 0, bytes: utf8(JSON.stringify(note).padEnd(NOTE)) }, 'sync']);
-  await file.close();
+  try {
+    return await work(file);
+  } finally {
+    await file.close();
+  }
 }
+
+/** Keeps something small beside the client's file. */
+const keepNote = (files: Files, name: string, note: unknown): Promise<void> =>
+  inFile(files, name, (file) => file.apply([{ place: 0, bytes: utf8(JSON.stringify(note).padEnd(NOTE)) }, 'sync']));
 
 /** Null where it was cut off before it was written. */
 async function noteOf<T>(files: Files, name: string): Promise<T | null> {
-  const file = await files.open(name);
-  const text = textOf(await file.read());
-  await file.close();
+  const text = textOf(await inFile(files, name, (file) => file.read()));
   try {
     return JSON.parse(text) as T;
   } catch {
@@ -110,6 +115,8 @@ export class Host {
   private isClosed = false;
   private syncOptions: SyncOptions | null = null;
   private recovering: Promise<boolean> | null = null;
+  /** Ends the message of a new client that waits for its answer. */
+  private asking: AbortController | null = null;
   /** Whether a new client took over since the last time that all was up to date. */
   private hasRecovered = false;
   private waitingForToken: ((token: string | null) => void)[] = [];
@@ -142,12 +149,17 @@ export class Host {
     const found = numbers.filter((it) => it > 0).sort((a, b) => a - b);
     const generation = found[0] ?? 1;
     const engine = await Engine.open(module, await files.open(nameOf(generation)));
-    await born(engine);
-    const heir = found[1] ?? null;
-    const reason = heir === null ? null : await noteOf<Problem>(files, reasonName(heir));
-    const host = new Host(module, files, engine, generation, heir, reason);
-    if ((await files.names()).includes(SERVER_GENERATION)) host.serverGeneration = (await noteOf<number>(files, SERVER_GENERATION)) ?? 1;
-    return host;
+    try {
+      await born(engine);
+      const heir = found[1] ?? null;
+      const reason = heir === null ? null : await noteOf<Problem>(files, reasonName(heir));
+      const host = new Host(module, files, engine, generation, heir, reason);
+      if ((await files.names()).includes(SERVER_GENERATION)) host.serverGeneration = (await noteOf<number>(files, SERVER_GENERATION)) ?? 1;
+      return host;
+    } catch (error) {
+      await engine.close();
+      throw error;
+    }
   }
 
   listen(listener: (event: HostEvent) => void): () => void {
@@ -435,11 +447,14 @@ export class Host {
     if (this.syncOptions) this.syncOptions.transport.generation = generation;
   }
 
+  /** A new client's message, which waits no longer once the database is closed. */
   private exchange(message: Uint8Array): Promise<Uint8Array> {
-    if (!this.syncOptions) throw new RealmError('this database has no sync');
+    if (!this.syncOptions || this.isClosed) throw new RealmError('this database has no sync');
     const late = new AbortController();
+    this.asking = late;
     const timer = setTimeout(() => late.abort(), this.syncOptions.timeout ?? DEFAULTS.timeout);
-    return this.syncOptions.transport.exchange(message, late.signal).finally(() => clearTimeout(timer));
+    const ended = new Promise<never>((_, fail) => { late.signal.onabort = () => fail(new RealmError('no answer came')); });
+    return Promise.race([this.syncOptions.transport.exchange(message, late.signal), ended]).finally(() => clearTimeout(timer));
   }
 
   /** A new client takes this one's place, and saves what this one has unsent. Until it has all, this one goes on; if it is cut off, it is
@@ -455,29 +470,38 @@ export class Host {
     if (ident === 0 && unsent > 0) throw new NeedsAttention({ ...problem, text: `${problem.text}; this client has no ident yet`, isRecoverable: false });
     const before = this.state;
     this.setState({ status: 'recovering', problem });
-    const heir = await this.openHeir(problem);
-    const takeover = new Takeover(heir, (message) => this.exchange(message), problem);
     const { transport } = this.syncOptions ?? {};
-    try {
-      if (transport && problem.generation) transport.generation = problem.generation;
-      await takeover.join(this.engine.standing());
-      const recovery = await this.alone(async () => {
-        const done = await takeover.inherit(this.engine);
-        if (problem.generation) await this.agreeOn(problem.generation);
-        await this.replaced(heir, problem);
-        return done;
-      });
-      this.hasRecovered = true;
-      this.tell({ event: 'recovered', recovery });
-      this.loop?.resume();
-      return true;
-    } catch (error) {
-      if (this.engine !== heir) await heir.close();
-      if (error instanceof Refused) await this.discardHeir();
-      if (transport) transport.generation = this.serverGeneration;
-      this.setState(before);
-      throw error;
+    for (;;) {
+      const heir = await this.openHeir(problem);
+      try {
+        if (transport && problem.generation) transport.generation = problem.generation;
+        if (await this.putInPlace(heir, problem)) return true;
+        await heir.close();
+        await this.discardHeir();
+      } catch (error) {
+        if (this.engine !== heir) await heir.close();
+        if (error instanceof Refused) await this.discardHeir();
+        if (transport) transport.generation = this.serverGeneration;
+        this.setState(before);
+        throw error;
+      }
     }
+  }
+
+  /** False where the new client has to be begun anew. */
+  private async putInPlace(heir: Engine, problem: Problem): Promise<boolean> {
+    const takeover = new Takeover(heir, (message) => this.exchange(message), problem);
+    if (!(await takeover.join(this.engine.standing()))) return false;
+    const recovery = await this.alone(async () => {
+      const done = await takeover.inherit(this.engine);
+      if (problem.generation) await this.agreeOn(problem.generation);
+      await this.replaced(heir, problem);
+      return done;
+    });
+    this.hasRecovered = true;
+    this.tell({ event: 'recovered', recovery });
+    this.loop?.resume();
+    return true;
   }
 
   /** The new client that had begun to take over, or another one: one of another server is never gone on with. */
@@ -505,9 +529,8 @@ export class Host {
   private async replaced(heir: Engine, problem: Problem): Promise<void> {
     const before = this.generation;
     if (problem.kind === 'otherServer' || problem.kind === 'damaged') {
-      const kept = await this.files.open(`kept-${before}`);
-      await kept.apply([{ place: 0, bytes: await this.engine.bytes() }, 'sync']);
-      await kept.close();
+      const bytes = await this.engine.bytes();
+      await inFile(this.files, `kept-${before}`, (kept) => kept.apply([{ place: 0, bytes }, 'sync']));
     }
     await this.engine.close();
     this.use(heir);
@@ -531,6 +554,8 @@ export class Host {
     this.loop?.stop();
     this.loop = null;
     this.giveToken(null);
+    this.asking?.abort();
+    await this.recovering?.catch(() => {});
     await this.queue;
     await this.engine.close();
     await this.files.close();

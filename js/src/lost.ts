@@ -2,8 +2,7 @@
 // what the core says of an object before the message and after it. Nothing is merged here.
 
 import type { Engine } from './engine.js';
-import { editsOf, entriesOf, readOf } from './messages.js';
-import { unsentOf } from './recovery.js';
+import { editsOf } from './messages.js';
 import { Status, textOf } from './door.js';
 import { parseLine, textOfKey } from './values.js';
 
@@ -99,9 +98,16 @@ function byObject(edits: Iterable<Edit>): Map<string, Edit[]> {
 
 const editsAt = (body: Uint8Array, ms: bigint): Edit[] => editsOf(body).map((text) => ({ ...(parseLine(text) as Edit), ms: Number(ms) }));
 
-/** What others did to objects in the entries of a Download. */
-const editsOfOthers = (message: Uint8Array, ident: number): Map<string, Edit[]> =>
-  byObject((entriesOf(message) ?? []).filter((it) => it.origin !== ident).flatMap(({ body, ms }) => editsAt(body, ms)));
+/** What others did to objects in the entries of a Download; nothing where one's bytes are no changeset, which the core then refuses. */
+function editsOfOthers(engine: Engine, message: Uint8Array, ident: number): Map<string, Edit[]> {
+  const entries = engine.entriesOf(message).filter((it) => it.origin !== ident);
+  try {
+    return byObject(entries.flatMap(({ body, ms }) => editsAt(body, ms)));
+  } catch (error) {
+    if (error instanceof RangeError) return new Map();
+    throw error;
+  }
+}
 
 /** Looks at a Download before it is taken, and at the objects that it and this client's unsent changes both touch. */
 export class LostEdits {
@@ -109,9 +115,9 @@ export class LostEdits {
 
   constructor(private readonly engine: Engine, message: Uint8Array) {
     const { ident, unsent } = engine.standing();
-    const others = unsent > 0 ? readOf(() => editsOfOthers(message, ident)) : null;
-    if (!others?.size) return;
-    for (const [name, mine] of byObject([...unsentOf(engine)].flatMap(({ body, ms }) => editsAt(body, ms)))) {
+    const others = unsent > 0 ? editsOfOthers(engine, message, ident) : new Map<string, Edit[]>();
+    if (others.size === 0) return;
+    for (const [name, mine] of byObject([...engine.unsent()].flatMap(({ body, ms }) => editsAt(body, ms)))) {
       const theirs = others.get(name);
       const before = theirs && this.cells(mine[0]!);
       if (theirs && before) this.seen.push({ name, mine, others: theirs, before });

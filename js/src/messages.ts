@@ -1,4 +1,5 @@
-// What the SDK reads of messages and changesets: docs/FORMATS.md, "Messages" and "Changesets". It makes no message and no changeset.
+// What the package reads of what the core tells of messages, and of files and changesets: docs/FORMATS.md, "Messages for a host", "The journal" and
+// "Changesets". It reads no message by itself, and makes no message and no changeset.
 
 import { textOf } from './door.js';
 
@@ -14,14 +15,12 @@ const OPS = [
   'SetErase', 'DictUpdate', 'Clear',
 ];
 
-const MOST_IN_A_LIST = 4096;
-
 class Bytes {
   at = 0;
   constructor(readonly bytes: Uint8Array) {}
 
   byte(): number {
-    if (this.at >= this.bytes.length) throw new RangeError('a message ends early');
+    if (this.at >= this.bytes.length) throw new RangeError('the bytes end early');
     return this.bytes[this.at++]!;
   }
 
@@ -48,20 +47,13 @@ class Bytes {
   }
 
   run(length: number): Uint8Array {
-    if (length > this.bytes.length - this.at) throw new RangeError('a message ends early');
+    if (length > this.bytes.length - this.at) throw new RangeError('the bytes end early');
     this.at += length;
     return this.bytes.subarray(this.at - length, this.at);
   }
 
   rest(): Uint8Array {
     return this.bytes.subarray(this.at);
-  }
-
-  /** The length of a list in a message. */
-  count(): number {
-    const count = this.number();
-    if (count > MOST_IN_A_LIST) throw new RangeError('a list is too long');
-    return count;
   }
 
   hex(length: number): string {
@@ -75,29 +67,43 @@ class Bytes {
   }
 }
 
-export interface Change { readonly number: number; readonly ms: bigint; readonly body: Uint8Array }
+/** What a message is about: what it hasn't got is 0. */
+export interface Head {
+  readonly tag: number;
+  readonly ident: number;
+  readonly by: number;
+  readonly count: number;
+  readonly first: number;
+  readonly second: number;
+  readonly third: number;
+}
+const BEHIND_UUID = 17;
 
-/** What is read of bytes of somebody else: null where they are no such message, which the core then refuses. */
-export function readOf<T>(read: () => T): T | null {
-  try {
-    return read();
-  } catch (error) {
-    if (error instanceof RangeError) return null;
-    throw error;
+/** A head as the core tells it. */
+export function headOf(told: Uint8Array): Head {
+  const view = new DataView(told.buffer, told.byteOffset + BEHIND_UUID);
+  const at = (place: number): number => view.getUint32(4 * place, true);
+  return { tag: told[0]!, ident: at(0), by: at(1), count: at(2), first: at(3), second: at(4), third: at(5) };
+}
+
+/** A change that an Upload bears, of which `first` is the number and `second` the base, or an entry of a Download, of which they are the origin
+ * and the number. */
+export interface Borne { readonly first: number; readonly second: number; readonly ms: bigint; readonly body: Uint8Array }
+
+/** What the core tells that a message bears. */
+export function borneIn(told: Uint8Array): Borne[] {
+  const view = new DataView(told.buffer, told.byteOffset);
+  const all: Borne[] = [];
+  for (let at = 0; at < told.length; ) {
+    const end = at + 20 + view.getUint32(at + 16, true);
+    const ms = view.getBigUint64(at + 8, true);
+    all.push({ first: view.getUint32(at, true), second: view.getUint32(at + 4, true), ms, body: told.subarray(at + 20, end) });
+    at = end;
   }
+  return all;
 }
 
-/** The changes of an Upload. */
-export function changesOfUpload(message: Uint8Array): Change[] {
-  const from = new Bytes(message.subarray(1));
-  from.number();
-  return Array.from({ length: from.count() }, () => {
-    const number = from.number();
-    from.number();
-    const ms = from.big();
-    return { number, ms, body: from.run(from.number()) };
-  });
-}
+export interface Change { readonly number: number; readonly ms: bigint; readonly body: Uint8Array }
 
 /** The records of a client's file: docs/FORMATS.md, "The journal" and "Records". */
 function* recordsOf(journal: Uint8Array): IterableIterator<Bytes> {
@@ -119,47 +125,6 @@ export function changesOf(ident: number, journal: Uint8Array): Change[] {
 }
 
 export interface Entry extends Change { readonly origin: number; readonly version: number }
-
-/** The entries of a Download: those of a history from `version` on. Null of any other message. */
-export function entriesOf(message: Uint8Array): Entry[] | null {
-  if (message[0] !== Tag.Download) return null;
-  const from = new Bytes(message.subarray(1));
-  from.number();
-  const first = from.number();
-  return Array.from({ length: from.count() }, (_, place) => {
-    const origin = from.number(), number = from.number(), ms = from.big();
-    return { version: first + place, origin, number, ms, body: from.run(from.number()) };
-  });
-}
-
-/** Of a Download without entries: for whom it is, and the cursor behind which there is nothing. */
-export function endOf(message: Uint8Array): { ident: number; cursor: number } | null {
-  if (message[0] !== Tag.Download) return null;
-  const from = new Bytes(message.subarray(1));
-  return readOf(() => {
-    const ident = from.number(), cursor = from.number();
-    return from.number() === 0 ? { ident, cursor } : null;
-  });
-}
-
-/** Of a Stored: up to which number the history has the changes of that ident. */
-export function storedOf(message: Uint8Array): { ident: number; number: number } | null {
-  if (message[0] !== Tag.Stored) return null;
-  const from = new Bytes(message.subarray(1));
-  return readOf(() => ({ ident: from.number(), number: from.number() }));
-}
-
-/** The number of a Retired: how many changes of the ident are in the history; and whose it is. */
-export function retiredOf(message: Uint8Array): { ident: number; by: number; number: number } {
-  const from = new Bytes(message.subarray(1));
-  return { ident: from.number(), by: from.number(), number: from.number() };
-}
-
-/** What a Refused to a Retire says. */
-export function refusedOf(message: Uint8Array): { ident: number; number: number; code: number; place: number } {
-  const from = new Bytes(message.subarray(1));
-  return { ident: from.number(), number: from.number(), code: from.number(), place: from.number() };
-}
 
 /** The edits of a changeset, as the lines of the core write them, each as JSON. */
 export function editsOf(body: Uint8Array): string[] {

@@ -1,9 +1,9 @@
 // A new client takes a refused one's place, and saves what that had unsent: docs/FORMATS.md, "Recovering what an old client had unsent".
 
 import { Status, type Standing } from './door.js';
-import { Engine } from './engine.js';
-import { NeedsAttention, Refused } from './errors.js';
-import { Tag, changesOf, changesOfUpload, editsOf, refusedOf, retiredOf, type Change } from './messages.js';
+import { Engine, four } from './engine.js';
+import { NeedsAttention, Refused, wordsOfCode } from './errors.js';
+import { Tag, changesOf, editsOf, type Change } from './messages.js';
 import { problem as problemFor, type Problem } from './problems.js';
 import { Talk, refusalOf } from './talk.js';
 
@@ -24,12 +24,6 @@ export interface Recovery {
   readonly saved: number;
   readonly dropped: readonly Dropped[];
 }
-
-const four = (number: number): Uint8Array => {
-  const bytes = new Uint8Array(4);
-  new DataView(bytes.buffer).setUint32(0, number, true);
-  return bytes;
-};
 
 /** Gives a new client its uuid, and brings its file to form 2, unless both was done. */
 export async function born(engine: Engine): Promise<void> {
@@ -57,20 +51,23 @@ export class Takeover {
     this.talk = new Talk(heir);
   }
 
-  /** The new client takes the history, retires the old one, and takes what that had sent before. */
-  async join(old: Standing): Promise<void> {
+  /** The new client takes the history, retires the old one, and takes what that had sent before. False where it has to be begun anew. */
+  async join(old: Standing): Promise<boolean> {
     await born(this.heir);
     await this.takeAll();
     // At another server the old ident may be somebody else's: it is left alone, and nothing of the old client is in that history. One that was
     // restored is the same as it was once: what it has of the old client isn't saved again, and its service takes no more of it.
     if (this.problem.kind === 'otherServer') {
       if (this.problem.generation) this.own = await this.changesOfOld(old.ident);
-      return;
+      return true;
     }
     const other = await this.retire(old.ident);
     await this.takeAll();
     this.own = await this.changesOfOld(old.ident);
-    if (other !== null) this.savedByOther = changesOf(other, await this.heir.bytes());
+    if (other === null) return true;
+    this.savedByOther = changesOf(other, await this.heir.bytes());
+    // What a try that was cut off has saved already, the other one may have sent since.
+    return this.heir.standing().last === 0;
   }
 
   private async changesOfOld(ident: number): Promise<ReadonlyMap<number, bigint>> {
@@ -92,8 +89,9 @@ export class Takeover {
   private async retire(ident: number): Promise<number | null> {
     if (ident === 0) return null;
     const reply = await this.exchange(this.heir.ask('G', four(ident)));
-    if (reply[0] === Tag.Retired && retiredOf(reply).ident === ident) return null;
-    const { code, place } = refusedOf(reply);
+    const head = this.heir.head(reply);
+    if (head?.tag === Tag.Retired && head.ident === ident) return null;
+    const { second: code, third: place } = head?.tag === Tag.Refused ? head : { second: 0, third: 0 };
     if (code === 70) return place;
     // Not an ident of this server, or the new client's own: there is nothing to retire.
     if (code === 60 || code === 69) return null;
@@ -107,11 +105,10 @@ export class Takeover {
    */
   async inherit(old: Engine): Promise<Recovery> {
     const dropped: Dropped[] = [];
+    if (this.problem.kind === 'otherServer') this.define(definitionsOf(old.dump()));
     let integrated = 0, saved = 0, isBeginning = true, byOther = 0;
-    if (this.problem.kind === 'otherServer' && this.heir.standing().last === 0) await this.save(0, 0n, definitionsOf(old.dump()), []);
-    let known = this.heir.standing().last; // saved by an earlier try that was cut off
-    if (this.problem.kind === 'otherServer') known -= 1;
-    for (const change of unsentOf(old)) {
+    const { ident } = old.standing(), before = this.problem.kind === 'otherServer' ? this.heir.standing().last : 0;
+    for (const change of old.unsent()) {
       isBeginning &&= this.own.get(change.number) === change.ms;
       const other = this.savedByOther[byOther];
       if (isBeginning || (other && isSavedAs(change, other))) {
@@ -121,25 +118,41 @@ export class Takeover {
       }
       byOther = Infinity; // from here on the copies were apart
       saved += 1;
-      if (known > 0) known -= 1;
-      else await this.save(change.number, change.ms, editsOf(change.body), dropped);
+      dropped.push(...this.save(ident, change, before + saved));
     }
     await this.heir.settled(null);
     return { problem: this.problem, integrated, saved, dropped };
   }
 
-  /** One transaction, without the edits that don't act on the new client's objects. */
-  private async save(number: number, ms: bigint, edits: string[], dropped: Dropped[]): Promise<void> {
-    for (;;) {
-      const reply = this.heir.reply('L', `{"ms":${ms},"edits":[${edits.join(',')}]}`);
-      if (reply.status === Status.Done) break;
+  /** The new client takes a change of the old one as its transaction of that number, unless a try that was cut off did. Answers the edits that
+   * it couldn't keep. */
+  private save(ident: number, { number, ms, body }: Change, place: number): Dropped[] {
+    // For the core the changes of an old client begin behind those that are in the history: they are counted from the first one that isn't.
+    const head = new Uint8Array(28), view = new DataView(head.buffer);
+    [ident, this.heir.standing().ident, 0, place, 0].forEach((it, at) => view.setUint32(4 * at, it, true));
+    view.setBigUint64(20, ms, true);
+    const request = new Uint8Array(head.length + body.length);
+    request.set(head);
+    request.set(body, head.length);
+    const answer = this.heir.ask('K', request);
+    const told = new DataView(answer.buffer, answer.byteOffset, answer.byteLength);
+    const dropped: Dropped[] = [];
+    for (let at = 5; at < answer.length; at += 8) {
+      const edit = editsOf(body)[told.getUint32(at, true)]!;
+      dropped.push({ number, ms: Number(ms), edit, why: wordsOfCode(told.getUint32(at + 4, true)) });
+    }
+    return dropped;
+  }
+
+  /** Adds tables and columns, but those that the history has otherwise. */
+  private define(edits: string[]): void {
+    while (edits.length > 0) {
+      const reply = this.heir.reply('L', `{"ms":0,"edits":[${edits.join(',')}]}`);
+      if (reply.status === Status.Done) return;
       const refusal = refusalOf(reply);
       if (refusal.reason !== 'Break') throw refusal;
-      const [place] = refusal.details;
-      dropped.push({ number, ms: Number(ms), edit: edits[place]!, why: refusal.message });
-      edits = edits.filter((_, at) => at !== place);
+      edits.splice(refusal.details[0], 1);
     }
-    await this.heir.settled(null);
   }
 }
 
@@ -162,14 +175,4 @@ function definitionsOf(dump: string): string[] {
   const lines = dump.split('\n').filter((it) => it !== '' && !it.startsWith('{"cells"')).map((it) => JSON.parse(it) as { column?: string });
   const edits = lines.map((it) => JSON.stringify({ op: it.column === undefined ? 'AddTable' : 'AddColumn', ...it }));
   return [...edits.filter((it) => it.startsWith('{"op":"AddTable"')), ...edits.filter((it) => it.startsWith('{"op":"AddColumn"'))];
-}
-
-/** The unsent changes of a client, as they were made. One without an ident tells none: the core makes no Upload of it. */
-export function* unsentOf(engine: Engine): IterableIterator<Change> {
-  for (let after = 0; engine.standing().ident !== 0;) {
-    const changes = changesOfUpload(engine.ask('U', four(after)));
-    if (changes.length === 0) return;
-    yield* changes;
-    after = changes[changes.length - 1]!.number;
-  }
 }

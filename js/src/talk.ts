@@ -4,7 +4,7 @@
 import { Status, expectDone, type Reply } from './door.js';
 import type { Engine } from './engine.js';
 import { Refused } from './errors.js';
-import { endOf, storedOf } from './messages.js';
+import { Tag } from './messages.js';
 
 export class Talk {
   /**
@@ -37,8 +37,9 @@ export class Talk {
    * cursor. */
   take(message: Uint8Array): { refused: Refused | null; isEnd: boolean } {
     const { ident, cursor, last } = this.engine.standing();
-    const stored = storedOf(message);
-    if (stored && stored.ident === ident && stored.number > last) {
+    const head = this.engine.head(message);
+    const stored = head?.tag === Tag.Stored && head.ident === ident ? head.first : 0;
+    if (stored > last) {
       this.isCurrent = false;
       return { refused: new Refused('Forked', [last + 1, 0, 0]), isEnd: false };
     }
@@ -48,9 +49,8 @@ export class Talk {
       return { refused: refusalOf(reply), isEnd: false };
     }
     expectDone(reply);
-    if (stored) this.stored = stored.number;
-    const end = endOf(message);
-    const isEnd = end !== null && end.ident === ident && end.cursor === cursor;
+    if (stored > 0) this.stored = stored;
+    const isEnd = head?.tag === Tag.Download && head.count === 0 && head.ident === ident && head.first === cursor;
     if (isEnd) this.isCurrent = true;
     return { refused: null, isEnd };
   }

@@ -5,7 +5,7 @@ import { InvalidValue } from './errors.js';
 import { handleOf, type Draft } from './handles.js';
 import type { Mirror, Row, TableRows } from './mirror.js';
 import type { ColumnForm, DictHandle, Handles, Key, KeyOf, ListHandle, New, ObjectOf, Patch, SetHandle, TableForm, Tables } from './schema.js';
-import { keyJson, plainKey, quote, readCell, valueJson } from './values.js';
+import { keyJson, parseElement, plainKey, quote, readCell, valueJson } from './values.js';
 
 /** The verbs on a table. */
 export interface TableWriter<T> {
@@ -83,10 +83,17 @@ export class Transaction {
     let edited = table.get(key);
     if (!edited) {
       const row = this.base(rows, key);
-      table.set(key, (edited = new Edited(row ? { ...row } : null)));
+      table.set(key, (edited = new Edited(row ? { ...shown(row) } : null)));
     }
     return edited;
   }
+}
+
+/** An object as code reads it, which never changes: what is edited later is a copy. */
+function shown(row: Row): Row {
+  if (Object.isFrozen(row)) return row;
+  for (const cell of Object.values(row)) if (Array.isArray(cell)) Object.freeze(cell);
+  return Object.freeze({ ...row });
 }
 
 const ZERO: Record<string, () => unknown> = {
@@ -151,7 +158,7 @@ class TableEditor implements TableWriter<any> {
   get(key: any): any {
     this.transaction.hasRead = true;
     const row = this.transaction.read(this.rows, this.key(key));
-    return row && Object.isFrozen(row) ? row : row && { ...row };
+    return row && shown(row);
   }
 
   has(key: any): boolean {
@@ -161,7 +168,7 @@ class TableEditor implements TableWriter<any> {
 
   *all(): IterableIterator<any> {
     this.transaction.hasRead = true;
-    for (const row of this.transaction.all(this.rows)) yield Object.isFrozen(row) ? row : { ...row };
+    for (const row of this.transaction.all(this.rows)) yield shown(row);
   }
 
   create(values: Record<string, any> = {}): any {
@@ -204,7 +211,7 @@ class TableEditor implements TableWriter<any> {
     const json = valueJson(column.field, this.transaction.tables, value, `${this.form.name}.${column.name}`);
     this.transaction.push(`${this.head('Update', key)},"column":${quote(column.name)},"value":${json}}`);
     const { row } = this.transaction.draft(this.rows, key);
-    if (row) row[column.name] = value;
+    if (row) row[column.name] = parseElement(column, json);
   }
 
   update(key: any, patch: Record<string, unknown>): void {
@@ -239,6 +246,7 @@ class TableEditor implements TableWriter<any> {
       where,
       edit: (op, more = '') => transaction.push(`${this.head(op, key)},"column":${quote(column.name)}${more}}`),
       json: (value) => valueJson(field, transaction.tables, value, where),
+      read: (json) => parseElement(column, json),
       draft: () => transaction.draft(rows, key).row,
       hasRead: () => { transaction.hasRead = true; },
     });

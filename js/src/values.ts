@@ -148,6 +148,9 @@ function readValue(field: Field<unknown, any>, it: any): unknown {
 /** An element of a cell, or the value of a cell of one value, as code reads it. */
 export const readElement = (form: ColumnForm, it: unknown): unknown => readValue(form.field, it);
 
+/** The same of JSON that was written here. */
+export const parseElement = (form: ColumnForm, json: string): unknown => readElement(form, (parseLine(`[${json}]`) as unknown[])[0]);
+
 /** A cell as code reads it. */
 export function readCell(form: ColumnForm, it: any): unknown {
   const { field } = form;

@@ -20,10 +20,14 @@ export class FailingFiles extends MemoryFiles {
   strokes = 0;
   /** Whether the disk is gone: nothing can be opened. */
   isGone = false;
+  /** How many files are open. */
+  opened = 0;
 
   async open(name) {
     if (this.isGone) throw Object.assign(new Error('the disk is gone'), { code: 'EIO' });
-    return super.open(name);
+    const file = await super.open(name);
+    this.opened += 1;
+    return { ...file, close: () => { this.opened -= 1; } };
   }
 
   stroke() {
@@ -70,28 +74,43 @@ export function draws(seed) {
   };
 }
 
-/** A transaction of random edits that act. */
+/** A transaction of random edits that act, on columns of each kind, with values that may be spelled otherwise than they are read. */
 export function randomEdits(tx, draw, ids) {
   for (let n = 1 + draw(4); n > 0; n--) {
     const id = ids[draw(ids.length)];
     if (!tx.items.has(id)) { tx.items.create({ id, title: `t${draw(9)}` }); continue; }
-    const at = tx.items.at(id);
-    const item = tx.items.get(id);
-    const some = () => `w${draw(6)}`;
-    [
-      () => tx.items.update(id, { title: some(), done: draw(2) === 1, price: draw(2) ? draw(100) : null }),
-      () => at.quantity.add(draw(9) - 4),
-      () => at.tags.add(some()), () => at.tags.delete(some()),
-      () => at.steps.insert(draw(item.steps.length + 1), some()), () => at.steps.push(some(), some()),
-      () => item.steps.length && at.steps.remove(draw(item.steps.length)),
-      () => item.steps.length && at.steps.replace(draw(item.steps.length), some()),
-      () => item.steps.length && at.steps.move(draw(item.steps.length), draw(item.steps.length)),
-      () => at.prices.set(some(), draw(50)), () => at.prices.delete(some()),
-      () => draw(6) === 0 && tx.items.erase(id),
-      () => draw(4) === 0 && at.steps.clear(), () => draw(4) === 0 && at.tags.clear(),
-      () => at.numbers.push(draw(1000)),
-    ][draw(15)]();
+    const edits = [...editsOfValues(tx, draw, id, ids), ...editsOfMany(tx, draw, id, ids)];
+    edits[draw(edits.length)]();
   }
+}
+
+const spelled = (draw, ids) => { const id = ids[draw(ids.length)]; return draw(2) ? id : id.toUpperCase(); };
+const word = (draw) => (draw(9) ? `w${draw(6)}` : `half \ud800 ${draw(3)}`);
+
+function editsOfValues(tx, draw, id, ids) {
+  const at = tx.items.at(id);
+  return [
+    () => tx.items.update(id, { title: word(draw), done: draw(2) === 1, price: draw(2) ? draw(100) : null }),
+    () => tx.items.update(id, { exact: draw(2) ? draw(9) : 2n ** 62n, maybe: draw(2) ? word(draw) : null, quantity: draw(2) ? -0 : 7n }),
+    () => tx.items.update(id, { ref: spelled(draw, ids), list: draw(3) ? spelled(draw, ids) : null }),
+    () => tx.items.update(id, { blob: Uint8Array.of(draw(256), 0), when: new Date((draw(2) ? 1 : -1) * draw(1e9)) }),
+    () => at.quantity.add(draw(9) - 4), () => at.price.add(draw(9) - 4), () => at.exact.add(draw(2) ? 2n ** 62n : 3),
+    () => draw(6) === 0 && tx.items.erase(id),
+  ];
+}
+
+function editsOfMany(tx, draw, id, ids) {
+  const at = tx.items.at(id), { steps } = tx.items.get(id), some = () => word(draw);
+  return [
+    () => at.tags.add(some()), () => at.tags.delete(some()), () => at.scores.add(draw(5), -0), () => at.scores.delete(draw(5)),
+    () => at.steps.insert(draw(steps.length + 1), some()), () => at.steps.push(some(), some()), () => at.steps.removeValue(some()),
+    () => steps.length && at.steps.remove(draw(steps.length)),
+    () => steps.length && at.steps.replace(draw(steps.length), some()),
+    () => steps.length && at.steps.move(draw(steps.length), draw(steps.length)),
+    () => at.friends.push(spelled(draw, ids)), () => at.friends.removeValue(spelled(draw, ids)), () => at.numbers.push(draw(1000), -0),
+    () => at.prices.set(some(), draw(50)), () => at.prices.delete(some()),
+    () => draw(4) === 0 && at[['steps', 'tags', 'prices', 'friends', 'numbers'][draw(5)]].clear(),
+  ];
 }
 
 /** Pauses for tests. */

@@ -7,6 +7,7 @@ import os from 'node:os';
 import path from 'node:path';
 import test from 'node:test';
 import { fileURLToPath, pathToFileURL } from 'node:url';
+import { REASONS } from '../dist/errors.js';
 import { openDatabase } from '../dist/node.js';
 import { startServer } from './server.mjs';
 import { schema } from './common.mjs';
@@ -72,4 +73,10 @@ test('the calls that docs/PORTING.md names are there', async () => {
   });
   for (const [whole, call] of cells.matchAll(/(?:query|`)\.(\w+)\(/g)) assert.equal(typeof db.items[call], 'function', whole);
   await db.close();
+});
+
+test('the refusals are those of docs/FORMATS.md', () => {
+  const part = fs.readFileSync(path.join(top, 'docs/FORMATS.md'), 'utf8').split('### Refusals by number')[1].split('##')[0];
+  const named = [...part.matchAll(/^\| (\d+) \| (\w+) \|/gm)].map(([, number, name]) => [Number(number), name]);
+  assert.deepEqual(named, [...REASONS.entries()].slice(1));
 });

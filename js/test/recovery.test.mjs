@@ -2,7 +2,7 @@ import assert from 'node:assert/strict';
 import test from 'node:test';
 import { FileImage, MemoryFiles, NeedsAttention, SchemaConflict, bool, defineSchema, int, key, openDatabase, text } from '../dist/node.js';
 import { Tag } from '../dist/messages.js';
-import { fast, memory, online, plain, server } from './common.mjs';
+import { FailingFiles, fast, memory, online, plain, server } from './common.mjs';
 
 test('schemas that differ are told before anything is sent, and a new client saves what it can', async () => {
   const net = await server();
@@ -63,6 +63,28 @@ test('a file that was restored from a backup: a new client takes over by itself'
   await db.close();
 });
 
+test('a list that became shorter meanwhile: the new client keeps what is unsent of it, at another place', async () => {
+  const net = await server();
+  const files = new MemoryFiles();
+  let db = await online(net, files);
+  const id = await db.write((tx) => tx.items.create({ title: 'Pasta', steps: ['boil', 'salt'] }));
+  await db.synced();
+  const backup = files.files.get('client-1').bytes();
+  await db.write((tx) => tx.items.at(id).steps.remove(0));
+  await db.synced();
+  await db.close();
+  files.files.set('client-1', new FileImage(backup));
+  db = await memory(files);
+  await db.write((tx) => tx.items.at(id).steps.push('serve'));
+  const told = new Promise((done) => db.onRecovered(done));
+  await db.startSync({ transport: net.transport(), ...fast });
+  const recovery = await told;
+  assert.deepEqual([recovery.saved, recovery.dropped], [1, []]);
+  await db.synced();
+  assert.deepEqual(db.items.get(id).steps, ['salt', 'serve']);
+  await db.close();
+});
+
 test('an ident that was retired: a new client takes over by itself, cut off at each message', async () => {
   for (let cut = 1; cut < 14; cut++) {
     const net = await server();
@@ -94,10 +116,8 @@ test('an ident that was retired: a new client takes over by itself, cut off at e
   }
 });
 
-
-/** A database that was synced, restored from a backup of its file, and has one change more. */
-async function restored(net) {
-  const files = new MemoryFiles();
+/** A database that was synced, restored from a backup of its file, and has three changes more. */
+async function restored(net, files = new MemoryFiles()) {
   let db = await online(net, files);
   await db.write((tx) => tx.days.create({ day: 1, note: 'first' }));
   await db.synced();
@@ -275,6 +295,88 @@ test('two copies of a restored file: each keeps its own work, and what both have
     assert.deepEqual(it.days.toArray().map(({ day }) => day), [1, 2, 10, 11]);
     assert.equal(it.items.get('00000000-0000-4000-8000-000000000001').quantity, 11);
     await it.close();
+  }
+});
+
+test('a takeover that ended at any stroke of its disk goes on after the next opening, and saves each change once', async () => {
+  for (let cut = 1, isWhole = false; !isWhole; cut++) {
+    const net = await server();
+    const files = new FailingFiles();
+    let db = await restored(net, files);
+    const id = await db.write((tx) => tx.items.create({ quantity: 1 }));
+    await db.write((tx) => tx.items.at(id).quantity.add(10));
+    files.failAt = cut;
+    await db.startSync({ transport: net.transport(), ...fast });
+    await db.synced().catch(() => {});
+    isWhole = files.failAt > 0;
+    files.failAt = 0;
+    await db.close();
+    assert.equal(files.opened, 0, `stroke ${cut}`);
+    db = await online(net, files);
+    await db.synced();
+    assert.deepEqual(db.days.toArray().map((it) => it.day), [1, 2, 3, 4, 5, 6], `stroke ${cut}`);
+    assert.equal(db.items.get(id).quantity, 11, `stroke ${cut}`);
+    await db.close();
+  }
+});
+
+test('a takeover that ended at any stroke, of a copy whose other one was there first, leaves nothing out', async () => {
+  for (let cut = 1, isWhole = false; !isWhole; cut++) {
+    const net = await server();
+    const files = new FailingFiles(), copied = new MemoryFiles();
+    let db = await restored(net, files);
+    await db.close();
+    copied.files.set('client-1', new FileImage(files.files.get('client-1').bytes()));
+    // The other one takes the place first, and sends its changes last.
+    const other = await memory(copied);
+    await other.write((tx) => tx.days.create({ day: 10 }));
+    const transport = net.transport();
+    const asking = { exchange: async (message) => { if (message[0] === Tag.Upload) throw new Error('cut'); return transport.exchange(message); } };
+    const told = new Promise((done) => other.onRecovered(done));
+    await other.startSync({ transport: asking, ...fast });
+    await told;
+    db = await memory(files);
+    await db.write((tx) => tx.days.create({ day: 11 }));
+    files.failAt = cut;
+    db.onRecovered(() => { isWhole = true; });
+    await db.startSync({ transport: asking, ...fast });
+    while (!isWhole && files.failAt > 0) await new Promise((done) => setTimeout(done, 2));
+    files.failAt = 0;
+    await db.close();
+    await other.stopSync();
+    await other.startSync({ transport, ...fast });
+    await other.synced();
+    await other.close();
+    db = await memory(files);
+    await db.write((tx) => tx.days.create({ day: 12 }));
+    await db.startSync({ transport, ...fast });
+    await db.synced();
+    assert.deepEqual(db.days.toArray().map((it) => it.day), [1, 2, 3, 4, 5, 6, 10, 11, 12], `stroke ${cut}`);
+    await db.close();
+  }
+});
+
+test('a database that is closed in the middle of a takeover leaves its files alone, also when an answer comes late', async () => {
+  for (const tag of [Tag.Bind, Tag.Ask2, Tag.Retire]) {
+    const net = await server();
+    const files = new FailingFiles();
+    let db = await restored(net, files);
+    const transport = net.transport();
+    let answer = null;
+    const waiting = (message) => new Promise((done) => { answer = () => done(transport.exchange(message)); });
+    const slow = { exchange: (message) => (message[0] === tag && files.opened > 1 ? waiting(message) : transport.exchange(message)) };
+    await db.startSync({ transport: slow, ...fast });
+    while (!answer) await new Promise((done) => setTimeout(done, 2));
+    await db.close();
+    assert.equal(files.opened, 0);
+    const before = files.strokes;
+    answer();
+    await new Promise((done) => setTimeout(done, 20));
+    assert.equal(files.strokes, before);
+    db = await online(net, files);
+    await db.synced();
+    assert.deepEqual(db.days.toArray().map((it) => it.day), [1, 2, 3, 4, 5, 6]);
+    await db.close();
   }
 });
 

@@ -20,6 +20,7 @@ test('a storage that fails at each stroke loses nothing that was answered, and i
     for (const [place, it] of said.entries()) assert.equal(db.days.has(place + 2), it === 'done', `${at} ${said}`);
     const shown = objectsOf(db);
     await db.close();
+    assert.equal(files.opened, 0);
     const again = await memory(files);
     assert.equal(objectsOf(again), shown, `stroke ${at}`);
     await again.close();
@@ -248,6 +249,7 @@ test('an encrypted storage that fails at each stroke loses nothing that was answ
     assert.ok(said.every((it) => it === 'done' || it === 'StorageFull'), said.join());
     const shown = objectsOf(db);
     await db.close();
+    assert.equal(files.opened, 0);
     const again = await openDatabase({ schema, files, encryptionKey: KEY });
     assert.equal(objectsOf(again), shown, `stroke ${at}`);
     await again.close();

@@ -6,7 +6,7 @@ import random
 import threading
 import time
 from collections.abc import Callable, Mapping
-from datetime import datetime
+from datetime import datetime, timedelta, timezone
 from typing import Annotated
 from uuid import UUID, uuid4
 
@@ -35,6 +35,8 @@ class Item:
     steps: tuple[str, ...]
     prices: Mapping[str, int]
     shelf: Annotated[UUID | None, link("lists")]
+    friends: tuple[Annotated[UUID, link("lists")], ...]
+    seen: frozenset[datetime]
 
 
 @table("days")
@@ -99,38 +101,70 @@ def keys(draw: random.Random, count: int) -> list[UUID]:
 
 
 def edit(tx: Transaction, draw: random.Random, some: list[UUID]) -> None:
-    """A random edit that acts."""
+    """A random edit that acts, on a column of any kind."""
     key = draw.choice(some)
     if tx.get(Item, key) is None:
         tx.create(Item, id=key, title="new")
-        return
-    word = f"w{draw.randrange(6)}"
-    steps, tags, prices = (tx.at(Item, key, it) for it in ("steps", "tags", "prices"))
-    match draw.randrange(13):
+    elif draw.randrange(2):
+        _edit_value(tx, draw, key, some)
+    else:
+        _edit_many(tx, draw, key, some)
+
+
+def _spelled(draw: random.Random, some: list[UUID]) -> UUID | str:
+    """A key, which may be spelled otherwise than it is read."""
+    key = draw.choice(some)
+    return key if draw.randrange(2) else str(key).upper()
+
+
+def _moment(draw: random.Random) -> datetime:
+    return datetime.fromtimestamp(draw.randrange(-(10**9), 10**9) + draw.randrange(10**6) / 10**6, timezone(timedelta(hours=draw.randrange(-3, 4))))
+
+
+def _edit_value(tx: Transaction, draw: random.Random, key: UUID, some: list[UUID]) -> None:
+    match draw.randrange(7):
         case 0:
-            tx.update(Item, key, title=word, price=draw.choice([None, 5]))
+            tx.update(Item, key, title=f"w{draw.randrange(6)}", done=draw.choice([True, False]), price=draw.choice([None, 5]))
         case 1:
-            tx.add(Item, key, "quantity", draw.randrange(-4, 5))
+            tx.update(Item, key, blob=draw.randbytes(3), when=_moment(draw))
         case 2:
-            tags.add(word)
+            tx.update(Item, key, shelf=draw.choice([None, _spelled(draw, some)]))
         case 3:
-            tags.discard(word)
+            tx.add(Item, key, "quantity", draw.choice([3, -4, 2**62]))
         case 4:
-            steps.insert(draw.randrange(len(steps) + 1), word)
-        case 5:
-            steps.append(word)
-        case 6 if len(steps):
-            del steps[draw.randrange(len(steps))]
-        case 7 if len(steps):
-            steps[draw.randrange(len(steps))] = word
-        case 8:
-            prices[word] = draw.randrange(50)
-        case 9 if draw.randrange(3) == 0:
+            tx.add(Item, key, "price", draw.randrange(-4, 5))
+        case 5 if draw.randrange(3) == 0:
             tx.erase(Item, key)
-        case 10 if len(steps):
+        case _:
+            tx.update(Item, key, quantity=draw.randrange(9))
+
+
+def _edit_many(tx: Transaction, draw: random.Random, key: UUID, some: list[UUID]) -> None:
+    word = f"w{draw.randrange(6)}"
+    steps, tags, prices, friends, seen = (tx.at(Item, key, it) for it in ("steps", "tags", "prices", "friends", "seen"))
+    match draw.randrange(12):
+        case 0:
+            tags.add(word)
+        case 1:
+            tags.discard(word)
+        case 2:
+            steps.insert(draw.randrange(len(steps) + 1), word)
+        case 3:
+            steps.append(word)
+        case 4 if len(steps):
+            del steps[draw.randrange(len(steps))]
+        case 5 if len(steps):
+            steps[draw.randrange(len(steps))] = word
+        case 6:
+            prices[word] = draw.randrange(50)
+        case 7 if len(steps):
             steps.move(draw.randrange(len(steps)), draw.randrange(len(steps)))
-        case 11 if draw.randrange(4) == 0:
-            draw.choice([steps, tags, prices]).clear()
+        case 8 if draw.randrange(4) == 0:
+            draw.choice([steps, tags, prices, friends, seen]).clear()
+        case 9:
+            friends.append(_spelled(draw, some))
+        case 10:
+            seen.add(_moment(draw))
         case _:
             del prices[word]
 

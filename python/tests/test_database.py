@@ -44,6 +44,7 @@ class Tests(unittest.TestCase):
                 (dict(nope=1), "no column nope"),
                 (dict(id="x"), r"items\.id: 'x' is no uuid"),
                 (dict(title="\ud800"), "half a character"),
+                (dict(when=datetime(2026, 1, 1)), r"items\.when: .* has no time zone"),
                 (dict(prices={"x" * 256: 1}), "255 bytes"),
             ):
                 with self.assertRaisesRegex(InvalidValue, words), db.write() as tx:

@@ -1,4 +1,5 @@
-"""The blocks of docs/RECIPES.md and of the package's README behind the ten minutes, each document as one program, and docs/PORTING.md's calls."""
+"""The blocks of docs/RECIPES.md and of the package's README behind the ten minutes, each document as one program, docs/PORTING.md's calls, and the
+refusals of docs/FORMATS.md."""
 
 from __future__ import annotations
 
@@ -13,7 +14,7 @@ import types
 import unittest
 from typing import Any
 
-from realm_sync import Database
+from realm_sync import Database, Reason
 from realm_sync.query import Query
 from realm_sync.transaction import Transaction
 
@@ -93,6 +94,11 @@ class Tests(unittest.TestCase):
         for of, name in re.findall(r"\b(db|tx|query)\.(\w+)\(", "\n".join(cells)):
             with self.subTest(f"{of}.{name}"):
                 self.assertTrue(callable(getattr(CLASSES[of], name, None)))
+
+    def test_the_refusals_are_those_of_formats(self) -> None:
+        part = text_of("docs/FORMATS.md").split("### Refusals by number")[1].split("##")[0]
+        named = {int(number): re.sub("(?<!^)(?=[A-Z])", "_", name).upper() for number, name in re.findall(r"^\| (\d+) \| (\w+) \|", part, re.M)}
+        self.assertEqual({it.value: it.name for it in Reason}, named)
 
 
 if __name__ == "__main__":

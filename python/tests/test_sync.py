@@ -2,6 +2,7 @@
 
 from __future__ import annotations
 
+import errno
 import os
 import random
 import shutil
@@ -9,11 +10,17 @@ import tempfile
 import threading
 import time
 import unittest
+from unittest import mock
 
 from realm_sync import CallTransport, Client, Closed, Database, Error, LostEdit, NeedsAttention, Recovery, Refused, SchemaConflict, Server, SyncState, table
+from realm_sync.client import DatabaseClient
 from realm_sync.messages import ASK2, BIND, DOWNLOAD, REFUSED, STORED, UPLOAD
 
 from .common import FAST, TYPES, Day, Item, Net, edit, keys, until
+
+
+def _down() -> bytes:
+    raise OSError("down")
 
 
 class Agreement(unittest.TestCase):
@@ -205,6 +212,29 @@ class Recovering(unittest.TestCase):
             self.assertEqual([it.day for it in db[Day]], [1, 2, 3, 4, 5, 6])
         self.assertEqual(os.listdir(os.path.dirname(self.path)), ["db"])
 
+    def test_a_list_that_became_shorter_meanwhile_keeps_what_is_unsent(self) -> None:
+        with self.net.database(self.path) as db:
+            with db.write() as tx:
+                key = tx.create(Item, title="Pasta", steps=["boil", "salt"])
+            self.assertTrue(db.synced(30))
+            with open(self.path, "rb") as file:
+                backup = file.read()
+            with db.write() as tx:
+                del tx.at(Item, key, "steps")[0]
+            self.assertTrue(db.synced(30))
+        with open(self.path, "wb") as other:
+            other.write(backup)
+        told: list[Recovery] = []
+        with Database(self.path, TYPES) as db:
+            with db.write() as tx:
+                tx.at(Item, key, "steps").append("serve")
+            db.on_recovered(told.append)
+            db.start_sync(self.net.transport(), options=FAST)
+            until(lambda: bool(told))
+            self.assertTrue(db.synced(30))
+            self.assertEqual((told[0].saved, told[0].dropped), (1, ()))
+            self.assertEqual([it.steps for it in db[Item]], [("salt", "serve")])
+
     def test_a_restored_file_that_is_asked_about_sends_nothing(self) -> None:
         self.restored()
         self.net.sent.clear()
@@ -261,6 +291,58 @@ class Recovering(unittest.TestCase):
             self.assertTrue(db.synced(30))
         for db in dbs:
             self.assertEqual([it.day for it in db[Day]], [1, 2, 3, 4, 5, 6, 10, 11])
+        self.assertEqual(self.net.server.standing().cursor, 4 + 3 + 1 + 1)
+
+    def test_a_takeover_that_ended_at_any_sync_of_its_disk_goes_on_after_the_next_opening(self) -> None:
+        fsync, left, is_whole, folder = os.fsync, 0, False, os.path.dirname(self.path)
+
+        def failing(file: int) -> None:
+            nonlocal left
+            left -= 1
+            if left == 0:
+                raise OSError(errno.EIO, "the process ends here")
+            fsync(file)
+
+        cut = 0
+        while not is_whole:
+            cut += 1
+            self.net, self.path = Net(), f"{folder}/{cut}"
+            self.restored()
+            left, told = cut, list[Recovery]()
+            with Database(self.path, TYPES) as db, mock.patch("os.fsync", failing):
+                db.on_recovered(told.append)
+                db.start_sync(self.net.transport(), options=FAST)
+                until(lambda told=told: left <= 0 or bool(told))  # type: ignore[misc]
+                is_whole = left > 0
+            with self.net.database(self.path) as db:
+                self.assertTrue(db.synced(30), f"sync {cut}")
+                self.assertEqual([it.day for it in db[Day]], [1, 2, 3, 4, 5, 6], f"sync {cut}")
+            self.assertEqual(self.net.server.standing().cursor, 4 + 3, f"sync {cut}")
+
+    def test_a_takeover_of_a_copy_that_ended_before_it_was_in_place_leaves_nothing_out(self) -> None:
+        self.restored()
+        path = f"{self.path}.copy"
+        shutil.copy(self.path, path)
+        # The other one takes the place first, and sends its changes last.
+        self.net.answer = lambda message: _down() if message[0] == UPLOAD else None
+        other, told = Database(self.path, TYPES, self.net.transport(), options=FAST), list[Recovery]()
+        self.addCleanup(other.close)
+        other.on_recovered(told.append)
+        until(lambda: bool(told))
+        with mock.patch.object(DatabaseClient, "replaced", side_effect=Closed("the process ends here")), Database(path, TYPES) as db:
+            with db.write() as tx:
+                tx.create(Day, day=11)
+            db.start_sync(self.net.transport(), options=FAST)
+            self.assertRaises(NeedsAttention, db.synced, 30)
+        self.net.answer = lambda message: None
+        self.assertTrue(other.synced(30))
+        with Database(path, TYPES) as db:
+            with db.write() as tx:
+                tx.create(Day, day=12)
+            db.start_sync(self.net.transport(), options=FAST)
+            self.assertTrue(db.synced(30))
+            self.assertEqual([it.day for it in db[Day]], [1, 2, 3, 4, 5, 6, 11, 12])
+        # What both have was sent by the other one, and isn't sent again.
         self.assertEqual(self.net.server.standing().cursor, 4 + 3 + 1 + 1)
 
     def test_another_server_is_never_taken_for_this_one(self) -> None:

@@ -210,8 +210,9 @@ class Replacement:
         self._client, self._heir, self._problem, self._is_done = client, heir, problem, False
         self._takeover = Takeover(heir, exchange, problem)
 
-    def join(self) -> None:
-        self._takeover.join(self._client.standing())
+    def join(self) -> bool:
+        """False where the new client has to be begun anew."""
+        return self._takeover.join(self._client.standing())
 
     def replace(self) -> Recovery:
         recovery = self._takeover.inherit(self._client.engine)

@@ -261,18 +261,23 @@ class Database:
         """Syncs with this server from now on: the address of a history (`wss://host/v1/histories/NAME`, or `https:`), or a transport."""
         self.stop_sync()
         self._transport = transport_of(sync, token) if isinstance(sync, str) else sync
-        self._transport.generation = self._client.generation
+        with self._lock:
+            self._transport.generation = self._client.generation
+            reason = self._client.pending_reason()
         self._loop = SyncLoop(_Syncing(self), self._transport, options, self._tell_sync, self._recovered)
         self._loop.start()
-        reason = self._client.pending_reason()
         # A takeover that was cut off goes on, but at another server, which this one may not be any more.
         if reason and reason.cause != "other server":
             threading.Thread(target=self._go_on, args=(reason,), name="realm_sync recovery", daemon=True).start()
 
     def _go_on(self, reason: Problem) -> None:
-        """A takeover that was cut off: where it doesn't come to its end now, sync says why."""
+        """A takeover that was cut off, unless sync came to it first: where it doesn't come to its end now, sync says why."""
         try:
-            self.recover(reason)
+            with self._recovering:
+                with self._lock:
+                    is_pending = self._client.pending_reason() is not None
+                if is_pending:
+                    self.recover(reason)
         except Exception:
             _log.info("a takeover that was cut off waits", exc_info=True)
 
@@ -405,22 +410,28 @@ class Database:
         return recovery
 
     def _take_over(self, transport: Transport, problem: Problem) -> Recovery:
-        takeover = self._client.takeover(transport.exchange, problem)
+        with self._lock:
+            takeover = self._client.takeover(transport.exchange, problem)
         try:
             transport.generation = problem.generation or transport.generation
-            takeover.join()
-            with self._lock:
-                recovery = takeover.replace()
-                self._has_recovered = True
-                self._recoveries += 1
-                self._refresh()
-                return recovery
+            if takeover.join():
+                with self._lock:
+                    recovery = takeover.replace()
+                    self._has_recovered = True
+                    self._recoveries += 1
+                    self._refresh()
+                    return recovery
         except BaseException as why:
             takeover.close()
-            if isinstance(why, Refused):
-                self._client.discard_heir()
-            transport.generation = self._client.generation
+            with self._lock:
+                if isinstance(why, Refused):
+                    self._client.discard_heir()
+                transport.generation = self._client.generation
             raise
+        takeover.close()
+        with self._lock:
+            self._client.discard_heir()
+        return self._take_over(transport, problem)
 
     def on_recovered(self, callback: Callable[[Recovery], None]) -> Stop:
         """Calls back with what a new client saved of what the old one had unsent, and what was lost."""

@@ -2,10 +2,11 @@
 
 from __future__ import annotations
 
-from collections.abc import Callable, Sequence
+from collections.abc import Callable, Iterator, Sequence
 
 from .door import DONE, Door, Reply, Standing, expect_done, number_of, standing_of
 from .errors import NotShrunk, StorageFailed, WrongKey
+from .messages import DOWNLOAD, Change, Entry, Head, borne_in, head_in
 from .sealed import is_sealed
 from .storage import Storage, Stroke, Write
 
@@ -56,6 +57,29 @@ class Engine:
         number = number_of(self.ask(b"L", text.encode()))
         self.settle()
         return number
+
+    def head(self, message: bytes) -> Head | None:
+        """What a message is about; None where its bytes are none."""
+        reply = self.reply(b"H", message)
+        return head_in(reply.data) if reply.status == DONE else None
+
+    def entries_of(self, message: bytes) -> list[Entry]:
+        """The entries of a Download; none of any other message."""
+        head = self.head(message)
+        if head is None or head.tag != DOWNLOAD:
+            return []
+        borne = borne_in(self.ask(b"P", message))
+        return [Entry(version, it.first, it.second, it.ms, it.body) for version, it in enumerate(borne, head.first)]
+
+    def unsent(self) -> Iterator[Change]:
+        """The unsent changes of a client, as they were made. One without an ident tells none: the core makes no Upload of it."""
+        after = 0
+        while self.standing().ident:
+            changes = [Change(it.first, it.ms, it.body) for it in borne_in(self.ask(b"P", self.ask(b"U", after.to_bytes(4, "little"))))]
+            if not changes:
+                return
+            yield from changes
+            after = changes[-1].number
 
     def dump(self) -> str:
         return self.ask(b"D").decode()

@@ -31,6 +31,8 @@ class Reason(enum.IntEnum):
     WAS_REFUSED = 17
     SUBSCRIBED = 18
     TOO_LATE = 19
+    SKIPS = 20
+    BAD_CHANGE = 21
 
 
 CODES: Mapping[int, str] = {

@@ -9,8 +9,7 @@ from typing import Any, Literal, NamedTuple
 
 from .door import to_json
 from .engine import Engine
-from .messages import Edit, edits_of, entries_of, read_of
-from .talk import unsent_of
+from .messages import Edit, edits_of
 
 
 Cells = dict[str, Any]
@@ -78,10 +77,13 @@ def _by_object(edits: Iterable[tuple[Edit, int]]) -> dict[str, list[tuple[Edit, 
     return found
 
 
-def _edits_of_others(message: bytes, ident: int) -> dict[str, list[tuple[Edit, int]]]:
-    """What others did to objects in the entries of a Download."""
-    entries = [it for it in entries_of(message) if it.origin != ident]
-    return _by_object((edit, it.ms) for it in entries for edit in edits_of(it.body))
+def _edits_of_others(engine: Engine, message: bytes, ident: int) -> dict[str, list[tuple[Edit, int]]]:
+    """What others did to objects in the entries of a Download; nothing where one's bytes are no changeset, which the core then refuses."""
+    entries = [it for it in engine.entries_of(message) if it.origin != ident]
+    try:
+        return _by_object((edit, it.ms) for it in entries for edit in edits_of(it.body))
+    except (IndexError, UnicodeDecodeError):
+        return {}
 
 
 class LostEdits:
@@ -91,10 +93,10 @@ class LostEdits:
         self._engine = engine
         self._seen: list[tuple[list[tuple[Edit, int]], list[Edit], Cells]] = []
         standing = engine.standing()
-        others = read_of(lambda: _edits_of_others(message, standing.ident)) if standing.unsent else None
+        others = _edits_of_others(engine, message, standing.ident) if standing.unsent else {}
         if not others:
             return
-        mine = _by_object((edit, it.ms) for it in unsent_of(engine) for edit in edits_of(it.body))
+        mine = _by_object((edit, it.ms) for it in engine.unsent() for edit in edits_of(it.body))
         for name in [it for it in mine if it in others]:
             before = self._cells(mine[name][0][0])
             if before is not None:

@@ -1,10 +1,12 @@
-"""What this package reads of messages, files and changesets: docs/FORMATS.md. It makes no message and no changeset."""
+"""What this package reads of what the core tells of messages, and of files and changesets: docs/FORMATS.md, "Messages for a host", "The journal" and
+"Changesets". It reads no message by itself, and makes no message and no changeset."""
 
 from __future__ import annotations
 
+import struct
 import uuid
-from collections.abc import Callable, Iterator
-from typing import Any, NamedTuple, TypeVar
+from collections.abc import Iterator
+from typing import Any, NamedTuple
 
 BIND, IDENT, UPLOAD, ASK, DOWNLOAD, REFUSED, STORED, ASK2, RETIRE, RETIRED, ASK_TABLES = range(1, 12)
 QUESTIONS = (ASK, ASK2, ASK_TABLES)
@@ -17,16 +19,42 @@ _OPS = (
     "SetErase", "DictUpdate", "Clear",
 )  # fmt: skip
 Edit = dict[str, Any]
-T = TypeVar("T")
-_MOST_IN_A_LIST = 4096
 
 
-def read_of(read: Callable[[], T]) -> T | None:
-    """What is read of bytes of somebody else: None where they are no such message, which the core then refuses."""
-    try:
-        return read()
-    except (IndexError, UnicodeDecodeError):
-        return None
+class Head(NamedTuple):
+    """What a message is about: what it hasn't got is 0."""
+
+    tag: int
+    ident: int
+    by: int
+    length: int
+    first: int
+    second: int
+    third: int
+
+
+class Borne(NamedTuple):
+    """A change that an Upload bears, of which `first` is the number and `second` the base, or an entry of a Download, of which they are the origin
+    and the number."""
+
+    first: int
+    second: int
+    ms: int
+    body: bytes
+
+
+def head_in(told: bytes) -> Head:
+    """A head as the core tells it."""
+    return Head(told[0], *struct.unpack_from("<6I", told, 17))
+
+
+def borne_in(told: bytes) -> Iterator[Borne]:
+    """What the core tells that a message bears."""
+    at = 0
+    while at < len(told):
+        first, second, ms, length = struct.unpack_from("<IIQI", told, at)
+        at += 20 + length
+        yield Borne(first, second, ms, told[at - length : at])
 
 
 class Change(NamedTuple):
@@ -72,85 +100,15 @@ class _Bytes:
 
     def run(self, length: int) -> bytes:
         if length > len(self.data) - self.at:
-            raise IndexError("a message ends early")
+            raise IndexError("the bytes end early")
         self.at += length
         return self.data[self.at - length : self.at]
-
-    def count(self) -> int:
-        """The length of a list in a message."""
-        count = self.number()
-        if count > _MOST_IN_A_LIST:
-            raise IndexError("a list is too long")
-        return count
 
     def text(self) -> str:
         return self.run(self.number()).decode()
 
     def uuid(self) -> dict[str, str]:
         return {"uuid": str(uuid.UUID(bytes=self.run(16)))}
-
-
-def changes_of(upload: bytes) -> list[Change]:
-    """The changes of an Upload."""
-    it = _Bytes(upload[1:])
-    it.number()
-    changes = []
-    for _ in range(it.count()):
-        number = it.number()
-        it.number()
-        ms = it.number()
-        changes.append(Change(number, ms, it.run(it.number())))
-    return changes
-
-
-def entries_of(message: bytes) -> list[Entry]:
-    """The entries of a Download; none of any other message."""
-    if message[:1] != bytes([DOWNLOAD]):
-        return []
-    it = _Bytes(message[1:])
-    it.number()
-    first = it.number()
-    entries = []
-    for place in range(it.count()):
-        origin, number, ms = it.number(), it.number(), it.number()
-        entries.append(Entry(first + place, origin, number, ms, it.run(it.number())))
-    return entries
-
-
-def end_of(message: bytes) -> tuple[int, int] | None:
-    """Of a Download without entries: for whom it is, and the cursor behind which there is nothing."""
-    if message[:1] != bytes([DOWNLOAD]):
-        return None
-    it = _Bytes(message[1:])
-
-    def read() -> tuple[int, int] | None:
-        ident, cursor = it.number(), it.number()
-        return None if it.number() else (ident, cursor)
-
-    return read_of(read)
-
-
-def stored_of(message: bytes) -> tuple[int, int] | None:
-    """Of a Stored: up to which number the history has the changes of that ident."""
-    if message[:1] != bytes([STORED]):
-        return None
-    it = _Bytes(message[1:])
-    return read_of(lambda: (it.number(), it.number()))
-
-
-def retired_of(message: bytes) -> int | None:
-    """The ident of a Retired."""
-    return _Bytes(message[1:]).number() if message[:1] == bytes([RETIRED]) else None
-
-
-def refusal_in(message: bytes) -> tuple[int, int]:
-    """The code of a Refused, and its place; 0 of any other message."""
-    if message[:1] != bytes([REFUSED]):
-        return 0, 0
-    it = _Bytes(message[1:])
-    it.number()
-    it.number()
-    return it.number(), it.number()
 
 
 def history_of(ident: int, journal: bytes) -> list[Change]:

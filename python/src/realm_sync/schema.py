@@ -205,6 +205,8 @@ def value_json(column: Column, key_kinds: Mapping[str, str], it: Any) -> Any:
     if kind == "Uuid":
         return {"uuid": str(value)}
     if kind == "Time":
+        if value.utcoffset() is None:
+            raise InvalidValue(f"{column.where}: {value!r} has no time zone")
         past = value - EPOCH
         micros = (past.days * 86400 + past.seconds) * 1_000_000 + past.microseconds
         secs = abs(micros) // 1_000_000 * (1 if micros >= 0 else -1)

@@ -123,6 +123,13 @@ def delete_database(path: str | os.PathLike[str]) -> None:
     sync_folder(os.fspath(path))
 
 
+def _lock(file: int, path: str) -> None:
+    try:
+        fcntl.flock(file, fcntl.LOCK_EX | fcntl.LOCK_NB)
+    except OSError as why:
+        raise Busy(f"{path} is open already, here or in another process") from why
+
+
 class FileStorage:
     """A file, locked by `flock` as long as it is open. Where it can't be opened Python's own OSError says why."""
 
@@ -137,15 +144,15 @@ class FileStorage:
             is_new = not os.path.exists(path)
             file = os.open(path, os.O_RDWR | os.O_CREAT | os.O_CLOEXEC, 0o666)
             try:
-                fcntl.flock(file, fcntl.LOCK_EX | fcntl.LOCK_NB)
-            except OSError as why:
+                _lock(file, path)
+                # Between the two another file may have taken this one's name.
+                if os.path.exists(path) and os.path.samestat(os.fstat(file), os.stat(path)):
+                    if is_new:
+                        sync_folder(path)
+                    return file
+            except BaseException:
                 os.close(file)
-                raise Busy(f"{path} is open already, here or in another process") from why
-            # Between the two another file may have taken this one's name.
-            if os.path.exists(path) and os.path.samestat(os.fstat(file), os.stat(path)):
-                if is_new:
-                    sync_folder(path)
-                return file
+                raise
             os.close(file)
 
     def _check(self) -> None:

@@ -4,13 +4,12 @@ decided here."""
 from __future__ import annotations
 
 import json
-from collections.abc import Iterator
 from typing import NamedTuple
 
 from .door import REFUSED, expect_done, number_of, refusal_of
 from .engine import Engine
 from .errors import Reason, Refused
-from .messages import Change, Edit, changes_of, definitions_in, edits_of, end_of, entries_of, stored_of
+from .messages import DOWNLOAD, STORED, Edit, definitions_in, edits_of
 from .problems import Conflict
 
 
@@ -46,9 +45,9 @@ class Talk:
 
     def take(self, message: bytes) -> Taken:
         """Hands a message to the client, whose strokes then wait."""
-        before = self._engine.standing()
-        stored = stored_of(message)
-        if stored and stored[0] == before.ident and stored[1] > before.last:
+        before, head = self._engine.standing(), self._engine.head(message)
+        stored = head.first if head and head.tag == STORED and head.ident == before.ident else 0
+        if stored > before.last:
             self._is_current = False
             return Taken(Refused(Reason.FORKED, (before.last + 1, 0, 0)), before.cursor, False)
         reply = self._engine.reply(b"T", message)
@@ -56,8 +55,8 @@ class Talk:
             self._is_current = False
             return Taken(self._explained(refusal_of(reply), message), before.cursor, False)
         cursor = number_of(expect_done(reply))
-        self._stored = stored[1] if stored else self._stored
-        is_end = end_of(message) == (before.ident, before.cursor)
+        self._stored = stored or self._stored
+        is_end = head is not None and (head.tag, head.length, head.ident, head.first) == (DOWNLOAD, 0, before.ident, before.cursor)
         self._is_current |= is_end
         return Taken(None, cursor, is_end)
 
@@ -67,17 +66,6 @@ class Talk:
             version, number, _ = refused.details
             refused.conflict = _conflict(self._engine, message, version, number)
         return refused
-
-
-def unsent_of(engine: Engine) -> Iterator[Change]:
-    """The unsent changes of a client, as they were made. One without an ident tells none: the core makes no Upload of it."""
-    after = 0
-    while engine.standing().ident:
-        changes = changes_of(engine.ask(b"U", after.to_bytes(4, "little")))
-        if not changes:
-            return
-        yield from changes
-        after = changes[-1].number
 
 
 def column_words(kind: str, nullable: bool, shape: str, target: str | None) -> str:
@@ -93,8 +81,8 @@ def _words(edit: Edit) -> str:
 
 def _conflict(engine: Engine, message: bytes, version: int, number: int) -> Conflict | None:
     """The first definition that the unsent change and the entry at that version of a Download give in two ways."""
-    theirs = [it for entry in entries_of(message) if entry.version == version for it in definitions_in(edits_of(entry.body))]
-    for change in unsent_of(engine):
+    theirs = [it for entry in engine.entries_of(message) if entry.version == version for it in definitions_in(edits_of(entry.body))]
+    for change in engine.unsent():
         for mine in definitions_in(edits_of(change.body) if change.number == number else []):
             for other in theirs:
                 is_same = all(other.get(name) == mine.get(name) for name in ("op", "table", "column"))

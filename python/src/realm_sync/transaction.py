@@ -9,7 +9,7 @@ from collections.abc import Callable, Iterable, Iterator, Mapping
 from typing import Any, TypeVar
 
 from .errors import Closed, InvalidValue
-from .schema import EPOCH, Column, Key, TableForm, form_of, key_json, plain_key, value_json, whole_text
+from .schema import EPOCH, Column, Key, TableForm, form_of, key_json, plain_key, read_element, value_json, whole_text
 
 T = TypeVar("T")
 _ZERO: dict[str, Any] = {"Int": 0, "Bool": False, "Text": "", "Bytes": b"", "Time": EPOCH, "Uuid": uuid.UUID(int=0)}
@@ -118,10 +118,11 @@ class Transaction:
         self._changed.setdefault(form.name, {})[plain_key(form, key)] = row
 
     def _assign(self, form: TableForm, key: Key, column: Column, value: Any) -> None:
-        self._edit("Update", form, key, column=column.name, value=value_json(column, self._key_kinds, value))
+        written = value_json(column, self._key_kinds, value)
+        self._edit("Update", form, key, column=column.name, value=written)
         row = self.get(form.type, key)
         if row is not None:
-            self._put(form, key, dataclasses.replace(row, **{column.name: value}))
+            self._put(form, key, dataclasses.replace(row, **{column.name: read_element(column, written)}))
 
 
 def _default(column: Column) -> Any:
@@ -160,8 +161,10 @@ class Collection:
     def _edit(self, op: str, **more: Any) -> None:
         self._transaction._edit(op, self._form, self._key, column=self._column.name, **more)
 
-    def _json(self, value: Any) -> Any:
-        return value_json(self._column, self._transaction._key_kinds, value)
+    def _written(self, value: Any) -> tuple[Any, Any]:
+        """An element as the edit has it, and as it is read back."""
+        written = value_json(self._column, self._transaction._key_kinds, value)
+        return written, read_element(self._column, written)
 
     def __len__(self) -> int:
         return len(self._now())
@@ -170,8 +173,9 @@ class Collection:
         """Into a list, before the element at that place."""
         now = self._now()
         place = max(0, place + len(now)) if place < 0 else place
-        self._edit("ListInsert", place=place, prior=len(now), value=self._json(value))
-        self._to((*now[:place], value, *now[place:]))
+        written, element = self._written(value)
+        self._edit("ListInsert", place=place, prior=len(now), value=written)
+        self._to((*now[:place], element, *now[place:]))
 
     def append(self, value: Any) -> None:
         self.insert(len(self._now()), value)
@@ -189,12 +193,13 @@ class Collection:
 
     def __setitem__(self, at: Any, value: Any) -> None:
         now = self._now()
+        written, element = self._written(value)
         if self._column.shape == "Dict":
-            self._edit("DictUpdate", at=_dict_key(self._column, at), value=self._json(value))
-            return self._to(types.MappingProxyType({**now, at: value}))
+            self._edit("DictUpdate", at=_dict_key(self._column, at), value=written)
+            return self._to(types.MappingProxyType({**now, at: element}))
         at = range(len(now))[at]
-        self._edit("ListUpdate", place=at, prior=len(now), value=self._json(value))
-        self._to((*now[:at], value, *now[at + 1 :]))
+        self._edit("ListUpdate", place=at, prior=len(now), value=written)
+        self._to((*now[:at], element, *now[at + 1 :]))
 
     def __delitem__(self, at: Any) -> None:
         now = self._now()
@@ -207,13 +212,15 @@ class Collection:
 
     def add(self, value: Any) -> None:
         """Into a set."""
-        self._edit("SetInsert", value=self._json(value))
-        self._to(self._now() | {value})
+        written, element = self._written(value)
+        self._edit("SetInsert", value=written)
+        self._to(self._now() | {element})
 
     def discard(self, value: Any) -> None:
         """From a set."""
-        self._edit("SetErase", value=self._json(value))
-        self._to(self._now() - {value})
+        written, element = self._written(value)
+        self._edit("SetErase", value=written)
+        self._to(self._now() - {element})
 
     def clear(self) -> None:
         self._edit("Clear")
