@@ -73,8 +73,8 @@ ends_with life [] = false
 ends_with life (run ∷ []) = bytes_eq run.life life
 ends_with life (run ∷ next ∷ runs) = ends_with life (next ∷ runs)
 
--- one more number behind runs
-abbrev pub pushed : List ℕ → List Run → List Run
-pushed life [] = run_of 1 life ∷ []
-pushed life (run ∷ []) = if bytes_eq run.life life then run_of (run.count + 1) run.life ∷ [] else run ∷ run_of 1 life ∷ []
-pushed life (run ∷ next ∷ runs) = run ∷ pushed life (next ∷ runs)
+-- so many more numbers of this life behind runs
+abbrev pub pushed : List ℕ → ℕ → List Run → List Run
+pushed life count [] = run_of count life ∷ []
+pushed life count (run ∷ []) = if bytes_eq run.life life then run_of (run.count + count) run.life ∷ [] else run ∷ run_of count life ∷ []
+pushed life count (run ∷ next ∷ runs) = run ∷ pushed life count (next ∷ runs)

@@ -39,7 +39,7 @@ pub use note_writing::note_bytes;
 pub use numbers::Numbers;
 pub use refusal::NoteRefusal;
 pub use run::Run;
-pub use runs::{BadRuns, Runs, RunsRefusal};
+pub use runs::{BadRuns, Runs, RunsRefusal, life_at, put_lives};
 pub use said::Said;
 pub use saves::{Saves, Saving};
 pub use says::{BadSays, Says};

@@ -1,4 +1,4 @@
-ghost use Rattle.std.specs.Prelude.{◌≡◌, ◌<◌, ◌≤◌, ◌++◌, ◌∷◌, [], true, false, not, Err, None, length, slice_get, IfOk, IsOk, OnOk, OnErr, ◌↔◌};
+ghost use Rattle.std.specs.Prelude.{◌≡◌, ℕ, ◌+◌, ◌≤◌, ◌++◌, [], not, nat_le, Err, None, length, replicate, slice_get, IfOk, IsOk, OnOk, OnErr, ◌↔◌};
 ghost use Rattle.life_bytes.specs.Runs.{AreRuns, AreLives, most_runs, most_numbers, lives_of, runs_of, count_of, is_other, are_apart, ends_with, pushed};
 ghost use Rattle.life_bytes.specs.declared.runs.RunsRefusal.TheVariants.{Full};
 
@@ -6,6 +6,7 @@ use crate::life::Life;
 use crate::run::Run;
 use std::alloc::Global;
 use std::marker::Model;
+use sync_data::NoMemory;
 
 /// The most runs.
 pub(crate) const MOST_RUNS: u32 = 4_097;
@@ -18,7 +19,7 @@ const MOST_NUMBERS: u64 = 4_294_967_295;
 #[derive(Clone, Copy, Debug, PartialEq, Eq)]
 pub struct BadRuns;
 
-/// Why a life wasn't added.
+/// Why numbers weren't added.
 #[derive(Clone, Copy, Debug, PartialEq, Eq)]
 pub enum RunsRefusal {
     /// It would need a run above 4,097, or a number above 4,294,967,295.
@@ -90,21 +91,28 @@ impl Runs {
         life_at(self.runs.as_slice(), place)
     }
 
-    /// One more number, of that life. Refused, nothing changes.
-    pub fn push(&mut self, life: Life) -> Result<(), RunsRefusal>
-        ensures ok { OnOk result (self.new ≡ self.old ++ life ∷ []) }
+    /// So many more numbers, of that life. Refused, nothing changes.
+    pub fn push(&mut self, life: Life, count: u32) -> Result<(), RunsRefusal>
+        ensures ok { OnOk result (self.new ≡ self.old ++ replicate count life) }
         ensures err { OnErr result (self.new ≡ self.old) }
-        ensures full { result ≡ Err Full → ¬ (AreLives (self.old ++ life ∷ [])) }
+        ensures full { result ≡ Err Full → ¬ (AreLives (self.old ++ replicate count life)) }
     {
-        if self.count == u32::MAX {
+        if count == 0 {
+            return Ok(());
+        }
+        let left = u32::MAX - self.count;
+        if left < count {
             return Err(RunsRefusal::Full);
         }
-        match push_life(&mut self.runs, life) {
+        if !has_room(self.runs.as_slice(), life) {
+            return Err(RunsRefusal::Full);
+        }
+        match put_lives(&mut self.runs, life, count) {
             Ok(()) => {
-                self.count += 1;
+                self.count += count;
                 Ok(())
             }
-            Err(why) => Err(why),
+            Err(NoMemory) => Err(RunsRefusal::NoMemory),
         }
     }
 
@@ -152,7 +160,8 @@ fn count_of(runs: &[Run]) -> u64
     count
 }
 
-fn life_at(runs: &[Run], place: u32) -> Option<Life>
+/// The life of the number at that place, counted from 0; none behind the last.
+pub fn life_at(runs: &[Run], place: u32) -> Option<Life>
     ensures { result ≡ slice_get (lives_of runs.now) place }
 {
     let mut left = place;
@@ -176,48 +185,34 @@ fn ends_with(runs: &[Run], life: Life) -> bool
     runs[count - 1].life == life
 }
 
-/// One more number behind the runs, which have less than 4,294,967,295.
-fn push_life(runs: &mut Vec<Run>, life: Life) -> Result<(), RunsRefusal>
-    requires within { count_of runs.old.items < most_numbers }
-    requires few { length runs.old.items ≤ most_runs }
-    ensures ok { OnOk result (runs.new.items ≡ pushed life runs.old.items) }
-    ensures few { OnOk result (length runs.new.items ≤ most_runs) }
+/// Whether 4,097 runs have room for more numbers of this life behind these.
+fn has_room(runs: &[Run], life: Life) -> bool
+    requires { length runs.now ≤ most_runs }
+    ensures { (count : ℕ) → nat_le (length (pushed life count runs.now)) most_runs ≡ result }
+{
+    if ends_with(runs, life) {
+        return true;
+    }
+    runs.len() < MOST_RUNS as usize
+}
+
+/// So many more numbers of this life behind the runs, in one step. After `NoMemory` nothing changed.
+pub fn put_lives(runs: &mut Vec<Run>, life: Life, count: u32) -> Result<(), NoMemory>
+    requires { count_of runs.old.items + count ≤ most_numbers }
+    ensures ok { OnOk result (runs.new.items ≡ pushed life count runs.old.items) }
     ensures err { OnErr result (runs.new.items ≡ runs.old.items) }
-    ensures full { result ≡ Err Full → most_runs < length (pushed life runs.old.items) }
 {
     if ends_with(runs.as_slice(), life) {
-        make_longer(runs, life);
+        let last = runs.len() - 1;
+        let longer = runs[last].count + count;
+        runs[last] = Run {
+            count: longer,
+            life,
+        };
         return Ok(());
     }
-    push_run(runs, life)
-}
-
-/// The last run has one number more.
-fn make_longer(runs: &mut Vec<Run>, life: Life)
-    requires within { count_of runs.old.items < most_numbers }
-    requires ends { ends_with life runs.old.items ≡ true }
-    ensures after { runs.new.items ≡ pushed life runs.old.items }
-    ensures len { length runs.new.items ≡ length runs.old.items }
-{
-    let last = runs.len() - 1;
-    let count = runs[last].count + 1;
-    runs[last] = Run { count, life };
-}
-
-/// One more run, of one number.
-fn push_run(runs: &mut Vec<Run>, life: Life) -> Result<(), RunsRefusal>
-    requires few { length runs.old.items ≤ most_runs }
-    requires ends { ends_with life runs.old.items ≡ false }
-    ensures ok { OnOk result (runs.new.items ≡ pushed life runs.old.items) }
-    ensures few { OnOk result (length runs.new.items ≤ most_runs) }
-    ensures err { OnErr result (runs.new.items ≡ runs.old.items) }
-    ensures full { result ≡ Err Full → most_runs < length (pushed life runs.old.items) }
-{
-    if runs.len() >= MOST_RUNS as usize {
-        return Err(RunsRefusal::Full);
-    }
-    match runs.push(Run { count: 1, life }) {
+    match runs.push(Run { count, life }) {
         Ok(()) => Ok(()),
-        Err(_) => Err(RunsRefusal::NoMemory),
+        Err(_) => Err(NoMemory),
     }
 }

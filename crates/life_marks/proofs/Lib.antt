@@ -1,3 +1,4 @@
 pub mod Telling
 pub mod Raising
 pub mod Lines
+pub mod Unread

@@ -1,6 +1,6 @@
 -- How the records and notes of a file are read.
-use Rattle.std.specs.Prelude.{◌≡◌, ℕ, Result, Ok, Err, Bool, false, ◌&&◌, ◌||◌, ◌==◌, nat_le, if◌then◌else◌, bytes_eq, List, [], ◌∷◌, Option, Some, None}
-use Rattle.std.specs.Option.{option_map}
+use Rattle.std.specs.Prelude.{◌≡◌, ℕ, ◌+◌, ◌<◌, Result, Ok, Err, Bool, false, ◌&&◌, ◌||◌, ◌==◌, nat_le, if◌then◌else◌, bytes_eq, List, [], ◌∷◌, length, Option, Some, None}
+use Rattle.std.specs.Option.{option_map, is_some}
 use Rattle.std.specs.List.{list_any}
 use Rattle.sync_records.specs.Reading.{record_in, server_forms, client_forms}
 use Rattle.life_bytes.specs.Reading.{note_in}
@@ -9,6 +9,8 @@ use Rattle.life_marks.specs.ServerMarks.{no_life, after_piece as after_server_pi
 use Rattle.life_marks.specs.ClientMarks.{after_piece as after_client_piece, Marks as ClientMarks}
 use Rattle.life_marks.specs.declared.pieces.PieceRefusal.{PieceRefusal}
 use Rattle.life_marks.specs.declared.pieces.PieceRefusal.TheVariants as refusals
+use Rattle.life_marks.specs.declared.reading.MarksRefusal.{MarksRefusal}
+use Rattle.life_marks.specs.declared.reading.MarksRefusal.TheVariants as marks
 use Rattle.life_marks.specs.declared.pieces.ServerPiece.{ServerPiece}
 use Rattle.life_marks.specs.declared.pieces.ServerPiece.TheVariants as server
 use Rattle.life_marks.specs.declared.pieces.ClientPiece.{ClientPiece}
@@ -51,6 +53,17 @@ server_marks_in m (bytes ∷ rest) = then_piece after_server_piece (server_piece
 abbrev pub client_marks_in : ClientMarks → List (List ℕ) → Option ClientMarks
 client_marks_in m [] = Some m
 client_marks_in m (bytes ∷ rest) = then_piece after_client_piece (client_piece_in bytes) m (λ n. client_marks_in n rest)
+
+-- how many pieces are read before the first that isn't
+abbrev pub read_before : {P : Type 0} → (List ℕ → Option P) → List (List ℕ) → ℕ
+read_before read [] = 0
+read_before read (bytes ∷ rest) = if is_some (read bytes) then read_before read rest + 1 else 0
+
+-- a refusal tells the first place where none is read
+abbrev pub TellsUnread : {P : Type 0} → (List ℕ → Option P) → List (List ℕ) → MarksRefusal → Type 0
+TellsUnread read pieces marks.LifeUsed = Unit {0}
+TellsUnread read pieces (marks.BadPiece place) = (place < length pieces) × (place ≡ read_before read pieces)
+TellsUnread read pieces marks.NoMemory = Unit {0}
 
 -- the note that a life begins
 abbrev pub begins : List ℕ → List ℕ → Bool

@@ -1,7 +1,8 @@
-ghost use Rattle.std.specs.Prelude.{◌≡◌, ◌<◌, ◌≤◌, ◌++◌, ◌∷◌, [], length, replicate, drop, take, slice_get, IfOk, OnOk, OnErr};
-ghost use Rattle.life_bytes.specs.Runs.{Lives, lives_of, count_of, ends_with, pushed};
+ghost use Rattle.std.specs.Prelude.{◌≡◌, ◌-◌, ◌++◌, ◌∷◌, [], Err, length, min, replicate, drop, take, slice_get, OnOk, OnErr};
+ghost use Rattle.life_bytes.specs.Runs.{AreLives, lives_of};
+ghost use Rattle.life_bytes.specs.declared.runs.RunsRefusal.TheVariants.{Full};
 
-use life_bytes::{Life, Run, Runs, RunsRefusal};
+use life_bytes::{Life, Run, Runs, RunsRefusal, life_at, put_lives};
 use std::alloc::Global;
 use std::marker::Model;
 use sync_data::NoMemory;
@@ -56,15 +57,11 @@ impl LifeList {
         ensures ok { OnOk result (self.new ≡ self.old ++ life ∷ []) }
         ensures err { OnErr result (self.new ≡ self.old) }
     {
-        if self.count == u32::MAX {
-            return Err(NoMemory);
-        }
-        push_life(&mut self.runs, life)?;
-        self.count += 1;
-        Ok(())
+        self.push_many(life, 1)
     }
 
-    /// The lives of these runs behind those so far. After `NoMemory` there may be some of them.
+    /// The lives of these runs behind those so far, each run in one step. After `NoMemory`, which also comes where there would be
+    /// more than 4,294,967,295 numbers, there may be some of them.
     pub fn extend(&mut self, runs: &[Run]) -> Result<(), NoMemory>
         ensures { OnOk result (self.new ≡ self.old ++ lives_of runs.now) }
     {
@@ -75,105 +72,48 @@ impl LifeList {
     }
 
     fn push_many(&mut self, life: Life, count: u32) -> Result<(), NoMemory>
-        ensures { OnOk result (self.new ≡ self.old ++ replicate count life) }
+        ensures ok { OnOk result (self.new ≡ self.old ++ replicate count life) }
+        ensures err { OnErr result (self.new ≡ self.old) }
     {
-        for _ in 0..count {
-            self.push(life)?;
+        if u32::MAX - self.count < count {
+            return Err(NoMemory);
         }
+        put_lives(&mut self.runs, life, count)?;
+        self.count += count;
         Ok(())
     }
 
-    /// Puts the lives of so many numbers, from this one on, behind those runs; of fewer where there are no more.
+    /// Puts the lives of so many numbers, from this one on, behind those runs; of fewer where there are no more. Refused, some of
+    /// them may be there.
     pub fn tell(&self, from: u32, count: u32, told: &mut Runs) -> Result<(), RunsRefusal>
-        ensures { OnOk result (told.new ≡ told.old ++ take count (drop from self.now)) }
+        ensures ok { OnOk result (told.new ≡ told.old ++ take count (drop from self.now)) }
+        ensures full { result ≡ Err Full → ¬ (AreLives (told.old ++ take count (drop from self.now))) }
     {
         tell(self.runs.as_slice(), from, count, told)
     }
 }
 
-fn life_at(runs: &[Run], number: u32) -> Option<Life>
-    ensures { result ≡ slice_get (lives_of runs.now) number }
-{
-    let mut left = number;
-    for run in runs {
-        if left < run.count {
-            return Some(run.life);
-        }
-        left -= run.count;
-    }
-    None
-}
-
-/// Whether there is a last run, and it has that life.
-fn ends_with(runs: &[Run], life: Life) -> bool
-    ensures { result ≡ ends_with life runs.now }
-{
-    let count = runs.len();
-    if count == 0 {
-        return false;
-    }
-    runs[count - 1].life == life
-}
-
-/// One more number behind the runs, which have less than 4,294,967,295.
-fn push_life(runs: &mut Vec<Run>, life: Life) -> Result<(), NoMemory>
-    requires { count_of runs.old.items < 4294967295 }
-    ensures ok { OnOk result (runs.new.items ≡ pushed life runs.old.items) }
-    ensures err { OnErr result (runs.new.items ≡ runs.old.items) }
-{
-    if ends_with(runs.as_slice(), life) {
-        let last = runs.len() - 1;
-        let count = runs[last].count + 1;
-        runs[last] = Run { count, life };
-        return Ok(());
-    }
-    match runs.push(Run { count: 1, life }) {
-        Ok(()) => Ok(()),
-        Err(_) => Err(NoMemory),
-    }
-}
-
 fn tell(runs: &[Run], from: u32, count: u32, told: &mut Runs) -> Result<(), RunsRefusal>
-    ensures { OnOk result (told.new ≡ told.old ++ take count (drop from (lives_of runs.now))) }
+    ensures ok { OnOk result (told.new ≡ told.old ++ take count (drop from (lives_of runs.now))) }
+    ensures full { result ≡ Err Full → ¬ (AreLives (told.old ++ take count (drop from (lives_of runs.now)))) }
 {
     let mut skipped = from;
     let mut left = count;
     for run in runs {
-        let (skips, lacks) = tell_run(run.life, run.count, skipped, left, told)?;
-        skipped = skips;
-        left = lacks;
+        let here = told_of(run.count, skipped, left);
+        match told.push(run.life, here) {
+            Ok(()) => {}
+            Err(why) => return Err(why),
+        }
+        skipped = skipped.saturating_sub(run.count);
+        left -= here;
     }
     Ok(())
 }
 
-/// Puts those of so many numbers of one life behind the runs that aren't skipped, as many as are left to tell. It answers how many
-/// are left to skip and to tell.
-fn tell_run(
-    life: Life,
-    count: u32,
-    skipped: u32,
-    left: u32,
-    told: &mut Runs,
-) -> Result<(u32, u32), RunsRefusal>
-    ensures { (more : Lives) → IfOk result (λ r. told.new ++ take r.1 (drop r.0 more) ≡ told.old ++ take left (drop skipped (replicate count life ++ more))) }
+/// How many of a run's numbers are told, where so many are still skipped, and so many are left to tell.
+fn told_of(count: u32, skipped: u32, left: u32) -> u32
+    ensures { result ≡ min (count - skipped) left }
 {
-    if skipped >= count {
-        return Ok((skipped - count, left));
-    }
-    let there = count - skipped;
-    if left <= there {
-        tell_one(life, left, told)?;
-        return Ok((0, 0));
-    }
-    tell_one(life, there, told)?;
-    Ok((0, left - there))
-}
-
-fn tell_one(life: Life, count: u32, told: &mut Runs) -> Result<(), RunsRefusal>
-    ensures { OnOk result (told.new ≡ told.old ++ replicate count life) }
-{
-    for _ in 0..count {
-        told.push(life)?;
-    }
-    Ok(())
+    count.saturating_sub(skipped).min(left)
 }

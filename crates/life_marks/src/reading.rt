@@ -1,6 +1,6 @@
-ghost use Rattle.std.specs.Prelude.{◌≡◌, ◌↔◌, true, Some, IsErrOf, IfOk, OnOk};
+ghost use Rattle.std.specs.Prelude.{◌≡◌, ◌↔◌, true, Some, IsErrOf, IfErr, IfOk, OnOk};
 ghost use Rattle.std.specs.List.{list_any};
-ghost use Rattle.life_marks.specs.Reading.{begins, is_used, server_marks_in, client_marks_in};
+ghost use Rattle.life_marks.specs.Reading.{TellsUnread, begins, is_used, server_marks_in, server_piece_in, client_marks_in, client_piece_in};
 
 use crate::client_marks::ClientMarks;
 use crate::pieces::{ClientPiece, PieceRefusal, ServerPiece, client_piece, server_piece};
@@ -32,6 +32,7 @@ impl ServerMarks {
     ) -> Result<ServerMarks, MarksRefusal>
         ensures read { IfOk result (λ marks. server_marks_in no_marks pieces.now ≡ Some (seen marks)) }
         ensures used { IsErrOf result MarksRefusal.LifeUsed ↔ (is_used life pieces.now ≡ true) }
+        ensures bad { IfErr result (TellsUnread server_piece_in pieces.now) }
     {
         if is_used(life, pieces) {
             return Err(MarksRefusal::LifeUsed);
@@ -72,6 +73,7 @@ impl ClientMarks {
     ) -> Result<ClientMarks, MarksRefusal>
         ensures read { IfOk result (λ marks. client_marks_in no_marks pieces.now ≡ Some (seen marks)) }
         ensures used { IsErrOf result MarksRefusal.LifeUsed ↔ (is_used life pieces.now ≡ true) }
+        ensures bad { IfErr result (TellsUnread client_piece_in pieces.now) }
     {
         if is_used(life, pieces) {
             return Err(MarksRefusal::LifeUsed);

@@ -143,7 +143,7 @@ impl<D: Disk> MarkedServer<D> {
         let mut runs = Runs::new(self.alloc);
         let from = download.from();
         let count = download.entries().len() as u32;
-        if runs.push(self.life_before(from)).is_err() {
+        if runs.push(self.life_before(from), 1).is_err() {
             return Err(ServerRefusal::NoMemory);
         }
         let place = from.saturating_sub(self.marks.floor());
