@@ -2,7 +2,7 @@ ghost use Rattle.std.specs.Prelude.{◌≡◌, ◌⊎◌, ◌≤◌, length, tak
 ghost use Rattle.std.specs.Option.{option_map};
 ghost use Rattle.sync_messages.specs.Parts.{most_listed};
 ghost use Rattle.life_bytes.specs.Parts.{most_tokens_together, most_tokens};
-ghost use Rattle.marked_client.specs.Saying.{fitting, lives_told, savings_told, uploads_with};
+ghost use Rattle.marked_client.specs.Saying.{fitting, lives_told, savings_told, tokens_before, uploads_with};
 
 use crate::client::MarkedClient;
 use crate::refusal::MarkedRefusal;
@@ -67,7 +67,7 @@ impl<D: Disk> MarkedClient<D> {
         let count = changes.len() as u32;
         let numbers = self.marks.numbers();
         if from == 0 {
-            fits(runs.push(Life::new(self.uuid())))?;
+            fits(runs.push(Life::new(self.uuid()), 1))?;
             fits(numbers.tell(0, count, &mut runs))?;
         } else {
             fits(numbers.tell(from - 1, count + 1, &mut runs))?;
@@ -100,8 +100,8 @@ impl<D: Disk> MarkedClient<D> {
         ensures within { result ≤ length changes.now }
     {
         let mut room = MOST_TOKENS;
-        for (place, change) in changes.iter().enumerate() {
-            let tokens = self.tokens_before(change.number());
+        for place in 0..changes.len() {
+            let tokens = self.tokens_before(changes[place].number());
             if tokens > room {
                 return place;
             }
@@ -111,7 +111,9 @@ impl<D: Disk> MarkedClient<D> {
     }
 
     /// How many tokens stand before what is saved as that number.
-    fn tokens_before(&self, number: u32) -> usize {
+    fn tokens_before(&self, number: u32) -> usize
+        ensures { result ≡ tokens_before ((marks_of self.now).saves number) }
+    {
         match self.marks.saves_at(number) {
             Some(saves) => saves.frontier().len(),
             None => 0,
@@ -146,8 +148,8 @@ fn beginning(alloc: Global, upload: &Upload, count: usize) -> Result<Upload, NoM
     ensures { IfOk result (λ r. r ≡ record { ident = upload.now.ident; changes = take count upload.now.changes }) }
 {
     let mut changes = Vec::new(alloc);
-    for change in &upload.changes()[..count] {
-        let copy = change.copy()?;
+    for place in 0..count {
+        let copy = upload.changes()[place].copy()?;
         match changes.push(copy) {
             Ok(()) => {}
             Err(_) => return Err(NoMemory),
