@@ -1,5 +1,5 @@
 -- The entries of a Download, each of which is taken by today's step.
-use Rattle.std.proofs.Common.{◌≡◌, ℕ, suc, ◌+◌, ◌-◌, ◌≤◌, ◌<◌, Bool, true, false, if◌then◌else◌, List, [], ◌∷◌, ◌++◌, length, map, drop, get_or, drop-cons, add-one, Option, Some, None, Result, Ok, Err, refl, ap, ap₂, ◌∙◌, sym, subst, arith, IsTrue, append-nil, ◌==◌}
+use Rattle.std.proofs.Common.{◌≡◌, ℕ, zero, suc, ◌+◌, ◌-◌, ◌≤◌, ◌<◌, Bool, true, false, if◌then◌else◌, List, [], ◌∷◌, ◌++◌, length, map, drop, get_or, drop-cons, add-one, Option, Some, None, Result, Ok, Err, refl, ap, ap₂, ◌∙◌, sym, subst, arith, IsTrue, append-nil, ◌==◌}
 use Rattle.std.proofs.Math.ListN.{drop_of_length-le}
 use Rattle.std.specs.Option.{is_some}
 use Rattle.sync_disk.specs.declared.disk.Disk.{Ghosts}
@@ -10,8 +10,9 @@ use Rattle.sync_model.specs.Messages.{Message, Sent}
 use Rattle.sync_model.proofs.Own.{client_step}
 use Rattle.sync_model.proofs.Loops.{taken_at_first, taken_ends, taken_next, taken_stops}
 use Rattle.sync_exchange.specs.Profile.{the_profile}
-use Rattle.sync_exchange.specs.Seen.{sent_seen}
-use Rattle.sync_messages.specs.Parts.{SentParts}
+use Rattle.sync_exchange.specs.Seen.{message_seen, sent_seen}
+use Rattle.sync_messages.specs.declared.message.Message.TheVariants as messages
+use Rattle.sync_messages.specs.Parts.{DownloadParts, SentParts}
 use Rattle.sync_client.specs.Clients.{Did, IsClientOf}
 use Rattle.sync_client.specs.Keeping.{Keeps}
 use Rattle.sync_client.specs.Refusals.{refusal_seen, IfSeen}
@@ -21,10 +22,13 @@ use Rattle.sync_client.specs.declared.refusal.ClientRefusal.{ClientRefusal as Co
 use Rattle.sync_client.specs.declared.replica.Replica.{Replica}
 use Rattle.sync_client.proofs.OneEntry.{if_seen_on}
 use Rattle.sync_client.proofs.Taken.{downloading}
+use Rattle.marked_client.proofs.Noting.{fault_seen}
 use Rattle.marked_client.specs.declared.client.MarkedClient.{MarkedClient}
 use Rattle.marked_client.specs.declared.refusal.MarkedRefusal.{MarkedRefusal}
 use Rattle.marked_client.specs.declared.refusal.MarkedRefusal.TheVariants as refusals
-use Rattle.marked_client.specs.Marked.{EntryRefusedAsEver, IsNext, RefusedAsEver}
+use Rattle.marked_client.specs.Marked.{EntryRefusedAsEver, IsFault, IsNext, RefusedAsEver, TookAsEver}
+use Rattle.marked_client.specs.declared.taking.Taken.{Taken}
+use Rattle.marked_client.specs.declared.taking.Taken.TheVariants as takens
 
 -- ---- a client by one entry more
 
@@ -33,7 +37,7 @@ either f true x y z p q = p
 either f false x y z p q = q
 
 module _ (c : Model Instr State) (e : Sent) where
-  after : Model Instr State
+  abbrev after : Model Instr State
   after = after_record the_profile c (took e)
 
   entry_keeps : {B : Type 0} (f : Model Instr State → B) (z : B) → ((d : Model Instr State) → d.id ≡ c.id → d.ident ≡ c.ident → d.cursor ≡ suc c.cursor → f d ≡ z) → f after ≡ z
@@ -65,7 +69,7 @@ next_of records e ident version n =
 -- ---- a Download at a client that is born
 
 born_is : (o : Option (List ℕ)) (go : List ℕ → ClientStep ℕ) (z : ClientStep ℕ) → IsTrue (is_some o) → ((id : List ℕ) → go id ≡ z) → if_born o go ≡ z
-born_is None go z e h = absurd e
+born_is None go z e h = cc
 born_is (Some id) go z e h = h id
 
 pub taking : (records : List ClientRecord) (r : Replica) (ident from : ℕ) (es : List Sent) → Keeps records r → IsTrue (is_some r.id) → ident ≡ r.ident → from ≤ r.cursor
@@ -74,9 +78,11 @@ taking records r ident from es k born mine behind =
     born_is (client_of the_profile records).id _ _ (subst (λ (o : Option (List ℕ)). IsTrue (is_some o)) (sym (ap (λ (c : Model Instr State). c.id) k.stands_for)) born)
     (λ id. downloading records r ident from es id k mine behind)
 
+none_of : (n : ℕ) → n - n ≡ zero
+none_of n = omega (arith)
+
 drop_none : (n : ℕ) (es : List Sent) → drop (n - n) es ≡ es
-drop_none 0 es = refl
-drop_none (suc n) es = drop_none n es
+drop_none n es = ap (λ k. drop k es) (none_of n)
 
 -- that of the next entry alone
 pub taking_one : (records : List ClientRecord) (r : Replica) (ident version : ℕ) (e : Sent) → Keeps records r → IsNext records ident version
@@ -88,6 +94,28 @@ taking_one records r ident version e k n =
     taking records r ident version (e ∷ []) k (subst (λ (o : Option (List ℕ)). IsTrue (is_some o)) id n.born) (sym n.named ∙ named) (omega (arith, cursor))
     ∙ ap (λ v. take_entries the_profile (client_of the_profile records) (drop (v - version) (e ∷ []))) cursor
     ∙ ap (take_entries the_profile (client_of the_profile records)) (drop_none version (e ∷ []))
+
+abbrev refusal_in : Result ℕ ClientRefusal → ClientRefusal → ClientRefusal
+refusal_in (Ok n) other = other
+refusal_in (Err w) other = w
+
+-- those behind so many
+behind : (es : List SentParts) (n : ℕ) → drop n (map sent_seen es) ≡ map sent_seen (drop n es)
+behind es zero = refl
+behind [] (suc n) = refl
+behind (e ∷ es) (suc n) = behind es n
+
+-- all that a Download brings
+pub whole : (records : List ClientRecord) (r : Replica) (d : DownloadParts) (skipped : ℕ) → Keeps records r → IsTrue (is_some (client_of the_profile records).id) → d.ident ≡ (client_of the_profile records).ident
+    → d.from ≤ (client_of the_profile records).cursor → skipped ≡ (client_of the_profile records).cursor - d.from
+    → take the_profile (client_of the_profile records) (message_seen (messages.Download d)) ≡ take_entries the_profile (client_of the_profile records) (map sent_seen (drop skipped d.entries))
+whole records r d skipped k born named reaches is =
+    let id = ap (λ (c : Model Instr State). c.id) k.stands_for in
+    let own = ap (λ (c : Model Instr State). c.ident) k.stands_for in
+    let cursor = ap (λ (c : Model Instr State). c.cursor) k.stands_for in
+    taking records r d.ident d.from (map sent_seen d.entries) k (subst (λ (o : Option (List ℕ)). IsTrue (is_some o)) id born) (named ∙ own) (subst (λ n. d.from ≤ n) cursor reaches)
+    ∙ ap (λ n. take_entries the_profile (client_of the_profile records) (drop n (map sent_seen d.entries))) (sym (is ∙ ap (λ n. n - d.from) cursor))
+    ∙ ap (take_entries the_profile (client_of the_profile records)) (behind d.entries skipped)
 
 -- ---- one entry
 
@@ -104,10 +132,7 @@ module _ {D : Type 0} {G : Ghosts D} where
   refused_by : (records : List ClientRecord) (n : Client D G) (e : Sent) (w : ClientRefusal) (o : Option ClientRefusal) → entry_refusal the_profile (client_of the_profile records) e ≡ o
       → Did (take_one o (took e) (take_entries the_profile (after_record the_profile (client_of the_profile records) (took e)) [])) (Err w) records n → SentRefused records n e w
   refused_by records n e w None is d = cc (d.answer_is)
-  refused_by records n e w (Some v) is d = record { cause = is ∙ ap (λ x. Some x) (err_same v w d.answer_is); client = subst (λ rs. IsClientOf rs n) (append-nil records) d.client }
-    where
-      err_same : (v w : ClientRefusal) → Err {ℕ} v ≡ Err w → v ≡ w
-      err_same v w p = inj p
+  refused_by records n e w (Some v) is d = record { cause = is ∙ ap (λ (r : Result ℕ ClientRefusal). Some (refusal_in r v)) d.answer_is; client = subst (λ rs. IsClientOf rs n) (append-nil records) d.client }
 
   pub entry_err : (records : List ClientRecord) (new : MarkedClient D G) (e : Sent) (why : MarkedRefusal) (did : ClientStep ℕ) → did ≡ take_entries the_profile (client_of the_profile records) (e ∷ [])
       → RefusedAsEver did records new why → EntryRefusedAsEver records new e why
@@ -124,6 +149,23 @@ module _ {D : Type 0} {G : Ghosts D} where
   entry_err records new e refusals.TooMany did is r = r
   entry_err records new e refusals.Broken did is r = r
 
+  pub entry_faulted : (records : List ClientRecord) (new : MarkedClient D G) (e : Sent) (why : MarkedRefusal) → IsFault why → EntryRefusedAsEver records new e why
+  entry_faulted records new e (refusals.Client w) f = fault_seen w _ f
+  entry_faulted records new e refusals.NoLife f = f
+  entry_faulted records new e refusals.NoLives f = f
+  entry_faulted records new e refusals.OtherHistory f = f
+  entry_faulted records new e (refusals.Diverged version) f = f
+  entry_faulted records new e (refusals.FileForked number) f = f
+  entry_faulted records new e refusals.AlreadySaved f = f
+  entry_faulted records new e refusals.FrontierTooLong f = f
+  entry_faulted records new e refusals.TooMany f = f
+  entry_faulted records new e refusals.Broken f = f
+
+  pub entry_says : (records : List ClientRecord) (new : MarkedClient D G) (e : Sent) (taken : Taken) (did : ClientStep ℕ) → did ≡ take_entries the_profile (client_of the_profile records) (e ∷ [])
+      → TookAsEver did records new (Ok taken) → SentTaken records new.client e
+  entry_says records new e (takens.Cursor cursor) did is r = entry_ok records new.client e cursor did is r
+  entry_says records new e (takens.GivenUp given) did is r = absurd r
+
   -- ---- all of them
 
   -- these records were written so far, and these entries are left, of which the first has this version
@@ -133,20 +175,8 @@ module _ {D : Type 0} {G : Ghosts D} where
     pub client : IsClientOf written now.client
     pub next : IsNext written ident version
 
-  pub at_first : (records : List ClientRecord) (now : MarkedClient D G) (ident version : ℕ) (all : List Sent) → IsClientOf records now.client
-      → IsTrue (is_some now.client.replica.id) → ident ≡ now.client.replica.ident → now.client.replica.cursor ≡ version → EntriesSoFar records now ident version all all
-  at_first records now ident version all k born named cursor =
-      let is = k.kept.stands_for in
-      record {
-        written = records;
-        taken = taken_at_first the_profile records all;
-        client = k;
-        next = record {
-          born = subst (λ (o : Option (List ℕ)). IsTrue (is_some o)) (sym (ap (λ (c : Model Instr State). c.id) is)) born;
-          named = ap (λ (c : Model Instr State). c.ident) is ∙ sym named;
-          cursor = ap (λ (c : Model Instr State). c.cursor) is ∙ cursor;
-        };
-      }
+  pub at_first : (records : List ClientRecord) (now : MarkedClient D G) (ident version : ℕ) (all : List Sent) → IsClientOf records now.client → IsNext records ident version → EntriesSoFar records now ident version all all
+  at_first records now ident version all k next = record { written = records; taken = taken_at_first the_profile records all; client = k; next = next }
 
   pub goes_on : (records : List ClientRecord) (now new : MarkedClient D G) (ident version : ℕ) (all left rest : List Sent) (e : Sent) → left ≡ e ∷ rest → EntriesSoFar records now ident version all left
       → ((rs : List ClientRecord) → IsClientOf rs now.client → IsNext rs ident version → SentTaken rs new.client e) → EntriesSoFar records new ident (version + 1) all rest
@@ -194,9 +224,3 @@ left_at es i e h is = ap (map sent_seen) (drop-cons es i e h ∙ ap₂ (λ x j. 
 
 pub none_left : (es : List SentParts) (i : ℕ) → length es ≤ i → map sent_seen (drop i es) ≡ []
 none_left es i h = ap (map sent_seen) (drop_of_length-le es h)
-
--- those behind so many
-pub behind : (es : List SentParts) (n : ℕ) → drop n (map sent_seen es) ≡ map sent_seen (drop n es)
-behind es 0 = refl
-behind [] (suc n) = refl
-behind (e ∷ es) (suc n) = behind es n

@@ -3,16 +3,19 @@ use Rattle.std.proofs.Common.{◌≡◌, ℕ, ◌≤◌, Bool, true, false, ◌&
 use Rattle.std.proofs.lemmas.Bool.{eqb-true, ltb-false}
 use Rattle.std.specs.Option.{is_some}
 use Rattle.sync_model.proofs.Alone.{both_true}
+use Rattle.sync_messages.specs.declared.message.Message.{Message}
 use Rattle.sync_messages.specs.declared.message.Message.TheVariants as messages
 use Rattle.sync_messages.specs.Parts.{DownloadParts}
 use Rattle.sync_client.specs.declared.refusal.ClientRefusal.TheVariants as clients
 use Rattle.life_bytes.specs.Envelopes.{AnswersParts}
 use Rattle.life_bytes.specs.declared.answered.Answered.{Answered}
 use Rattle.life_bytes.specs.declared.answered.Answered.TheVariants as answered
+use Rattle.life_bytes.specs.declared.letter.Letter.{Letter}
+use Rattle.life_bytes.specs.declared.letter.Letter.TheVariants as letters
 use Rattle.life_marks.specs.ClientMarks.{Marks}
 use Rattle.marked_client.specs.declared.refusal.MarkedRefusal.{MarkedRefusal}
 use Rattle.marked_client.specs.declared.testing.Standing.{Standing}
-use Rattle.marked_client.specs.Testing.{answers_test, because, birth_test, download_test, first_of, inner_test, is_named, owner_test, uuid_test}
+use Rattle.marked_client.specs.Testing.{DownloadPasses, answers_test, because, birth_test, download_test, first_of, inner_test, is_named, owner_test, uuid_test}
 
 first_none : (a b : Option MarkedRefusal) → first_of a b ≡ None → (a ≡ None) × (b ≡ None)
 first_none None b e = (refl, e)
@@ -53,14 +56,26 @@ passes m at answers e =
     let p = first_none (owner_test at answers) (first_of (birth_test m at answers.birth) (inner_test m at answers answers.inner)) e in
     (owner_passes at answers p.0, (first_none (birth_test m at answers.birth) (inner_test m at answers answers.inner) p.1).1)
 
-pub record DownloadPasses (at : Standing) (download : DownloadParts) : Type 0 where
-  pub born : IsTrue (is_some at.id)
-  pub named : download.ident ≡ at.ident
-  pub reaches : download.from ≤ at.cursor
-
 some_is : (o : Option (List ℕ)) (id : List ℕ) → o ≡ Some id → IsTrue (is_some o)
 some_is None id e = cc
-some_is (Some i) id e = tt
+some_is (Some i) id e = refl
+
+-- ---- what an answer holds
+
+abbrev message_in : Answered → Message → Message
+message_in (answered.Message message) other = message
+message_in (answered.GivenUp given) other = other
+
+pub same_message : (a b : Message) → answered.Message a ≡ answered.Message b → a ≡ b
+same_message a b e = ap (λ inner. message_in inner a) e
+
+abbrev answers_in : Letter → AnswersParts → AnswersParts
+answers_in (letters.Answers answers) other = answers
+answers_in (letters.Says says) other = other
+answers_in (letters.Message message) other = other
+
+pub same_answers : (a b : AnswersParts) → letters.Answers a ≡ letters.Answers b → a ≡ b
+same_answers a b e = ap (λ letter. answers_in letter a) e
 
 pub download_passes : (m : Marks) (at : Standing) (answers : AnswersParts) (download : DownloadParts) → answers.inner ≡ answered.Message (messages.Download download) → answers_test m at answers ≡ None → DownloadPasses at download
 download_passes m at answers download is e =

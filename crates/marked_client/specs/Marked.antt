@@ -58,22 +58,29 @@ save_notes m None saves = []
 save_notes m (Some life) saves = begin_notes m life ++ notes.Saves saves ∷ []
 
 -- why a transaction isn't saved, in this order
+abbrev pub token_test : (List ℕ → ℕ) → TokenParts → List TokenParts → Option MarkedRefusal
+token_test reached token frontier =
+    if has reached token then Some refusals.AlreadySaved
+    else (if nat_lt most_tokens (length frontier) then Some refusals.FrontierTooLong else None)
+
 abbrev pub save_test : Marks → Option (List ℕ) → Bool → TokenParts → List TokenParts → Option MarkedRefusal
 save_test m life closed token frontier =
     if closed then because clients.Closed
     else (if not (has_lives m life) then Some refusals.NoLives
     else (if not (is_some life) then Some refusals.NoLife
-    else (if has m.reached token then Some refusals.AlreadySaved
-    else (if nat_lt most_tokens (length frontier) then Some refusals.FrontierTooLong else None))))
+    else token_test m.reached token frontier))
 
 -- why clients aren't given up, in this order
-abbrev pub give_up_test : Marks → Option (List ℕ) → Bool → Replica → List (List ℕ) → Lives → Option MarkedRefusal
-give_up_test m life closed r uuids lives =
-    if closed then because clients.Closed
-    else (if not (is_some r.id) then because clients.NotBorn
-    else (if r.ident == 0 then because clients.NotNamed
-    else (if not (has_lives m life) then Some refusals.NoLives
-    else (if nat_lt most_uuids (length uuids) || nat_lt most_lives (length lives) then Some refusals.TooMany else None))))
+abbrev pub count_test : List (List ℕ) → Lives → Option MarkedRefusal
+count_test uuids lives = if nat_lt most_uuids (length uuids) || nat_lt most_lives (length lives) then Some refusals.TooMany else None
+
+abbrev pub give_up_test : Standing → List (List ℕ) → Lives → Option MarkedRefusal
+give_up_test at uuids lives =
+    if at.is_closed then because clients.Closed
+    else (if not (is_some at.id) then because clients.NotBorn
+    else (if at.ident == 0 then because clients.NotNamed
+    else (if not at.has_lives then Some refusals.NoLives
+    else count_test uuids lives)))
 
 -- the life of the entry of a Download at this place; the first one is that of the entry before
 abbrev pub entry_life : Lives → ℕ → List ℕ
@@ -84,6 +91,36 @@ pub record IsNext (records : List ClientRecord) (ident version : ℕ) : Type 0 w
   pub born : IsTrue (is_some (client_of the_profile records).id)
   pub named : (client_of the_profile records).ident ≡ ident
   pub cursor : (client_of the_profile records).cursor ≡ version
+
+-- the disk failed, memory ran out, or the client is closed
+abbrev pub IsFault : MarkedRefusal → Type 0
+IsFault (refusals.Client why) = refusal_seen why ≡ None
+IsFault refusals.NoLife = ⊥
+IsFault refusals.NoLives = ⊥
+IsFault refusals.OtherHistory = ⊥
+IsFault (refusals.Diverged version) = ⊥
+IsFault (refusals.FileForked number) = ⊥
+IsFault refusals.AlreadySaved = ⊥
+IsFault refusals.FrontierTooLong = ⊥
+IsFault refusals.TooMany = ⊥
+IsFault refusals.Broken = ⊥
+
+-- today's step has no message
+abbrev pub Unsaid : ClientStep ModelMessage → MarkedRefusal → Type 0
+Unsaid did (refusals.Client why) = IfSeen (refusal_seen why) (λ w. did.answer ≡ Err w)
+Unsaid did refusals.NoLife = ⊥
+Unsaid did refusals.NoLives = ⊥
+Unsaid did refusals.OtherHistory = ⊥
+Unsaid did (refusals.Diverged version) = ⊥
+Unsaid did (refusals.FileForked number) = ⊥
+Unsaid did refusals.AlreadySaved = ⊥
+Unsaid did refusals.FrontierTooLong = ⊥
+Unsaid did refusals.TooMany = ⊥
+Unsaid did refusals.Broken = Unit {0}
+
+-- the uuid of a client of these records
+abbrev pub uuid_of : List ClientRecord → List ℕ
+uuid_of records = unwrap_or (client_of the_profile records).id no_life
 
 module _ {D : Type 0} {G : Ghosts D} where
   abbrev pub marks_of : MarkedClient D G → Marks
@@ -98,13 +135,14 @@ module _ {D : Type 0} {G : Ghosts D} where
   abbrev pub is_closed : MarkedClient D G → Bool
   is_closed c = is_shut c.client
 
-  abbrev pub standing_of : MarkedClient D G → Standing
-  standing_of c = record {
+  -- what the tests look at, of a client of these records
+  abbrev pub standing_of : List ClientRecord → MarkedClient D G → Standing
+  standing_of records c = record {
     has_lives = has_lives (marks_of c) (life_of c);
     is_closed = is_closed c;
-    id = (replica_of c).id;
-    ident = (replica_of c).ident;
-    cursor = (replica_of c).cursor;
+    id = (client_of the_profile records).id;
+    ident = (client_of the_profile records).ident;
+    cursor = (client_of the_profile records).cursor;
   }
 
   -- notes are added: the client's records are what they were, and the notes stand behind the records and notes before
@@ -161,35 +199,20 @@ module _ {D : Type 0} {G : Ghosts D} where
 
   -- ---- what it sends
 
-  abbrev pub uuid_of : MarkedClient D G → List ℕ
-  uuid_of c = unwrap_or (replica_of c).id no_life
-
   -- a message of today, with the lives of the file where it has any
-  abbrev pub LetterOf : MarkedClient D G → Message → Letter → Type 0
-  LetterOf c message letter = letter ≡ letter_of (marks_of c) (life_of c) (uuid_of c) (replica_of c).cursor message
+  abbrev pub LetterOf : List ClientRecord → MarkedClient D G → Message → Letter → Type 0
+  LetterOf records c message letter = letter ≡ letter_of (marks_of c) (life_of c) (uuid_of records) (client_of the_profile records).cursor message
 
-  pub record IsLetter (did : ClientStep ModelMessage) (c : MarkedClient D G) (letter : Letter) : Type 0 where
+  pub record IsLetter (did : ClientStep ModelMessage) (records : List ClientRecord) (c : MarkedClient D G) (letter : Letter) : Type 0 where
     pub message : Message
     pub did_it : did.answer ≡ Ok (message_seen message)
-    pub letter_is : LetterOf c message letter
-
-  abbrev pub Unsaid : ClientStep ModelMessage → MarkedRefusal → Type 0
-  Unsaid did (refusals.Client why) = IfSeen (refusal_seen why) (λ w. did.answer ≡ Err w)
-  Unsaid did refusals.NoLife = ⊥
-  Unsaid did refusals.NoLives = ⊥
-  Unsaid did refusals.OtherHistory = ⊥
-  Unsaid did (refusals.Diverged version) = ⊥
-  Unsaid did (refusals.FileForked number) = ⊥
-  Unsaid did refusals.AlreadySaved = ⊥
-  Unsaid did refusals.FrontierTooLong = ⊥
-  Unsaid did refusals.TooMany = ⊥
-  Unsaid did refusals.Broken = Unit {0}
+    pub letter_is : LetterOf records c message letter
 
   -- the message of today's step, or its refusal
-  abbrev pub LetterSays : ClientStep ModelMessage → MarkedClient D G → Result Letter MarkedRefusal → Type 0
-  LetterSays did c (Ok letter) = IsLetter did c letter
-  LetterSays did c (Err why) = Unsaid did why
+  abbrev pub LetterSays : ClientStep ModelMessage → List ClientRecord → MarkedClient D G → Result Letter MarkedRefusal → Type 0
+  LetterSays did records c (Ok letter) = IsLetter did records c letter
+  LetterSays did records c (Err why) = Unsaid did why
 
-  abbrev pub GivesUp : MarkedClient D G → List (List ℕ) → Lives → Letter → Type 0
-  GivesUp c uuids lives letter =
-      letter ≡ letters.Says (plain_says (marks_of c) (uuid_of c) (replica_of c).cursor (said.GiveUp (record { by = (replica_of c).ident; uuids = uuids; lives = lives })))
+  abbrev pub GivesUp : List ClientRecord → MarkedClient D G → List (List ℕ) → Lives → Letter → Type 0
+  GivesUp records c uuids lives letter =
+      letter ≡ letters.Says (plain_says (marks_of c) (uuid_of records) (client_of the_profile records).cursor (said.GiveUp (record { by = (client_of the_profile records).ident; uuids = uuids; lives = lives })))

@@ -1,5 +1,5 @@
 -- The tests of an answer with lives, by what stands in the client's file and in the answer.
-use Rattle.std.specs.Prelude.{ℕ, ◌-◌, Bool, true, false, ◌&&◌, ◌||◌, not, ◌==◌, nat_lt, bytes_eq, if◌then◌else◌, List, Option, Some, None, slice_get}
+use Rattle.std.specs.Prelude.{◌≡◌, ◌≤◌, IsTrue, ℕ, ◌-◌, Bool, true, false, ◌&&◌, ◌||◌, not, ◌==◌, nat_lt, bytes_eq, if◌then◌else◌, List, Option, Some, None, slice_get}
 use Rattle.std.specs.Option.{is_some}
 use Rattle.sync_client.specs.declared.refusal.ClientRefusal.{ClientRefusal}
 use Rattle.sync_client.specs.declared.refusal.ClientRefusal.TheVariants as clients
@@ -112,3 +112,9 @@ inner_test m at answers (answered.GivenUp given) = file_test m answers.last
 -- all, in this order
 abbrev pub answers_test : Marks → Standing → AnswersParts → Option MarkedRefusal
 answers_test m at answers = first_of (owner_test at answers) (first_of (birth_test m at answers.birth) (inner_test m at answers answers.inner))
+
+-- what holds of a Download that they let through
+pub record DownloadPasses (at : Standing) (download : DownloadParts) : Type 0 where
+  pub born : IsTrue (is_some at.id)
+  pub named : download.ident ≡ at.ident
+  pub reaches : download.from ≤ at.cursor

@@ -1,9 +1,10 @@
-ghost use Rattle.std.specs.Prelude.{◌≡◌, ◌++◌, ◌∷◌, [], ℕ, List, true, false, Some, None, Ok, OnOk, OnErr};
+ghost use Rattle.std.specs.Prelude.{◌≡◌, ◌++◌, ◌∷◌, [], ℕ, List, true, false, Some, None, Ok, IfErr, OnOk, OnErr};
 ghost use Rattle.sync_journal.specs.Stands.{Stands, StandsNoted};
 ghost use Rattle.sync_model.specs.Clients as model;
 ghost use Rattle.sync_exchange.specs.Profile.{the_profile};
 ghost use Rattle.life_bytes.specs.Spelling.{note_spelling};
 ghost use Rattle.life_marks.specs.ClientMarks.{after_note, seen};
+ghost use Rattle.marked_client.specs.Marked.{IsFault};
 ghost use Rattle.marked_client.specs.Testing.{has_lives};
 
 use crate::refusal::MarkedRefusal;
@@ -88,7 +89,8 @@ impl<D: Disk> MarkedClient<D> {
 
     /// What the tests of an answer look at beside the marks.
     pub(crate) fn standing(&self) -> Standing
-        ensures { result ≡ standing_of self.now }
+        ensures value { (records : List model.ClientRecord) → IsClientOf records self.now.client → result ≡ standing_of records self.now }
+        ensures closed { result.is_closed ≡ is_closed self.now }
     {
         Standing {
             has_lives: self.has_lives(),
@@ -113,6 +115,7 @@ impl<D: Disk> MarkedClient<D> {
     /// Writes a note. It closes the client where that fails.
     pub(crate) fn note(&mut self, note: Note) -> Result<(), MarkedRefusal>
         ensures notes { OnOk result (Notes (note ∷ []) self.old self.new) }
+        ensures fault { IfErr result IsFault }
         ensures same { Same self.old self.new }
         ensures open_ { is_closed self.old ≡ false → OnOk result (is_closed self.new ≡ false) }
         ensures closes { OnErr result (is_closed self.new ≡ true) }
@@ -129,6 +132,7 @@ impl<D: Disk> MarkedClient<D> {
     }
 
     fn put_note(&mut self, note: &Note) -> Result<(), MarkedRefusal>
+        ensures fault { IfErr result IsFault }
         ensures records { (rs : List (List ℕ)) → Stands rs (journal_of self.old.client) → OnOk result (Stands rs (journal_of self.new.client)) }
         ensures noted { (ps : List (List ℕ)) → StandsNoted ps (journal_of self.old.client) → OnOk result (StandsNoted (ps ++ note_spelling note.now ∷ []) (journal_of self.new.client)) }
         ensures marks { marks_of self.new ≡ marks_of self.old }

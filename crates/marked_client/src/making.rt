@@ -3,13 +3,15 @@ ghost use Rattle.sync_model.specs.Clients as model;
 ghost use Rattle.sync_exchange.specs.Profile.{the_profile};
 ghost use Rattle.life_bytes.specs.Parts.{most_tokens};
 ghost use Rattle.life_marks.specs.ClientMarks.{after_made};
-ghost use Rattle.marked_client.specs.Marked.{after_notes, begin_notes, made_notes, save_notes, save_test};
+ghost use Rattle.life_marks.specs.Reached.{number_of};
+ghost use Rattle.marked_client.specs.Marked.{IsFault, after_notes, begin_notes, made_notes, save_notes, save_test, token_test};
 ghost use Rattle.marked_client.specs.Testing.{has_lives};
 
 use crate::client::MarkedClient;
 use crate::refusal::MarkedRefusal;
 use crate::testing::is_life;
 use life_bytes::{Life, Note, Saves, Token};
+use life_marks::Reached;
 use sync_client::ClientRefusal;
 use sync_data::{Instr, NoMemory};
 use sync_disk::Disk;
@@ -32,15 +34,29 @@ impl<D: Disk> MarkedClient<D> {
         ensures marks { IfOk result (λ number. marks_of self.new ≡ after_made (after_notes (marks_of self.old) (made_notes (marks_of self.old) (life_of self.old))) number) }
     {
         if self.has_lives() {
-            match self.begin() {
-                Ok(()) => {}
-                Err(why) => {
+            return match self.life {
+                Some(life) => self.make_in(life, ms, edits),
+                None => {
                     drop(edits);
-                    return Err(why);
+                    Err(MarkedRefusal::NoLife)
                 }
-            }
+            };
         }
         self.make(ms, edits)
+    }
+
+    /// The same in a life, which is noted before the first one.
+    fn make_in(&mut self, life: Life, ms: u64, edits: Vec<Instr>) -> Result<u32, MarkedRefusal>
+        ensures does { (records : List model.ClientRecord) → IsClientOf records self.old.client → MadeAsEver (model.commit the_profile (model.client_of the_profile records) ms edits.items) records self.new result }
+        ensures marks { IfOk result (λ number. marks_of self.new ≡ after_made (after_notes (marks_of self.old) (begin_notes (marks_of self.old) life)) number) }
+    {
+        match self.begin(life) {
+            Ok(()) => self.make(ms, edits),
+            Err(why) => {
+                drop(edits);
+                Err(why)
+            }
+        }
     }
 
     /// One transaction that saves another, of this token, behind what must stand before that. Errors besides those of `commit`, in
@@ -57,11 +73,31 @@ impl<D: Disk> MarkedClient<D> {
             → MadeAsEver (model.commit the_profile (model.client_of the_profile records) ms edits.items) records self.new result }
         ensures marks { IfOk result (λ number. marks_of self.new ≡ after_made (after_notes (marks_of self.old) (save_notes (marks_of self.old) (life_of self.old) (record { token = token; frontier = frontier.items }))) number) }
     {
-        if let Some(why) = self.save_refusal(token, frontier.as_slice()) {
-            drop((frontier, edits));
-            return Err(why);
+        match (self.save_refusal(token, frontier.as_slice()), self.life) {
+            (None, Some(life)) => self.save_in(life, Saves::new(token, frontier), ms, edits),
+            (None, None) => {
+                drop((frontier, edits));
+                Err(MarkedRefusal::NoLife)
+            }
+            (Some(why), _) => {
+                drop((frontier, edits));
+                Err(why)
+            }
         }
-        match self.note_saves(token, frontier) {
+    }
+
+    /// The same in a life.
+    fn save_in(
+        &mut self,
+        life: Life,
+        saves: Saves,
+        ms: u64,
+        edits: Vec<Instr>,
+    ) -> Result<u32, MarkedRefusal>
+        ensures does { (records : List model.ClientRecord) → IsClientOf records self.old.client → MadeAsEver (model.commit the_profile (model.client_of the_profile records) ms edits.items) records self.new result }
+        ensures marks { IfOk result (λ number. marks_of self.new ≡ after_made (after_notes (marks_of self.old) (save_notes (marks_of self.old) (Some life) saves)) number) }
+    {
+        match self.note_saves(life, saves) {
             Ok(()) => {}
             Err(why) => {
                 drop(edits);
@@ -70,10 +106,10 @@ impl<D: Disk> MarkedClient<D> {
         }
         match self.make(ms, edits) {
             Ok(number) => Ok(number),
-            Err(why) => {
-                self.forget_saves()?;
-                Err(why)
-            }
+            Err(why) => match self.forget_saves() {
+                Ok(()) => Err(why),
+                Err(fault) => Err(fault),
+            },
         }
     }
 
@@ -89,30 +125,29 @@ impl<D: Disk> MarkedClient<D> {
         if self.life.is_none() {
             return Some(MarkedRefusal::NoLife);
         }
-        if self.marks.reached().has(token) {
-            return Some(MarkedRefusal::AlreadySaved);
-        }
-        if frontier.len() > MOST_TOKENS {
-            return Some(MarkedRefusal::FrontierTooLong);
-        }
-        None
+        self.tokens_refusal(token, frontier)
     }
 
-    /// Notes what the next transaction saves, in the life of this opening.
-    fn note_saves(&mut self, token: Token, frontier: Vec<Token>) -> Result<(), MarkedRefusal>
-        requires { length frontier.items ≤ most_tokens }
-        ensures notes { OnOk result (Notes (save_notes (marks_of self.old) (life_of self.old) (record { token = token; frontier = frontier.items })) self.old self.new) }
+    fn tokens_refusal(&self, token: Token, frontier: &[Token]) -> Option<MarkedRefusal>
+        ensures { result ≡ token_test (marks_of self.now).reached token frontier.now }
+    {
+        token_refusal(self.marks.reached(), token, frontier)
+    }
+
+    /// Notes what the next transaction saves, in a life.
+    fn note_saves(&mut self, life: Life, saves: Saves) -> Result<(), MarkedRefusal>
+        ensures notes { OnOk result (Notes (save_notes (marks_of self.old) (Some life) saves) self.old self.new) }
+        ensures fault { IfErr result IsFault }
         ensures same { Same self.old self.new }
         ensures open_ { is_closed self.old ≡ false → OnOk result (is_closed self.new ≡ false) }
     {
-        match self.begin() {
-            Ok(()) => {}
+        match self.begin(life) {
+            Ok(()) => self.note(Note::Saves(saves)),
             Err(why) => {
-                drop(frontier);
-                return Err(why);
+                drop(saves);
+                Err(why)
             }
         }
-        self.note(Note::Saves(Saves::new(token, frontier)))
     }
 
     /// No transaction followed the note of what it saves: the next one saves nothing.
@@ -120,6 +155,7 @@ impl<D: Disk> MarkedClient<D> {
         ensures same { Same self.old self.new }
         ensures open_ { is_closed self.old ≡ false → OnOk result (is_closed self.new ≡ false) }
         ensures closed { OnErr result (is_closed self.new ≡ true) }
+        ensures fault { IfErr result IsFault }
     {
         if self.client.journal.is_closed() {
             return Ok(());
@@ -143,22 +179,28 @@ impl<D: Disk> MarkedClient<D> {
         }
     }
 
-    /// Begins the life of this opening in the file, where it hasn't yet.
-    fn begin(&mut self) -> Result<(), MarkedRefusal>
-        ensures none { life_of self.old ≡ None → (result ≡ Err MarkedRefusal.NoLife) × (self.new ≡ self.old) }
-        ensures notes { (life : List ℕ) → life_of self.old ≡ Some life → OnOk result (Notes (begin_notes (marks_of self.old) life) self.old self.new) }
+    /// Begins a life in the file, where it hasn't begun yet.
+    fn begin(&mut self, life: Life) -> Result<(), MarkedRefusal>
+        ensures notes { OnOk result (Notes (begin_notes (marks_of self.old) life) self.old self.new) }
+        ensures fault { IfErr result IsFault }
         ensures same { Same self.old self.new }
         ensures open_ { is_closed self.old ≡ false → OnOk result (is_closed self.new ≡ false) }
-        ensures closes { (life : List ℕ) → life_of self.old ≡ Some life → OnErr result (is_closed self.new ≡ true) }
     {
-        match self.life {
-            None => Err(MarkedRefusal::NoLife),
-            Some(life) => {
-                if is_life(self.marks.life(), life) {
-                    return Ok(());
-                }
-                self.note(Note::Life(life))
-            }
+        if is_life(self.marks.life(), life) {
+            return Ok(());
         }
+        self.note(Note::Life(life))
     }
+}
+
+fn token_refusal(reached: &Reached, token: Token, frontier: &[Token]) -> Option<MarkedRefusal>
+    ensures { result ≡ token_test (number_of reached.now) token frontier.now }
+{
+    if reached.has(token) {
+        return Some(MarkedRefusal::AlreadySaved);
+    }
+    if frontier.len() > MOST_TOKENS {
+        return Some(MarkedRefusal::FrontierTooLong);
+    }
+    None
 }

@@ -1,4 +1,4 @@
-ghost use Rattle.std.specs.Prelude.{◌≡◌, ◌+◌, ◌<◌, ◌≤◌, ◌∷◌, [], length, List, ℕ, IsTrue, true, false, Some, None, Ok, Err, IfOk, OnOk, OnErr};
+ghost use Rattle.std.specs.Prelude.{◌≡◌, ◌+◌, ◌<◌, ◌≤◌, ◌∷◌, [], length, List, ℕ, IsTrue, true, false, Some, None, Ok, Err, IfErr, IfOk, OnOk, OnErr};
 ghost use Rattle.sync_model.specs.Clients as model;
 ghost use Rattle.sync_exchange.specs.Profile.{the_profile};
 ghost use Rattle.sync_exchange.specs.Seen.{message_seen, sent_seen};
@@ -10,8 +10,9 @@ ghost use Rattle.life_bytes.specs.Envelopes.{AnswersParts};
 ghost use Rattle.life_bytes.specs.declared.answered.Answered.{Answered};
 ghost use Rattle.life_bytes.specs.declared.letter.Letter.{Letter};
 ghost use Rattle.life_marks.specs.ClientMarks.{after_took};
-ghost use Rattle.marked_client.specs.Marked.{IsNext, entry_life};
-ghost use Rattle.marked_client.specs.Testing.{answers_test, has_lives};
+ghost use Rattle.marked_client.specs.Marked.{IsFault, IsNext, entry_life, entry_notes};
+ghost use Rattle.marked_client.specs.Testing.{DownloadPasses, answers_test, has_lives};
+ghost use Rattle.marked_client.specs.declared.testing.Standing.{Standing};
 
 use crate::client::MarkedClient;
 use crate::refusal::MarkedRefusal;
@@ -43,10 +44,10 @@ impl<D: Disk> MarkedClient<D> {
     pub fn take(&mut self, letter: Letter) -> Result<Taken, MarkedRefusal>
         ensures plain { (records : List model.ClientRecord) (message : Message) → IsClientOf records self.old.client → letter ≡ Letter.Message message → has_lives (marks_of self.old) (life_of self.old) ≡ false
             → TookAsEver (model.take the_profile (model.client_of the_profile records) (message_seen message)) records self.new result }
-        ensures refused { (answers : AnswersParts) (why : MarkedRefusal) → letter ≡ Letter.Answers answers → answers_test (marks_of self.old) (standing_of self.old) answers ≡ Some why
+        ensures refused { (records : List model.ClientRecord) (answers : AnswersParts) (why : MarkedRefusal) → IsClientOf records self.old.client → letter ≡ Letter.Answers answers → answers_test (marks_of self.old) (standing_of records self.old) answers ≡ Some why
             → (result ≡ Err why) × (self.new ≡ self.old) }
         ensures does { (records : List model.ClientRecord) (answers : AnswersParts) (message : Message) → IsClientOf records self.old.client → letter ≡ Letter.Answers answers → answers.inner ≡ Answered.Message message
-            → answers_test (marks_of self.old) (standing_of self.old) answers ≡ None
+            → answers_test (marks_of self.old) (standing_of records self.old) answers ≡ None
             → TookAsEver (model.take the_profile (model.client_of the_profile records) (message_seen message)) records self.new result }
     {
         match letter {
@@ -103,9 +104,9 @@ impl<D: Disk> MarkedClient<D> {
     }
 
     fn take_answers(&mut self, answers: &Answers) -> Result<Taken, MarkedRefusal>
-        ensures refused { (why : MarkedRefusal) → answers_test (marks_of self.old) (standing_of self.old) answers.now ≡ Some why → (result ≡ Err why) × (self.new ≡ self.old) }
+        ensures refused { (records : List model.ClientRecord) (why : MarkedRefusal) → IsClientOf records self.old.client → answers_test (marks_of self.old) (standing_of records self.old) answers.now ≡ Some why → (result ≡ Err why) × (self.new ≡ self.old) }
         ensures does { (records : List model.ClientRecord) (message : Message) → IsClientOf records self.old.client → answers.now.inner ≡ Answered.Message message
-            → answers_test (marks_of self.old) (standing_of self.old) answers.now ≡ None
+            → answers_test (marks_of self.old) (standing_of records self.old) answers.now ≡ None
             → TookAsEver (model.take the_profile (model.client_of the_profile records) (message_seen message)) records self.new result }
     {
         let at = self.standing();
@@ -113,15 +114,28 @@ impl<D: Disk> MarkedClient<D> {
             return Err(why);
         }
         match answers.inner() {
-            Answered::Message(Message::Ident(given)) => self.take_ident(given, answers.birth()),
-            Answered::Message(Message::Download(download)) => {
-                self.take_entries(download, answers.runs())
-            }
-            Answered::Message(message) => self.take_other(message),
+            Answered::Message(message) => self.take_message(message, answers),
             Answered::GivenUp(given) => match copy_of(self.alloc, given) {
                 Ok(given) => Ok(Taken::GivenUp(given)),
                 Err(NoMemory) => Err(self.out_of_memory()),
             },
+        }
+    }
+
+    /// A message of today, which the tests let through.
+    fn take_message(
+        &mut self,
+        message: &Message,
+        answers: &Answers,
+    ) -> Result<Taken, MarkedRefusal>
+        ensures does { (records : List model.ClientRecord) → IsClientOf records self.old.client → answers.now.inner ≡ Answered.Message message.now
+            → answers_test (marks_of self.old) (standing_of records self.old) answers.now ≡ None
+            → TookAsEver (model.take the_profile (model.client_of the_profile records) (message_seen message.now)) records self.new result }
+    {
+        match message {
+            Message::Ident(given) => self.take_ident(given, answers.birth()),
+            Message::Download(download) => self.take_entries(download, answers.runs()),
+            _ => self.take_other(message),
         }
     }
 
@@ -140,7 +154,10 @@ impl<D: Disk> MarkedClient<D> {
         ensures does { (records : List model.ClientRecord) → IsClientOf records self.old.client → TookAsEver (model.take the_profile (model.client_of the_profile records) (message_seen (messages.Ident given.now))) records self.new result }
     {
         if self.client.ident() == 0 {
-            self.note(Note::Birth(birth))?;
+            match self.note(Note::Birth(birth)) {
+                Ok(()) => {}
+                Err(why) => return Err(why),
+            }
         }
         self.take_as_ever(Message::Ident(given.copy()))
     }
@@ -151,16 +168,16 @@ impl<D: Disk> MarkedClient<D> {
         download: &Download,
         lives: &Runs,
     ) -> Result<Taken, MarkedRefusal>
-        requires reaches { download.now.from ≤ (replica_of self.old).cursor }
-        requires named { download.now.ident ≡ (replica_of self.old).ident }
-        requires born { IsTrue (is_some (replica_of self.old).id) }
-        ensures does { (records : List model.ClientRecord) → IsClientOf records self.old.client → TookAsEver (model.take the_profile (model.client_of the_profile records) (message_seen (messages.Download download.now))) records self.new result }
+        ensures does { (records : List model.ClientRecord) (at : Standing) → IsClientOf records self.old.client → at ≡ standing_of records self.old → DownloadPasses at download.now → TookAsEver (model.take the_profile (model.client_of the_profile records) (message_seen (messages.Download download.now))) records self.new result }
     {
-        let skipped = (self.client.cursor() - download.from()) as usize;
+        let skipped = self.client.cursor().saturating_sub(download.from()) as usize;
         for place in skipped..download.entries().len() {
             let sent = &download.entries()[place];
             let version = download.from() + place as u32;
-            self.take_entry(download.ident(), version, sent, life_at(lives, place))?;
+            match self.take_entry(download.ident(), version, sent, life_at(lives, place)) {
+                Ok(()) => {}
+                Err(why) => return Err(why),
+            }
         }
         Ok(Taken::Cursor(self.client.cursor()))
     }
@@ -177,14 +194,43 @@ impl<D: Disk> MarkedClient<D> {
         requires within { version + 1 ≤ last_version }
         ensures does { (records : List model.ClientRecord) → IsClientOf records self.old.client → IsNext records ident version → EntrySays records self.new (sent_seen sent.now) result }
     {
-        if !is_life(self.marks.noted(), life) {
-            self.note(Note::Of(life))?;
+        match self.note_entry(life) {
+            Ok(()) => self.take_one(ident, version, sent),
+            Err(why) => Err(why),
         }
+    }
+
+    /// Notes the life of the next entry, where it isn't the one that was noted last.
+    fn note_entry(&mut self, life: Life) -> Result<(), MarkedRefusal>
+        ensures notes { OnOk result (Notes (entry_notes (marks_of self.old) life) self.old self.new) }
+        ensures fault { IfErr result IsFault }
+        ensures same { Same self.old self.new }
+        ensures open_ { is_closed self.old ≡ false → OnOk result (is_closed self.new ≡ false) }
+    {
+        if is_life(self.marks.noted(), life) {
+            return Ok(());
+        }
+        self.note(Note::Of(life))
+    }
+
+    fn take_one(
+        &mut self,
+        ident: Ident,
+        version: u32,
+        sent: &Sent,
+    ) -> Result<(), MarkedRefusal>
+        requires named { 1 ≤ ident }
+        requires within { version + 1 ≤ last_version }
+        ensures does { (records : List model.ClientRecord) → IsClientOf records self.old.client → IsNext records ident version → EntrySays records self.new (sent_seen sent.now) result }
+    {
         match only(self.alloc, ident, version, sent) {
-            Ok(one) => {
-                self.take_as_ever(Message::Download(one))?;
-                Ok(())
-            }
+            Ok(one) => match self.take_as_ever(Message::Download(one)) {
+                Ok(taken) => {
+                    drop(taken);
+                    Ok(())
+                }
+                Err(why) => Err(why),
+            },
             Err(NoMemory) => Err(self.out_of_memory()),
         }
     }

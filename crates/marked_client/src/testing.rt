@@ -57,7 +57,7 @@ fn owner_test(at: &Standing, answers: &Answers) -> Option<MarkedRefusal>
     }
 }
 
-fn because(why: ClientRefusal) -> Option<MarkedRefusal>
+pub(crate) fn because(why: ClientRefusal) -> Option<MarkedRefusal>
     ensures { result ≡ because why }
 {
     Some(MarkedRefusal::Client(why))

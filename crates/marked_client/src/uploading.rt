@@ -1,7 +1,10 @@
-ghost use Rattle.std.specs.Prelude.{◌≡◌, ◌⊎◌, ◌≤◌, length, take, IfOk, IfErr};
+ghost use Rattle.std.specs.Prelude.{◌≡◌, ◌⊎◌, ◌≤◌, List, length, take, IfOk, IfErr};
 ghost use Rattle.std.specs.Option.{option_map};
-ghost use Rattle.sync_messages.specs.Parts.{most_listed};
+ghost use Rattle.sync_messages.specs.Parts.{bytes_of_changes, most_listed};
 ghost use Rattle.life_bytes.specs.Parts.{most_tokens_together, most_tokens};
+ghost use Rattle.sync_model.specs.Clients as model;
+ghost use Rattle.sync_exchange.specs.Profile.{the_profile};
+ghost use Rattle.marked_client.specs.Marked.{uuid_of};
 ghost use Rattle.marked_client.specs.Saying.{fitting, lives_told, savings_told, tokens_before, uploads_with};
 
 use crate::client::MarkedClient;
@@ -17,11 +20,12 @@ use sync_messages::{Change, Message, Upload};
 const MOST_TOKENS: usize = 65_536;
 
 impl<D: Disk> MarkedClient<D> {
-    ghost use Rattle.marked_client.specs.Marked.{marks_of, replica_of, uuid_of};
+    ghost use Rattle.sync_client.specs.Clients.{IsClientOf};
+    ghost use Rattle.marked_client.specs.Marked.{marks_of};
 
     /// The beginning of an Upload whose tokens fit, with the lives of its changes.
     pub(crate) fn uploads(&self, upload: Upload) -> Result<Letter, MarkedRefusal>
-        ensures told { IfOk result (λ letter. letter ≡ Letter.Says (uploads_with (marks_of self.now) (uuid_of self.now) (replica_of self.now).cursor upload.ident (take (fitting (marks_of self.now) upload.changes) upload.changes))) }
+        ensures told { (records : List model.ClientRecord) → IsClientOf records self.now.client → IfOk result (λ letter. letter ≡ Letter.Says (uploads_with (marks_of self.now) (uuid_of records) (model.client_of the_profile records).cursor upload.ident (take (fitting (marks_of self.now) upload.changes) upload.changes))) }
         ensures refused { IfErr result (λ why. (why ≡ MarkedRefusal.Client ClientRefusal.NoMemory) ⊎ (why ≡ MarkedRefusal.Broken)) }
     {
         let count = self.fitting(upload.changes());
@@ -34,7 +38,7 @@ impl<D: Disk> MarkedClient<D> {
     }
 
     fn uploads_with(&self, upload: Upload) -> Result<Letter, MarkedRefusal>
-        ensures told { IfOk result (λ letter. letter ≡ Letter.Says (uploads_with (marks_of self.now) (uuid_of self.now) (replica_of self.now).cursor upload.ident upload.changes)) }
+        ensures told { (records : List model.ClientRecord) → IsClientOf records self.now.client → IfOk result (λ letter. letter ≡ Letter.Says (uploads_with (marks_of self.now) (uuid_of records) (model.client_of the_profile records).cursor upload.ident upload.changes)) }
         ensures refused { IfErr result (λ why. (why ≡ MarkedRefusal.Client ClientRefusal.NoMemory) ⊎ (why ≡ MarkedRefusal.Broken)) }
     {
         let runs = match self.lives_of(upload.changes()) {
@@ -56,7 +60,7 @@ impl<D: Disk> MarkedClient<D> {
     /// The lives of the number before the first change, and of each change. That of number 0 is the uuid.
     fn lives_of(&self, changes: &[Change]) -> Result<Runs, MarkedRefusal>
         requires { length changes.now ≤ most_listed }
-        ensures told { IfOk result (λ runs. runs ≡ lives_told (marks_of self.now) (uuid_of self.now) changes.now) }
+        ensures told { (records : List model.ClientRecord) → IsClientOf records self.now.client → IfOk result (λ runs. runs ≡ lives_told (marks_of self.now) (uuid_of records) changes.now) }
         ensures refused { IfErr result (λ why. (why ≡ MarkedRefusal.Client ClientRefusal.NoMemory) ⊎ (why ≡ MarkedRefusal.Broken)) }
     {
         let mut runs = Runs::new(self.alloc);
@@ -147,13 +151,25 @@ fn beginning(alloc: Global, upload: &Upload, count: usize) -> Result<Upload, NoM
     requires { count ≤ length upload.now.changes }
     ensures { IfOk result (λ r. r ≡ record { ident = upload.now.ident; changes = take count upload.now.changes }) }
 {
+    match copies(alloc, upload.changes(), count) {
+        Ok(changes) => Ok(Upload::new(upload.ident(), changes)),
+        Err(NoMemory) => Err(NoMemory),
+    }
+}
+
+fn copies(alloc: Global, all: &[Change], count: usize) -> Result<Vec<Change>, NoMemory>
+    requires { count ≤ length all.now }
+    ensures copied { IfOk result (λ r. r.items ≡ take count all.now) }
+    ensures few { IfOk result (λ r. length r.items ≤ length all.now) }
+    ensures small { IfOk result (λ r. bytes_of_changes r.items ≤ bytes_of_changes all.now) }
+{
     let mut changes = Vec::new(alloc);
     for place in 0..count {
-        let copy = upload.changes()[place].copy()?;
+        let copy = all[place].copy()?;
         match changes.push(copy) {
             Ok(()) => {}
             Err(_) => return Err(NoMemory),
         }
     }
-    Ok(Upload::new(upload.ident(), changes))
+    Ok(changes)
 }
