@@ -121,10 +121,7 @@ impl<D: Disk> Answers for Taker<D> {
 }
 
 /// The frame by which the server gets to know what it has to know; nothing where the client makes none.
-pub(crate) fn sent<D: Disk>(
-    alloc: Global,
-    client: &MarkedClient<D>,
-) -> Result<Vec<u8>, NoMemory> {
+pub(crate) fn sent<D: Disk>(alloc: Global, client: &MarkedClient<D>) -> Result<Vec<u8>, NoMemory> {
     if client.client().ident() == 0 {
         return frames_of(alloc, client.bind());
     }
@@ -132,23 +129,25 @@ pub(crate) fn sent<D: Disk>(
 }
 
 /// The frame of its question.
-pub(crate) fn asked<D: Disk>(
-    alloc: Global,
-    client: &MarkedClient<D>,
-) -> Result<Vec<u8>, NoMemory> {
+pub(crate) fn asked<D: Disk>(alloc: Global, client: &MarkedClient<D>) -> Result<Vec<u8>, NoMemory> {
     frames_of(alloc, client.ask())
 }
 
-pub(crate) fn frames_of(alloc: Global, made: Result<Letter, MarkedRefusal>) -> Result<Vec<u8>, NoMemory> {
+pub(crate) fn frames_of(
+    alloc: Global,
+    made: Result<Letter, MarkedRefusal>,
+) -> Result<Vec<u8>, NoMemory> {
     match made {
         Ok(letter) => {
             let frame = frame_of(alloc, &letter);
             drop(letter);
             frame
         }
-        Err(MarkedRefusal::Client(
-            ClientRefusal::Closed | ClientRefusal::DiskFault | ClientRefusal::NoMemory,
-        )) => Err(NoMemory),
+        Err(
+            MarkedRefusal::Client(
+                ClientRefusal::Closed | ClientRefusal::DiskFault | ClientRefusal::NoMemory,
+            ),
+        ) => Err(NoMemory),
         Err(_) => Ok(Vec::new(alloc)),
     }
 }

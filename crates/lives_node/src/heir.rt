@@ -125,7 +125,13 @@ impl<D: Disk> Heir<D> {
         };
         match self.client.save(token, frontier, ms, kept) {
             Ok(made) => {
-                put_line(self.alloc, out, frame, "saved", &[number as u64, made as u64])?;
+                put_line(
+                    self.alloc,
+                    out,
+                    frame,
+                    "saved",
+                    &[number as u64, made as u64],
+                )?;
                 for one in dropped.as_slice() {
                     let fields = [number as u64, one.place as u64, one.code as u64];
                     put_line(self.alloc, out, frame, "dropped", &fields)?;

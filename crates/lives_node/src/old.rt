@@ -57,7 +57,9 @@ fn lives_in(alloc: Global, marks: &ClientMarks) -> Result<Vec<Life>, NoMemory> {
     for place in 0..marks.numbers().len() {
         let number = place.saturating_add(1);
         if let Some(token) = marks.token_of(number) {
-            if place_of(lives.as_slice(), token.life()).is_none() && lives.push(token.life()).is_err() {
+            if place_of(lives.as_slice(), token.life()).is_none()
+                && lives.push(token.life()).is_err()
+            {
                 return Err(NoMemory);
             }
         }

@@ -59,7 +59,12 @@ pub(crate) fn refuse(alloc: Global, number: u32, why: MarkedRefusal) -> Result<V
     told(line)
 }
 
-pub(crate) fn line_of(alloc: Global, number: u32, words: &str, numbers: &[u64]) -> Result<Vec<u8>, NoMemory> {
+pub(crate) fn line_of(
+    alloc: Global,
+    number: u32,
+    words: &str,
+    numbers: &[u64],
+) -> Result<Vec<u8>, NoMemory> {
     let mut out = Vec::new(alloc);
     put_number(alloc, &mut out, number as u64)?;
     put(&mut out, " ")?;

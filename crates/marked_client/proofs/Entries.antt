@@ -206,8 +206,8 @@ module _ {D : Type 0} {G : Ghosts D} where
       by_reason (refusals.Client w) r =
           if_seen_on (refusal_seen w) (SentRefused s.written new.client e) (λ v. Did did (Err v) records new.client)
           (λ v h.
-              let t = taken_stops the_profile records all s.written e rest v (subst (TakenSoFar the_profile records s.written all) is s.taken) h.cause in
-              subst (λ d. Did d (Err v) records new.client) (sym did_is) (record { answer_is = t.0; client = subst (λ rs. IsClientOf rs new.client) t.1 h.client })) r
+          let t = taken_stops the_profile records all s.written e rest v (subst (TakenSoFar the_profile records s.written all) is s.taken) h.cause in
+          subst (λ d. Did d (Err v) records new.client) (sym did_is) (record { answer_is = t.0; client = subst (λ rs. IsClientOf rs new.client) t.1 h.client })) r
       by_reason refusals.NoLife r = r
       by_reason refusals.NoLives r = r
       by_reason refusals.OtherHistory r = r

@@ -123,11 +123,7 @@ impl<D: Disk> MarkedClient<D> {
     }
 
     /// A message of today, which the tests let through.
-    fn take_message(
-        &mut self,
-        message: &Message,
-        answers: &Answers,
-    ) -> Result<Taken, MarkedRefusal>
+    fn take_message(&mut self, message: &Message, answers: &Answers) -> Result<Taken, MarkedRefusal>
         ensures does { (records : List model.ClientRecord) → IsClientOf records self.old.client → answers.now.inner ≡ Answered.Message message.now
             → answers_test (marks_of self.old) (standing_of records self.old) answers.now ≡ None
             → TookAsEver (model.take the_profile (model.client_of the_profile records) (message_seen message.now)) records self.new result }
@@ -163,11 +159,7 @@ impl<D: Disk> MarkedClient<D> {
     }
 
     /// Takes the entries from the cursor on, with their lives.
-    fn take_entries(
-        &mut self,
-        download: &Download,
-        lives: &Runs,
-    ) -> Result<Taken, MarkedRefusal>
+    fn take_entries(&mut self, download: &Download, lives: &Runs) -> Result<Taken, MarkedRefusal>
         ensures does { (records : List model.ClientRecord) (at : Standing) → IsClientOf records self.old.client → at ≡ standing_of records self.old → DownloadPasses at download.now → TookAsEver (model.take the_profile (model.client_of the_profile records) (message_seen (messages.Download download.now))) records self.new result }
     {
         let skipped = self.client.cursor().saturating_sub(download.from()) as usize;
@@ -213,12 +205,7 @@ impl<D: Disk> MarkedClient<D> {
         self.note(Note::Of(life))
     }
 
-    fn take_one(
-        &mut self,
-        ident: Ident,
-        version: u32,
-        sent: &Sent,
-    ) -> Result<(), MarkedRefusal>
+    fn take_one(&mut self, ident: Ident, version: u32, sent: &Sent) -> Result<(), MarkedRefusal>
         requires named { 1 ≤ ident }
         requires within { version + 1 ≤ last_version }
         ensures does { (records : List model.ClientRecord) → IsClientOf records self.old.client → IsNext records ident version → EntrySays records self.new (sent_seen sent.now) result }

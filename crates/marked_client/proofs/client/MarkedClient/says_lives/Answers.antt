@@ -12,7 +12,7 @@ returns-in_default g c = record {
   told = λ records k.
       on_each c.plainly.result
       (λ letter e. e
-          ∙ ap (λ (x : SaysParts). letters.Says x) (sym (not_upload (marks_of c.args.self.now) (uuid_of records) (client_of the_profile records).cursor c.args.message c.in_default.not-Upload)))
+      ∙ ap (λ (x : SaysParts). letters.Says x) (sym (not_upload (marks_of c.args.self.now) (uuid_of records) (client_of the_profile records).cursor c.args.message c.in_default.not-Upload)))
       (c.plainly.ensures.told records k);
   refused = broken_is c.plainly.result c.plainly.ensures.refused;
 }
