@@ -37,6 +37,10 @@ impl Folder {
             [_, option, name] if option.as_str() == "--replace" => {
                 *name = self.path(alloc, name.as_str())?;
             }
+            [word, name, old, _] if word.as_str() == "claim" || word.as_str() == "recover" => {
+                *name = self.path(alloc, name.as_str())?;
+                *old = self.path(alloc, old.as_str())?;
+            }
             [word, name, ..] if word.as_str() != "gen" => {
                 *name = self.path(alloc, name.as_str())?;
             }
@@ -103,7 +107,7 @@ pub fn try_all(rt: &HostRuntime) -> Result<Tally, Failure> {
     let mut tally = Tally::new();
     let mut step = Step::new(alloc, "")?;
     let folder = Folder::new(rt)?;
-    folder.remove(rt, &["A", "B", "S"])?;
+    folder.remove(rt, &["A", "B", "C", "D", "E", "F", "G", "S", "T"])?;
     let text = fs::read_to_string(rt, "files.txt")?;
     for line in text.lines() {
         if let Some((mark, rest)) = line.split_once(" ") {
@@ -115,6 +119,6 @@ pub fn try_all(rt: &HostRuntime) -> Result<Tally, Failure> {
             }
         }
     }
-    folder.remove(rt, &["A", "B", "S"])?;
+    folder.remove(rt, &["A", "B", "C", "D", "E", "F", "G", "S", "T"])?;
     Ok(tally)
 }

@@ -4,6 +4,7 @@
 
 mod arguments;
 mod end;
+mod lives;
 mod replacing;
 mod running;
 

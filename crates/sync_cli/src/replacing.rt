@@ -3,7 +3,7 @@ ghost use Rattle.std.specs.Prelude.{◌≡◌, ◌∷◌, [], codes, map, string
 ghost use Rattle.sync_cli.specs.Replacing.{AsksToReplace};
 
 use crate::end::End;
-use crate::running::run_over_file;
+use crate::running::{lives_at, run_over_file};
 use file_lock::{LockRefusal, hold};
 use std::fs;
 use std::fs::File;
@@ -109,11 +109,14 @@ pub(crate) fn replace_file(rt: &HostRuntime, words: &[String], path: &str) -> En
         Err(LockRefusal::Busy) => return End::Busy,
         Err(LockRefusal::Failed) => return End::Ran(Status::DiskFault),
     };
-    // (a link stays one)
-    let status = match fs::canonicalize(rt, path) {
-        Ok(path) => put_in_place(rt, words, path.as_path()),
-        Err(_) => Status::DiskFault,
+    let end = match lives_at(rt, path) {
+        Some(end) => end,
+        // (a link stays one)
+        None => End::Ran(match fs::canonicalize(rt, path) {
+            Ok(path) => put_in_place(rt, words, path.as_path()),
+            Err(_) => Status::DiskFault,
+        }),
     };
     drop(held);
-    End::Ran(status)
+    end
 }

@@ -1,10 +1,13 @@
-ghost use Rattle.std.specs.Prelude.{◌≡◌, ◌⊎◌, map, string_bytes};
+ghost use Rattle.std.specs.Prelude.{◌≡◌, ◌⊎◌, map, string_bytes, Some};
+ghost use Rattle.lives_node.specs.Commands.{AsksForHeir, AsksWithLife};
 ghost use Rattle.sync_cli.specs.Replacing.{AsksToReplace};
 ghost use Rattle.sync_top.specs.Jobs.{AsksFor};
 
 use super::end::End;
+use crate::lives::{Lived, Succession, run_succession, run_with_life};
 use crate::replacing::{path_to_replace, replace_file};
 use file_lock::{LockRefusal, hold};
+use lives_node::{heir_command_of, keeps_lives, lives_command_of};
 use std::fs;
 use std::io::{BufWriter, Read, Write};
 use sync_disk::{Disk, FileDisk, MemoryDisk};
@@ -17,7 +20,7 @@ const SHORT: u64 = 9;
 
 /// How often a command that only reads looks again at a file that it finds bad: a writer may have added a record after its
 /// length was told.
-const LOOKS_AGAIN: usize = 7;
+pub(crate) const LOOKS_AGAIN: usize = 7;
 
 /// Runs the words over an input, an output and a disk.
 fn run_over<I: Read + Drop, O: Write + Drop, D: Disk>(
@@ -89,8 +92,30 @@ fn writes(command: FileCommand) -> bool {
     }
 }
 
+/// Whether a command leaves what its file says of lives as it is.
+fn leaves_lives(command: FileCommand) -> bool {
+    matches!(command, FileCommand::Show | FileCommand::Start { id: _ })
+}
+
+/// Why a command without a life doesn't run over the file at a path: lives stand in it.
+pub(crate) fn lives_at(rt: &HostRuntime, path: &str) -> Option<End>
+    ensures { result ≡ Some (End.Ran Status.BadWords) → ⊥ }
+{
+    if is_short(rt, path) {
+        return None;
+    }
+    let Ok(disk) = FileDisk::at(rt, rt.alloc(), path) else {
+        return Some(End::Ran(Status::NoMemory));
+    };
+    match keeps_lives(rt.alloc(), disk) {
+        Ok(true) => Some(End::KeepsLives),
+        Ok(false) => None,
+        Err(status) => Some(End::Ran(status)),
+    }
+}
+
 /// Whether the file is absent, or so short that any command makes it anew.
-fn is_short(rt: &HostRuntime, path: &str) -> bool {
+pub(crate) fn is_short(rt: &HostRuntime, path: &str) -> bool {
     match fs::metadata(rt, path) {
         Ok(told) => told.len() <= SHORT,
         Err(_) => true,
@@ -128,9 +153,12 @@ fn run_holding<I: Read + Drop, O: Write + Drop>(
 {
     match hold(rt, path) {
         Ok(held) => {
-            let status = run_over_file(rt, words, path, input, output);
+            let end = match lives_at(rt, path) {
+                Some(end) => end,
+                None => End::Ran(run_over_file(rt, words, path, input, output)),
+            };
             drop(held);
-            End::Ran(status)
+            end
         }
         Err(LockRefusal::Busy) => End::Busy,
         Err(LockRefusal::Failed) => End::Ran(Status::DiskFault),
@@ -153,10 +181,45 @@ fn run_command<I: Read + Drop, O: Write + Drop>(
             if writes(command) || is_short(rt, path) {
                 return run_holding(rt, words, path, input, output);
             }
+            if !leaves_lives(command) {
+                if let Some(end) = lives_at(rt, path) {
+                    return end;
+                }
+            }
             let mut output = output;
             End::Ran(run_reader(rt, words, path, &mut output))
         }
         _ => End::Ran(run_over_memory(rt, words, input, output)),
+    }
+}
+
+/// Runs the words of a command that names no life.
+fn run_without_life<I: Read + Drop, O: Write + Drop>(
+    rt: &HostRuntime,
+    words: &[String],
+    input: I,
+    output: O,
+) -> End
+    ensures words { result ≡ End.Ran Status.BadWords → (job : Job) → AsksFor job (map string_bytes words.now) → ⊥ }
+    ensures unknown { ((job : Job) → AsksFor job (map string_bytes words.now) → ⊥) → (AsksToReplace (map string_bytes words.now) → ⊥) → (AsksForHeir (map string_bytes words.now) → ⊥)
+        → (result ≡ End.Ran Status.BadWords) ⊎ (result ≡ End.Ran Status.NoMemory) }
+{
+    match (heir_command_of(words), words) {
+        (Some((command, life)), [_, path, old, _]) => {
+            let (path, old) = (path.as_str(), old.as_str());
+            let it = Succession {
+                command,
+                life,
+                path,
+                old,
+            };
+            run_succession(rt, it, input, output)
+        }
+        _ => match path_to_replace(words) {
+            // (the first two words ask for the new file)
+            Some(path) => replace_file(rt, &words[..2], path),
+            None => run_command(rt, words, input, output),
+        },
     }
 }
 
@@ -169,12 +232,13 @@ pub fn run_words<I: Read + Drop, O: Write + Drop>(
     output: O,
 ) -> End
     ensures words { result ≡ End.Ran Status.BadWords → (job : Job) → AsksFor job (map string_bytes words.now) → ⊥ }
-    ensures unknown { ((job : Job) → AsksFor job (map string_bytes words.now) → ⊥) → (AsksToReplace (map string_bytes words.now) → ⊥)
+    ensures unknown { ((job : Job) → AsksFor job (map string_bytes words.now) → ⊥) → (AsksToReplace (map string_bytes words.now) → ⊥) → (AsksForHeir (map string_bytes words.now) → ⊥) → (AsksWithLife (map string_bytes words.now) → ⊥)
         → (result ≡ End.Ran Status.BadWords) ⊎ (result ≡ End.Ran Status.NoMemory) }
 {
-    match path_to_replace(words) {
-        // (the first two words ask for the new file)
-        Some(path) => replace_file(rt, &words[..2], path),
-        None => run_command(rt, words, input, output),
+    match (lives_command_of(words), words) {
+        (Some((command, life)), [_, path, _]) => {
+            run_with_life(rt, Lived { command, life }, path.as_str(), input, output)
+        }
+        _ => run_without_life(rt, words, input, output),
     }
 }

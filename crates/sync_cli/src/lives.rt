@@ -1,0 +1,149 @@
+// The commands over a node's file that keeps lives.
+use crate::end::End;
+use crate::running::{LOOKS_AGAIN, is_short};
+use file_lock::{LockRefusal, hold};
+use life_bytes::Life;
+use lives_node::{HeirCommand, LivesCommand, LivesEnd, run_heir, run_lives};
+use std::io::{Read, Write};
+use sync_disk::FileDisk;
+use sync_io::{Status, StdSink, StdSource};
+
+/// A command, and the life in which it opens its file.
+#[derive(Clone, Copy)]
+pub(crate) struct Lived {
+    pub command: LivesCommand,
+    pub life: Life,
+}
+
+/// Runs it over the file at a path.
+fn run_over_file<I: Read + Drop, O: Write + Drop>(
+    rt: &HostRuntime,
+    lived: Lived,
+    path: &str,
+    input: I,
+    output: O,
+) -> End {
+    let Ok(disk) = FileDisk::at(rt, rt.alloc(), path) else {
+        return End::Ran(Status::NoMemory);
+    };
+    let mut source = StdSource::new(input);
+    let mut sink = StdSink::new(output);
+    end_of(run_lives(
+        rt.alloc(),
+        lived.command,
+        lived.life,
+        &mut source,
+        &mut sink,
+        disk,
+    ))
+}
+
+fn end_of(end: LivesEnd) -> End {
+    match end {
+        LivesEnd::Ran(status) => End::Ran(status),
+        LivesEnd::LifeUsed => End::LifeUsed,
+        LivesEnd::NoLives => End::NoLives,
+    }
+}
+
+/// Runs one that holds its file from opening to its end.
+fn run_holding<I: Read + Drop, O: Write + Drop>(
+    rt: &HostRuntime,
+    lived: Lived,
+    path: &str,
+    input: I,
+    output: O,
+) -> End {
+    match hold(rt, path) {
+        Ok(held) => {
+            let end = run_over_file(rt, lived, path, input, output);
+            drop(held);
+            end
+        }
+        Err(LockRefusal::Busy) => End::Busy,
+        Err(LockRefusal::Failed) => End::Ran(Status::DiskFault),
+    }
+}
+
+/// Runs one that only reads its file, which another command may be writing. It has written nothing where it finds the file bad,
+/// and then looks again.
+fn run_reader<O: Write + Drop>(rt: &HostRuntime, lived: Lived, path: &str, output: &mut O) -> End {
+    for _ in 0..LOOKS_AGAIN {
+        let end = run_over_file(rt, lived, path, std::io::empty(), &mut *output);
+        if !matches!(end, End::Ran(Status::BadFile { .. })) {
+            return end;
+        }
+    }
+    run_over_file(rt, lived, path, std::io::empty(), output)
+}
+
+/// Runs a command over the file at a path, which it opens in a life.
+pub(crate) fn run_with_life<I: Read + Drop, O: Write + Drop>(
+    rt: &HostRuntime,
+    lived: Lived,
+    path: &str,
+    input: I,
+    output: O,
+) -> End {
+    let reads = matches!(lived.command, LivesCommand::Send | LivesCommand::Ask);
+    if reads && !is_short(rt, path) {
+        let mut output = output;
+        return run_reader(rt, lived, path, &mut output);
+    }
+    run_holding(rt, lived, path, input, output)
+}
+
+/// The paths of a client that takes over and of the old client, what it does, and the life in which it is opened.
+#[derive(Clone, Copy)]
+pub(crate) struct Succession<'a> {
+    pub command: HeirCommand,
+    pub life: Life,
+    pub path: &'a str,
+    pub old: &'a str,
+}
+
+/// Runs a command of a client that takes over. Where it writes it holds its file; it only reads the old one.
+pub(crate) fn run_succession<I: Read + Drop, O: Write + Drop>(
+    rt: &HostRuntime,
+    it: Succession<'_>,
+    input: I,
+    output: O,
+) -> End {
+    if matches!(it.command, HeirCommand::Claim) && !is_short(rt, it.path) {
+        return take_over(rt, it, input, output);
+    }
+    match hold(rt, it.path) {
+        Ok(held) => {
+            let end = take_over(rt, it, input, output);
+            drop(held);
+            end
+        }
+        Err(LockRefusal::Busy) => End::Busy,
+        Err(LockRefusal::Failed) => End::Ran(Status::DiskFault),
+    }
+}
+
+fn take_over<I: Read + Drop, O: Write + Drop>(
+    rt: &HostRuntime,
+    it: Succession<'_>,
+    input: I,
+    output: O,
+) -> End {
+    let Ok(disk) = FileDisk::at(rt, rt.alloc(), it.path) else {
+        return End::Ran(Status::NoMemory);
+    };
+    let Ok(old) = FileDisk::at(rt, rt.alloc(), it.old) else {
+        return End::Ran(Status::NoMemory);
+    };
+    let mut source = StdSource::new(input);
+    let mut sink = StdSink::new(output);
+    end_of(run_heir(
+        rt.alloc(),
+        it.command,
+        it.life,
+        &mut source,
+        &mut sink,
+        disk,
+        old,
+    ))
+}
