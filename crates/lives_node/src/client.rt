@@ -18,7 +18,7 @@ use sync_words::Outcome;
 #[derive(Drop)]
 pub(crate) struct Editor<D: Disk> {
     pub alloc: Global,
-    pub client: MarkedClient<GatheredDisk<D>>,
+    pub client: MarkedClient<D>,
     pub life: Life,
 }
 
@@ -26,7 +26,7 @@ pub(crate) struct Editor<D: Disk> {
 #[derive(Drop)]
 pub(crate) struct Taker<D: Disk> {
     pub alloc: Global,
-    pub client: MarkedClient<GatheredDisk<D>>,
+    pub client: MarkedClient<D>,
 }
 
 /// Opens the client of a disk in that life.
@@ -89,7 +89,7 @@ impl<D: Disk> Editor<D> {
     }
 }
 
-impl<D: Disk> Answers for Editor<D> {
+impl<D: Disk> Answers for Editor<GatheredDisk<D>> {
     fn answer(&mut self, number: u32, item: &[u8]) -> Result<Vec<u8>, Status> {
         match node_line_of(self.alloc, item) {
             Ok(line) => self.take_line(number, line),
@@ -103,7 +103,7 @@ impl<D: Disk> Answers for Editor<D> {
     }
 }
 
-impl<D: Disk> Answers for Taker<D> {
+impl<D: Disk> Answers for Taker<GatheredDisk<D>> {
     fn answer(&mut self, number: u32, item: &[u8]) -> Result<Vec<u8>, Status> {
         match letter_of(self.alloc, item) {
             Ok(letter) => match self.client.take(letter) {

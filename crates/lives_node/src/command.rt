@@ -1,7 +1,3 @@
-ghost use Rattle.std.specs.Prelude.{◌≡◌, map, string_bytes, IfSome, Some};
-ghost use Rattle.uuid.specs.Text.{parsed};
-ghost use Rattle.lives_node.specs.Commands.{AsksForHeir, AsksWithLife, IsHeirName, IsLivesName};
-
 use life_bytes::Life;
 use uuid::Uuid;
 
@@ -30,9 +26,7 @@ pub enum HeirCommand {
 }
 
 /// The command and the life in the words COMMAND FILE OLD LIFE; none where they are others.
-pub fn heir_command_of(words: &[String]) -> Option<(HeirCommand, Life)>
-    ensures { IfSome result (λ _. AsksForHeir (map string_bytes words.now)) }
-{
+pub fn heir_command_of(words: &[String]) -> Option<(HeirCommand, Life)> {
     match words {
         [name, _, _, word] => match heir_of(name.as_str()) {
             Some(command) => match life_of(word.as_str()) {
@@ -45,9 +39,7 @@ pub fn heir_command_of(words: &[String]) -> Option<(HeirCommand, Life)>
     }
 }
 
-fn heir_of(name: &str) -> Option<HeirCommand>
-    ensures { IfSome result (λ _. IsHeirName name.now) }
-{
+fn heir_of(name: &str) -> Option<HeirCommand> {
     match name {
         "claim" => Some(HeirCommand::Claim),
         "recover" => Some(HeirCommand::Recover),
@@ -56,9 +48,7 @@ fn heir_of(name: &str) -> Option<HeirCommand>
 }
 
 /// The command and the life in the words COMMAND FILE LIFE; none where they are others. A life is written as a uuid.
-pub fn lives_command_of(words: &[String]) -> Option<(LivesCommand, Life)>
-    ensures { IfSome result (λ _. AsksWithLife (map string_bytes words.now)) }
-{
+pub fn lives_command_of(words: &[String]) -> Option<(LivesCommand, Life)> {
     match words {
         [name, _, word] => match command_of(name.as_str()) {
             Some(command) => match life_of(word.as_str()) {
@@ -71,9 +61,7 @@ pub fn lives_command_of(words: &[String]) -> Option<(LivesCommand, Life)>
     }
 }
 
-fn command_of(name: &str) -> Option<LivesCommand>
-    ensures { IfSome result (λ _. IsLivesName name.now) }
-{
+fn command_of(name: &str) -> Option<LivesCommand> {
     match name {
         "edit" => Some(LivesCommand::Edit),
         "send" => Some(LivesCommand::Send),
@@ -84,9 +72,7 @@ fn command_of(name: &str) -> Option<LivesCommand>
     }
 }
 
-fn life_of(word: &str) -> Option<Life>
-    ensures { IfSome result (λ life. parsed word.now ≡ Some life) }
-{
+fn life_of(word: &str) -> Option<Life> {
     match Uuid::parse_str(word) {
         Ok(uuid) => Some(Life::new(uuid.into_bytes())),
         Err(_) => None,

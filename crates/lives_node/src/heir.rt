@@ -19,7 +19,7 @@ use sync_reset::{Dropped, Saved, saved};
 #[derive(Drop)]
 pub(crate) struct Heir<D: Disk> {
     pub alloc: Global,
-    pub client: MarkedClient<GatheredDisk<D>>,
+    pub client: MarkedClient<D>,
     pub old: Old,
 }
 
@@ -163,7 +163,9 @@ impl<D: Disk> Heir<D> {
 
 /// The transaction that a piece of the old file is, if it is one.
 fn made_at(alloc: Global, old: &Old, place: usize) -> Result<Option<ClientRecord>, Status> {
-    let bytes = old.pieces.at(place);
+    let Some(bytes) = old.pieces.get(place) else {
+        return Ok(None);
+    };
     if is_note(bytes) {
         return Ok(None);
     }
@@ -200,7 +202,7 @@ fn put_line(
     put_text(out, line.as_slice())
 }
 
-impl<D: Disk> Answers for Heir<D> {
+impl<D: Disk> Answers for Heir<GatheredDisk<D>> {
     fn answer(&mut self, number: u32, item: &[u8]) -> Result<Vec<u8>, Status> {
         let letter = match letter_of(self.alloc, item) {
             Ok(letter) => letter,

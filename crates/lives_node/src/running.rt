@@ -5,6 +5,7 @@ use crate::heir::{Heir, claimed};
 use crate::items::answer_items;
 use crate::old::open_old;
 use crate::server::{Waiter, open_server};
+use gathered_disk::GatheredDisk;
 use life_bytes::Life;
 use std::alloc::Global;
 use sync_disk::Disk;
@@ -51,7 +52,12 @@ fn edit<S: Source, K: Sink, D: Disk>(
         client,
         life,
     };
-    LivesEnd::Ran(answer_items::<S, K, Lines, Editor<D>>(alloc, source, sink, &mut editor))
+    LivesEnd::Ran(answer_items::<S, K, Lines, Editor<GatheredDisk<D>>>(
+        alloc,
+        source,
+        sink,
+        &mut editor,
+    ))
 }
 
 fn take<S: Source, K: Sink, D: Disk>(
@@ -66,7 +72,9 @@ fn take<S: Source, K: Sink, D: Disk>(
         Err(end) => return end,
     };
     let mut taker = Taker { alloc, client };
-    LivesEnd::Ran(answer_items::<S, K, Frames, Taker<D>>(alloc, source, sink, &mut taker))
+    LivesEnd::Ran(answer_items::<S, K, Frames, Taker<GatheredDisk<D>>>(
+        alloc, source, sink, &mut taker,
+    ))
 }
 
 fn serve<S: Source, K: Sink, D: Disk>(
@@ -81,7 +89,12 @@ fn serve<S: Source, K: Sink, D: Disk>(
         Err(end) => return end,
     };
     let mut waiter = Waiter { alloc, server };
-    LivesEnd::Ran(answer_items::<S, K, Frames, Waiter<D>>(alloc, source, sink, &mut waiter))
+    LivesEnd::Ran(answer_items::<S, K, Frames, Waiter<GatheredDisk<D>>>(
+        alloc,
+        source,
+        sink,
+        &mut waiter,
+    ))
 }
 
 /// Runs a command over the client of a disk, which it opens in that life, and which takes over from the client of another disk
@@ -107,7 +120,9 @@ pub fn run_heir<S: Source, K: Sink, D: Disk, E: Disk>(
         HeirCommand::Claim => LivesEnd::Ran(write_text(sink, claimed(alloc, &client, &old))),
         HeirCommand::Recover => {
             let mut heir = Heir { alloc, client, old };
-            LivesEnd::Ran(answer_items::<S, K, Frames, Heir<D>>(alloc, source, sink, &mut heir))
+            LivesEnd::Ran(answer_items::<S, K, Frames, Heir<GatheredDisk<D>>>(
+                alloc, source, sink, &mut heir,
+            ))
         }
     }
 }

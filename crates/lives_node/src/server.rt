@@ -15,7 +15,7 @@ use sync_server::ServerRefusal;
 #[derive(Drop)]
 pub(crate) struct Waiter<D: Disk> {
     pub alloc: Global,
-    pub server: MarkedServer<GatheredDisk<D>>,
+    pub server: MarkedServer<D>,
 }
 
 /// Opens the server of a disk in that life.
@@ -37,7 +37,7 @@ pub(crate) fn open_server<D: Disk>(
     }
 }
 
-impl<D: Disk> Answers for Waiter<D> {
+impl<D: Disk> Answers for Waiter<GatheredDisk<D>> {
     fn answer(&mut self, number: u32, item: &[u8]) -> Result<Vec<u8>, Status> {
         let letter = match letter_of(self.alloc, item) {
             Ok(letter) => letter,

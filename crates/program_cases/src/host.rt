@@ -7,7 +7,7 @@ use file_lock::hold;
 use std::alloc::Global;
 use std::io::Cursor;
 use std::{env, fs, process};
-use sync_cli::run_words;
+use sync_cli::run_program;
 
 /// The files of the host that the steps name, each by its last letter.
 #[derive(Drop)]
@@ -96,7 +96,7 @@ impl Folder {
         }
         let mut written = Vec::new(alloc);
         let input = Cursor::new(step.input.as_slice());
-        let end = run_words(rt, words, input, Cursor::new(&mut written));
+        let end = run_program(rt, words, input, Cursor::new(&mut written));
         Ok(end.exit() as u32 == exit && written == step.want)
     }
 }

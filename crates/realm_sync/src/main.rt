@@ -2,11 +2,11 @@
 #![tactic(auto)]
 
 use std::process::ExitCode;
-use sync_cli::{run_words, words};
+use sync_cli::{run_program, words};
 
 fn main(rt: HostRuntime) -> ExitCode {
     let exit = match words(&rt) {
-        Ok(words) => run_words(&rt, &words, rt.stdin(), rt.stdout()).exit(),
+        Ok(words) => run_program(&rt, &words, rt.stdin(), rt.stdout()).exit(),
         Err(status) => status.exit(),
     };
     if exit != 0 {

@@ -10,4 +10,5 @@ mod running;
 
 pub use arguments::words;
 pub use end::End;
+pub use lives::run_program;
 pub use running::run_words;

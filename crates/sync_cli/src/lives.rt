@@ -1,16 +1,18 @@
 // The commands over a node's file that keeps lives.
 use crate::end::End;
-use crate::running::{LOOKS_AGAIN, is_short};
+use crate::running::{LOOKS_AGAIN, is_short, run_words};
 use file_lock::{LockRefusal, hold};
 use life_bytes::Life;
-use lives_node::{HeirCommand, LivesCommand, LivesEnd, run_heir, run_lives};
+use lives_node::{
+    HeirCommand, LivesCommand, LivesEnd, heir_command_of, lives_command_of, run_heir, run_lives,
+};
 use std::io::{Read, Write};
 use sync_disk::FileDisk;
 use sync_io::{Status, StdSink, StdSource};
 
 /// A command, and the life in which it opens its file.
 #[derive(Clone, Copy)]
-pub(crate) struct Lived {
+struct Lived {
     pub command: LivesCommand,
     pub life: Life,
 }
@@ -78,7 +80,7 @@ fn run_reader<O: Write + Drop>(rt: &HostRuntime, lived: Lived, path: &str, outpu
 }
 
 /// Runs a command over the file at a path, which it opens in a life.
-pub(crate) fn run_with_life<I: Read + Drop, O: Write + Drop>(
+fn run_with_life<I: Read + Drop, O: Write + Drop>(
     rt: &HostRuntime,
     lived: Lived,
     path: &str,
@@ -95,7 +97,7 @@ pub(crate) fn run_with_life<I: Read + Drop, O: Write + Drop>(
 
 /// The paths of a client that takes over and of the old client, what it does, and the life in which it is opened.
 #[derive(Clone, Copy)]
-pub(crate) struct Succession<'a> {
+struct Succession<'a> {
     pub command: HeirCommand,
     pub life: Life,
     pub path: &'a str,
@@ -103,7 +105,7 @@ pub(crate) struct Succession<'a> {
 }
 
 /// Runs a command of a client that takes over. Where it writes it holds its file; it only reads the old one.
-pub(crate) fn run_succession<I: Read + Drop, O: Write + Drop>(
+fn run_succession<I: Read + Drop, O: Write + Drop>(
     rt: &HostRuntime,
     it: Succession<'_>,
     input: I,
@@ -146,4 +148,41 @@ fn take_over<I: Read + Drop, O: Write + Drop>(
         disk,
         old,
     ))
+}
+
+/// Runs the program's words: those of a command with a life (docs/FORMATS.md, "Commands with a life" and "Taking over"), or else as
+/// `run_words`.
+pub fn run_program<I: Read + Drop, O: Write + Drop>(
+    rt: &HostRuntime,
+    words: &[String],
+    input: I,
+    output: O,
+) -> End {
+    match (lives_command_of(words), words) {
+        (Some((command, life)), [_, path, _]) => {
+            run_with_life(rt, Lived { command, life }, path.as_str(), input, output)
+        }
+        _ => run_heirs(rt, words, input, output),
+    }
+}
+
+fn run_heirs<I: Read + Drop, O: Write + Drop>(
+    rt: &HostRuntime,
+    words: &[String],
+    input: I,
+    output: O,
+) -> End {
+    match (heir_command_of(words), words) {
+        (Some((command, life)), [_, path, old, _]) => {
+            let (path, old) = (path.as_str(), old.as_str());
+            let it = Succession {
+                command,
+                life,
+                path,
+                old,
+            };
+            run_succession(rt, it, input, output)
+        }
+        _ => run_words(rt, words, input, output),
+    }
 }

@@ -1,13 +1,11 @@
 ghost use Rattle.std.specs.Prelude.{◌≡◌, ◌⊎◌, map, string_bytes, Some};
-ghost use Rattle.lives_node.specs.Commands.{AsksForHeir, AsksWithLife};
 ghost use Rattle.sync_cli.specs.Replacing.{AsksToReplace};
 ghost use Rattle.sync_top.specs.Jobs.{AsksFor};
 
 use super::end::End;
-use crate::lives::{Lived, Succession, run_succession, run_with_life};
 use crate::replacing::{path_to_replace, replace_file};
 use file_lock::{LockRefusal, hold};
-use lives_node::{heir_command_of, keeps_lives, lives_command_of};
+use lives_node::keeps_lives;
 use std::fs;
 use std::io::{BufWriter, Read, Write};
 use sync_disk::{Disk, FileDisk, MemoryDisk};
@@ -193,37 +191,7 @@ fn run_command<I: Read + Drop, O: Write + Drop>(
     }
 }
 
-/// Runs the words of a command that names no life.
-fn run_without_life<I: Read + Drop, O: Write + Drop>(
-    rt: &HostRuntime,
-    words: &[String],
-    input: I,
-    output: O,
-) -> End
-    ensures words { result ≡ End.Ran Status.BadWords → (job : Job) → AsksFor job (map string_bytes words.now) → ⊥ }
-    ensures unknown { ((job : Job) → AsksFor job (map string_bytes words.now) → ⊥) → (AsksToReplace (map string_bytes words.now) → ⊥) → (AsksForHeir (map string_bytes words.now) → ⊥)
-        → (result ≡ End.Ran Status.BadWords) ⊎ (result ≡ End.Ran Status.NoMemory) }
-{
-    match (heir_command_of(words), words) {
-        (Some((command, life)), [_, path, old, _]) => {
-            let (path, old) = (path.as_str(), old.as_str());
-            let it = Succession {
-                command,
-                life,
-                path,
-                old,
-            };
-            run_succession(rt, it, input, output)
-        }
-        _ => match path_to_replace(words) {
-            // (the first two words ask for the new file)
-            Some(path) => replace_file(rt, &words[..2], path),
-            None => run_command(rt, words, input, output),
-        },
-    }
-}
-
-/// Runs the words (docs/FORMATS.md, "Commands"). Words that are no command are told so, and no others are, unless memory runs
+/// Runs the words of a command without a life (docs/FORMATS.md, "Commands"). Words that are no command are told so, and no others are, unless memory runs
 /// out. One command at a time writes to a file: where another holds it, that is `Busy`.
 pub fn run_words<I: Read + Drop, O: Write + Drop>(
     rt: &HostRuntime,
@@ -232,13 +200,12 @@ pub fn run_words<I: Read + Drop, O: Write + Drop>(
     output: O,
 ) -> End
     ensures words { result ≡ End.Ran Status.BadWords → (job : Job) → AsksFor job (map string_bytes words.now) → ⊥ }
-    ensures unknown { ((job : Job) → AsksFor job (map string_bytes words.now) → ⊥) → (AsksToReplace (map string_bytes words.now) → ⊥) → (AsksForHeir (map string_bytes words.now) → ⊥) → (AsksWithLife (map string_bytes words.now) → ⊥)
+    ensures unknown { ((job : Job) → AsksFor job (map string_bytes words.now) → ⊥) → (AsksToReplace (map string_bytes words.now) → ⊥)
         → (result ≡ End.Ran Status.BadWords) ⊎ (result ≡ End.Ran Status.NoMemory) }
 {
-    match (lives_command_of(words), words) {
-        (Some((command, life)), [_, path, _]) => {
-            run_with_life(rt, Lived { command, life }, path.as_str(), input, output)
-        }
-        _ => run_without_life(rt, words, input, output),
+    match path_to_replace(words) {
+        // (the first two words ask for the new file)
+        Some(path) => replace_file(rt, &words[..2], path),
+        None => run_command(rt, words, input, output),
     }
 }
