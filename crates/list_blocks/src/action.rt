@@ -23,7 +23,7 @@ pub(crate) fn op_in(instr: &Instr, cell: &CellName, length: u32, stamp: Stamp) -
 }
 
 /// The cell of a list instruction, what it does, where, and on a list of which length.
-fn parts(instr: &Instr) -> Option<(&CellName, Does, u32, u32)>
+pub fn parts(instr: &Instr) -> Option<(&CellName, Does, u32, u32)>
     ensures is { IfSome result (λ p. (v : Value) × (instr.now ≡ instr_at p.0.now v p.1 p.2 p.3)) }
     ensures within { IfSome result (λ p. Within p.1 p.2 p.3) }
 {

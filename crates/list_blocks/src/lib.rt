@@ -8,4 +8,5 @@ mod lane;
 mod plan;
 mod write;
 
+pub use action::parts;
 pub use crossing::{cross_blocks, cross_blocks_indexed};

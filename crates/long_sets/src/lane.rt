@@ -5,8 +5,6 @@ ghost use Rattle.sync_data.specs.declared.instr.Instr.{Instr};
 ghost use Rattle.sync_base.specs.Effects.{path_of};
 ghost use Rattle.sync_base.specs.Rules.{top};
 ghost use Rattle.sync_theory.specs.Changesets.{Changeset as Changes};
-ghost use Rattle.list_places.specs.Places.{Within};
-ghost use Rattle.list_places.specs.Moves.{instr_at};
 ghost use Rattle.list_lane.specs.Lanes.{length_at_end, Fits};
 ghost use Rattle.slot_law.specs.Slots.{slots_of};
 ghost use Rattle.slot_law.specs.Lanes.{told_by, told_slots};
@@ -14,8 +12,9 @@ ghost use Rattle.long_sets.specs.Parts.{list_of, one_of};
 ghost use Rattle.long_sets.specs.Lists.{owned_by, AllSuit, GoesAll, GoesOne, Suits, TellsList, ToldSlot};
 
 use super::strangers::is_of;
+use list_blocks::parts;
 use list_lane::{Op, action_of};
-use list_places::{Does, put_action};
+use list_places::put_action;
 use list_regions::Regions;
 use std::alloc::Global;
 use sync_base::{CellName, Instr, Stamp, same_cell};
@@ -87,33 +86,6 @@ fn op_in(slot: &Option<Instr>, cell: &CellName, length: u32, stamp: Stamp) -> Op
         return None;
     }
     Some(Some(Op { does, place, stamp }))
-}
-
-/// The cell of a list instruction, what it does, where, and on a list of which length.
-pub(crate) fn parts(instr: &Instr) -> Option<(&CellName, Does, u32, u32)>
-    ensures is { IfSome result (λ p. (v : Value) × (instr.now ≡ instr_at p.0.now v p.1 p.2 p.3)) }
-    ensures within { IfSome result (λ p. Within p.1 p.2 p.3) }
-{
-    match instr {
-        Instr::ListInsert(insert) => {
-            let gap = insert.spot;
-            Some((&insert.cell, Does::Inserts, gap.place(), gap.prior()))
-        }
-        Instr::ListErase(erase) => {
-            let element = erase.spot;
-            Some((&erase.cell, Does::Erases, element.place(), element.prior()))
-        }
-        Instr::ListUpdate(update) => {
-            let element = update.spot;
-            Some((
-                &update.cell,
-                Does::Updates,
-                element.place(),
-                element.prior(),
-            ))
-        }
-        _ => None,
-    }
 }
 
 /// What is left of the instructions of the list in a cell as they cross the lane in turn, which stands as crossed. None where they

@@ -4,8 +4,9 @@ ghost use Rattle.long_sets.specs.Rows.{IsPart};
 ghost use Rattle.long_sets.specs.Lists.{CrossesList};
 
 use super::instrs::{copy_of, cross_others};
-use super::lane::{cross_lane, lane_of, parts, read_out};
+use super::lane::{cross_lane, lane_of, read_out};
 use super::strangers::{are_strangers, is_of, without};
+use list_blocks::parts;
 use std::alloc::Global;
 use sync_base::{CellName, Instr, Stamp};
 

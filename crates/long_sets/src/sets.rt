@@ -8,10 +8,9 @@ ghost use Rattle.sync_index.specs.Touched.{Covers};
 ghost use Rattle.sync_transform.specs.Sets.{made_by};
 
 use super::instrs::{alive_of, cross_instrs};
-use super::lane::parts;
 use super::lists::Stamps;
 use super::strangers::is_of;
-use list_blocks::{cross_blocks, cross_blocks_indexed};
+use list_blocks::{cross_blocks, cross_blocks_indexed, parts};
 use std::alloc::Global;
 use sync_base::{CellName, Changeset, Ident, Instr, Stamp};
 use sync_index::Index;
