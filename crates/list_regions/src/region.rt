@@ -185,8 +185,8 @@ impl Region {
         let bursts = self.lane.bursts();
         let worn = bursts >= MANY_BURSTS && self.walked / LOOKS_AT_EACH >= self.lane.len();
         match does {
-            Does::Inserts => worn,
-            Does::Erases | Does::Updates => false,
+            Does::Inserts | Does::Updates => worn,
+            Does::Erases => false,
         }
     }
 
