@@ -31,6 +31,7 @@ usage: bench/exchanges.py [--only NAME,..] [--sizes N,..] [--turns N,..] [--time
   many_lists   as `words`, but in fifty lists in turn
   erased       two clients erase N drawn elements each of one list of 4 N
   updated      two clients update drawn elements of one list of 100, N times each
+  all_updated  as `updated`, but of a list of 1,000, and all N updates of a client are one transaction
   small_large  one client makes N transactions, in turn a letter as in `words` and an update of an object; the other the same N steps
                in one transaction
   columns      two clients add N columns each to one table, one in a transaction
@@ -447,6 +448,15 @@ def updated(size):
     return meeting(1, of_one(1), of_one(2), before=filled(100))
 
 
+def all_updated(size):
+    def of_one(seed):
+        typist = Typist(seed, length=1000)
+        steps = (typist.step("ListUpdate", typist.draw.randrange(1000), value=typist.draw.choice(LETTERS)) for _ in range(size))
+        yield [each for step in steps for each in step]
+
+    return meeting(1, of_one(1), of_one(2), before=filled(1000))
+
+
 def small_large(size):
     def of_one(seed):
         typist = Typist(seed)
@@ -518,7 +528,7 @@ def drawn(size):
 
 ONE_INSTRUCTION = (objects, apart, counter, ends, one_cell, two_blocks, words, places, revised, one_place, members, eight)
 OF_APPLICATIONS = (stamped, counted, linked, added_later, two_lists, bulk, bulk_added, bulk_mixed, hundreds)
-OF_MANY = (many_lists, erased, updated, small_large, columns, hundred, drawn)
+OF_MANY = (many_lists, erased, updated, all_updated, small_large, columns, hundred, drawn)
 EXCHANGES = {each.__name__: each for each in (*ONE_INSTRUCTION, twin_first, over_updates, times, *OF_APPLICATIONS, *OF_MANY)}
 
 

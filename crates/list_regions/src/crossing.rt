@@ -21,7 +21,8 @@ use sum_list::SumList;
 use sync_data::NoMemory;
 
 /// What is left of an instruction that crosses the regions. It takes memory where it erases the last element between two, which
-/// become one before. A region that is worn becomes two behind an insertion into it, if there is memory.
+/// become one before. A region that is worn becomes two at an element that is inserted into it, or updated, if no slot touches that
+/// and there is memory.
 pub(crate) fn cross_regions(
     items: &mut SumList<Region>,
     alloc: Global,

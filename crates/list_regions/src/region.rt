@@ -180,7 +180,8 @@ impl Region {
         Ok(Listed::new(self.gap, self.lane.first(), numbers, slots))
     }
 
-    /// Whether crossings have looked at its bursts so often that it is to be cut where an instruction like that crosses it.
+    /// Whether crossings have looked at its bursts so often that it is to be cut where an instruction like that crosses it. An update
+    /// leaves its element to no slot where it won over all that were there.
     pub(crate) fn is_worn(&self, does: Does) -> bool {
         let bursts = self.lane.bursts();
         let worn = bursts >= MANY_BURSTS && self.walked / LOOKS_AT_EACH >= self.lane.len();
