@@ -46,7 +46,13 @@ fn agree(alloc: Global, seed: u32, left_count: u32, right_count: u32) -> Option<
     let left_ms = (seed % 3).saturating_add(4) as u64;
     let right_seed = seed.wrapping_add(0x8000_0000);
     let left = changeset(alloc, seed, left_ms, left_count, 6)?;
-    let right = changeset(alloc, right_seed, 5, right_count, if is_apart { 7 } else { 6 })?;
+    let right = changeset(
+        alloc,
+        right_seed,
+        5,
+        right_count,
+        if is_apart { 7 } else { 6 },
+    )?;
     let left_copy = left.copy().ok()?;
     let right_copy = right.copy().ok()?;
     if left_ident == RIGHT {
