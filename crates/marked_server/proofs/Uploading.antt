@@ -1,0 +1,79 @@
+-- The turns of an Upload with lives.
+use Rattle.std.proofs.Common.{◌≡◌, ℕ, suc, List, [], ◌∷◌, ◌++◌, Option, Some, None, refl, sym, ap, ◌∙◌, subst, append_assoc}
+use Rattle.sync_disk.specs.declared.disk.Disk.{Ghosts}
+use Rattle.sync_data.specs.declared.instr.Instr.{Instr}
+use Rattle.sync_base.specs.States.{State}
+use Rattle.sync_messages.specs.Parts.{ChangeParts}
+use Rattle.sync_model.specs.Messages.{Message, Stored}
+use Rattle.sync_model.specs.Parts.{Parts, at_ident}
+use Rattle.sync_model.specs.Servers.{ServerRecord}
+use Rattle.life_bytes.specs.declared.saves.Saving.{Saving}
+use Rattle.life_bytes.specs.Runs.{Lives}
+use Rattle.life_marks.specs.ServerMarks.{Marks}
+use Rattle.marked_server.specs.Following.{count_by}
+use Rattle.marked_server.specs.Writing.{Written, then_written, unwritten}
+use Rattle.marked_server.specs.Uploading.{Answered, Taken, life_at, saves_at, taken, unless_refused, uploaded}
+use Rattle.marked_server.specs.Marked.{IsMarkedServer, Wrote, marks_of, parts_of}
+use Rattle.marked_server.specs.declared.server.MarkedServer.{MarkedServer}
+use Rattle.marked_server.proofs.Writing.{wrote_none, wrote_then}
+
+abbrev pub after_written : Written → Answered → Answered
+after_written w u = record { written = then_written w u.written; answer = u.answer }
+
+behind_both : (a t r : Written) (x : Message) → after_written a (record { written = then_written t r; answer = x }) ≡ after_written (then_written a t) (record { written = r; answer = x })
+behind_both a t r x = λ i. record {
+  written = record { records = sym (append_assoc a.records t.records r.records) i; pieces = sym (append_assoc a.pieces t.pieces r.pieces) i; marks = r.marks; parts = r.parts };
+  answer = x;
+}
+
+module _ {D : Type 0} {G : Ghosts D} (begun : Option (List ℕ)) (lives : Lives) (saves : List Saving) (ident : ℕ) (m : Marks) (k : Parts Instr State) (all : List ChangeParts) (records : List ServerRecord) (pieces : List (List ℕ)) where
+  abbrev pub whole : Answered
+  whole = uploaded begun lives saves ident 0 m k all
+
+  -- this was written, and these changes are left
+  pub record UploadedSoFar (place : ℕ) (rest : List ChangeParts) (now : MarkedServer D G) : Type 0 where
+    pub written : Written
+    pub wrote : Wrote written records pieces now
+    pub same : whole ≡ after_written written (uploaded begun lives saves ident place (marks_of now) (parts_of now) rest)
+
+  pub begins : (old : MarkedServer D G) → m ≡ marks_of old → k ≡ parts_of old → IsMarkedServer records pieces old → UploadedSoFar 0 all old
+  begins old m_is k_is is = record {
+    written = unwritten (marks_of old) (parts_of old);
+    wrote = wrote_none records pieces old is;
+    same = ap (λ (x : Marks). uploaded begun lives saves ident 0 x k all) m_is ∙ ap (λ (y : Parts Instr State). uploaded begun lives saves ident 0 (marks_of old) y all) k_is;
+  }
+
+  module _ (place : ℕ) (change : ChangeParts) (rest : List ChangeParts) (now new : MarkedServer D G) (so : UploadedSoFar place (change ∷ rest) now) where
+    abbrev pub turn : Taken
+    turn = taken (marks_of now) begun (parts_of now) ident change (life_at lives place) (saves_at saves change.number)
+
+    module _ (wrote : Wrote turn.written (records ++ so.written.records) (pieces ++ so.written.pieces) new) where
+      -- one change further
+      pub goes_further : turn.refusal ≡ None → UploadedSoFar (suc place) rest new
+      goes_further none = record {
+        written = then_written so.written turn.written;
+        wrote = wrote_then so.written turn.written records pieces new wrote;
+        same =
+            so.same
+            ∙ ap (λ (o : Option Message). after_written so.written (unless_refused turn.written o (uploaded begun lives saves ident (suc place) turn.written.marks turn.written.parts rest))) none
+            ∙ ap (λ (x : Marks). after_written so.written (unless_refused turn.written None (uploaded begun lives saves ident (suc place) x turn.written.parts rest))) (sym wrote.marks)
+            ∙ ap (λ (y : Parts Instr State). after_written so.written (unless_refused turn.written None (uploaded begun lives saves ident (suc place) (marks_of new) y rest))) (sym wrote.parts)
+            ∙ behind_both so.written turn.written (uploaded begun lives saves ident (suc place) (marks_of new) (parts_of new) rest).written (uploaded begun lives saves ident (suc place) (marks_of new) (parts_of new) rest).answer;
+      }
+
+      -- or the first that is refused
+      pub stops : (refusal : Message) → turn.refusal ≡ Some refusal → Wrote whole.written records pieces new × (refusal ≡ whole.answer)
+      stops refusal some =
+          let here : whole ≡ record { written = then_written so.written turn.written; answer = refusal } =
+          so.same ∙ ap (λ (o : Option Message). after_written so.written (unless_refused turn.written o (uploaded begun lives saves ident (suc place) turn.written.marks turn.written.parts rest))) some in (
+            subst (λ (u : Answered). Wrote u.written records pieces new) (sym here) (wrote_then so.written turn.written records pieces new wrote),
+            sym (ap (λ (u : Answered). u.answer) here),
+          )
+
+  -- all are done
+  pub ends : (place : ℕ) (now : MarkedServer D G) → UploadedSoFar place [] now → Wrote whole.written records pieces now × (Stored ident (count_by (at_ident ident (parts_of now).idents)) ≡ whole.answer)
+  ends place now so = (
+    subst (λ (u : Answered). Wrote u.written records pieces now) (sym so.same)
+    (wrote_then so.written (unwritten (marks_of now) (parts_of now)) records pieces now (wrote_none (records ++ so.written.records) (pieces ++ so.written.pieces) now so.wrote.is)),
+    sym (ap (λ (u : Answered). u.answer) so.same),
+  )
