@@ -64,7 +64,7 @@ kept_seen (records.Count ident number base settled) = refl
 kept_seen (records.Carried origin number base ms body) = refl
 kept_seen (records.Past ident version ms body) = refl
 
-awaited_records : Option CodeRecord → Bool → List ServerRecord
+abbrev awaited_records : Option CodeRecord → Bool → List ServerRecord
 awaited_records None refused = []
 awaited_records (Some r) refused = if refused then [] else server_seen r ∷ []
 
@@ -84,7 +84,9 @@ refused_none false r = refl
 
 bind_records : (k : Parts Instr State) (u : List ℕ) (place : ℕ)
     → (bind_by the_profile k u place).records ≡ awaited_records (if is_some (found place) then None else Some (records.Client u)) (is_refusal (bind_by the_profile k u place).answer)
-bind_records k u (suc n) = refl
+bind_records k u (suc n) =
+    let isnt : (suc n == 0) ≡ false = grind (arith, nat_tests) in
+    ap (λ (b : Bool). (if not b then as_before k (replies (Message.Ident u (suc n))) else (if length k.idents == the_profile.full then as_before k (refuses 0 0 (IdentsFull (length k.idents))) else record { records = ServerRecord.Client u ∷ []; answer = Message.Ident u (suc (length k.idents)); parts = bound k u })).records) isnt
 bind_records k u zero = go (length k.idents == the_profile.full)
   where
     go : (b : Bool) → (if b then as_before k (refuses 0 0 (IdentsFull (length k.idents))) else record { records = ServerRecord.Client u ∷ []; answer = Message.Ident u (suc (length k.idents)); parts = bound k u }).records
@@ -194,7 +196,7 @@ module _ {I S : Type 0} (p : Profile I S) (kept : Parts I S) (c : ℕ) (g : Give
 
 after_at : {I : Type 0} (c base : ℕ) (es : List (Changeset I)) (v : ℕ) (x : Changeset I) (k : ℕ) (gs : List (Given I)) (j : ℕ) (g : Given I) → at gs j ≡ Some g → k + j ≡ c → at (idents_after c base es v x k gs) j ≡ Some (settled base es g)
 after_at c base es v x k [] j g there is = cc
-after_at c base es v x k (d ∷ gs) zero g there is =
+after_at {I = I} c base es v x k (d ∷ gs) zero g there is =
     let here : (k == c) ≡ true = grind (arith, nat_tests) in
     let same : d ≡ g = cc in
     ap (λ (t : Bool). Some (if t then settled base es d else extended v x d)) here ∙ ap (λ (y : Given I). Some (settled base es y)) same

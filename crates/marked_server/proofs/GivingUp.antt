@@ -68,6 +68,6 @@ module _ {D : Type 0} {G : Ghosts D} (begun : Option (List ℕ)) (by : ℕ) (m :
   pub ends : (now : MarkedServer D G) → GivenUpSoFar [] now → Wrote whole.written records pieces now × (None ≡ whole.refusal)
   ends now so = (
     subst (λ (t : Taken). Wrote t.written records pieces now) (sym so.same)
-    (wrote_then so.written (unwritten (marks_of now) (parts_of now)) records pieces now (wrote_none (records ++ so.written.records) (pieces ++ so.written.pieces) now so.wrote.is)),
+        (wrote_then so.written (unwritten (marks_of now) (parts_of now)) records pieces now (wrote_none (records ++ so.written.records) (pieces ++ so.written.pieces) now so.wrote.is)),
     sym (ap (λ (t : Taken). t.refusal) so.same),
   )

@@ -3,6 +3,8 @@ pub mod Reading
 pub mod Following
 pub mod Noting
 pub mod Writing
+pub mod Telling
+pub mod Opening
 pub mod Uploading
 pub mod GivingUp
 pub mod Numbering

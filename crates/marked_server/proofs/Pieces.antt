@@ -113,15 +113,16 @@ from_front : (n place : ℕ) (bytes : List ℕ) → length bytes ≤ n → recor
 from_front n place [] le bad = record { pieces = []; are = no_records true }
 from_front zero place (g ∷ rest) le bad = absurd (omega arith)
 from_front (suc n) place (g ∷ rest) le bad = elim (cases_eq g 1) [
-  | inl is ↦ subst (λ (x : ℕ). Beside (x ∷ rest)) (sym is) (at_open (subst (λ (x : ℕ). records_from false place (x ∷ (rest ++ 1 ∷ [])) ≡ BadAt (place + suc (length rest))) is bad) (is_whole (rest ++ 1 ∷ [])) refl)
+  | inl is ↦ subst (λ (x : ℕ). Beside (x ∷ rest)) (sym is) (at_open (subst (λ (x : ℕ). records_from false place (x ∷ (rest ++ 1 ∷ [])) ≡ BadAt (place + suc (length rest))) is bad) (is_whole (rest ++ 1 ∷ [])) refl (λ p bytes short b. from_front n p bytes short b))
   | inr shut ↦ absurd (apart [] (place + suc (length rest)) (sym (from_closed false place g (rest ++ 1 ∷ []) shut) ∙ bad))
 ]
   where
-    at_open : records_from false place (1 ∷ (rest ++ 1 ∷ [])) ≡ BadAt (place + suc (length rest)) → (b : Bool) → is_whole (rest ++ 1 ∷ []) ≡ b → Beside (1 ∷ rest)
-    at_open cut false is =
+    at_open : records_from false place (1 ∷ (rest ++ 1 ∷ [])) ≡ BadAt (place + suc (length rest)) → (b : Bool) → is_whole (rest ++ 1 ∷ []) ≡ b
+        → ((p : ℕ) (bytes : List ℕ) → length bytes ≤ n → records_from false p (bytes ++ 1 ∷ []) ≡ BadAt (p + length bytes) → Beside bytes) → Beside (1 ∷ rest)
+    at_open cut false is go =
         let same : place ≡ place + suc (length rest) = same_place place (place + suc (length rest)) (sym (from_bad false place (rest ++ 1 ∷ []) is) ∙ cut) in
         absurd (omega (arith, same))
-    at_open cut true is =
+    at_open cut true is go =
         let k = size_of (rest ++ 1 ∷ []) in
         let w = whole_is (rest ++ 1 ∷ []) is in
         let inside : 4 + k ≤ length rest = omega (arith, w.1, length-append rest (1 ∷ [])) in
@@ -129,7 +130,7 @@ from_front (suc n) place (g ∷ rest) le bad = elim (cases_eq g 1) [
         let there : place + suc (length rest) ≡ place + 5 + k + length (drop (4 + k) rest) = omega (arith, length-drop (4 + k) rest, inside) in
         let next : records_from false (place + 5 + k) (drop (4 + k) rest ++ 1 ∷ []) ≡ BadAt (place + 5 + k + length (drop (4 + k) rest)) =
         ap (records_from false (place + 5 + k)) (sym (drop_inner (4 + k) rest (1 ∷ []) inside)) ∙ later ∙ ap BadAt there in
-        then_pieces rest k refl w.0 inside (from_front n (place + 5 + k) (drop (4 + k) rest) (omega (arith, le, length-drop (4 + k) rest)) next)
+        then_pieces rest k refl w.0 inside (go (place + 5 + k) (drop (4 + k) rest) (omega (arith, le, length-drop (4 + k) rest)) next)
 
 beside : (records : List (List ℕ)) (end : ℕ) (file : List ℕ) → IsJournal false records end file → (pieces : List (List ℕ)) × IsJournal true pieces end file
 beside records end file j =

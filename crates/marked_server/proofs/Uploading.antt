@@ -74,6 +74,6 @@ module _ {D : Type 0} {G : Ghosts D} (begun : Option (List ℕ)) (lives : Lives)
   pub ends : (place : ℕ) (now : MarkedServer D G) → UploadedSoFar place [] now → Wrote whole.written records pieces now × (Stored ident (count_by (at_ident ident (parts_of now).idents)) ≡ whole.answer)
   ends place now so = (
     subst (λ (u : Answered). Wrote u.written records pieces now) (sym so.same)
-    (wrote_then so.written (unwritten (marks_of now) (parts_of now)) records pieces now (wrote_none (records ++ so.written.records) (pieces ++ so.written.pieces) now so.wrote.is)),
+        (wrote_then so.written (unwritten (marks_of now) (parts_of now)) records pieces now (wrote_none (records ++ so.written.records) (pieces ++ so.written.pieces) now so.wrote.is)),
     sym (ap (λ (u : Answered). u.answer) so.same),
   )

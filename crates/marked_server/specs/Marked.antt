@@ -184,6 +184,12 @@ module _ {D : Type 0} {G : Ghosts D} where
     pub reply : reply_seen inner ≡ done.reply
     pub told : answers ≡ answers_with (marks_of new) (life_of new) (parts_of new) uuid done.ident inner
 
+  -- the same as a letter
+  pub record IsDoneLetter (done : Done) (records : List ServerRecord) (pieces : List (List ℕ)) (new : MarkedServer D G) (uuid : List ℕ) (letter : Letter) : Type 0 where
+    pub answers : AnswersParts
+    pub done_it : IsDone done records pieces new uuid answers
+    pub letter_is : letter ≡ letters.Answers answers
+
   -- today's step was done, and its answer is told without lives
   pub record IsPlain (did : Served Instr State) (records : List ServerRecord) (new : MarkedServer D G) (letter : Letter) : Type 0 where
     pub reply : CodeMessage

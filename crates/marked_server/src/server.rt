@@ -7,14 +7,16 @@ ghost use Rattle.sync_exchange.specs.Seen.{message_seen};
 ghost use Rattle.sync_messages.specs.declared.message.Message.{Message};
 ghost use Rattle.marked_server.specs.Plain.{named_in, plain_refusal};
 ghost use Rattle.life_bytes.specs.declared.letter.Letter.{Letter};
-ghost use Rattle.marked_server.specs.Testing.{is_member};
+ghost use Rattle.life_bytes.specs.Envelopes.{SaysParts};
+ghost use Rattle.marked_server.specs.Testing.{is_member, says_test};
+ghost use Rattle.marked_server.specs.Says.{says_done};
 ghost use Rattle.marked_server.specs.Following.{count_by};
 ghost use Rattle.marked_server.specs.Noting.{begin_notes, first_notes, is_life, life_notes, member_notes, noted_in, numbers_notes};
 ghost use Rattle.marked_server.specs.Writing.{bears_some, plain_notes, plain_written};
 ghost use Rattle.life_bytes.specs.Spelling.{note_spelling};
 ghost use Rattle.life_bytes.specs.Whole.{IsNote};
 ghost use Rattle.life_marks.specs.ServerMarks.{after_note, line_of};
-ghost use Rattle.marked_server.specs.Marked.{last_told, life_told, mark_of, no_mark};
+ghost use Rattle.marked_server.specs.Marked.{last_told, life_told, mark_of, no_mark, standing_of};
 
 use crate::code::{Code, refused};
 use crate::testing::is_member;
@@ -40,7 +42,7 @@ pub struct MarkedServer<D: Disk> {
 
 impl<D: Disk> MarkedServer<D> {
     ghost use Rattle.sync_server.specs.Serving.{Did, IsServerOf, journal_of};
-    ghost use Rattle.marked_server.specs.Marked.{IsMarkedServer, IsPlain, Notes, Same, Wrote, is_closed, life_of, marks_of, parts_of};
+    ghost use Rattle.marked_server.specs.Marked.{IsDoneLetter, IsMarkedServer, IsPlain, Notes, Same, Wrote, is_closed, life_of, marks_of, parts_of};
 
     /// The server.
     pub fn server(&self) -> &Server<D> {
@@ -62,6 +64,13 @@ impl<D: Disk> MarkedServer<D> {
         ensures plain_refused { (message refusal : Message) → letter ≡ Letter.Message message → plain_refusal (marks_of self.old) (life_of self.old) (parts_of self.old) message ≡ Some refusal → (result ≡ Ok (Letter.Message refusal)) × (self.new ≡ self.old) }
         ensures plain { (records : List model.ServerRecord) (message : Message) → IsServerOf records self.old.server → letter ≡ Letter.Message message → plain_refusal (marks_of self.old) (life_of self.old) (parts_of self.old) message ≡ None
             → IfOk result (λ r. IsPlain (serve_by the_profile (parts_of self.old) (message_seen message)) records self.new r) }
+        // What is written, of which the marks are those afterwards.
+        ensures writes { (records : List model.ServerRecord) (pieces : List (List ℕ)) (message : Message) → IsMarkedServer records pieces self.old → letter ≡ Letter.Message message
+            → plain_refusal (marks_of self.old) (life_of self.old) (parts_of self.old) message ≡ None
+            → IfOk result (λ r. Wrote (plain_written (marks_of self.old) (life_of self.old) (parts_of self.old) message) records pieces self.new) }
+        ensures says { (records : List model.ServerRecord) (pieces : List (List ℕ)) (says : SaysParts) → IsMarkedServer records pieces self.old → letter ≡ Letter.Says says
+            → says_test (marks_of self.old) (standing_of (life_of self.old) (parts_of self.old) says.inner) says ≡ None
+            → IfOk result (IsDoneLetter (says_done (marks_of self.old) (life_of self.old) (parts_of self.old) says) records pieces self.new says.uuid) }
     {
         match letter {
             Letter::Message(message) => Ok(Letter::Message(self.take_message(message)?)),
