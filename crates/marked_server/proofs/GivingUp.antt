@@ -24,14 +24,11 @@ behind_both a t r x = λ i. record {
 }
 
 module _ {D : Type 0} {G : Ghosts D} (begun : Option (List ℕ)) (by : ℕ) (m : Marks) (k : Parts Instr State) (all : List (List ℕ)) (records : List ServerRecord) (pieces : List (List ℕ)) where
-  abbrev pub whole : Taken
-  whole = all_given_up begun by m k all
-
   -- this was written, and these clients are left
   pub record GivenUpSoFar (rest : List (List ℕ)) (now : MarkedServer D G) : Type 0 where
     pub written : Written
     pub wrote : Wrote written records pieces now
-    pub same : whole ≡ after_taken written (all_given_up begun by (marks_of now) (parts_of now) rest)
+    pub same : all_given_up begun by m k all ≡ after_taken written (all_given_up begun by (marks_of now) (parts_of now) rest)
 
   pub begins : (old : MarkedServer D G) → m ≡ marks_of old → k ≡ parts_of old → IsMarkedServer records pieces old → GivenUpSoFar all old
   begins old m_is k_is is = record {
@@ -57,15 +54,15 @@ module _ {D : Type 0} {G : Ghosts D} (begun : Option (List ℕ)) (by : ℕ) (m :
             ∙ behind_both so.written turn.written (all_given_up begun by (marks_of new) (parts_of new) rest).written (all_given_up begun by (marks_of new) (parts_of new) rest).refusal;
       }
 
-      pub stops : (refusal : Message) → turn.refusal ≡ Some refusal → Wrote whole.written records pieces new × (Some refusal ≡ whole.refusal)
+      pub stops : (refusal : Message) → turn.refusal ≡ Some refusal → Wrote (all_given_up begun by m k all).written records pieces new × (Some refusal ≡ (all_given_up begun by m k all).refusal)
       stops refusal some =
-          let here : whole ≡ record { written = then_written so.written turn.written; refusal = Some refusal } =
+          let here : all_given_up begun by m k all ≡ record { written = then_written so.written turn.written; refusal = Some refusal } =
           so.same ∙ ap (λ (o : Option Message). after_taken so.written (unless_refused turn.written o (all_given_up begun by turn.written.marks turn.written.parts rest))) some in (
             subst (λ (t : Taken). Wrote t.written records pieces new) (sym here) (wrote_then so.written turn.written records pieces new wrote),
             sym (ap (λ (t : Taken). t.refusal) here),
           )
 
-  pub ends : (now : MarkedServer D G) → GivenUpSoFar [] now → Wrote whole.written records pieces now × (None ≡ whole.refusal)
+  pub ends : (now : MarkedServer D G) → GivenUpSoFar [] now → Wrote (all_given_up begun by m k all).written records pieces now × (None ≡ (all_given_up begun by m k all).refusal)
   ends now so = (
     subst (λ (t : Taken). Wrote t.written records pieces now) (sym so.same)
         (wrote_then so.written (unwritten (marks_of now) (parts_of now)) records pieces now (wrote_none (records ++ so.written.records) (pieces ++ so.written.pieces) now so.wrote.is)),

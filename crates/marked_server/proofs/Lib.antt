@@ -1,10 +1,10 @@
 pub mod Pieces
 pub mod Reading
-pub mod Following
+pub mod Followed
 pub mod Noting
 pub mod Writing
 pub mod Telling
-pub mod Opening
-pub mod Uploading
+pub mod Opened
+pub mod Uploads
 pub mod GivingUp
 pub mod Numbering

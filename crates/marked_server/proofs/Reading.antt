@@ -29,11 +29,12 @@ same_marks m n e = cc
 
 pub marks_more : (m : Marks) (xs ys : List (List ℕ)) (n : Marks) → server_marks_in m xs ≡ Some n → server_marks_in m (xs ++ ys) ≡ server_marks_in n ys
 marks_more m [] ys n e = ap (λ (k : Marks). server_marks_in k ys) (same_marks m n e)
-marks_more m (x ∷ xs) ys n e = on (server_piece_in x) e
+marks_more m (x ∷ xs) ys n e = on (server_piece_in x) e (λ k f. marks_more k xs ys n f)
   where
-    on : (o : Option ServerPiece) → then_piece after_piece o m (λ k. server_marks_in k xs) ≡ Some n → then_piece after_piece o m (λ k. server_marks_in k (xs ++ ys)) ≡ server_marks_in n ys
-    on None f = cc
-    on (Some p) f = marks_more (after_piece m p) xs ys n f
+    on : (o : Option ServerPiece) → then_piece after_piece o m (λ k. server_marks_in k xs) ≡ Some n → ((k : Marks) → server_marks_in k xs ≡ Some n → server_marks_in k (xs ++ ys) ≡ server_marks_in n ys)
+        → then_piece after_piece o m (λ k. server_marks_in k (xs ++ ys)) ≡ server_marks_in n ys
+    on None f go = cc
+    on (Some p) f go = go (after_piece m p) f
 
 record_piece : (r : CodeRecord) → IsServerRecord r → server_piece_in (server_spelling r) ≡ Some (pieces.Record r)
 record_piece (records.Client id) is = ap (option_map pieces.Record) (server_read (server_spelling (records.Client id)) (records.Client id) is refl)

@@ -29,9 +29,14 @@ use Rattle.marked_server.specs.Noting.{after_notes}
 use Rattle.marked_server.specs.Writing.{Written, after_records, noted, noted_behind, stepped, stepped_behind, then_written, unwritten}
 use Rattle.marked_server.specs.Marked.{IsMarkedServer, Notes, Same, Wrote, is_closed, life_of, marks_of, parts_of}
 use Rattle.marked_server.specs.declared.server.MarkedServer.{MarkedServer}
-use Rattle.marked_server.proofs.Following.{follows}
+use Rattle.marked_server.proofs.Followed.{follows}
 use Rattle.marked_server.proofs.Pieces.{noted_more}
 use Rattle.marked_server.proofs.Reading.{marks_more, records_read}
+
+-- a call's own clause, at what it answers
+pub at_ok : {B E : Type 0} (r : Result B E) (b : B) (P : Type 0) → r ≡ Ok b → OnOk r P → P
+at_ok (Ok x) b P is p = p
+at_ok (Err e) b P is p = cc
 
 module _ {D : Type 0} {G : Ghosts D} where
   -- another spelling of what is written
@@ -80,11 +85,6 @@ module _ {D : Type 0} {G : Ghosts D} where
       wrote_then w (stepped w.marks (serve_by the_profile w.parts (message_seen message))) records pieces new
       (subst (λ (k : Parts Instr State). Wrote (stepped w.marks (serve_by the_profile k (message_seen message))) (records ++ w.records) (pieces ++ w.pieces) new) before.parts
       (subst (λ (m : Marks). Wrote (stepped m (serve_by the_profile (parts_of mid) (message_seen message))) (records ++ w.records) (pieces ++ w.pieces) new) before.marks step))
-
-  -- a call's own clause, at what it answers
-  pub at_ok : {B : Type 0} {E : Type 0} (r : Result B E) (b : B) (P : Type 0) → r ≡ Ok b → OnOk r P → P
-  at_ok (Ok x) b P is p = p
-  at_ok (Err e) b P is p = cc
 
 -- ---- today's step
 module _ {D : Type 0} {G : Ghosts D} (by_strokes : (disk : D) (b c : List ℕ) → G.content disk ≡ Some b → IsImage (state (G.origin disk).start (G.strokes disk)) c → G.images disk c) where

@@ -1,5 +1,5 @@
 // Today's step, and how the marks follow what it writes.
-ghost use Rattle.std.specs.Prelude.{◌≡◌, ◌-◌, ℕ, List, All, Some, IfOk, OnOk};
+ghost use Rattle.std.specs.Prelude.{◌≡◌, ◌-◌, ◌<◌, ◌^◌, ℕ, List, All, Some, IfOk, OnOk};
 ghost use Rattle.sync_model.specs.Parts.{at_ident, serve_by};
 ghost use Rattle.sync_model.specs.Servers as model;
 ghost use Rattle.sync_model.specs.Servers.{is_refusal};
@@ -166,7 +166,8 @@ impl<D: Disk> MarkedServer<D> {
 
 /// Whose changes a message brings; 0 where it brings none.
 fn origin_in(message: &Message) -> Ident
-    ensures { result ≡ origin_in message.now }
+    ensures is { result ≡ origin_in message.now }
+    ensures fits { result < 2 ^ 32 }
 {
     match message {
         Message::Upload(upload) => upload.ident(),
@@ -188,8 +189,14 @@ fn fit(changes: &[Change])
     ensures { All FitsChange changes.now }
 {
     for change in changes {
-        let _numbers = (change.number(), change.base(), change.ms());
+        fits(change);
     }
+}
+
+fn fits(change: &Change)
+    ensures { FitsChange change.now }
+{
+    let _numbers = (change.number(), change.base(), change.ms());
 }
 
 fn is_refused(reply: &Message) -> bool

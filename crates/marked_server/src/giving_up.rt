@@ -2,7 +2,7 @@ ghost use Rattle.std.specs.Prelude.{◌≡◌, ◌≤◌, ℕ, List, length, map
 ghost use Rattle.std.specs.Option.{option_map};
 ghost use Rattle.sync_model.specs.Servers as model;
 ghost use Rattle.sync_exchange.specs.Seen.{message_seen};
-ghost use Rattle.marked_server.specs.GivingUp.{all_given_up, given_up, gives_up, identified, names_itself};
+ghost use Rattle.marked_server.specs.GivingUp.{all_given_up, given_up, gives_up, identified, is_ident, names_itself};
 ghost use Rattle.marked_server.specs.Says.{reply_seen};
 
 use crate::answering::ident_given;
@@ -43,8 +43,9 @@ impl<D: Disk> MarkedServer<D> {
     fn names_itself(&self, given: &GiveUp) -> bool
         ensures { result ≡ names_itself (parts_of self.now) given.now }
     {
+        let by = given.by();
         for uuid in given.uuids() {
-            if self.server.ident_of(uuid) == Some(given.by()) {
+            if is_ident(by, self.server.ident_of(uuid)) {
                 return true;
             }
         }
@@ -124,5 +125,14 @@ impl<D: Disk> MarkedServer<D> {
             }
         }
         Ok(numbers)
+    }
+}
+
+fn is_ident(by: Ident, ident: Option<Ident>) -> bool
+    ensures { result ≡ is_ident by ident }
+{
+    match ident {
+        None => false,
+        Some(ident) => ident == by,
     }
 }

@@ -1,7 +1,7 @@
 use Rattle.std.proofs.Common.{◌≡◌, ℕ, List, drop}
 use Rattle.sync_model.specs.Servers.{ServerRecord}
 use Rattle.marked_server.specs.Marked.{IsMarkedServer, life_of, marks_of, parts_of}
-use Rattle.marked_server.proofs.Uploading.{UploadedSoFar}
+use Rattle.marked_server.proofs.Uploads.{UploadedSoFar}
 use Rattle.marked_server.proofs.server.MarkedServer.take_upload.Given as goal
 
 abbrev pub invariant-loop-place : goal.invariant-loop-place

@@ -27,14 +27,11 @@ behind_both a t r x = λ i. record {
 }
 
 module _ {D : Type 0} {G : Ghosts D} (begun : Option (List ℕ)) (lives : Lives) (saves : List Saving) (ident : ℕ) (m : Marks) (k : Parts Instr State) (all : List ChangeParts) (records : List ServerRecord) (pieces : List (List ℕ)) where
-  abbrev pub whole : Answered
-  whole = uploaded begun lives saves ident 0 m k all
-
   -- this was written, and these changes are left
   pub record UploadedSoFar (place : ℕ) (rest : List ChangeParts) (now : MarkedServer D G) : Type 0 where
     pub written : Written
     pub wrote : Wrote written records pieces now
-    pub same : whole ≡ after_written written (uploaded begun lives saves ident place (marks_of now) (parts_of now) rest)
+    pub same : uploaded begun lives saves ident 0 m k all ≡ after_written written (uploaded begun lives saves ident place (marks_of now) (parts_of now) rest)
 
   pub begins : (old : MarkedServer D G) → m ≡ marks_of old → k ≡ parts_of old → IsMarkedServer records pieces old → UploadedSoFar 0 all old
   begins old m_is k_is is = record {
@@ -62,16 +59,16 @@ module _ {D : Type 0} {G : Ghosts D} (begun : Option (List ℕ)) (lives : Lives)
       }
 
       -- or the first that is refused
-      pub stops : (refusal : Message) → turn.refusal ≡ Some refusal → Wrote whole.written records pieces new × (refusal ≡ whole.answer)
+      pub stops : (refusal : Message) → turn.refusal ≡ Some refusal → Wrote (uploaded begun lives saves ident 0 m k all).written records pieces new × (refusal ≡ (uploaded begun lives saves ident 0 m k all).answer)
       stops refusal some =
-          let here : whole ≡ record { written = then_written so.written turn.written; answer = refusal } =
+          let here : uploaded begun lives saves ident 0 m k all ≡ record { written = then_written so.written turn.written; answer = refusal } =
           so.same ∙ ap (λ (o : Option Message). after_written so.written (unless_refused turn.written o (uploaded begun lives saves ident (suc place) turn.written.marks turn.written.parts rest))) some in (
             subst (λ (u : Answered). Wrote u.written records pieces new) (sym here) (wrote_then so.written turn.written records pieces new wrote),
             sym (ap (λ (u : Answered). u.answer) here),
           )
 
   -- all are done
-  pub ends : (place : ℕ) (now : MarkedServer D G) → UploadedSoFar place [] now → Wrote whole.written records pieces now × (Stored ident (count_by (at_ident ident (parts_of now).idents)) ≡ whole.answer)
+  pub ends : (place : ℕ) (now : MarkedServer D G) → UploadedSoFar place [] now → Wrote (uploaded begun lives saves ident 0 m k all).written records pieces now × (Stored ident (count_by (at_ident ident (parts_of now).idents)) ≡ (uploaded begun lives saves ident 0 m k all).answer)
   ends place now so = (
     subst (λ (u : Answered). Wrote u.written records pieces now) (sym so.same)
         (wrote_then so.written (unwritten (marks_of now) (parts_of now)) records pieces now (wrote_none (records ++ so.written.records) (pieces ++ so.written.pieces) now so.wrote.is)),

@@ -1,0 +1,8 @@
+use Rattle.std.proofs.Common.{ℕ}
+use Rattle.marked_server.proofs.server.MarkedServer.take_upload.Goals as goal
+
+pub loop-place-init : goal.loop-place-init
+loop-place-init g c = ?
+
+pub loop-place-preserved : goal.loop-place-preserved
+loop-place-preserved g c = ?
