@@ -1,5 +1,5 @@
 -- The turns of a GiveUp.
-use Rattle.std.proofs.Common.{◌≡◌, ℕ, List, [], ◌∷◌, ◌++◌, Option, Some, None, refl, sym, ap, ◌∙◌, subst, append_assoc}
+use Rattle.std.proofs.Common.{◌≡◌, ℕ, zero, suc, ◌≤◌, List, [], ◌∷◌, ◌++◌, Option, Some, None, refl, sym, ap, ◌∙◌, subst, arith, append_assoc}
 use Rattle.sync_disk.specs.declared.disk.Disk.{Ghosts}
 use Rattle.sync_data.specs.declared.instr.Instr.{Instr}
 use Rattle.sync_base.specs.States.{State}
@@ -7,9 +7,10 @@ use Rattle.sync_model.specs.Messages.{Message}
 use Rattle.sync_model.specs.Parts.{Parts}
 use Rattle.sync_model.specs.Servers.{ServerRecord}
 use Rattle.life_marks.specs.ServerMarks.{Marks}
-use Rattle.marked_server.specs.Writing.{Written, then_written, unwritten}
+use Rattle.marked_server.specs.Noting.{member_notes}
+use Rattle.marked_server.specs.Writing.{Written, noted_behind, then_written, unwritten}
 use Rattle.marked_server.specs.Uploading.{Taken}
-use Rattle.marked_server.specs.GivingUp.{all_given_up, given_up, unless_refused}
+use Rattle.marked_server.specs.GivingUp.{all_given_up, given_up, newly_identified, unless_refused}
 use Rattle.marked_server.specs.Marked.{IsMarkedServer, Wrote, marks_of, parts_of}
 use Rattle.marked_server.specs.declared.server.MarkedServer.{MarkedServer}
 use Rattle.marked_server.proofs.Writing.{wrote_none, wrote_then}
@@ -68,3 +69,11 @@ module _ {D : Type 0} {G : Ghosts D} (begun : Option (List ℕ)) (by : ℕ) (m :
         (wrote_then so.written (unwritten (marks_of now) (parts_of now)) records pieces now (wrote_none (records ++ so.written.records) (pieces ++ so.written.pieces) now so.wrote.is)),
     sym (ap (λ (t : Taken). t.refusal) so.same),
   )
+
+-- ---- an ident that is given anew, or none
+pub newly_none : (begun : Option (List ℕ)) (w : Written) (n : ℕ) → n ≡ 0 → newly_identified begun w n ≡ record { written = w; ident = None }
+newly_none begun w n is = ap (newly_identified begun w) is
+
+pub newly_some : (begun : Option (List ℕ)) (w : Written) (n : ℕ) → 1 ≤ n → newly_identified begun w n ≡ record { written = noted_behind w (member_notes w.marks begun n); ident = Some n }
+newly_some begun w zero some = absurd (omega (arith, some))
+newly_some begun w (suc n) some = refl

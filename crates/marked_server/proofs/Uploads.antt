@@ -1,5 +1,7 @@
 -- The turns of an Upload with lives.
-use Rattle.std.proofs.Common.{◌≡◌, ℕ, suc, List, [], ◌∷◌, ◌++◌, Option, Some, None, refl, sym, ap, ◌∙◌, subst, append_assoc}
+use Rattle.std.proofs.Common.{◌≡◌, ℕ, suc, ◌-◌, ◌<◌, ◌≤◌, Bool, true, false, nat_le, nat_lt, if◌then◌else◌, List, [], ◌∷◌, ◌++◌, Option, Some, None, refl, sym, ap, ◌∙◌, subst, arith, append_assoc}
+use Rattle.std.proofs.lemmas.Bool.{lt-leb}
+use Rattle.std.proofs.lemmas.Bool.Decides.{nat_tests}
 use Rattle.sync_disk.specs.declared.disk.Disk.{Ghosts}
 use Rattle.sync_data.specs.declared.instr.Instr.{Instr}
 use Rattle.sync_base.specs.States.{State}
@@ -8,11 +10,14 @@ use Rattle.sync_model.specs.Messages.{Message, Stored}
 use Rattle.sync_model.specs.Parts.{Parts, at_ident}
 use Rattle.sync_model.specs.Servers.{ServerRecord}
 use Rattle.life_bytes.specs.declared.saves.Saving.{Saving}
+use Rattle.life_bytes.specs.Parts.{SavesParts}
 use Rattle.life_bytes.specs.Runs.{Lives}
 use Rattle.life_marks.specs.ServerMarks.{Marks}
 use Rattle.marked_server.specs.Following.{count_by}
-use Rattle.marked_server.specs.Writing.{Written, then_written, unwritten}
-use Rattle.marked_server.specs.Uploading.{Answered, Taken, life_at, saves_at, taken, unless_refused, uploaded}
+use Rattle.marked_server.specs.Testing.{token_test}
+use Rattle.marked_server.specs.declared.code.Code.{Code}
+use Rattle.marked_server.specs.Writing.{Written, stepped_behind, then_written, unwritten}
+use Rattle.marked_server.specs.Uploading.{Answered, Taken, life_at, refusal_in, saves_at, step_with, taken, taken_tested, unless_refused, uploaded}
 use Rattle.marked_server.specs.Marked.{IsMarkedServer, Wrote, marks_of, parts_of}
 use Rattle.marked_server.specs.declared.server.MarkedServer.{MarkedServer}
 use Rattle.marked_server.proofs.Writing.{wrote_none, wrote_then}
@@ -74,3 +79,30 @@ module _ {D : Type 0} {G : Ghosts D} (begun : Option (List ℕ)) (lives : Lives)
         (wrote_then so.written (unwritten (marks_of now) (parts_of now)) records pieces now (wrote_none (records ++ so.written.records) (pieces ++ so.written.pieces) now so.wrote.is)),
     sym (ap (λ (u : Answered). u.answer) so.same),
   )
+
+-- ---- which of the cases of a change it is
+module _ (m : Marks) (begun : Option (List ℕ)) (k : Parts Instr State) (ident : ℕ) (change : ChangeParts) (life : List ℕ) (saves : Option SavesParts) where
+  abbrev count : ℕ
+  count = count_by (at_ident ident k.idents)
+
+  abbrev over : Taken
+  over = record { written = unwritten m k; refusal = None }
+
+  abbrev at_gap : Taken
+  at_gap = record { written = stepped_behind m k [] (step_with k ident change); refusal = refusal_in (step_with k ident change).answer }
+
+  abbrev tested : Taken
+  tested = taken_tested m begun k ident change life saves (token_test m.reached saves life change.number)
+
+  above : count < change.number → nat_le change.number count ≡ false
+  above lt = lt-leb change.number count lt
+
+  pub taken_at_gap : count < change.number → count < change.number - 1 → taken m begun k ident change life saves ≡ at_gap
+  taken_at_gap lt gap =
+      let is : nat_lt count (change.number - 1) ≡ true = grind (arith, nat_tests) in
+      ap (λ (t : Bool). if t then over else (if nat_lt count (change.number - 1) then at_gap else tested)) (above lt) ∙ ap (λ (t : Bool). if t then at_gap else tested) is
+
+  pub taken_as : (o : Option Code) → count < change.number → change.number - 1 ≤ count → token_test m.reached saves life change.number ≡ o → taken m begun k ident change life saves ≡ taken_tested m begun k ident change life saves o
+  taken_as o lt next is =
+      let isnt : nat_lt count (change.number - 1) ≡ false = grind (arith, nat_tests) in
+      ap (λ (t : Bool). if t then over else (if nat_lt count (change.number - 1) then at_gap else tested)) (above lt) ∙ ap (λ (t : Bool). if t then at_gap else tested) isnt ∙ ap (taken_tested m begun k ident change life saves) is

@@ -29,9 +29,12 @@ abbrev pub newly_identified : Option (List ℕ) → Written → ℕ → Identifi
 newly_identified begun w zero = record { written = w; ident = None }
 newly_identified begun w (suc n) = record { written = noted_behind w (member_notes w.marks begun (suc n)); ident = Some (suc n) }
 
+abbrev pub newly_bound : Marks → Option (List ℕ) → Parts Instr State → List ℕ → Identified
+newly_bound m begun k uuid = newly_identified begun (stepped m (serve_by the_profile k (Bind uuid))) (ident_given (serve_by the_profile k (Bind uuid)).answer)
+
 abbrev pub identified_by : Marks → Option (List ℕ) → Parts Instr State → List ℕ → Option ℕ → Identified
 identified_by m begun k uuid (Some ident) = record { written = unwritten m k; ident = Some ident }
-identified_by m begun k uuid None = newly_identified begun (stepped m (serve_by the_profile k (Bind uuid))) (ident_given (serve_by the_profile k (Bind uuid)).answer)
+identified_by m begun k uuid None = newly_bound m begun k uuid
 
 abbrev pub identified : Marks → Option (List ℕ) → Parts Instr State → List ℕ → Identified
 identified m begun k uuid = identified_by m begun k uuid (ident_of k uuid)

@@ -2,7 +2,7 @@ ghost use Rattle.std.specs.Prelude.{◌≡◌, ◌≤◌, ℕ, List, length, map
 ghost use Rattle.std.specs.Option.{option_map};
 ghost use Rattle.sync_model.specs.Servers as model;
 ghost use Rattle.sync_exchange.specs.Seen.{message_seen};
-ghost use Rattle.marked_server.specs.GivingUp.{all_given_up, given_up, gives_up, identified, is_ident, names_itself};
+ghost use Rattle.marked_server.specs.GivingUp.{all_given_up, given_up, gives_up, identified, is_ident, names_itself, newly_bound};
 ghost use Rattle.marked_server.specs.Says.{reply_seen};
 
 use crate::answering::ident_given;
@@ -100,9 +100,21 @@ impl<D: Disk> MarkedServer<D> {
         ensures named { (ident : ℕ) → result ≡ Ok (Some ident) → 1 ≤ ident }
         ensures life { life_of self.new ≡ life_of self.old }
     {
-        if let Some(ident) = self.server.ident_of(uuid) {
-            return Ok(Some(ident));
+        match self.server.ident_of(uuid) {
+            Some(ident) => Ok(Some(ident)),
+            None => self.identify_new(uuid),
         }
+    }
+
+    /// A client that the history doesn't know gets an ident, and has lives.
+    fn identify_new(&mut self, uuid: &Id) -> Result<Option<Ident>, ServerRefusal>
+        ensures writes { (records : List model.ServerRecord) (pieces : List (List ℕ)) → IsMarkedServer records pieces self.old
+            → IfOk result (λ ident. Wrote (newly_bound (marks_of self.old) (life_of self.old) (parts_of self.old) uuid.now).written records pieces self.new) }
+        ensures ident { (records : List model.ServerRecord) (pieces : List (List ℕ)) → IsMarkedServer records pieces self.old
+            → IfOk result (λ ident. ident ≡ (newly_bound (marks_of self.old) (life_of self.old) (parts_of self.old) uuid.now).ident) }
+        ensures named { (ident : ℕ) → result ≡ Ok (Some ident) → 1 ≤ ident }
+        ensures life { life_of self.new ≡ life_of self.old }
+    {
         let reply = self.serve(Message::Bind { uuid: *uuid })?;
         let ident = ident_given(&reply);
         drop(reply);

@@ -67,10 +67,10 @@ impl<D: Disk> MarkedServer<D> {
         if count < number - 1 {
             return self.serve_change(ident, change);
         }
-        if let Some(code) = token_test(self.marks.reached(), saves, life, number) {
-            return Ok(Some(refused(ident, number, code, number)));
+        match token_test(self.marks.reached(), saves, life, number) {
+            Some(code) => Ok(Some(refused(ident, number, code, number))),
+            None => self.take_next(ident, change, life, saves),
         }
-        self.take_next(ident, change, life, saves)
     }
 
     /// Does today's step with the next change, behind the notes of it.

@@ -1,3 +1,4 @@
+-- Open: each by `told` of proofs/Telling over the clauses of take_upload, answer_as_ever and take_give_up.
 use Rattle.std.proofs.Common.{ℕ}
 use Rattle.marked_server.proofs.server.MarkedServer.answer.Goals as goal
 

@@ -1,3 +1,4 @@
+-- Open: by begins, goes_further, stops and ends of proofs/GivingUp.
 use Rattle.std.proofs.Common.{ℕ}
 use Rattle.marked_server.proofs.server.MarkedServer.give_up_all.Goals as goal
 

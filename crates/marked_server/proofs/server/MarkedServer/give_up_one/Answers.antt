@@ -1,3 +1,4 @@
+-- Open: the Some arm by wrote_stepped of proofs/Writing over identify's clause, the None arm by it alone; both rewrite `given_up` by the ident that identify tells.
 use Rattle.std.proofs.Common.{ℕ}
 use Rattle.marked_server.proofs.server.MarkedServer.give_up_one.Goals as goal
 

@@ -1,3 +1,4 @@
+-- Open: by if_ok of proofs/Telling over the clauses of take_message and take_says.
 use Rattle.std.proofs.Common.{ℕ}
 use Rattle.marked_server.proofs.server.MarkedServer.take.Goals as goal
 

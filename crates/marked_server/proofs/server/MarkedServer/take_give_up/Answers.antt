@@ -1,3 +1,4 @@
+-- Open: rewrite `gives_up` by names_itself (c.if-names_itself) and by give_up_all's clauses.
 use Rattle.std.proofs.Common.{ℕ}
 use Rattle.marked_server.proofs.server.MarkedServer.take_give_up.Goals as goal
 
