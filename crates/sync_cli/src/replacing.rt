@@ -3,7 +3,7 @@ ghost use Rattle.std.specs.Prelude.{◌≡◌, ◌∷◌, [], codes, map, string
 ghost use Rattle.sync_cli.specs.Replacing.{AsksToReplace};
 
 use crate::end::End;
-use crate::running::{lives_at, run_over_file};
+use crate::running::{Kept, kept_at, run_over_file};
 use file_lock::{LockRefusal, hold};
 use std::fs;
 use std::fs::File;
@@ -109,13 +109,15 @@ pub(crate) fn replace_file(rt: &HostRuntime, words: &[String], path: &str) -> En
         Err(LockRefusal::Busy) => return End::Busy,
         Err(LockRefusal::Failed) => return End::Ran(Status::DiskFault),
     };
-    let end = match lives_at(rt, path) {
-        Some(end) => end,
+    let end = match kept_at(rt, path) {
         // (a link stays one)
-        None => End::Ran(match fs::canonicalize(rt, path) {
+        Kept::Nothing => End::Ran(match fs::canonicalize(rt, path) {
             Ok(path) => put_in_place(rt, words, path.as_path()),
             Err(_) => Status::DiskFault,
         }),
+        Kept::Lives => End::KeepsLives,
+        Kept::DiskFault => End::Ran(Status::DiskFault),
+        Kept::NoMemory => End::Ran(Status::NoMemory),
     };
     drop(held);
     end

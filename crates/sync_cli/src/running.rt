@@ -1,4 +1,4 @@
-ghost use Rattle.std.specs.Prelude.{◌≡◌, ◌⊎◌, map, string_bytes, Some};
+ghost use Rattle.std.specs.Prelude.{◌≡◌, ◌⊎◌, map, string_bytes};
 ghost use Rattle.sync_cli.specs.Replacing.{AsksToReplace};
 ghost use Rattle.sync_top.specs.Jobs.{AsksFor};
 
@@ -95,20 +95,28 @@ fn leaves_lives(command: FileCommand) -> bool {
     matches!(command, FileCommand::Show | FileCommand::Start { id: _ })
 }
 
-/// Why a command without a life doesn't run over the file at a path: lives stand in it.
-pub(crate) fn lives_at(rt: &HostRuntime, path: &str) -> Option<End>
-    ensures { result ≡ Some (End.Ran Status.BadWords) → ⊥ }
-{
+/// What a file keeps of lives, as far as that could be read.
+#[derive(Clone, Copy)]
+pub(crate) enum Kept {
+    Nothing,
+    Lives,
+    DiskFault,
+    NoMemory,
+}
+
+/// What the file at a path keeps of lives.
+pub(crate) fn kept_at(rt: &HostRuntime, path: &str) -> Kept {
     if is_short(rt, path) {
-        return None;
+        return Kept::Nothing;
     }
     let Ok(disk) = FileDisk::at(rt, rt.alloc(), path) else {
-        return Some(End::Ran(Status::NoMemory));
+        return Kept::NoMemory;
     };
     match keeps_lives(rt.alloc(), disk) {
-        Ok(true) => Some(End::KeepsLives),
-        Ok(false) => None,
-        Err(status) => Some(End::Ran(status)),
+        Ok(true) => Kept::Lives,
+        Ok(false) => Kept::Nothing,
+        Err(Status::NoMemory) => Kept::NoMemory,
+        Err(_) => Kept::DiskFault,
     }
 }
 
@@ -139,6 +147,45 @@ fn run_reader<O: Write + Drop>(
     run_over_file(rt, words, path, std::io::empty(), output)
 }
 
+/// The same, where it leaves what the file says of lives as it is, or the file keeps none.
+fn run_reading<O: Write + Drop>(
+    rt: &HostRuntime,
+    words: &[String],
+    command: FileCommand,
+    path: &str,
+    output: &mut O,
+) -> End
+    ensures words { result ≡ End.Ran Status.BadWords → (job : Job) → AsksFor job (map string_bytes words.now) → ⊥ }
+{
+    if leaves_lives(command) {
+        return End::Ran(run_reader(rt, words, path, output));
+    }
+    match kept_at(rt, path) {
+        Kept::Nothing => End::Ran(run_reader(rt, words, path, output)),
+        Kept::Lives => End::KeepsLives,
+        Kept::DiskFault => End::Ran(Status::DiskFault),
+        Kept::NoMemory => End::Ran(Status::NoMemory),
+    }
+}
+
+/// Runs a command over the file at a path, where that keeps no lives.
+fn run_without_lives<I: Read + Drop, O: Write + Drop>(
+    rt: &HostRuntime,
+    words: &[String],
+    path: &str,
+    input: I,
+    output: O,
+) -> End
+    ensures words { result ≡ End.Ran Status.BadWords → (job : Job) → AsksFor job (map string_bytes words.now) → ⊥ }
+{
+    match kept_at(rt, path) {
+        Kept::Nothing => End::Ran(run_over_file(rt, words, path, input, output)),
+        Kept::Lives => End::KeepsLives,
+        Kept::DiskFault => End::Ran(Status::DiskFault),
+        Kept::NoMemory => End::Ran(Status::NoMemory),
+    }
+}
+
 /// Runs a command that holds its file from opening to its end, so that no other command writes to it meanwhile.
 fn run_holding<I: Read + Drop, O: Write + Drop>(
     rt: &HostRuntime,
@@ -151,10 +198,7 @@ fn run_holding<I: Read + Drop, O: Write + Drop>(
 {
     match hold(rt, path) {
         Ok(held) => {
-            let end = match lives_at(rt, path) {
-                Some(end) => end,
-                None => End::Ran(run_over_file(rt, words, path, input, output)),
-            };
+            let end = run_without_lives(rt, words, path, input, output);
             drop(held);
             end
         }
@@ -179,13 +223,8 @@ fn run_command<I: Read + Drop, O: Write + Drop>(
             if writes(command) || is_short(rt, path) {
                 return run_holding(rt, words, path, input, output);
             }
-            if !leaves_lives(command) {
-                if let Some(end) = lives_at(rt, path) {
-                    return end;
-                }
-            }
             let mut output = output;
-            End::Ran(run_reader(rt, words, path, &mut output))
+            run_reading(rt, words, command, path, &mut output)
         }
         _ => End::Ran(run_over_memory(rt, words, input, output)),
     }
