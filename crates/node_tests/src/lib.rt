@@ -7,8 +7,6 @@ mod clients;
 mod heirs;
 mod hosts;
 mod laws;
-mod lives;
-mod marked;
 mod next;
 mod resets;
 mod servers;
@@ -62,11 +60,6 @@ pub fn cases(alloc: Global) -> [(&'static str, bool); 10] {
             snapshots::a_part_that_is_no_part_is_named(alloc),
         ),
     ]
-}
-
-/// The same of nodes whose files keep lives.
-pub fn cases_of_lives(alloc: Global) -> [(&'static str, bool); 15] {
-    lives::cases(alloc)
 }
 
 /// The same of what an application and a host in another language call.

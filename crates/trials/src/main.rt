@@ -32,7 +32,6 @@ fn try_cases(rt: &HostRuntime) -> bool {
     all &= merge_cases::try_all(rt);
     all &= notes_example::run(rt);
     all &= tell(rt, "nodes", &node_tests::cases(rt.alloc()));
-    all &= tell(rt, "lives", &node_tests::cases_of_lives(rt.alloc()));
     all &= tell(
         rt,
         "applications",
