@@ -37,14 +37,15 @@ impl Folder {
             [_, option, name] if option.as_str() == "--replace" => {
                 *name = self.path(alloc, name.as_str())?;
             }
-            [word, name, old, _] if word.as_str() == "claim" || word.as_str() == "recover" => {
-                *name = self.path(alloc, name.as_str())?;
-                *old = self.path(alloc, old.as_str())?;
-            }
             [word, name, ..] if word.as_str() != "gen" => {
                 *name = self.path(alloc, name.as_str())?;
             }
             _ => {}
+        }
+        // (a client that takes over names the old client's file too)
+        if words.len() == 4 {
+            let old = self.path(alloc, words[2].as_str())?;
+            words[2] = old;
         }
         Ok(words)
     }
