@@ -95,28 +95,23 @@ fn run_with_life<I: Read + Drop, O: Write + Drop>(
     run_holding(rt, lived, path, input, output)
 }
 
-/// The paths of a client that takes over and of the old client, what it does, and the life in which it is opened.
-#[derive(Clone, Copy)]
-struct Succession<'a> {
-    pub command: HeirCommand,
-    pub life: Life,
-    pub path: &'a str,
-    pub old: &'a str,
-}
-
-/// Runs a command of a client that takes over. Where it writes it holds its file; it only reads the old one.
+/// Runs a command of the client at a path that takes over from the client at another one. Where it writes it holds its file; it
+/// only reads the old one.
 fn run_succession<I: Read + Drop, O: Write + Drop>(
     rt: &HostRuntime,
-    it: Succession<'_>,
+    command: HeirCommand,
+    life: Life,
+    path: &str,
+    old: &str,
     input: I,
     output: O,
 ) -> End {
-    if matches!(it.command, HeirCommand::Claim) && !is_short(rt, it.path) {
-        return take_over(rt, it, input, output);
+    if matches!(command, HeirCommand::Claim) && !is_short(rt, path) {
+        return take_over(rt, command, life, path, old, input, output);
     }
-    match hold(rt, it.path) {
+    match hold(rt, path) {
         Ok(held) => {
-            let end = take_over(rt, it, input, output);
+            let end = take_over(rt, command, life, path, old, input, output);
             drop(held);
             end
         }
@@ -127,27 +122,22 @@ fn run_succession<I: Read + Drop, O: Write + Drop>(
 
 fn take_over<I: Read + Drop, O: Write + Drop>(
     rt: &HostRuntime,
-    it: Succession<'_>,
+    command: HeirCommand,
+    life: Life,
+    path: &str,
+    old: &str,
     input: I,
     output: O,
 ) -> End {
-    let Ok(disk) = FileDisk::at(rt, rt.alloc(), it.path) else {
+    let Ok(disk) = FileDisk::at(rt, rt.alloc(), path) else {
         return End::Ran(Status::NoMemory);
     };
-    let Ok(old) = FileDisk::at(rt, rt.alloc(), it.old) else {
+    let Ok(old) = FileDisk::at(rt, rt.alloc(), old) else {
         return End::Ran(Status::NoMemory);
     };
     let mut source = StdSource::new(input);
     let mut sink = StdSink::new(output);
-    end_of(run_heir(
-        rt.alloc(),
-        it.command,
-        it.life,
-        &mut source,
-        &mut sink,
-        disk,
-        old,
-    ))
+    end_of(run_heir(rt.alloc(), command, life, &mut source, &mut sink, disk, old))
 }
 
 /// Runs the program's words: those of a command with a life (docs/FORMATS.md, "Commands with a life" and "Taking over"), or else as
@@ -175,13 +165,7 @@ fn run_heirs<I: Read + Drop, O: Write + Drop>(
     match (heir_command_of(words), words) {
         (Some((command, life)), [_, path, old, _]) => {
             let (path, old) = (path.as_str(), old.as_str());
-            let it = Succession {
-                command,
-                life,
-                path,
-                old,
-            };
-            run_succession(rt, it, input, output)
+            run_succession(rt, command, life, path, old, input, output)
         }
         _ => run_words(rt, words, input, output),
     }
