@@ -24,7 +24,10 @@ if [ -z "$wasm" ]; then
         echo "$of" >"$wasm.of"
     fi
 fi
+# Beside, and then in its place: what reads the old one meanwhile finds it whole.
+rm -rf "$here/dist.new"
+tsc -p "$here" --outDir "$here/dist.new"
+cp "$wasm" "$here/dist.new/realm_sync.wasm"
 rm -rf "$here/dist"
-tsc -p "$here"
-cp "$wasm" "$here/dist/realm_sync.wasm"
+mv "$here/dist.new" "$here/dist"
 echo "$here/dist"
