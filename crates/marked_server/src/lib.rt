@@ -3,6 +3,7 @@
 
 mod answering;
 mod code;
+mod gathering;
 mod giving_up;
 mod opening;
 mod server;
