@@ -132,7 +132,12 @@ fn put_before(
 ) -> Result<(), NoMemory> {
     match record {
         ServerRecord::Count { ident, .. } => match marks.line(*ident) {
-            Some(Line { last: Some(life), .. }) => put_numbers(file, *ident, life),
+            Some(
+                Line {
+                    last: Some(life),
+                    ..
+                },
+            ) => put_numbers(file, *ident, life),
             _ => Ok(()),
         },
         _ => Ok(()),
@@ -152,7 +157,9 @@ fn put_behind(
             put_entries(alloc, file, marks, *version)
         }
         ServerRecord::Client { .. } => match marks.line(idents) {
-            Some(line) if line.is_member && idents > 0 => file.note(Note::Member(Named::new(idents))),
+            Some(line) if line.is_member && idents > 0 => file.note(Note::Member(Named::new(
+                idents,
+            ))),
             _ => Ok(()),
         },
         _ => Ok(()),
@@ -219,7 +226,13 @@ fn put_noted(file: &mut NotedFile, marks: &ServerMarks, idents: Ident) -> Result
     for place in 0..idents {
         let ident = place.saturating_add(1);
         match marks.line(ident) {
-            Some(Line { noted: Some(life), last, .. }) if last != Some(life) => {
+            Some(
+                Line {
+                    noted: Some(life),
+                    last,
+                    ..
+                },
+            ) if last != Some(life) => {
                 put_numbers(file, ident, life)?;
             }
             _ => {}

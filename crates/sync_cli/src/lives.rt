@@ -176,12 +176,16 @@ fn run_heirs<I: Read + Drop, O: Write + Drop>(
 /// The file that the words ask for where it is to be written anew of a server whose file keeps lives; none where they are others.
 pub(crate) fn new_file_of(words: &[String]) -> Option<NewFile> {
     match job_of(words) {
-        Some(Job::File {
-            command: FileCommand::Trim,
-        }) => Some(NewFile::Trimmed),
-        Some(Job::File {
-            command: FileCommand::Start { id },
-        }) => Some(NewFile::Started { id }),
+        Some(
+            Job::File {
+                command: FileCommand::Trim,
+            },
+        ) => Some(NewFile::Trimmed),
+        Some(
+            Job::File {
+                command: FileCommand::Start { id },
+            },
+        ) => Some(NewFile::Started { id }),
         _ => None,
     }
 }
