@@ -23,6 +23,8 @@
 
   A column `exponent from SIZE` is worked out from that size and the last one.
 - The number in VERSION is that of the C header and of the packages.
+- Where a page of docs/guarantees says how long definitions are, behind the name of their folder (`CRATE/specs`), it is as long: `FILE` LINES, and
+  the sum in the last cell of a row.
 - The table of docs/HEADLINE.md has the crates and the lines that bench/definitions.py counts for the headline.
 - Each block ```rust FILE has only lines of that file, in their order, but for lines `// ..`. So has each other block with a path behind its
   kind; the packages' tests run those programs, and compare what they print.
@@ -358,6 +360,22 @@ def check_results(path, prose):
             problem(path, line, f"{value} isn't the value of `{workload}; {size}; {unit}` in bench/results.csv: {known.get((workload, size, unit))}")
 
 
+def check_lengths(path, prose):
+    """The lengths of files of definitions that a page tells, and their sums in rows of tables."""
+    folder = None
+    for line, text in prose:
+        told = []
+        for at, within, name, count in re.findall(r"`(\w+/specs)`|`(?:(\w+/specs)/)?([A-Z]\w*)` (\d+)\b", text):
+            folder = at or folder
+            if name and (within or folder):
+                file = os.path.join(TOP, "crates", within or folder, f"{name}.antt")
+                told.append(read(file).count("\n") if os.path.isfile(file) else 0)
+                if told[-1] != int(count):
+                    problem(path, line, f"{name} of {within or folder} has {told[-1]} lines")
+        if told and text.startswith("|") and figure(cells_of(text)[-1]) != sum(told):
+            problem(path, line, f"these files have {sum(told)} lines together")
+
+
 def check_headline():
     """The definitions on which the headline rests, crate by crate, are as many lines as docs/HEADLINE.md says."""
     path = os.path.join(TOP, "docs", "HEADLINE.md")
@@ -422,6 +440,8 @@ def main():
         check_results(path, prose)
         check_exponents(path, prose)
         check_plain(path, prose)
+        if os.path.dirname(path) == os.path.join(TOP, "docs", "guarantees"):
+            check_lengths(path, prose)
         if os.path.dirname(os.path.dirname(path)) == os.path.join(TOP, "crates"):
             check_files(path)
         for block in blocks:
