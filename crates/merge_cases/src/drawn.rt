@@ -10,7 +10,7 @@ use sync_transform::{CrossMismatch, cross_sets};
 const SHORT: u32 = 20_000;
 
 /// So many long ones.
-const LONG: u32 = 2_000;
+const LONG: u32 = 100;
 
 /// Of so many crossings one is of sides that had not the same list, so that they mismatch.
 const APART: u32 = 16;
