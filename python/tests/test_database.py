@@ -8,6 +8,7 @@ import tempfile
 import unittest
 from datetime import datetime, timezone
 from typing import Any, cast
+from uuid import uuid4
 
 from realm_sync import BrokenEdit, Closed, Database, Error, InvalidValue, Refused, SchemaConflict, SchemaError, table
 
@@ -52,8 +53,12 @@ class Tests(unittest.TestCase):
             for given in (dict(tags="dairy"), dict(steps=b"pour"), dict(tags=None), dict(prices=[("k", 1)]), dict(steps=5)):
                 with self.assertRaisesRegex(InvalidValue, "is no (set|list|dict) of values"), db.write() as tx:
                     tx.create(Item, **cast(dict[str, Any], given))
-            with self.assertRaisesRegex(InvalidValue, "needs day"), db.write() as tx:
+            with self.assertRaisesRegex(InvalidValue, "needs day") as invalid, db.write() as tx:
                 tx.create(Day, note="x")
+            self.assertEqual((invalid.exception.table, invalid.exception.column), ("days", "day"))
+            with self.assertRaises(InvalidValue) as invalid, db.write() as tx:
+                tx.at(Item, uuid4(), "steps").append(3)
+            self.assertEqual((invalid.exception.table, invalid.exception.column), ("items", "steps"))
             with self.assertRaisesRegex(BrokenEdit, "edit 2 doesn't act: no such object: .*\"key\":2") as told, db.write() as tx:
                 tx.create(Day, day=1, note="a")
                 tx.update(Day, 2, note="none")

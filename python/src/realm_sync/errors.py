@@ -5,6 +5,7 @@ from __future__ import annotations
 import enum
 import json
 from collections.abc import Mapping
+from typing import NamedTuple
 
 from .problems import Conflict, Problem
 
@@ -118,8 +119,22 @@ def _words(reason: Reason, details: tuple[int, int, int]) -> str:
             return f"refused: {reason.name} {first} {second} {third}"
 
 
+class ColumnName(NamedTuple):
+    """A column, or a key, of a table."""
+
+    table: str
+    column: str
+
+    def __str__(self) -> str:
+        return f"{self.table}.{self.column}"
+
+
 class InvalidValue(Error, TypeError, ValueError):
     """A value that can't stand in its column, a key that is none: told while a transaction is written, before anything is done."""
+
+    def __init__(self, message: str, at: ColumnName) -> None:
+        super().__init__(message)
+        self.table, self.column = at
 
 
 class SchemaConflict(Error):
