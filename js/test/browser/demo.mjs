@@ -1,61 +1,10 @@
 // The shopping list of examples/shopping/web, as a person uses it.
 import assert from 'node:assert/strict';
 import fs from 'node:fs';
+import { add, addressOf, agree, click, device, isUpToDate, press, row, shown, tag, type, visit } from './demo_hands.mjs';
 import { test, wait } from './harness.mjs';
 
 const pictures = process.env.PICTURES;
-const addressOf = ({ origin, socketUrl }, token) => `${origin}/examples/shopping/web/dist/?url=${encodeURIComponent(socketUrl)}&token=${token}`;
-const row = (title) => `[...document.querySelectorAll('#items li')].find((it) => it.querySelector('.name').value === ${JSON.stringify(title)})`;
-
-/** A device: a profile of its own, at the demo. */
-async function device(bench, browser, token, look = null) {
-  const tab = await browser.tab(null, await browser.context());
-  if (look) await tab.look(look);
-  await tab.go(addressOf(bench.server, token));
-  await tab.ready();
-  return tab;
-}
-
-const KEYS = { Enter: [13, '\r'], Tab: [9], ' ': [32, ' '] };
-async function press(tab, key, times = 1) {
-  const [code, text] = KEYS[key];
-  for (let time = 0; time < times; time++) {
-    for (const type of ['keyDown', 'keyUp']) await tab.send('Input.dispatchKeyEvent', { type, key, code: key === ' ' ? 'Space' : key, windowsVirtualKeyCode: code, text });
-  }
-}
-
-async function type(tab, text) {
-  await tab.send('Input.insertText', { text });
-  await press(tab, 'Enter');
-}
-
-async function add(tab, title) {
-  await tab.evaluate(`document.getElementById('title').focus()`);
-  await type(tab, title);
-  await tab.until(`${row(title)} !== undefined`);
-}
-
-async function tag(tab, title, text) {
-  await tab.evaluate(`${row(title)}.querySelector('.add-tag').focus()`);
-  await tab.send('Input.insertText', { text });
-  await tab.evaluate('document.activeElement.blur()');
-  await tab.until(`${row(title)}.querySelector('.more').textContent.includes(${JSON.stringify(text)})`);
-}
-
-async function click(tab, title, selector, times = 1) {
-  for (let time = 0; time < times; time++) {
-    await tab.evaluate(`${row(title)}.querySelector(${JSON.stringify(selector)}).click()`);
-    await wait(60);
-  }
-}
-
-const shown = (tab) => tab.evaluate(`[...document.querySelectorAll('#items li')].map((it) => [it.querySelector('.name').value,
-  it.querySelector('output').textContent, it.querySelector('.tick').checked, [...it.querySelectorAll('.tag')].map((t) => t.textContent).join('+')].join(' ')).join('; ')`);
-const isUpToDate = `document.getElementById('pill').dataset.status === 'upToDate'`;
-const agree = async (...tabs) => {
-  for (const tab of [...tabs, ...tabs]) await tab.evaluate('db.synced()');
-  for (const tab of tabs) await tab.until(isUpToDate);
-};
 const faultsOf = (...tabs) => tabs.flatMap((it) => it.faults).filter((it) => !/WebSocket|ERR_|Failed to load/.test(it));
 
 test('two devices go offline, edit, and agree, and who lost is told', async (bench) => {
@@ -97,8 +46,7 @@ test('two devices go offline, edit, and agree, and who lost is told', async (ben
 
 test('a reload while offline: the page, its objects and what is unsent are there, and are sent later', async (bench) => {
   const browser = await bench.browser();
-  const tab = await browser.tab(addressOf(bench.server, 'alone'));
-  await tab.ready();
+  const tab = await visit(bench, browser, 'alone');
   await tab.until('navigator.serviceWorker.controller');
   bench.server.down(true);
   await add(tab, 'Kept');
@@ -115,16 +63,14 @@ test('a reload while offline: the page, its objects and what is unsent are there
 
 test('a profile that was restored from a backup goes on by itself, and loses nothing', async (bench) => {
   let browser = await bench.browser();
-  let tab = await browser.tab(addressOf(bench.server, 'phone'));
-  await tab.ready();
+  let tab = await visit(bench, browser, 'phone');
   await add(tab, 'Before the backup');
   await tab.evaluate('db.synced()');
   const { profile } = browser;
   await browser.kill();
   fs.cpSync(profile, `${profile}.backup`, { recursive: true, filter: (it) => !/Singleton/.test(it) });
   browser = await bench.browser(profile);
-  tab = await browser.tab(addressOf(bench.server, 'phone'));
-  await tab.ready();
+  tab = await visit(bench, browser, 'phone');
   await add(tab, 'After the backup');
   await tab.evaluate('db.synced()');
   await browser.kill();
