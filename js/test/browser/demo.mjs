@@ -2,7 +2,7 @@
 import assert from 'node:assert/strict';
 import fs from 'node:fs';
 import { add, addressOf, agree, click, device, isUpToDate, press, row, shown, tag, type, visit } from './demo_hands.mjs';
-import { test, wait } from './harness.mjs';
+import { CHROMIUM, test, wait } from './harness.mjs';
 
 const pictures = process.env.PICTURES;
 const faultsOf = (...tabs) => tabs.flatMap((it) => it.faults).filter((it) => !/WebSocket|ERR_|Failed to load/.test(it));
@@ -50,9 +50,7 @@ test('a reload while offline: the page, its objects and what is unsent are there
   await tab.until('navigator.serviceWorker.controller');
   bench.server.down(true);
   await add(tab, 'Kept');
-  await tab.send('Page.reload');
-  await wait(100);
-  await tab.ready();
+  await tab.renew();
   assert.match(await shown(tab), /Kept 1 false/);
   assert.ok((await tab.evaluate('db.stats()')).unsent >= 1);
   bench.server.down(false);
@@ -116,7 +114,7 @@ test('names for a screen reader, the order of focus, a narrow window, and an ins
   await wait(1600); // what is new is lit up for a while, and facts are drawn each second
   await tab.picture(`${pictures}/shopping_narrow.png`);
   return order.join(' ');
-});
+}, CHROMIUM);
 
 const focus = (tab) => tab.evaluate(`document.activeElement.getAttribute('aria-label') ?? document.activeElement.tagName`);
 
@@ -192,4 +190,4 @@ test('light and dark: each text stands out from its ground', async (bench) => {
     await wait(1600); // what is new is lit up for a while
     assert.deepEqual(await tab.run(faintTexts), []);
   }
-});
+}, CHROMIUM);

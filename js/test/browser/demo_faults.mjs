@@ -1,7 +1,7 @@
 // The shopping list of examples/shopping/web where something breaks: what a person saw in the list is there later.
 import assert from 'node:assert/strict';
 import { add, click, isUpToDate, row, titles, type, visit } from './demo_hands.mjs';
-import { test, wait } from './harness.mjs';
+import { CHROMIUM, test, wait } from './harness.mjs';
 
 /** Adds items one after the other by the form until the page ends; how many were seen in the list is kept. */
 const addOn = async (from) => {
@@ -30,9 +30,7 @@ test('the shopping list: a reload in the middle of writes', async (bench) => {
     await tab.evaluate(`void (${addOn})(${there})`);
     await tab.until(`globalThis.seen > ${there + 3}`);
     await wait(37 * round);
-    await tab.send('Page.reload');
-    await tab.until(`globalThis.seen === undefined`);
-    await tab.ready();
+    await tab.renew();
     there = await lookAt(tab, Number(await tab.evaluate('sessionStorage.seen')), 1);
   }
   await tab.evaluate('db.synced()');
@@ -87,7 +85,7 @@ test('the shopping list: with a full quota a person is told, and what was typed 
   await tab.until(`${row('Rye bread')} !== undefined && document.getElementById('title').value === ''`);
   await click(tab, 'Milk', '.tick');
   await tab.until(`${row('Milk')}.querySelector('.tick').checked`);
-});
+}, CHROMIUM);
 
 test('the shopping list: two tabs show the same, and the other one goes on where the one with the files is closed', async (bench) => {
   const browser = await bench.browser();

@@ -23,16 +23,12 @@ export async function device(bench, browser, token, look = null) {
   return tab;
 }
 
-const KEYS = { Enter: [13, '\r'], Tab: [9], ' ': [32, ' '] };
 export async function press(tab, key, times = 1) {
-  const [code, text] = KEYS[key];
-  for (let time = 0; time < times; time++) {
-    for (const type of ['keyDown', 'keyUp']) await tab.send('Input.dispatchKeyEvent', { type, key, code: key === ' ' ? 'Space' : key, windowsVirtualKeyCode: code, text });
-  }
+  for (let time = 0; time < times; time++) await tab.press(key);
 }
 
 export async function type(tab, text) {
-  await tab.send('Input.insertText', { text });
+  await tab.insert(text);
   await press(tab, 'Enter');
 }
 
@@ -44,7 +40,7 @@ export async function add(tab, title) {
 
 export async function tag(tab, title, text) {
   await tab.evaluate(`${row(title)}.querySelector('.add-tag').focus()`);
-  await tab.send('Input.insertText', { text });
+  await tab.insert(text);
   await tab.evaluate('document.activeElement.blur()');
   await tab.until(`${row(title)}.querySelector('.more').textContent.includes(${JSON.stringify(text)})`);
 }
