@@ -47,7 +47,7 @@ test('two devices go offline, edit, and agree, and who lost is told', async (ben
 test('a reload while offline: the page, its objects and what is unsent are there, and are sent later', async (bench) => {
   const browser = await bench.browser();
   const tab = await visit(bench, browser, 'alone');
-  await tab.until('navigator.serviceWorker.controller');
+  await tab.until('navigator.serviceWorker.controller !== null');
   bench.server.down(true);
   await add(tab, 'Kept');
   await tab.renew();

@@ -1,7 +1,9 @@
 // What a person does at the shopping list of examples/shopping/web, and what they see.
 import { wait } from './harness.mjs';
 
-export const addressOf = ({ origin, socketUrl }, token) => `${origin}/examples/shopping/web/dist/?url=${encodeURIComponent(socketUrl)}&token=${token}`;
+/** Where it was built: `dist`, or `bundled`. */
+const BUILT = process.env.SHOPPING ?? 'dist';
+export const addressOf = ({ origin, socketUrl }, token) => `${origin}/examples/shopping/web/${BUILT}/?url=${encodeURIComponent(socketUrl)}&token=${token}`;
 
 /** An expression for the row of an item. */
 export const row = (title) =>

@@ -118,6 +118,7 @@ class Tab extends Page {
   async insert(text) { await this.type(text); }
   async press(key) { await this.type(KEYS[key]); }
   async type(text) {
+    await this.browser.send('browsingContext.activate', { context: this.context }); // (a tab behind another one gets no keys)
     const actions = [...text].flatMap((value) => [{ type: 'keyDown', value }, { type: 'keyUp', value }]);
     await this.browser.send('input.performActions', { context: this.context, actions: [{ type: 'key', id: 'keyboard', actions }] });
   }

@@ -119,3 +119,15 @@ test('indexeddb: a database transaction that is aborted undoes its write, and th
   assert.deepEqual(await tab.evaluate(open), shown);
   return said.join(' ');
 });
+
+for (const name of ['no_handles', 'private']) {
+  test(`a browser without OPFS (${name}): IndexedDB is taken by itself`, async (bench) => {
+    const tab = await bench.tab(await bench.browser());
+    const open = `open({ makeWorker: () => new Worker('/js/test/browser/${name}_worker.js', { type: 'module' }) })`;
+    assert.equal(await tab.evaluate(open), 0);
+    assert.equal(await tab.evaluate('db.storage'), 'indexeddb');
+    await tab.evaluate('db.write((tx) => tx.days.create({ day: 1 }))');
+    await tab.renew();
+    assert.equal(await tab.evaluate(open), 1);
+  });
+}
