@@ -5,7 +5,7 @@ import { add, addressOf, agree, click, device, isUpToDate, press, row, shown, ta
 import { CHROMIUM, test, wait } from './harness.mjs';
 
 const pictures = process.env.PICTURES;
-const faultsOf = (...tabs) => tabs.flatMap((it) => it.faults).filter((it) => !/WebSocket|ERR_|Failed to load/.test(it));
+const faultsOf = (...tabs) => tabs.flatMap((it) => it.faults).filter((it) => !/WebSocket|ws:|ERR_|Failed to load/.test(it));
 
 test('two devices go offline, edit, and agree, and who lost is told', async (bench) => {
   const browser = await bench.browser();
@@ -85,7 +85,15 @@ test('a profile that was restored from a backup goes on by itself, and loses not
   return shown(tab);
 });
 
-test('names for a screen reader, the order of focus, a narrow window, and an install', async (bench) => {
+test('it can be installed: the browser finds nothing that is wanting', async (bench) => {
+  const tab = await visit(bench, await bench.browser(), 'installed');
+  const { errors, data } = await tab.send('Page.getAppManifest');
+  assert.deepEqual(errors, []);
+  assert.equal(JSON.parse(data).display, 'standalone');
+  assert.deepEqual((await tab.send('Page.getInstallabilityErrors')).installabilityErrors, []);
+}, CHROMIUM);
+
+test('names for a screen reader, the order of focus, and a narrow window', async (bench) => {
   const browser = await bench.browser();
   const tab = await device(bench, browser, 'reader', { width: 320, height: 420 });
   await add(tab, 'A title that is longer than the whole window of a phone is wide, and then some');
@@ -106,9 +114,6 @@ test('names for a screen reader, the order of focus, a narrow window, and an ins
   }
   assert.equal(order[0], 'pill');
   assert.ok(order.includes('title') && order.includes('tick') && order.includes('name'), order.join());
-  const { errors, data } = await tab.send('Page.getAppManifest');
-  assert.deepEqual(errors, []);
-  assert.equal(JSON.parse(data).display, 'standalone');
   if (!pictures) return order.join(' ');
   await agree(tab);
   await wait(1600); // what is new is lit up for a while, and facts are drawn each second
