@@ -3,6 +3,8 @@ import assert from 'node:assert/strict';
 import { add, click, isUpToDate, row, titles, type, visit } from './demo_hands.mjs';
 import { CHROMIUM, test, wait } from './harness.mjs';
 
+const pictures = process.env.PICTURES;
+
 /** Adds items one after the other by the form until the page ends; how many were seen in the list is kept. */
 const addOn = async (from) => {
   const [input, form] = ['title', 'add'].map((it) => document.getElementById(it));
@@ -68,6 +70,7 @@ const fill = async () => {
 
 test('the shopping list: with a full quota a person is told, and what was typed is still there', async (bench) => {
   const tab = await visit(bench, await bench.browser(), 'full');
+  await tab.look({ width: 420, height: 480 });
   await add(tab, 'Milk');
   await tab.evaluate('db.stopSync()');
   const { usage } = await tab.evaluate('navigator.storage.estimate()');
@@ -77,6 +80,7 @@ test('the shopping list: with a full quota a person is told, and what was typed 
   await tab.evaluate(`document.getElementById('title').focus()`);
   await type(tab, 'Rye bread');
   await tab.until(`/the storage is full/.test(document.getElementById('toast').textContent) && document.getElementById('title').value === 'Rye bread'`);
+  if (pictures) await tab.picture(`${pictures}/shopping_full.png`);
   await click(tab, 'Milk', '.tick');
   await tab.until(`!${row('Milk')}.querySelector('.tick').checked`);
   assert.deepEqual(await titles(tab), ['Milk']);
