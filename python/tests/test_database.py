@@ -3,6 +3,7 @@
 from __future__ import annotations
 
 import os
+import pickle
 import random
 import tempfile
 import unittest
@@ -11,6 +12,7 @@ from typing import Any, cast
 from uuid import uuid4
 
 from realm_sync import BrokenEdit, Closed, Database, Error, InvalidValue, Refused, SchemaConflict, SchemaError, table
+from realm_sync.errors import ColumnName
 
 from .common import TYPES, Day, Item, List, edit, keys
 
@@ -82,6 +84,13 @@ class Tests(unittest.TestCase):
                         edit(tx, draw, some)
                     seen = sorted(tx.all(Item), key=lambda it: it.id)
                 self.assertEqual(db[Item].all(), seen, f"turn {turn}")
+
+    def test_errors_go_to_another_process_whole(self) -> None:
+        broken = BrokenEdit(2, 30, '{"op":"Update","table":"days","key":2,"column":"note"}')
+        conflict = SchemaConflict("days", "note", "Int One", "Text One")
+        for error in (broken, conflict, InvalidValue("days.note is not nullable", ColumnName("days", "note")), Closed("the database was closed")):
+            again = pickle.loads(pickle.dumps(error))
+            self.assertEqual((type(again), str(again), again.__dict__), (type(error), str(error), error.__dict__))
 
     def test_a_live_query_is_what_a_new_query_finds(self) -> None:
         draw = random.Random(7)

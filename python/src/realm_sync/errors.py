@@ -5,7 +5,7 @@ from __future__ import annotations
 import enum
 import json
 from collections.abc import Mapping
-from typing import NamedTuple
+from typing import Any, NamedTuple
 
 from .problems import Conflict, Problem
 
@@ -72,6 +72,17 @@ def words_of_code(code: int) -> str:
 
 class Error(Exception):
     """What a database or a node may answer in place of what it was asked for."""
+
+    def __reduce__(self) -> tuple[Any, ...]:
+        """So that it goes to another process whole, though its class takes other words than its text."""
+        return _made_again, (type(self), self.args, self.__dict__)
+
+
+def _made_again(type_: type[Error], args: tuple[Any, ...], fields: dict[str, Any]) -> Error:
+    error = type_.__new__(type_)
+    error.args = args
+    error.__dict__.update(fields)
+    return error
 
 
 class Refused(Error):
