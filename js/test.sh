@@ -5,8 +5,8 @@
 #
 # With --quiet nothing is said where all is well. --trial is for work on the package: the library is built without its proof.
 #
-# It takes node 20 or later, Debian's node-typescript, and for all tests chromium and python3. What is missing is installed by root, and
-# named else.
+# It takes node 20 or later, Debian's node-typescript, and for all tests chromium, esbuild and python3. What is missing is installed by root,
+# and named else. Where firefox-esr is installed, most tests run there as well.
 set -eu
 here=$(cd "$(dirname "$(readlink -f "$0")")" && pwd)
 top=$(dirname "$here")
@@ -33,4 +33,11 @@ node "$here/examples/first.mjs" | diff - "$here/examples/first.out"
 need chromium chromium
 "$top/examples/shopping/web/build.sh" >/dev/null
 node "$here/test/browser/run.mjs"
+"$top/examples/shopping/web/build.sh" --bundled >/dev/null
+SHOPPING=bundled node "$here/test/browser/run.mjs" "two tabs"
+if command -v firefox-esr >/dev/null; then
+    BROWSER=firefox node "$here/test/browser/run.mjs"
+else
+    echo "NOT TRIED: Firefox (Debian's package firefox-esr)"
+fi
 "$here/test/native/compare.sh" $trial

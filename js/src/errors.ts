@@ -82,8 +82,27 @@ export class BrokenEdit extends Refused {
   }
 }
 
+/** A column, or a key, of a table. */
+export class ColumnName {
+  constructor(readonly table: string, readonly column: string) {}
+
+  toString(): string {
+    return `${this.table}.${this.column}`;
+  }
+}
+
 /** A value that can't stand in its column, a key that is none: thrown while the transaction is written, before anything is done. */
-export class InvalidValue extends RealmError {}
+export class InvalidValue extends RealmError {
+  /** Null where it is about no table, as in a transaction that has ended. */
+  readonly table: string | null;
+  readonly column: string | null;
+
+  constructor(message: string, at: ColumnName | null = null) {
+    super(message);
+    this.table = at?.table ?? null;
+    this.column = at?.column ?? null;
+  }
+}
 /** The declared schema and the one of the file define a table or a column differently. */
 export class SchemaConflict extends RealmError {
   constructor(readonly table: string, readonly column: string | null, readonly declared: string, readonly found: string) {

@@ -1,6 +1,6 @@
 // The verbs on a counter, a set, a dictionary or a list of one object, in a transaction.
 
-import { InvalidValue } from './errors.js';
+import { InvalidValue, type ColumnName } from './errors.js';
 import { isSame } from './mirror.js';
 import type { ColumnForm, CounterHandle, DictHandle, ListHandle, SetHandle } from './schema.js';
 import { atJson, wellFormed } from './values.js';
@@ -11,7 +11,7 @@ export type Draft = Record<string, unknown>;
 export interface Cell {
   readonly column: ColumnForm;
   /** Its name for errors. */
-  readonly where: string;
+  readonly where: ColumnName;
   /** Adds an edit of the cell. */
   edit(op: string, more?: string): void;
   json(value: unknown): string;
@@ -37,8 +37,8 @@ class CounterEditor implements CounterHandle {
 
   add(amount: number | bigint): void {
     const { column: { field, name }, where } = this.cell;
-    if (field.kind !== 'Int') throw new InvalidValue(`${where} is no number`);
-    if (amount === null) throw new InvalidValue(`${where}: null is no amount`);
+    if (field.kind !== 'Int') throw new InvalidValue(`${where} is no number`, where);
+    if (amount === null) throw new InvalidValue(`${where}: null is no amount`, where);
     this.cell.edit('AddInteger', `,"amount":${this.cell.json(amount)}`);
     const row = this.cell.draft();
     if (!row || row[name] === null) return;
@@ -133,7 +133,7 @@ class ListEditor implements ListHandle<unknown> {
 
   private place(place: number, most: number): number {
     if (Number.isInteger(place) && place >= 0 && place <= most) return place;
-    throw new InvalidValue(`${this.cell.where}: no place ${place} among ${this.length} elements`);
+    throw new InvalidValue(`${this.cell.where}: no place ${place} among ${this.length} elements`, this.cell.where);
   }
 
   push(...values: unknown[]): void {

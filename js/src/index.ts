@@ -42,7 +42,7 @@ export interface OpenOptions<T extends Tables> {
   name: string;
   schema: Schema<T>;
   sync?: SyncWith;
-  /** `auto` is OPFS where the browser has it, else IndexedDB. `memory` is this tab's own, and gone with it. */
+  /** `auto` is OPFS where the browser has it and gives it out, else IndexedDB. `memory` is this tab's own, and gone with it. */
   storage?: 'auto' | 'opfs' | 'indexeddb' | 'memory';
   durability?: Durability;
   /** Whether the browser is asked to keep the storage where the device runs short of it: true. Some browsers then ask the person. */

@@ -1,7 +1,7 @@
 // One transaction as code writes it: typed verbs that become edits. It reads its own edits; what they come to is the core's to say, when the
 // transaction is committed.
 
-import { InvalidValue } from './errors.js';
+import { ColumnName, InvalidValue } from './errors.js';
 import { handleOf, type Draft } from './handles.js';
 import type { Mirror, Row, TableRows } from './mirror.js';
 import type { ColumnForm, DictHandle, Handles, Key, KeyOf, ListHandle, New, ObjectOf, Patch, SetHandle, TableForm, Tables } from './schema.js';
@@ -147,8 +147,12 @@ class TableEditor implements TableWriter<any> {
     this.name = quote(this.form.name);
   }
 
+  private named(column: string): ColumnName {
+    return new ColumnName(this.form.name, column);
+  }
+
   private key(value: unknown): Key {
-    return plainKey(this.form.keyKind, value, `${this.form.name}.${this.form.keyName}`);
+    return plainKey(this.form.keyKind, value, this.named(this.form.keyName));
   }
 
   private head(op: string, key: Key): string {
@@ -174,7 +178,7 @@ class TableEditor implements TableWriter<any> {
   create(values: Record<string, any> = {}): any {
     const { keyName, keyKind } = this.form;
     const given = values[keyName];
-    if (given === undefined && keyKind !== 'Uuid') throw new InvalidValue(`${this.form.name}: create needs ${keyName}`);
+    if (given === undefined && keyKind !== 'Uuid') throw new InvalidValue(`${this.form.name}: create needs ${keyName}`, this.named(keyName));
     const key = this.key(given ?? crypto.randomUUID());
     this.transaction.push(`${this.head('CreateObject', key)}}`);
     const draft = this.transaction.draft(this.rows, key);
@@ -188,7 +192,7 @@ class TableEditor implements TableWriter<any> {
 
   private column(name: string): ColumnForm {
     const column = this.form.column.get(name);
-    if (!column) throw new InvalidValue(`${this.form.name} has no column ${name}`);
+    if (!column) throw new InvalidValue(`${this.form.name} has no column ${name}`, this.named(name));
     return column;
   }
 
@@ -199,7 +203,8 @@ class TableEditor implements TableWriter<any> {
     const isDict = column.shape === 'Dict';
     // A text is one value, and not its characters.
     if (!(value instanceof Object) || Symbol.iterator in value === isDict) {
-      throw new InvalidValue(`${this.form.name}.${name}: a ${column.shape.toLowerCase()} is given as ${isDict ? 'an object' : 'an array or a set'}`);
+      const form = isDict ? 'an object' : 'an array or a set';
+      throw new InvalidValue(`${this.named(name)}: a ${column.shape.toLowerCase()} is given as ${form}`, this.named(name));
     }
     if (column.shape === 'Dict') {
       for (const [at, it] of Object.entries(value)) (handle as DictHandle<unknown>).set(at, it);
@@ -208,7 +213,7 @@ class TableEditor implements TableWriter<any> {
   }
 
   private assign(key: Key, column: ColumnForm, value: unknown): void {
-    const json = valueJson(column.field, this.transaction.tables, value, `${this.form.name}.${column.name}`);
+    const json = valueJson(column.field, this.transaction.tables, value, this.named(column.name));
     this.transaction.push(`${this.head('Update', key)},"column":${quote(column.name)},"value":${json}}`);
     const { row } = this.transaction.draft(this.rows, key);
     if (row) row[column.name] = parseElement(column, json);
@@ -220,7 +225,8 @@ class TableEditor implements TableWriter<any> {
       if (value === undefined) continue;
       const column = this.column(name);
       if (column.shape !== 'One') {
-        throw new InvalidValue(`${this.form.name}.${name} is a ${column.shape.toLowerCase()}: change it by at(key).${name}`);
+        const at = this.named(name);
+        throw new InvalidValue(`${at} is a ${column.shape.toLowerCase()}: change it by at(key).${name}`, at);
       }
       this.assign(plain, column, value);
     }
@@ -239,7 +245,7 @@ class TableEditor implements TableWriter<any> {
 
   handle(key: Key, column: ColumnForm): ReturnType<typeof handleOf> {
     const { transaction, rows } = this;
-    const where = `${this.form.name}.${column.name}`;
+    const where = this.named(column.name);
     const field = column.shape === 'One' ? { ...column.field, nullable: false } : column.field;
     return handleOf({
       column,

@@ -1,7 +1,7 @@
 // Keys and values between code and the core's JSON: docs/FORMATS.md, "Values, keys and columns".
 
 import { textOf, utf8 } from './door.js';
-import { InvalidValue } from './errors.js';
+import { InvalidValue, type ColumnName } from './errors.js';
 import type { ColumnForm, Field, Key, KeyKind, TableForm } from './schema.js';
 
 const INT_MIN = -(2n ** 63n), INT_MAX = 2n ** 63n - 1n;
@@ -13,20 +13,20 @@ export const wellFormed = (value: string): string => (/[\ud800-\udfff]/.test(val
 /** A text as JSON. */
 export const quote = (value: string): string => JSON.stringify(wellFormed(value));
 
-function int(value: unknown, where: string): string {
+function int(value: unknown, where: ColumnName): string {
   if (typeof value === 'bigint') {
-    if (value < INT_MIN || value > INT_MAX) throw new InvalidValue(`${where}: ${value} has more than 64 bits`);
+    if (value < INT_MIN || value > INT_MAX) throw new InvalidValue(`${where}: ${value} has more than 64 bits`, where);
     return value.toString();
   }
   if (typeof value !== 'number' || !Number.isSafeInteger(value)) {
-    throw new InvalidValue(`${where}: ${String(value)} is no integer that a number has exactly`);
+    throw new InvalidValue(`${where}: ${String(value)} is no integer that a number has exactly`, where);
   }
   return (value + 0).toString() === '-0' ? '0' : value.toString();
 }
 
-function uuidText(value: unknown, where: string): string {
+function uuidText(value: unknown, where: ColumnName): string {
   const lower = typeof value === 'string' ? value.toLowerCase() : '';
-  if (!UUID.test(lower)) throw new InvalidValue(`${where}: ${String(value)} is no uuid`);
+  if (!UUID.test(lower)) throw new InvalidValue(`${where}: ${String(value)} is no uuid`, where);
   return lower;
 }
 
@@ -42,13 +42,13 @@ const bytesOf = (hex: string): Uint8Array => {
 };
 
 /** The key as code has it everywhere: a uuid in lower case, a small bigint as a number. */
-export function plainKey(kind: KeyKind, value: unknown, where: string): Key {
+export function plainKey(kind: KeyKind, value: unknown, where: ColumnName): Key {
   if (kind === 'Uuid') return uuidText(value, where);
   if (kind === 'Int') {
     const text = int(value, where);
     return Number.isSafeInteger(Number(text)) ? Number(text) : BigInt(text);
   }
-  if (typeof value !== 'string' || utf8(value).length > 255) throw new InvalidValue(`${where}: a text key has at most 255 bytes`);
+  if (typeof value !== 'string' || utf8(value).length > 255) throw new InvalidValue(`${where}: a text key has at most 255 bytes`, where);
   return wellFormed(value);
 }
 
@@ -64,9 +64,9 @@ export function keyJson(kind: KeyKind, value: Key): string {
 }
 
 /** A value of a column as JSON. */
-export function valueJson(field: Field<unknown, any>, tables: ReadonlyMap<string, TableForm>, value: unknown, where: string): string {
+export function valueJson(field: Field<unknown, any>, tables: ReadonlyMap<string, TableForm>, value: unknown, where: ColumnName): string {
   if (value === null || value === undefined) {
-    if (!field.nullable) throw new InvalidValue(`${where} is not nullable`);
+    if (!field.nullable) throw new InvalidValue(`${where} is not nullable`, where);
     return 'null';
   }
   switch (field.kind) {
@@ -92,11 +92,11 @@ export function valueJson(field: Field<unknown, any>, tables: ReadonlyMap<string
       return `{"link":${quote(target.name)},"key":${keyJson(target.keyKind, plainKey(target.keyKind, value, where))}}`;
     }
   }
-  throw new InvalidValue(`${where}: ${typeof value} is no ${field.kind}`);
+  throw new InvalidValue(`${where}: ${typeof value} is no ${field.kind}`, where);
 }
 
-export const atJson = (at: string, where: string): string => {
-  if (utf8(at).length > 255) throw new InvalidValue(`${where}: a text key has at most 255 bytes`);
+export const atJson = (at: string, where: ColumnName): string => {
+  if (utf8(at).length > 255) throw new InvalidValue(`${where}: a text key has at most 255 bytes`, where);
   return quote(at);
 };
 

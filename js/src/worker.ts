@@ -26,7 +26,7 @@ async function filesOf(form: WorkerStart): Promise<Files> {
 
 async function plainFilesOf({ name, storage, durability }: WorkerStart): Promise<Files> {
   if (storage === 'memory') return new MemoryFiles();
-  if (storage === 'opfs' || (storage === 'auto' && OpfsFiles.isHere())) return OpfsFiles.at(name, durability);
+  if (storage === 'opfs' || (storage === 'auto' && (await OpfsFiles.isHere()))) return OpfsFiles.at(name, durability);
   return IdbFiles.at(name, durability);
 }
 

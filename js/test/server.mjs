@@ -15,7 +15,7 @@ const TOP = path.resolve(path.dirname(fileURLToPath(import.meta.url)), '../..');
 const HISTORY = '/v1/histories/';
 const TYPES = {
   '.html': 'text/html; charset=utf-8', '.js': 'text/javascript', '.mjs': 'text/javascript', '.css': 'text/css', '.json': 'application/json',
-  '.wasm': 'application/wasm', '.svg': 'image/svg+xml', '.webmanifest': 'application/manifest+json',
+  '.wasm': 'application/wasm', '.svg': 'image/svg+xml', '.png': 'image/png', '.webmanifest': 'application/manifest+json',
 };
 
 const bodyOf = async (request) => {

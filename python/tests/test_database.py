@@ -3,13 +3,16 @@
 from __future__ import annotations
 
 import os
+import pickle
 import random
 import tempfile
 import unittest
 from datetime import datetime, timezone
 from typing import Any, cast
+from uuid import uuid4
 
 from realm_sync import BrokenEdit, Closed, Database, Error, InvalidValue, Refused, SchemaConflict, SchemaError, table
+from realm_sync.errors import ColumnName
 
 from .common import TYPES, Day, Item, List, edit, keys
 
@@ -52,8 +55,12 @@ class Tests(unittest.TestCase):
             for given in (dict(tags="dairy"), dict(steps=b"pour"), dict(tags=None), dict(prices=[("k", 1)]), dict(steps=5)):
                 with self.assertRaisesRegex(InvalidValue, "is no (set|list|dict) of values"), db.write() as tx:
                     tx.create(Item, **cast(dict[str, Any], given))
-            with self.assertRaisesRegex(InvalidValue, "needs day"), db.write() as tx:
+            with self.assertRaisesRegex(InvalidValue, "needs day") as invalid, db.write() as tx:
                 tx.create(Day, note="x")
+            self.assertEqual((invalid.exception.table, invalid.exception.column), ("days", "day"))
+            with self.assertRaises(InvalidValue) as invalid, db.write() as tx:
+                tx.at(Item, uuid4(), "steps").append(3)
+            self.assertEqual((invalid.exception.table, invalid.exception.column), ("items", "steps"))
             with self.assertRaisesRegex(BrokenEdit, "edit 2 doesn't act: no such object: .*\"key\":2") as told, db.write() as tx:
                 tx.create(Day, day=1, note="a")
                 tx.update(Day, 2, note="none")
@@ -77,6 +84,13 @@ class Tests(unittest.TestCase):
                         edit(tx, draw, some)
                     seen = sorted(tx.all(Item), key=lambda it: it.id)
                 self.assertEqual(db[Item].all(), seen, f"turn {turn}")
+
+    def test_errors_go_to_another_process_whole(self) -> None:
+        broken = BrokenEdit(2, 30, '{"op":"Update","table":"days","key":2,"column":"note"}')
+        conflict = SchemaConflict("days", "note", "Int One", "Text One")
+        for error in (broken, conflict, InvalidValue("days.note is not nullable", ColumnName("days", "note")), Closed("the database was closed")):
+            again = pickle.loads(pickle.dumps(error))
+            self.assertEqual((type(again), str(again), again.__dict__), (type(error), str(error), error.__dict__))
 
     def test_a_live_query_is_what_a_new_query_finds(self) -> None:
         draw = random.Random(7)

@@ -1,62 +1,11 @@
 // The shopping list of examples/shopping/web, as a person uses it.
 import assert from 'node:assert/strict';
 import fs from 'node:fs';
-import { test, wait } from './harness.mjs';
+import { add, addressOf, agree, click, device, isUpToDate, press, row, shown, tag, type, visit } from './demo_hands.mjs';
+import { CHROMIUM, test, wait } from './harness.mjs';
 
 const pictures = process.env.PICTURES;
-const addressOf = ({ origin, socketUrl }, token) => `${origin}/examples/shopping/web/dist/?url=${encodeURIComponent(socketUrl)}&token=${token}`;
-const row = (title) => `[...document.querySelectorAll('#items li')].find((it) => it.querySelector('.name').value === ${JSON.stringify(title)})`;
-
-/** A device: a profile of its own, at the demo. */
-async function device(bench, browser, token, look = null) {
-  const tab = await browser.tab(null, await browser.context());
-  if (look) await tab.look(look);
-  await tab.go(addressOf(bench.server, token));
-  await tab.ready();
-  return tab;
-}
-
-const KEYS = { Enter: [13, '\r'], Tab: [9], ' ': [32, ' '] };
-async function press(tab, key, times = 1) {
-  const [code, text] = KEYS[key];
-  for (let time = 0; time < times; time++) {
-    for (const type of ['keyDown', 'keyUp']) await tab.send('Input.dispatchKeyEvent', { type, key, code: key === ' ' ? 'Space' : key, windowsVirtualKeyCode: code, text });
-  }
-}
-
-async function type(tab, text) {
-  await tab.send('Input.insertText', { text });
-  await press(tab, 'Enter');
-}
-
-async function add(tab, title) {
-  await tab.evaluate(`document.getElementById('title').focus()`);
-  await type(tab, title);
-  await tab.until(`${row(title)} !== undefined`);
-}
-
-async function tag(tab, title, text) {
-  await tab.evaluate(`${row(title)}.querySelector('.add-tag').focus()`);
-  await tab.send('Input.insertText', { text });
-  await tab.evaluate('document.activeElement.blur()');
-  await tab.until(`${row(title)}.querySelector('.more').textContent.includes(${JSON.stringify(text)})`);
-}
-
-async function click(tab, title, selector, times = 1) {
-  for (let time = 0; time < times; time++) {
-    await tab.evaluate(`${row(title)}.querySelector(${JSON.stringify(selector)}).click()`);
-    await wait(60);
-  }
-}
-
-const shown = (tab) => tab.evaluate(`[...document.querySelectorAll('#items li')].map((it) => [it.querySelector('.name').value,
-  it.querySelector('output').textContent, it.querySelector('.tick').checked, [...it.querySelectorAll('.tag')].map((t) => t.textContent).join('+')].join(' ')).join('; ')`);
-const isUpToDate = `document.getElementById('pill').dataset.status === 'upToDate'`;
-const agree = async (...tabs) => {
-  for (const tab of [...tabs, ...tabs]) await tab.evaluate('db.synced()');
-  for (const tab of tabs) await tab.until(isUpToDate);
-};
-const faultsOf = (...tabs) => tabs.flatMap((it) => it.faults).filter((it) => !/WebSocket|ERR_|Failed to load/.test(it));
+const faultsOf = (...tabs) => tabs.flatMap((it) => it.faults).filter((it) => !/WebSocket|ws:|ERR_|Failed to load/.test(it));
 
 test('two devices go offline, edit, and agree, and who lost is told', async (bench) => {
   const browser = await bench.browser();
@@ -97,14 +46,11 @@ test('two devices go offline, edit, and agree, and who lost is told', async (ben
 
 test('a reload while offline: the page, its objects and what is unsent are there, and are sent later', async (bench) => {
   const browser = await bench.browser();
-  const tab = await browser.tab(addressOf(bench.server, 'alone'));
-  await tab.ready();
-  await tab.until('navigator.serviceWorker.controller');
+  const tab = await visit(bench, browser, 'alone');
+  await tab.until('navigator.serviceWorker.controller !== null');
   bench.server.down(true);
   await add(tab, 'Kept');
-  await tab.send('Page.reload');
-  await wait(100);
-  await tab.ready();
+  await tab.renew();
   assert.match(await shown(tab), /Kept 1 false/);
   assert.ok((await tab.evaluate('db.stats()')).unsent >= 1);
   bench.server.down(false);
@@ -115,16 +61,14 @@ test('a reload while offline: the page, its objects and what is unsent are there
 
 test('a profile that was restored from a backup goes on by itself, and loses nothing', async (bench) => {
   let browser = await bench.browser();
-  let tab = await browser.tab(addressOf(bench.server, 'phone'));
-  await tab.ready();
+  let tab = await visit(bench, browser, 'phone');
   await add(tab, 'Before the backup');
   await tab.evaluate('db.synced()');
   const { profile } = browser;
   await browser.kill();
   fs.cpSync(profile, `${profile}.backup`, { recursive: true, filter: (it) => !/Singleton/.test(it) });
   browser = await bench.browser(profile);
-  tab = await browser.tab(addressOf(bench.server, 'phone'));
-  await tab.ready();
+  tab = await visit(bench, browser, 'phone');
   await add(tab, 'After the backup');
   await tab.evaluate('db.synced()');
   await browser.kill();
@@ -141,7 +85,15 @@ test('a profile that was restored from a backup goes on by itself, and loses not
   return shown(tab);
 });
 
-test('names for a screen reader, the order of focus, a narrow window, and an install', async (bench) => {
+test('it can be installed: the browser finds nothing that is wanting', async (bench) => {
+  const tab = await visit(bench, await bench.browser(), 'installed');
+  const { errors, data } = await tab.send('Page.getAppManifest');
+  assert.deepEqual(errors, []);
+  assert.equal(JSON.parse(data).display, 'standalone');
+  assert.deepEqual((await tab.send('Page.getInstallabilityErrors')).installabilityErrors, []);
+}, CHROMIUM);
+
+test('names for a screen reader, the order of focus, and a narrow window', async (bench) => {
   const browser = await bench.browser();
   const tab = await device(bench, browser, 'reader', { width: 320, height: 420 });
   await add(tab, 'A title that is longer than the whole window of a phone is wide, and then some');
@@ -162,15 +114,12 @@ test('names for a screen reader, the order of focus, a narrow window, and an ins
   }
   assert.equal(order[0], 'pill');
   assert.ok(order.includes('title') && order.includes('tick') && order.includes('name'), order.join());
-  const { errors, data } = await tab.send('Page.getAppManifest');
-  assert.deepEqual(errors, []);
-  assert.equal(JSON.parse(data).display, 'standalone');
   if (!pictures) return order.join(' ');
   await agree(tab);
   await wait(1600); // what is new is lit up for a while, and facts are drawn each second
   await tab.picture(`${pictures}/shopping_narrow.png`);
   return order.join(' ');
-});
+}, CHROMIUM);
 
 const focus = (tab) => tab.evaluate(`document.activeElement.getAttribute('aria-label') ?? document.activeElement.tagName`);
 
@@ -246,4 +195,4 @@ test('light and dark: each text stands out from its ground', async (bench) => {
     await wait(1600); // what is new is lit up for a while
     assert.deepEqual(await tab.run(faintTexts), []);
   }
-});
+}, CHROMIUM);

@@ -5,9 +5,15 @@ import os from 'node:os';
 import path from 'node:path';
 import { startServer } from '../server.mjs';
 import { Chromium } from './cdp.mjs';
+import { Firefox } from './firefox.mjs';
+
+/** For a test that asks of the browser what DevTools alone have. */
+export const CHROMIUM = 'chromium';
+const BROWSERS = { [CHROMIUM]: Chromium, firefox: Firefox };
+const kind = process.env.BROWSER ?? CHROMIUM;
 
 const tests = [];
-export const test = (name, work) => tests.push([name, work]);
+export const test = (name, work, only = kind) => tests.push([name, work, only]);
 export const wait = (ms) => new Promise((done) => setTimeout(done, ms));
 export const EMPTY = '/js/test/browser/empty.html';
 
@@ -20,7 +26,7 @@ class Bench {
   }
 
   async browser(profile) {
-    const browser = await Chromium.start(profile);
+    const browser = await BROWSERS[kind].start(profile);
     this.browsers.add(browser);
     return browser;
   }
@@ -49,13 +55,13 @@ class Bench {
   }
 }
 
-export async function runTests(only) {
+export async function runTests(text) {
   let failed = 0;
-  for (const [name, work] of tests.filter(([it]) => it.includes(only))) {
+  for (const [name, work, only] of tests.filter(([it]) => it.includes(text))) {
     const began = Date.now();
     const bench = new Bench(await startServer());
     try {
-      const said = await work(bench);
+      const said = only === kind ? await work(bench) : `NOT TRIED in ${kind}`;
       console.log(`ok   ${name} (${((Date.now() - began) / 1000).toFixed(1)} s)${said ? `: ${said}` : ''}`);
     } catch (error) {
       failed += 1;

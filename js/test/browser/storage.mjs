@@ -1,6 +1,6 @@
 // What was answered is there: after reloads, after kills, where the disk is full, and with encrypted files.
 import assert from 'node:assert/strict';
-import { test, wait } from './harness.mjs';
+import { CHROMIUM, test, wait } from './harness.mjs';
 
 for (const storage of ['opfs', 'indexeddb']) {
   const open = `open({ storage: '${storage}' })`;
@@ -15,9 +15,7 @@ for (const storage of ['opfs', 'indexeddb']) {
       assert.ok(count >= answered + 1 && count <= answered + 2, `${count} days, ${answered} answered`);
       await tab.evaluate(`void writeOn(${count})`);
       await wait(300 + round * 37);
-      await tab.send('Page.reload');
-      await wait(50);
-      await tab.ready();
+      await tab.renew();
     }
     assert.ok(answered > 5, `only ${answered} writes`);
     return `${answered + 1} writes over 6 reloads`;
@@ -79,13 +77,11 @@ for (const storage of ['opfs', 'indexeddb']) {
     assert.deepEqual(await tab.evaluate(days), daysDone(said));
     small.makeRoom();
     await tab.until(`db.write((tx) => tx.days.create({ day: 999 })).then(() => true)`);
-    await tab.send('Page.reload');
-    await wait(100);
-    await tab.ready();
+    await tab.renew();
     await tab.evaluate(open);
     assert.deepEqual(await tab.evaluate(days), [...daysDone(said), 999]);
     return `${said.filter((it) => it === 'done').length} writes, then ${said.at(-1)}`;
-  });
+  }, CHROMIUM);
 }
 
 test('opfs: a full quota refuses a transaction, and the database goes on', async (bench) => {
@@ -101,13 +97,11 @@ test('opfs: a full quota refuses a transaction, and the database goes on', async
   assert.deepEqual(shown, daysDone(said));
   await tab.send('Storage.overrideQuotaForOrigin', { origin });
   await tab.evaluate(`db.write((tx) => tx.days.create({ day: 999, note: 'x'.repeat(100000) }))`);
-  await tab.send('Page.reload');
-  await wait(100);
-  await tab.ready();
+  await tab.renew();
   await tab.evaluate(`open({ storage: 'opfs' })`);
   assert.deepEqual(await tab.evaluate(days), [...shown, 999]);
   return said.join(' ');
-});
+}, CHROMIUM);
 
 test('indexeddb: a database transaction that is aborted undoes its write, and the database goes on', async (bench) => {
   const tab = await bench.tab(await bench.browser());
@@ -121,9 +115,19 @@ test('indexeddb: a database transaction that is aborted undoes its write, and th
   assert.ok(said.filter((it) => it === 'StorageFailed').length >= 3 && said.every((it) => it === 'done' || it === 'StorageFailed'), said.join());
   const shown = await tab.evaluate('db.days.toArray().map((it) => it.day)');
   assert.deepEqual(shown, said.map((it, place) => (it === 'done' ? place + 1 : null)).filter((it) => it !== null));
-  await tab.send('Page.reload');
-  await wait(100);
-  await tab.ready();
+  await tab.renew();
   assert.deepEqual(await tab.evaluate(open), shown);
   return said.join(' ');
 });
+
+for (const name of ['no_handles', 'private']) {
+  test(`a browser without OPFS (${name}): IndexedDB is taken by itself`, async (bench) => {
+    const tab = await bench.tab(await bench.browser());
+    const open = `open({ makeWorker: () => new Worker('/js/test/browser/${name}_worker.js', { type: 'module' }) })`;
+    assert.equal(await tab.evaluate(open), 0);
+    assert.equal(await tab.evaluate('db.storage'), 'indexeddb');
+    await tab.evaluate('db.write((tx) => tx.days.create({ day: 1 }))');
+    await tab.renew();
+    assert.equal(await tab.evaluate(open), 1);
+  });
+}

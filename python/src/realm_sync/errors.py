@@ -5,6 +5,7 @@ from __future__ import annotations
 import enum
 import json
 from collections.abc import Mapping
+from typing import Any, NamedTuple
 
 from .problems import Conflict, Problem
 
@@ -72,6 +73,17 @@ def words_of_code(code: int) -> str:
 class Error(Exception):
     """What a database or a node may answer in place of what it was asked for."""
 
+    def __reduce__(self) -> tuple[Any, ...]:
+        """So that it goes to another process whole, though its class takes other words than its text."""
+        return _made_again, (type(self), self.args, self.__dict__)
+
+
+def _made_again(type_: type[Error], args: tuple[Any, ...], fields: dict[str, Any]) -> Error:
+    error = type_.__new__(type_)
+    error.args = args
+    error.__dict__.update(fields)
+    return error
+
 
 class Refused(Error):
     """The client refuses, and is as before. `reason` says why, `details` are the numbers that say more of it."""
@@ -118,8 +130,22 @@ def _words(reason: Reason, details: tuple[int, int, int]) -> str:
             return f"refused: {reason.name} {first} {second} {third}"
 
 
+class ColumnName(NamedTuple):
+    """A column, or a key, of a table."""
+
+    table: str
+    column: str
+
+    def __str__(self) -> str:
+        return f"{self.table}.{self.column}"
+
+
 class InvalidValue(Error, TypeError, ValueError):
     """A value that can't stand in its column, a key that is none: told while a transaction is written, before anything is done."""
+
+    def __init__(self, message: str, at: ColumnName) -> None:
+        super().__init__(message)
+        self.table, self.column = at
 
 
 class SchemaConflict(Error):

@@ -23,7 +23,7 @@ import uuid
 from collections.abc import Callable, Mapping
 from typing import TYPE_CHECKING, Any, NewType, TypeVar
 
-from .errors import InvalidValue
+from .errors import ColumnName, InvalidValue
 from .talk import column_words
 
 T = TypeVar("T")
@@ -51,9 +51,9 @@ class Column:
     is_counter: bool
 
     @property
-    def where(self) -> str:
+    def where(self) -> ColumnName:
         """Its name for errors."""
-        return f"{self.table}.{self.name}"
+        return ColumnName(self.table, self.name)
 
     def definition(self) -> dict[str, Any]:
         return {"kind": self.kind, "nullable": self.nullable, "shape": self.shape, **({"target": self.target} if self.target else {})}
@@ -69,6 +69,11 @@ class TableForm:
     key: str
     key_kind: str
     columns: dict[str, Column]
+
+    @property
+    def key_name(self) -> ColumnName:
+        """Its key's name for errors."""
+        return ColumnName(self.name, self.key)
 
 
 class SchemaError(TypeError):
@@ -149,34 +154,34 @@ def table(name: str) -> Callable[[type[T]], type[T]]:
 # ---- values between code and the core's JSON
 
 
-def key_json(where: str, kind: str, value: Any) -> Any:
+def key_json(where: ColumnName, kind: str, value: Any) -> Any:
     if kind == "Uuid":
         try:
             return {"uuid": str(value if isinstance(value, uuid.UUID) else uuid.UUID(value))}
         except (TypeError, ValueError, AttributeError):
-            raise InvalidValue(f"{where}: {value!r} is no uuid") from None
+            raise InvalidValue(f"{where}: {value!r} is no uuid", where) from None
     if kind == "Int" and (not isinstance(value, int) or isinstance(value, bool)) or kind == "Text" and not isinstance(value, str):
-        raise InvalidValue(f"{where}: {value!r} is no key of {kind}")
+        raise InvalidValue(f"{where}: {value!r} is no key of {kind}", where)
     if kind == "Int" and not -(2**63) <= value < 2**63:
-        raise InvalidValue(f"{where}: {value} has more than 64 bits")
+        raise InvalidValue(f"{where}: {value} has more than 64 bits", where)
     if kind == "Text" and len(whole_text(where, value).encode()) > 255:
-        raise InvalidValue(f"{where}: a text key has at most 255 bytes")
+        raise InvalidValue(f"{where}: a text key has at most 255 bytes", where)
     return value
 
 
 def plain_key(form: TableForm, value: Any) -> Any:
     """A key as objects have it: that of a table of UUIDs may be asked for as a text."""
     if form.key_kind == "Uuid" and isinstance(value, str):
-        return read_key(key_json(f"{form.name}.{form.key}", form.key_kind, value))
+        return read_key(key_json(form.key_name, form.key_kind, value))
     return value
 
 
-def whole_text(where: str, value: str) -> str:
+def whole_text(where: ColumnName, value: str) -> str:
     """A text, unless it has half a character, which UTF-8 doesn't have."""
     try:
         value.encode()
     except UnicodeEncodeError:
-        raise InvalidValue(f"{where}: the text has half a character") from None
+        raise InvalidValue(f"{where}: the text has half a character", where) from None
     return value
 
 
@@ -188,16 +193,16 @@ def value_json(column: Column, key_kinds: Mapping[str, str], it: Any) -> Any:
     value: Any = it
     if value is None:
         if not column.nullable:
-            raise InvalidValue(f"{column.where} is not nullable")
+            raise InvalidValue(f"{column.where} is not nullable", column.where)
         return None
     kind: str = column.kind
     if kind == "Link":
         return {"link": column.target, "key": key_json(column.where, key_kinds[column.target or ""], value)}
     want: type[Any] = {"Int": int, "Bool": bool, "Text": str, "Bytes": bytes, "Time": datetime.datetime, "Uuid": uuid.UUID}[kind]
     if not isinstance(value, want) or kind == "Int" and isinstance(value, bool):
-        raise InvalidValue(f"{column.where}: {value!r} is no {kind}")
+        raise InvalidValue(f"{column.where}: {value!r} is no {kind}", column.where)
     if kind == "Int" and not -(2**63) <= value < 2**63:
-        raise InvalidValue(f"{column.where}: {value} has more than 64 bits")
+        raise InvalidValue(f"{column.where}: {value} has more than 64 bits", column.where)
     if kind == "Text":
         return whole_text(column.where, value)
     if kind == "Bytes":
@@ -206,7 +211,7 @@ def value_json(column: Column, key_kinds: Mapping[str, str], it: Any) -> Any:
         return {"uuid": str(value)}
     if kind == "Time":
         if value.utcoffset() is None:
-            raise InvalidValue(f"{column.where}: {value!r} has no time zone")
+            raise InvalidValue(f"{column.where}: {value!r} has no time zone", column.where)
         past = value - EPOCH
         micros = (past.days * 86400 + past.seconds) * 1_000_000 + past.microseconds
         secs = abs(micros) // 1_000_000 * (1 if micros >= 0 else -1)

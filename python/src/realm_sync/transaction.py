@@ -8,7 +8,7 @@ import uuid
 from collections.abc import Callable, Iterable, Iterator, Mapping
 from typing import Any, TypeVar
 
-from .errors import Closed, InvalidValue
+from .errors import Closed, ColumnName, InvalidValue
 from .schema import EPOCH, Column, Key, TableForm, form_of, key_json, plain_key, read_element, value_json, whole_text
 
 T = TypeVar("T")
@@ -44,7 +44,7 @@ class Transaction:
         if key is None and form.key_kind == "Uuid":
             key = uuid.uuid4()
         if key is None:
-            raise InvalidValue(f"{form.name}: create needs {form.key}")
+            raise InvalidValue(f"{form.name}: create needs {form.key}", form.key_name)
         self._edit("CreateObject", form, key)
         key = plain_key(form, key)
         if self.get(type_, key) is None:
@@ -57,7 +57,7 @@ class Transaction:
         at = Collection(self, form, key, column)
         # A text is one value, and not its characters.
         if column.shape != "One" and (isinstance(value, (str, bytes)) or not isinstance(value, Mapping if column.shape == "Dict" else Iterable)):
-            raise InvalidValue(f"{column.where}: {value!r:.80} is no {column.shape.lower()} of values")
+            raise InvalidValue(f"{column.where}: {value!r:.80} is no {column.shape.lower()} of values", column.where)
         match column.shape:
             case "One":
                 self._assign(form, key, column, value)
@@ -76,7 +76,7 @@ class Transaction:
         for name, value in values.items():
             column = self._column(form, name)
             if column.shape != "One":
-                raise InvalidValue(f"{form.name}.{name} is a {column.shape.lower()}: change it by at()")
+                raise InvalidValue(f"{column.where} is a {column.shape.lower()}: change it by at()", column.where)
             self._assign(form, key, column, value)
 
     def add(self, type_: type[T], key: Key, column: str, amount: int) -> None:
@@ -102,7 +102,7 @@ class Transaction:
 
     def _column(self, form: TableForm, name: str) -> Column:
         if name not in form.columns:
-            raise InvalidValue(f"{form.name} has no column {name}")
+            raise InvalidValue(f"{form.name} has no column {name}", ColumnName(form.name, name))
         return form.columns[name]
 
     def end(self) -> None:
@@ -112,7 +112,7 @@ class Transaction:
     def _edit(self, op: str, form: TableForm, key: Key, **more: Any) -> None:
         if not self._is_open:
             raise Closed("the transaction has ended: its verbs are called inside its `with`")
-        self.edits.append({"op": op, "table": form.name, "key": key_json(f"{form.name}.{form.key}", form.key_kind, key), **more})
+        self.edits.append({"op": op, "table": form.name, "key": key_json(form.key_name, form.key_kind, key), **more})
 
     def _put(self, form: TableForm, key: Key, row: Any) -> None:
         self._changed.setdefault(form.name, {})[plain_key(form, key)] = row
@@ -139,7 +139,7 @@ def _default(column: Column) -> Any:
 
 def _dict_key(column: Column, at: Any) -> str:
     if not isinstance(at, str) or len(whole_text(column.where, at).encode()) > 255:
-        raise InvalidValue(f"{column.where}: a key of a dictionary is a text of at most 255 bytes")
+        raise InvalidValue(f"{column.where}: a key of a dictionary is a text of at most 255 bytes", column.where)
     return at
 
 

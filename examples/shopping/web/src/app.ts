@@ -42,11 +42,18 @@ function show(list: string | null): void {
 
 byId<HTMLFormElement>('add').onsubmit = (event) => {
   event.preventDefault();
-  const input = byId<HTMLInputElement>('title');
-  const title = input.value.trim();
-  input.value = '';
-  if (title) void told(addItem(current, title)).then((list) => { if (list !== null && list !== current) show(list); });
+  void addTitle(byId<HTMLInputElement>('title'));
 };
+
+/** Puts what was typed into the list. Where that is refused it is there still, to try again. */
+async function addTitle(input: HTMLInputElement): Promise<void> {
+  const title = input.value.trim();
+  if (!title) return;
+  input.value = '';
+  const list = await told(addItem(current, title));
+  if (list === null) input.value ||= title;
+  else if (list !== current) show(list);
+}
 
 db.lists.observe((lists) => {
   if (current === null || !lists.some((it) => it.id === current)) show(db.lists.sortBy('created').first()?.id ?? null);

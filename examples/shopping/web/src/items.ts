@@ -41,13 +41,19 @@ function drawClear(done: readonly Item[]): void {
   clear.onclick = () => void told(eraseItems(done.map((it) => it.id)));
 }
 
+/** What a person set by hand is set back where it is refused. */
+async function shown(id: string, written: Promise<void>): Promise<void> {
+  const drawn = (await told(written)) === null ? rows.get(id) : undefined;
+  if (drawn) fill(drawn.row, drawn.item);
+}
+
 function newRow(id: string, isNew: boolean): HTMLLIElement {
   const tick = make('input', { type: 'checkbox', class: 'tick' });
   const name = make('input', { class: 'name', 'aria-label': 'Title', maxlength: '200' });
   const [less, more] = [make('button', { type: 'button' }, '−'), make('button', { type: 'button' }, '+')];
   const drop = make('button', { type: 'button', class: 'drop' }, '×');
-  tick.onchange = () => void told(db.write((tx) => tx.items.update(id, { done: tick.checked })));
-  name.onchange = () => void told(db.write((tx) => tx.items.update(id, { title: name.value.trim() || 'something' })));
+  tick.onchange = () => void shown(id, db.write((tx) => tx.items.update(id, { done: tick.checked })));
+  name.onchange = () => void shown(id, db.write((tx) => tx.items.update(id, { title: name.value.trim() || 'something' })));
   name.onkeydown = (event) => { if (event.key === 'Enter') name.blur(); };
   less.onclick = () => void told(changeQuantity(id, -1));
   more.onclick = () => void told(changeQuantity(id, 1));

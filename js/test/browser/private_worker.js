@@ -1,0 +1,3 @@
+// The worker, in a private window that gives no folder out.
+import './private.js';
+import '../../dist/worker.js';
