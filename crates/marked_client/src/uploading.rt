@@ -1,7 +1,5 @@
 ghost use Rattle.std.specs.Prelude.{◌≡◌, ◌⊎◌, ◌≤◌, List, length, take, IfOk, IfErr};
-ghost use Rattle.std.specs.Option.{option_map};
 ghost use Rattle.sync_messages.specs.Parts.{bytes_of_changes, most_listed};
-ghost use Rattle.life_bytes.specs.Parts.{most_tokens_together, most_tokens};
 ghost use Rattle.sync_model.specs.Clients as model;
 ghost use Rattle.sync_exchange.specs.Profile.{the_profile};
 ghost use Rattle.marked_client.specs.Marked.{uuid_of};
@@ -125,6 +123,7 @@ impl<D: Disk> MarkedClient<D> {
     }
 }
 
+/// A list of lives that is full where it can't be is a fault of ours.
 fn fits(told: Result<(), RunsRefusal>) -> Result<(), MarkedRefusal>
     ensures ok { IfOk result (λ u. told ≡ Ok u) }
     ensures refused { IfErr result (λ why. (why ≡ MarkedRefusal.Client ClientRefusal.NoMemory) ⊎ (why ≡ MarkedRefusal.Broken)) }

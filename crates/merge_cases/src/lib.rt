@@ -11,11 +11,13 @@ mod block_lists;
 mod blocks;
 mod crossing;
 mod data;
+mod drawn;
 mod exchanged_toys;
 mod failure;
 mod fields;
 mod indexes;
 mod merged_toys;
+mod mixed;
 mod regions;
 mod rivals;
 mod sides;
@@ -100,11 +102,19 @@ fn told(
 }
 
 /// Each case of no file by its name, and whether it comes out as it must.
-pub fn cases(alloc: Global) -> [(&'static str, bool); 8] {
+pub fn cases(alloc: Global) -> [(&'static str, bool); 10] {
     [
         (
             "blocks cross as their instructions meet",
             blocks::blocks_cross_as_their_instructions_meet(alloc),
+        ),
+        (
+            "short drawn changesets cross as their instructions meet",
+            drawn::short_ones_cross_as_their_instructions_meet(alloc),
+        ),
+        (
+            "long drawn changesets cross as their instructions meet",
+            drawn::long_ones_cross_as_their_instructions_meet(alloc),
         ),
         (
             "orders are of kinds and then of parts",
