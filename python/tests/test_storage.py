@@ -2,6 +2,7 @@
 
 from __future__ import annotations
 
+import contextlib
 import errno
 import os
 import signal
@@ -10,8 +11,12 @@ import sys
 import tempfile
 import textwrap
 import unittest
+from typing import Any
+from unittest import mock
 
-from realm_sync import BadFile, Busy, Client, Database, OtherProcess, StorageFailed, StorageFull, SyncState, WrongKey, delete_database
+from realm_sync import (
+    BadFile, Busy, Client, Database, Error, NotShrunk, OtherProcess, StorageFailed, StorageFull, SyncState, WrongKey, delete_database,
+)  # fmt: skip
 from realm_sync.client import DatabaseClient
 from realm_sync.messages import ASK2
 from realm_sync.sealed import FIRST, SealedFiles
@@ -241,6 +246,62 @@ class Tests(unittest.TestCase):
             Database(self.path, [Day], key=KEY)
         with open(self.path, "rb") as it:
             self.assertEqual(it.read(), before)
+
+    def test_a_file_is_shrunk_and_goes_on(self) -> None:
+        for key in (None, KEY):
+            path, net = f"{self.path}-{key is not None}", Net()
+            with net.database(path, key=key) as db, net.database() as other:
+                for day in range(30):
+                    with db.write() as tx:
+                        tx.create(Day, day=day % 3, note=f"note {day}")
+                db.synced(30)
+                with other.write() as tx:
+                    tx.create(Day, day=7, note="of another device")
+                db.stop_sync()
+                with db.write() as tx:
+                    tx.update(Day, 1, note="unsent")
+                before, length = list(db[Day]), os.path.getsize(path)
+                with self.assertRaises(Error), db.write():
+                    db.shrink()
+                with mock.patch("os.replace", side_effect=OSError(errno.ENOSPC, "full")), self.assertRaises(NotShrunk):
+                    db.shrink()
+                self.assertEqual(os.path.getsize(path), length)
+                db.shrink()
+                self.assertLess(os.path.getsize(path), length // 2)
+                self.assertEqual((list(db[Day]), db.unsent), (before, 1))
+                with db.write() as tx:
+                    tx.update(Day, 2, note="after it")
+            with net.database(path, key=key) as db, net.database() as other:
+                db.synced(30)
+                other.synced(30)
+                self.assertEqual({it.day: it.note for it in db[Day]}, {0: "note 27", 1: "unsent", 2: "after it", 7: "of another device"})
+                self.assertEqual(list(other[Day]), list(db[Day]))
+
+    def test_a_shrinking_that_fails_at_any_stroke_loses_nothing(self) -> None:
+        for at in range(1, 20):
+            with Database(self.path, [Day]) as db:
+                for day in range(5):
+                    with db.write() as tx:
+                        tx.create(Day, day=day)
+                count = 0
+
+                def failing(file: int, *words: Any) -> Any:
+                    nonlocal count
+                    count += 1
+                    if count == at:
+                        raise OSError(errno.EIO, "the test fails this one")
+                    return fsync(file)
+
+                fsync = os.fsync
+                with mock.patch("os.fsync", failing), contextlib.suppress(NotShrunk, StorageFailed):
+                    db.shrink()
+                with db.write() as tx:
+                    tx.create(Day, day=99)
+                self.assertEqual(len(db[Day]), 6)
+                unsent = db.unsent
+            with Database(self.path, [Day]) as db:
+                self.assertEqual((len(db[Day]), db.unsent), (6, unsent))
+            delete_database(self.path)
 
 
 if __name__ == "__main__":

@@ -46,6 +46,10 @@ class AsyncDatabase:
         """Lets a new client take this one's place, where sync needs attention."""
         return await asyncio.to_thread(self.db.recover)
 
+    async def shrink(self) -> None:
+        """Puts a file without what this device needs no more in the place of its own."""
+        await asyncio.to_thread(self.db.shrink)
+
     def watch(self, query: Query[T]) -> AsyncIterator[Sequence[T]]:
         """The result of a query, and each later one; a consumer that is slow misses those between."""
         return _latest(query.observe)

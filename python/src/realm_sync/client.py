@@ -9,7 +9,7 @@ from typing import Any
 
 from .door import Standing, to_json
 from .engine import Engine
-from .errors import BadRequest, OtherProcess, Refused, StorageFailed
+from .errors import BadRequest, NotShrunk, OtherProcess, Refused, StorageFailed
 from .lost import LostEdits, LostForm
 from .problems import Problem
 from .recovery import Recovery, Takeover, born
@@ -111,6 +111,19 @@ class DatabaseClient:
         except Exception as why:
             self._open_again()
             raise why if isinstance(why, StorageFailed) else StorageFailed(f"{why}; the file was opened again") from why
+
+    def shrink(self) -> None:
+        """Goes on over a file without what the client needs no more."""
+        if self._files.has(HEIR):
+            raise NotShrunk("a new client takes over: its file is a short one")
+        try:
+            self._engine.shrink()
+        except (NotShrunk, OtherProcess):
+            raise
+        except Exception as why:
+            self._open_again()
+            raise why if isinstance(why, StorageFailed) else StorageFailed(f"{why}; the file was opened again") from why
+        self._talk = Talk(self._engine)
 
     def _open_again(self) -> None:
         """After a failure: what was answered is in the file. Where that can't be opened now, it is tried again at the next call."""

@@ -255,6 +255,23 @@ class Database:
         else:
             self._changed(places)
 
+    def shrink(self) -> None:
+        """Puts a file without what this device needs no more in the place of its own, and goes on over it: it is opened as quickly as its objects and
+        unsent transactions are read. A stop leaves the one or the other, whole. `NotShrunk` where none could be put there, as after a takeover until the
+        database is opened again: all is as before then."""
+        if self._writer == threading.get_ident():
+            raise Error("the file is shrunk outside of a transaction: call shrink() behind it")
+        with self._lock:
+            self._mend()
+            try:
+                self._client.shrink()
+            except StorageFailed:
+                if self._client.is_open:  # again
+                    self._load()
+                raise
+            finally:
+                self._tell()
+
     # ---- sync
 
     def start_sync(self, sync: str | Transport, *, token: TokenSource = "", options: SyncOptions = SyncOptions()) -> None:

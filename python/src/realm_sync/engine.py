@@ -2,7 +2,7 @@
 
 from __future__ import annotations
 
-from collections.abc import Callable, Iterator, Sequence
+from collections.abc import Iterator, Sequence
 
 from .door import DONE, Door, Reply, Standing, expect_done, number_of, standing_of
 from .errors import NotShrunk, StorageFailed, WrongKey
@@ -98,13 +98,13 @@ class Engine:
             pass
         return None
 
-    def shrink(self, rewrite: Callable[[bytes, str], None]) -> None:
-        """Goes on over a file without what the node needs no more, once `rewrite` has put it in the place of its own. After `NotShrunk` all is as
-        before; where anything else fails the engine is of no use any more."""
+    def shrink(self) -> None:
+        """Goes on over a file without what the node needs no more, once it stands in the place of its own. After `NotShrunk` all is as before; where
+        anything else fails the engine is of no use any more."""
         self.settle()
         data = self.ask(b"F")
         try:
-            rewrite(data, ".shrunk" if self._kind == CLIENT else ".trimmed")
+            self._storage.rewrite(data, ".shrunk" if self._kind == CLIENT else ".trimmed")
             expect_done(self._door.turn(self._kind, data))
         except NotShrunk:
             raise

@@ -156,8 +156,7 @@ class _Node:
 
     def __init__(self, path: str | os.PathLike[str] | None, kind: bytes) -> None:
         self._lock = threading.RLock()
-        self._storage = _storage_at(path)
-        self._open: Engine | None = Engine(self._storage, kind)
+        self._open: Engine | None = Engine(_storage_at(path), kind)
 
     @property
     def _engine(self) -> Engine:
@@ -183,7 +182,7 @@ class _Node:
         client needs, of a client one with its unsent transactions and its objects. A stop leaves the one or the other, whole, and nothing that
         was answered is lost. `NotShrunk` where no such file could be put there: all is as before."""
         with self._lock:
-            self._engine.shrink(self._storage.rewrite)
+            self._engine.shrink()
 
     def page(self, table: str, behind: Json = None, count: int = 1000) -> list[Line]:
         """So many objects of a table, in the order of their keys, from the first behind a key on; without one, from the first of all."""

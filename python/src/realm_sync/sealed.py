@@ -37,7 +37,7 @@ class SealedStorage:
     """One encrypted file. A record is sealed with its number, so that none can be left out, doubled or put elsewhere."""
 
     def __init__(self, inner: Storage, key: bytes) -> None:
-        self._inner, self._image, self._gate, self._count = inner, FileImage(), FIRST, 0
+        self._inner, self._key, self._image, self._gate, self._count = inner, key, FileImage(), FIRST, 0
         data = inner.read()
         # Nothing was answered of a file whose first gate is closed: it is begun anew, if it is one of these at all, and has no record behind the first.
         if data[FIRST : FIRST + 1] == b"\1":
@@ -91,6 +91,14 @@ class SealedStorage:
         writes = [it for it in strokes if it is not None]
         self._append(b"".join(it.place.to_bytes(8, "big") + len(it.data).to_bytes(4, "big") + it.data for it in writes))
         self._image.apply(writes)
+
+    def rewrite(self, data: bytes, suffix: str) -> None:
+        """Puts a file with these bytes in this one's place, sealed anew under a salt of its own."""
+        sealed = FileImage()
+        made = SealedStorage(sealed, self._key)
+        made.apply([Write(0, data)])
+        self._inner.rewrite(sealed.read(), suffix)
+        self._cipher, self._image, self._gate, self._count = made._cipher, made._image, made._gate, made._count
 
     def close(self) -> None:
         self._inner.close()

@@ -33,6 +33,10 @@ class Storage(Protocol):
     def apply(self, strokes: Sequence[Stroke]) -> None:
         """Does the strokes in order. When it returns, they are on the disk."""
 
+    def rewrite(self, data: bytes, suffix: str) -> None:
+        """From now on it has these bytes; a stop leaves those before or these. What is written beside meanwhile has this suffix. `NotShrunk` where all
+        is as before."""
+
     def close(self) -> None:
         """Lets the file go."""
 
@@ -106,7 +110,7 @@ def sync_folder(path: str) -> None:
 
 
 # The other files of a database: docs/STORAGE.md.
-_BESIDE = re.compile(r"\.(heir|reason|generation|kept-\d+)(\.new)?")
+_BESIDE = re.compile(r"\.(heir|reason|generation|shrunk|kept-\d+)(\.new)?")
 
 
 def delete_database(path: str | os.PathLike[str]) -> None:
