@@ -51,6 +51,7 @@ class Bench {
 
   async end() {
     for (const browser of this.browsers) await browser.kill();
+    for (const { profile } of this.browsers) fs.rmSync(profile, { recursive: true, force: true, maxRetries: 5, retryDelay: 200 });
     await this.server.close();
   }
 }
