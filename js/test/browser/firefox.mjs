@@ -31,11 +31,11 @@ export class Firefox {
   waiting = new Map();
   tabs = new Map();
 
-  /** Over a profile. */
-  static async start(profile = fs.mkdtempSync(path.join(os.tmpdir(), 'sdk-firefox-'))) {
+  /** Over a profile; where it is private, each window is. */
+  static async start(profile = fs.mkdtempSync(path.join(os.tmpdir(), 'sdk-firefox-')), isPrivate = false) {
     const it = new Firefox();
     it.profile = profile;
-    fs.writeFileSync(path.join(profile, 'user.js'), Object.entries(PREFERENCES).map(([name, value]) => `user_pref("${name}", ${value});\n`).join(''));
+    fs.writeFileSync(path.join(profile, 'user.js'), Object.entries({ ...PREFERENCES, 'browser.privatebrowsing.autostart': isPrivate }).map(([name, value]) => `user_pref("${name}", ${value});\n`).join(''));
     const words = ['--headless', '--no-remote', '--profile', profile, '--remote-debugging-port', '0'];
     it.process = spawn(process.env.FIREFOX ?? 'firefox-esr', words, { stdio: ['ignore', 'ignore', 'pipe'] });
     it.ended = new Promise((done) => it.process.once('exit', done));

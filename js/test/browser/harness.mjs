@@ -7,9 +7,9 @@ import { startServer } from '../server.mjs';
 import { Chromium } from './cdp.mjs';
 import { Firefox } from './firefox.mjs';
 
-/** For a test that asks of the browser what DevTools alone have. */
-export const CHROMIUM = 'chromium';
-const BROWSERS = { [CHROMIUM]: Chromium, firefox: Firefox };
+/** For a test that asks of the browser what DevTools alone have, and for one of what Firefox alone does. */
+export const CHROMIUM = 'chromium', FIREFOX = 'firefox';
+const BROWSERS = { [CHROMIUM]: Chromium, [FIREFOX]: Firefox };
 const kind = process.env.BROWSER ?? CHROMIUM;
 
 const tests = [];
@@ -25,8 +25,8 @@ class Bench {
     this.server = server;
   }
 
-  async browser(profile) {
-    const browser = await BROWSERS[kind].start(profile);
+  async browser(profile, ...words) {
+    const browser = await BROWSERS[kind].start(profile, ...words);
     this.browsers.add(browser);
     return browser;
   }
@@ -51,6 +51,7 @@ class Bench {
 
   async end() {
     for (const browser of this.browsers) await browser.kill();
+    for (const { profile } of this.browsers) fs.rmSync(profile, { recursive: true, force: true, maxRetries: 5, retryDelay: 200 });
     await this.server.close();
   }
 }

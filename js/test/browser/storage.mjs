@@ -1,6 +1,6 @@
 // What was answered is there: after reloads, after kills, where the disk is full, and with encrypted files.
 import assert from 'node:assert/strict';
-import { CHROMIUM, test, wait } from './harness.mjs';
+import { CHROMIUM, FIREFOX, test, wait } from './harness.mjs';
 
 for (const storage of ['opfs', 'indexeddb']) {
   const open = `open({ storage: '${storage}' })`;
@@ -131,3 +131,14 @@ for (const name of ['no_handles', 'private']) {
     assert.equal(await tab.evaluate(open), 1);
   });
 }
+
+test('a private window of Firefox, which gives no OPFS out', async (bench) => {
+  const tab = await bench.tab(await bench.browser(undefined, true));
+  assert.equal(await tab.evaluate('open()'), 0);
+  assert.equal(await tab.evaluate('db.storage'), 'indexeddb');
+  await tab.evaluate('db.write((tx) => tx.days.create({ day: 1 }))');
+  await tab.renew();
+  assert.equal(await tab.evaluate('open()'), 1);
+  await tab.evaluate(`db.close().then(() => realm.deleteDatabase('x'))`);
+  assert.equal(await tab.evaluate('open()'), 0);
+}, FIREFOX);

@@ -257,8 +257,9 @@ class Database:
 
     def shrink(self) -> None:
         """Puts a file without what this device needs no more in the place of its own, and goes on over it: it is opened as quickly as its objects and
-        unsent transactions are read. A stop leaves the one or the other, whole. `NotShrunk` where none could be put there, as after a takeover until the
-        database is opened again: all is as before then."""
+        unsent transactions are read. What the history has isn't in it: where the server is put back to before that, it is nowhere. A stop leaves the
+        one or the other, whole. `NotShrunk` where none could be put there, as after a takeover until the database is opened again: all is as before
+        then."""
         if self._writer == threading.get_ident():
             raise Error("the file is shrunk outside of a transaction: call shrink() behind it")
         with self._lock:
