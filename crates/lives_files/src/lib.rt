@@ -1,0 +1,6 @@
+//! What the marks that nodes read from their files are to the laws of lives. No code runs here.
+#![tactic(auto)]
+
+pub mod laws;
+
+pub use laws::marks_are_what_is_kept;
