@@ -16,7 +16,6 @@ use Rattle.lives_law.specs.Pair.{ident_at}
 use Rattle.lives_law.specs.Sending.{lives_of}
 use Rattle.lives_law.specs.Stored.{Noted, Kept, entry_by, took_by, kept_of, bare, bare_file}
 use Rattle.lives_files.specs.Files.{server_file, client_file}
-use Rattle.lives_files.specs.Telling.{ServerTells, ClientTells}
 
 -- the life of an ident's last entry
 abbrev pub last_of : Option Line → Option (List ℕ)
@@ -52,8 +51,6 @@ module _ (number : List ℕ → ℕ) where
   -- server has nothing of its ident, or the life of the last that it has is the one that the client has of this number
   module _ {I S : Type 0} (p : Profile I S) (is_old : Uuid → Bool) where
     pub record MarksAgree (f : List (Written ServerPiece)) (g : List (Written ClientPiece)) : Type 0 where
-      pub server : ServerTells number server_marks.no_marks f
-      pub client : ClientTells number client_marks.no_marks g
       pub id : Uuid
       pub born : (client_of p (client_records g)).id ≡ Some id
       pub new : is_old id ≡ true → ⊥
