@@ -1,3 +1,4 @@
+pub mod Numbering
 pub mod Lines
 pub mod Entries
 pub mod Mades
@@ -5,3 +6,4 @@ pub mod Agreeing
 pub mod Reads
 pub mod Appending
 pub mod Journals
+pub mod Standing

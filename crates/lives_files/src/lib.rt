@@ -3,4 +3,6 @@
 
 pub mod laws;
 
-pub use laws::marks_are_what_is_kept;
+pub use laws::{
+    journals_keep_lives, lives_have_numbers, marks_are_what_is_kept, marks_that_agree_suffice,
+};

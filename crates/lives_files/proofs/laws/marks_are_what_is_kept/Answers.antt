@@ -3,7 +3,7 @@ use Rattle.lives_files.proofs.Mades.{client_is}
 use Rattle.lives_files.proofs.laws.marks_are_what_is_kept.Goals as goal
 
 pub returns-clause-client : goal.returns-clause-client
-returns-clause-client c = λ number f t. client_is number f t
+returns-clause-client c = λ lives g t. client_is lives.number g t
 
 pub returns-clause-server : goal.returns-clause-server
-returns-clause-server c = λ number f t. server_is number f t
+returns-clause-server c = λ lives f t. server_is lives.number f t
