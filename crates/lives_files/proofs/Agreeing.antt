@@ -2,6 +2,8 @@
 use Rattle.std.proofs.Common.{◌≡◌, ◌≢◌, ◌⊎◌, inl, inr, ⊎_elim, ℕ, zero, suc, ◌-◌, Bool, true, List, [], ◌∷◌, length, map, Option, Some, None, refl, sym, ap, ◌∙◌, subst, arith, if◌then◌else◌, ◌==◌}
 use Rattle.std.specs.Prelude.{slice_get, nat_lt}
 use Rattle.std.specs.Option.{option_map}
+use Rattle.std.proofs.lemmas.Bool.{le-ltb}
+use Rattle.sync_theory.proofs.Server.{test_false}
 use Rattle.sync_model.specs.Bytes.{Uuid}
 use Rattle.sync_model.specs.Profile.{Profile, Lawful}
 use Rattle.sync_model.specs.Messages.{Sent}
@@ -38,7 +40,12 @@ module _ (number : List ℕ → ℕ) where
 
   -- where there is no floor
   before_is : (m : server_marks.Marks) (v : ℕ) → m.floor ≡ 0 → server_marks.life_before m (suc v) ≡ slice_get m.entries v
-  before_is m v e = ap (λ (k : ℕ). if nat_lt (suc v) k then None else (if suc v == k then m.before else slice_get m.entries (v - k))) e ∙ ap (slice_get m.entries) (omega arith)
+  before_is m v e =
+      let z : v - 0 ≡ v = omega arith in
+      ap (λ (k : ℕ). if nat_lt (suc v) k then None else (if suc v == k then m.before else slice_get m.entries (v - k))) e
+      ∙ ap (λ (t : Bool). if t then None else (if suc v == 0 then m.before else slice_get m.entries (v - 0))) (le-ltb (suc v) 0 (omega arith))
+      ∙ ap (λ (t : Bool). if t then m.before else slice_get m.entries (v - 0)) (test_false (suc v) 0 (λ h. absurd (omega arith)))
+      ∙ ap (λ (k : ℕ). slice_get m.entries k) z
 
   module _ {I S : Type 0} (p : Profile I S) (is_old : Uuid → Bool) (b : Stores) (f : List (Written ServerPiece)) (g : List (Written ClientPiece)) (server : ServerIs number f) (client : ClientIs number g)
     (server_kept : Among (server_file number f) b.servers.kept) (client_kept : Among (client_file number g) b.clients.kept) (t : MarksAgree number p is_old f g) where

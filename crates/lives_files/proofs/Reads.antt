@@ -35,10 +35,10 @@ module _ {P Q : Type 0} (read : P → List Q) where
   read_both [] g = refl
   read_both (x ∷ f) g = ap (λ l. map (in_life x.life) (read x.what) ++ l) (read_both f g) ∙ sym (append_assoc (map (in_life x.life) (read x.what)) (read_all read f) (read_all read g))
 
-  abbrev read_open : Open P → Open Q
+  abbrev pub read_open : Open P → Open Q
   read_open o = record { file = read_all read o.file; life = o.life }
 
-  abbrev SameRead : List P → ℕ → Type 0
+  abbrev pub SameRead : List P → ℕ → Type 0
   SameRead ps n = (w : Files P) (v : Files Q) (o : Open P) (q : Open Q) → SameBy (read_all read) w v → q ≡ read_open o → w.nodes n ≡ Some o → Among o.file w.kept → SameBy (read_all read) (written_all w n o ps) (written_all v n q (flat ps))
 
   grown_read : (o : Open P) (x : P) (ys : List Q) → read x ≡ ys → read_all read (grown_by o x) ≡ read_all read o.file ++ map (in_life o.life) ys
@@ -47,9 +47,6 @@ module _ {P Q : Type 0} (read : P → List Q) where
   same_more : Few → (x : P) (ps : List P) (n : ℕ) → SameRead ps n → SameRead (x ∷ ps) n
   same_more few x ps n rest w v o q s e is a = ⊎_elim (λ h. none h) (λ h. one h.0 h.1) (few x)
     where
-      abbrev next : Open P
-      next = record o { file = grown_by o x }
-
       none : read x ≡ [] → SameBy (read_all read) (written_all w n o (x ∷ ps)) (written_all v n q (read x ++ flat ps))
       none h =
           let same : read_all read (grown_by o x) ≡ read_all read o.file = grown_read o x [] h ∙ append-nil (read_all read o.file) in
