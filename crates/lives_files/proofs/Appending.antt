@@ -1,5 +1,5 @@
 -- What is appended to a file: what its notes say, and what the laws append.
-use Rattle.std.proofs.Common.{◌≡◌, ◌≢◌, ◌⊎◌, inl, inr, ℕ, zero, suc, ◌-◌, Bool, true, false, List, [], ◌∷◌, ◌++◌, Option, Some, None, refl, sym, ap, ap₂, ◌∙◌, subst, length, map, take, drop, if◌then◌else◌, ◌==◌, tt}
+use Rattle.std.proofs.Common.{◌≡◌, ◌≢◌, ◌⊎◌, inl, inr, ℕ, zero, suc, ◌-◌, Bool, true, false, List, [], ◌∷◌, ◌++◌, Option, Some, None, refl, sym, ap, ap₂, ◌∙◌, subst, length, map, take, drop, if◌then◌else◌, ◌==◌}
 use Rattle.std.specs.Option.{option_map}
 use Rattle.sync_theory.proofs.Server.{test_true}
 use Rattle.sync_model.specs.Clients as model_client
@@ -21,7 +21,7 @@ use Rattle.lives_law.specs.Stored.{Noted, it, note, is_by, is_life, noted_one, w
 use Rattle.lives_files.specs.Files.{in_life, server_piece, client_piece}
 use Rattle.lives_files.specs.Telling.{ServerTells, ClientTells}
 use Rattle.lives_files.specs.Journals.{AllAre}
-use Rattle.lives_files.proofs.Reads.{flat, Few}
+use Rattle.lives_files.proofs.Piecewise.{flat, Few}
 
 -- records whose life is noted stand without more notes
 pub no_notes : {R : Type 0} (by : R → Option ℕ) (c l : ℕ) (ls : List ℕ) (rs : List R) → AllAre l ls → with_notes by c (Some l) ls rs ≡ unnoted rs

@@ -1,5 +1,5 @@
 -- Worlds of the program's own files are worlds of files that keep lives.
-use Rattle.std.proofs.Common.{◌≡◌, ◌≢◌, ◌⊎◌, inl, inr, ⊎_elim, ℕ, zero, suc, ◌-◌, Bool, true, false, List, [], ◌∷◌, ◌++◌, Option, Some, None, refl, sym, ap, ◌∙◌, subst, length, map, take, drop, if◌then◌else◌, tt}
+use Rattle.std.proofs.Common.{◌≡◌, ◌≢◌, ◌⊎◌, inl, inr, ⊎_elim, ℕ, zero, suc, ◌-◌, Bool, true, false, List, [], ◌∷◌, ◌++◌, Option, Some, None, refl, sym, ap, ◌∙◌, subst, length, map, take, drop, if◌then◌else◌}
 use Rattle.std.specs.Option.{option_map}
 use Rattle.sync_model.specs.Bytes.{Uuid}
 use Rattle.sync_model.specs.Profile.{Profile}
@@ -33,7 +33,7 @@ use Rattle.lives_files.specs.Agreeing.{last_of, kept_in, server_records, client_
 use Rattle.lives_files.specs.Journals.{Journals, no_journals, ServerAdds, ClientAdds, line, PassesServer, PassesClient, Goes, server_opens, client_opens, server_notes, client_notes, server_writes, client_writes, server_takes, client_takes, server_takes_old, Runs, at_first, by_step}
 use Rattle.lives_files.proofs.Entries.{server_is}
 use Rattle.lives_files.proofs.Mades.{client_is}
-use Rattle.lives_files.proofs.Reads.{take_map, all_written, flat, same_read, read_open}
+use Rattle.lives_files.proofs.Piecewise.{take_map, all_written, flat, same_read, read_open}
 use Rattle.lives_files.proofs.Appending.{no_notes, server_both, client_both, server_cut, client_cut, server_few, client_few, server_flat, client_flat}
 
 module _ {I S : Type 0} (number : List ℕ → ℕ) (p : Profile I S) (is_old : Uuid → Bool) where

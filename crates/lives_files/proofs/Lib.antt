@@ -3,7 +3,7 @@ pub mod Lines
 pub mod Entries
 pub mod Mades
 pub mod Agreeing
-pub mod Reads
+pub mod Piecewise
 pub mod Appending
 pub mod Journals
 pub mod Standing
