@@ -15,7 +15,7 @@ use Rattle.lives_law.specs.Lives.{Written, Files, Open, Among, here, there, Mark
 use Rattle.lives_law.specs.Instances.{plain, is_made}
 use Rattle.lives_law.specs.Roaming.{NoEntry, NoneIs, AllFollow, written_all}
 use Rattle.lives_law.specs.Heirs.{Act, is_act, World, Comes, by, Happens, reopens, from_nothing, at_first, Entry as Told}
-use Rattle.lives_law.specs.Stored.{Noted, it, note, Kept, entry_by, took_by, is_by, bare, bare_file, keeps, keeps_all, kept_of, with_notes, Passage, passes, Stores, no_stores, upload_records, download_records, IsUploadOf, IsDownloadOf, Occurs, server_opens, client_opens, server_writes, client_writes, server_takes, server_takes_old, client_takes, Stands, SameBy}
+use Rattle.lives_law.specs.Stored.{Noted, it, note, Kept, entry_by, took_by, is_by, bare, bare_file, keeps, keeps_all, kept_of, with_notes, Passage, passes, Stores, no_stores, upload_records, download_records, IsUploadOf, IsDownloadOf, Occurs, server_opens, client_opens, server_writes, client_writes, server_takes, server_takes_old, client_takes, server_notes, client_notes, Stands, SameBy}
 use Rattle.lives_law.specs.Saving.{IsLabel, act_of, acts_from, acts, told_from, noted_by, nothing_noted, history, AllNew, IsDone, Saving, HeirsBeneath, token_of, one_told}
 use Rattle.lives_law.proofs.Lists.{take_nil, at_long}
 use Rattle.lives_law.proofs.Taking.{at_dropped}
@@ -25,7 +25,7 @@ use Rattle.lives_law.proofs.Notes.{plain_bare, same_opened, count_by, count_is, 
 use Rattle.lives_law.proofs.Passages.{Passed, passed}
 use Rattle.lives_law.proofs.Roaming.{given_not_zero, all_new, only_empty, all_follow}
 use Rattle.lives_law.proofs.Stored.{LineKept, server_on, taken}
-use Rattle.lives_law.proofs.Standing.{Knows, all_know, one_bare}
+use Rattle.lives_law.proofs.Standing.{Knows, all_know, one_bare, none_bare}
 use Rattle.lives_law.proofs.Acting.{act_mark, act_one, acts_written, honest_more, takes_none, each_take}
 use Rattle.lives_law.proofs.Telling.{entries_in, told_both, told_none, noted_same, log_long, all_own, Ran, none_ran, run}
 
@@ -245,6 +245,11 @@ module _ {I S : Type 0} (p : Profile I S) (is_old : Uuid → Bool) (label : ℕ 
       one (Carried o n b m body) h = refl
       one (Past c v m body) h = refl
 
+  -- a note alone
+  note_told : (noted : ℕ → Option ℕ) (c l i : ℕ) → told_from label noted (take i (note c l ∷ [])) ≡ []
+  note_told noted c l zero = refl
+  note_told noted c l (suc i) = ap (told_from label (put_at c (Some l) noted)) (take_nil i)
+
   module _ (a : Stores) (k : Saves a) where
     knows : Knows p is_old a
     knows = all_know p is_old a k.stands
@@ -338,6 +343,27 @@ module _ {I S : Type 0} (p : Profile I S) (is_old : Uuid → Bool) (label : ℕ 
         let some = acts_written label is (take j (download_records p (plain o.file) ident m)) a.clients k.world n o k.comes k.same e (knows.clients_open n o e) (none_made o ident j m) in
         record {
           stands = Rattle.lives_law.specs.Stored.Stands.by_step k.stands (client_takes n ident j m f o e ok kept u);
+          world = some.0;
+          comes = some.1.comes;
+          same = some.1.same;
+          histories = λ g q. subst (λ h. Among (history label (plain g)) h) (sym some.1.hists) (k.histories g q);
+          all = k.all;
+        }
+
+    step_saves d (server_notes n c l o e) done =
+        let told : (i : ℕ) → told_from label (noted_by nothing_noted (plain o.file)) (take i (note c l ∷ [])) ≡ [] = note_told (noted_by nothing_noted (plain o.file)) c l in
+        record {
+          stands = Rattle.lives_law.specs.Stored.Stands.by_step k.stands (server_notes n c l o e);
+          world = k.world;
+          comes = k.comes;
+          same = k.same;
+          histories = gone_on (note c l ∷ []) n o k.world e (λ g q. q) (λ i. subst (λ z. Among z k.world.hists) (sym (ap (λ x. history label (plain o.file) ++ x) (told i) ∙ append-nil (history label (plain o.file)))) (k.histories o.file (server_kept n o e)));
+          all = all_gone_on (note c l ∷ []) n o e (λ i. ap length (told i) ∙ ap entries_in (sym (none_bare p is_old c l i)));
+        }
+    step_saves d (client_notes n c l o e) done =
+        let some = acts_written label is (note c l ∷ []) a.clients k.world n o k.comes k.same e (knows.clients_open n o e) no_more in
+        record {
+          stands = Rattle.lives_law.specs.Stored.Stands.by_step k.stands (client_notes n c l o e);
           world = some.0;
           comes = some.1.comes;
           same = some.1.same;

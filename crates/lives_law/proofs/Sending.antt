@@ -50,7 +50,7 @@ behind {counts = counts} x b e m = record {
   life = m.life;
 }
 
-life_marks : {R : Type 0} (counts : R → Bool) (f : List (Written R)) (n l : ℕ) → at (lives_of counts f) n ≡ Some l → Mark counts f n l
+pub life_marks : {R : Type 0} (counts : R → Bool) (f : List (Written R)) (n l : ℕ) → at (lives_of counts f) n ≡ Some l → Mark counts f n l
 life_marks counts [] n l e = cc
 life_marks counts (x ∷ f) n l e = on (counts x.what) refl n e (λ k h. life_marks counts f k l h)
   where

@@ -1,5 +1,5 @@
 -- What stands in files with notes stands in the same files without, in worlds of roaming files.
-use Rattle.std.proofs.Common.{◌≡◌, ◌≢◌, ◌⊎◌, inl, inr, ⊎_elim, ℕ, zero, suc, ◌-◌, Bool, true, false, List, [], ◌∷◌, ◌++◌, Some, None, refl, sym, ap, ◌∙◌, subst, arith, length, take, drop, length-append, if◌then◌else◌}
+use Rattle.std.proofs.Common.{◌≡◌, ◌≢◌, ◌⊎◌, inl, inr, ⊎_elim, ℕ, zero, suc, ◌-◌, Bool, true, false, List, [], ◌∷◌, ◌++◌, Some, None, refl, sym, ap, ◌∙◌, subst, arith, append-nil, length, take, drop, length-append, if◌then◌else◌}
 use Rattle.std.specs.Prelude.{bytes_eq}
 use Rattle.sync_theory.specs.Logs.{of_origin}
 use Rattle.sync_theory.proofs.World.{same_or_not}
@@ -19,7 +19,7 @@ use Rattle.lives_law.specs.Uploads.{HasLine}
 use Rattle.lives_law.specs.Passing.{HasHistory}
 use Rattle.lives_law.specs.Pair.{IsWhole, Fit, ident_at}
 use Rattle.lives_law.specs.Roaming.{Both, nobody, written_all, NoEntry, NoTook, NoneIs, Happens, Roams, TakesUpload, TakesDownload, AllFollow, Meets}
-use Rattle.lives_law.specs.Stored.{unnoted, Noted, it, Kept, entry_by, took_by, bare, bare_file, open_by, kept_of, with_notes, Passage, passes, Stores, no_stores, upload_records, download_records, IsUploadOf, IsDownloadOf, Occurs, server_opens, client_opens, server_writes, client_writes, server_takes, server_takes_old, client_takes, Stands, Agree, SameStores}
+use Rattle.lives_law.specs.Stored.{unnoted, Noted, it, note, Kept, entry_by, took_by, bare, bare_file, open_by, kept_of, with_notes, Passage, passes, Stores, no_stores, upload_records, download_records, IsUploadOf, IsDownloadOf, Occurs, server_opens, client_opens, server_writes, client_writes, server_takes, server_takes_old, client_takes, server_notes, client_notes, Stands, Agree, SameStores}
 use Rattle.lives_law.proofs.Lists.{take_nil}
 use Rattle.lives_law.proofs.Notes.{bare_both, plain_bare, same_opened, same_written, count_by, cut_bare, quiet, keeps_both, tooks_are}
 use Rattle.lives_law.proofs.Roaming.{none_before, given_not_zero, beside_cut, OpenKept, some_is, all_open, opened_open, all_new, cut_cut, log_cut, own_cut, has_same, only_empty, all_follow, meeting_fits}
@@ -105,6 +105,24 @@ module _ {I S : Type 0} (p : Profile I S) (is_old : Uuid → Bool) where
       on (inl z) s = inl (tooks ∙ z)
       on (inr q) (inl z) = inl (tooks ∙ z)
       on (inr q) (inr s) = inr (q.0, q.1, last ∙ q.2, has_same p w (bare xs) (bare (xs ++ take i (it r ∷ []))) q.0 q.1 tooks (ap (λ l. (client_of p l).subset) (sym is) ∙ s) q.3)
+
+  -- ---- a note
+
+  pub none_bare : {R : Type 0} (c l i : ℕ) → bare {R = R} (take i (note c l ∷ [])) ≡ []
+  none_bare c l zero = refl
+  none_bare c l (suc i) = ap bare (take_nil i)
+
+  line_noted : (v : Files ClientRecord) (xs : List (Noted ServerRecord)) (c l i d : ℕ) → LineKept p v xs d → LineKept p v (xs ++ take i (note c l ∷ [])) d
+  line_noted v xs c l i d h = line_beside p v xs (take i (note c l ∷ [])) d (ap (λ z. of_origin d (after_all p (server_of p (bare xs)) z).log) (none_bare c l i)) h
+
+  history_noted : (w : Files ServerRecord) (xs : List (Noted ClientRecord)) (c l i : ℕ) → HistoryKept p w xs → HistoryKept p w (xs ++ take i (note c l ∷ []))
+  history_noted w xs c l i h = ⊎_elim (λ z. inl (ap tooks_of is ∙ z)) (λ q. inr (q.0, q.1, last ∙ q.2, subst (λ z. HasHistory p w z q.0 q.1) (sym is) q.3)) h
+    where
+      is : bare (xs ++ take i (note c l ∷ [])) ≡ bare xs
+      is = bare_both xs (take i (note c l ∷ [])) ∙ ap (λ z. bare xs ++ z) (none_bare c l i) ∙ append-nil (bare xs)
+
+      last : (kept_of took_by 0 (xs ++ take i (note c l ∷ []))).last ≡ (kept_of took_by 0 xs).last
+      last = ap (λ (k : Kept). k.last) (keeps_both took_by 0 xs (take i (note c l ∷ [])) (record { noted = None; last = None })) ∙ quiet took_by 0 (take i (note c l ∷ [])) (kept_of took_by 0 xs) (ap (count_by took_by 0) (none_bare c l i))
 
   -- ---- each step
 
@@ -320,6 +338,28 @@ module _ {I S : Type 0} (p : Profile I S) (is_old : Uuid → Bool) where
     step_knows d (server_takes n c j m f o e given none kept u) = server_took n c j m f o e given none kept u
     step_knows d (server_takes_old n c j id hs o e given is aged) = server_took_old n c j id hs o e given is aged
     step_knows d (client_takes n ident j m f o e ok kept u) = client_took n ident j m f o e ok kept u
+    step_knows d (server_notes n c l o e) = record {
+      beneath = k.beneath;
+      roams = k.roams;
+      same = record { servers = same_written (note c l ∷ []) b.servers k.beneath.servers n o (bare_open o) k.same.servers refl e (k.servers_open n o e); clients = k.same.clients };
+      lines = λ g q d nz unmarked. ⊎_elim (λ old. k.lines g old d nz unmarked)
+          (λ late. subst (λ z. LineKept p k.beneath.clients z d) (sym late.1) (line_noted k.beneath.clients (plain o.file) c l late.0 d (k.lines o.file (k.servers_open n o e) d nz (before o g (take late.0 (note c l ∷ [])) d nz late.1 unmarked))))
+          (all_new (note c l ∷ []) b.servers n o g q);
+      histories = λ g q. k.histories g q;
+      servers_open = all_open (note c l ∷ []) b.servers n o k.servers_open;
+      clients_open = k.clients_open;
+    }
+    step_knows d (client_notes n c l o e) = record {
+      beneath = k.beneath;
+      roams = k.roams;
+      same = record { servers = k.same.servers; clients = same_written (note c l ∷ []) b.clients k.beneath.clients n o (bare_open o) k.same.clients refl e (k.clients_open n o e) };
+      lines = λ g q d nz unmarked. k.lines g q d nz unmarked;
+      histories = λ g q. ⊎_elim (λ old. k.histories g old)
+          (λ late. subst (λ z. HistoryKept p k.beneath.servers z) (sym late.1) (history_noted k.beneath.servers (plain o.file) c l late.0 (k.histories o.file (k.clients_open n o e))))
+          (all_new (note c l ∷ []) b.clients n o g q);
+      servers_open = k.servers_open;
+      clients_open = all_open (note c l ∷ []) b.clients n o k.clients_open;
+    }
 
   pub all_know : (b : Stores) → Stands p is_old b → Knows b
   all_know b Rattle.lives_law.specs.Stored.Stands.at_first = first_knows

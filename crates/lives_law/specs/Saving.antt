@@ -10,7 +10,7 @@ use Rattle.sync_model.specs.Servers.{ServerRecord, Entry, server_of}
 use Rattle.lives_law.specs.Lives.{Written, Files, Among, tally}
 use Rattle.lives_law.specs.Instances.{plain, is_made}
 use Rattle.lives_law.specs.Heirs.{Token, Act, saves, other, is_act, Honest, Clock, reached, Comes, World, Entry as Told}
-use Rattle.lives_law.specs.Stored.{Noted, it, note, bare, bare_file, open_by, Stores, no_stores, upload_records, Occurs, server_opens, client_opens, server_writes, client_writes, server_takes, server_takes_old, client_takes}
+use Rattle.lives_law.specs.Stored.{Noted, it, note, bare, bare_file, open_by, Stores, no_stores, upload_records, Occurs, server_opens, client_opens, server_writes, client_writes, server_takes, server_takes_old, client_takes, server_notes, client_notes}
 
 -- the lives that a server's file notes of idents
 abbrev pub noted_by : (ℕ → Option ℕ) → List (Noted ServerRecord) → ℕ → Option ℕ
@@ -88,6 +88,8 @@ module _ (label : ℕ → ℕ → Act) where
     IsDone (server_takes n c j m f o e given none k u) = AllNew (history (plain o.file)) (told_from (noted_by nothing_noted (plain o.file)) (take j (upload_records p (plain o.file) c m)))
     IsDone (server_takes_old n c j id hs o e given is aged) = ⊥
     IsDone (client_takes n ident j m f o e ok k u) = Unit {0}
+    IsDone (server_notes n c l o e) = Unit {0}
+    IsDone (client_notes n c l o e) = Unit {0}
 
     pub data Saving : Stores → Type 0 where
       at_first : Saving no_stores

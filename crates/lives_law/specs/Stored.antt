@@ -162,6 +162,9 @@ module _ {I S : Type 0} (p : Profile I S) (is_old : Uuid → Bool) where
         → Occurs b (record b { servers = written_all b.servers n o (take j (unnoted (serve_changes p (server_of p (bare (plain o.file))) c hs).records)) })
     client_takes : {b : Stores} (n ident j : ℕ) (m : Passage Sent) (f : List (Written (Noted ServerRecord))) (o : Open (Noted ClientRecord)) → b.clients.nodes n ≡ Some o → IsMessage p (Download ident m.from m.tells) → Among f b.servers.kept → IsDownloadOf p (bare_file f) (bare (plain o.file)) m
         → Occurs b (record b { clients = written_all b.clients n o (take j (download_records p (plain o.file) ident m)) })
+    -- a note alone, of any life: it says nothing until a record follows
+    server_notes : {b : Stores} (n c l : ℕ) (o : Open (Noted ServerRecord)) → b.servers.nodes n ≡ Some o → Occurs b (record b { servers = written_all b.servers n o (note c l ∷ []) })
+    client_notes : {b : Stores} (n c l : ℕ) (o : Open (Noted ClientRecord)) → b.clients.nodes n ≡ Some o → Occurs b (record b { clients = written_all b.clients n o (note c l ∷ []) })
 
   pub data Stands : Stores → Type 0 where
     at_first : Stands no_stores

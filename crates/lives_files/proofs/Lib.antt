@@ -1,0 +1,9 @@
+pub mod Numbering
+pub mod Lines
+pub mod Entries
+pub mod Mades
+pub mod Agreeing
+pub mod Piecewise
+pub mod Appending
+pub mod Journals
+pub mod Standing

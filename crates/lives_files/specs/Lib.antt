@@ -1,0 +1,4 @@
+pub mod Files
+pub mod Telling
+pub mod Agreeing
+pub mod Journals
