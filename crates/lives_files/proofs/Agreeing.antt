@@ -1,5 +1,5 @@
 -- Two files that agree by the marks that are read from them agree by what the laws keep.
-use Rattle.std.proofs.Common.{◌≡◌, ◌≢◌, ◌⊎◌, inl, inr, ⊎_elim, ℕ, zero, suc, ◌-◌, Bool, true, List, [], ◌∷◌, length, map, Option, Some, None, refl, sym, ap, ◌∙◌, subst, arith, if◌then◌else◌, ◌==◌}
+use Rattle.std.proofs.Common.{◌≡◌, ◌≢◌, ◌⊎◌, inl, inr, ⊎_elim, ℕ, zero, suc, ◌-◌, Bool, List, [], ◌∷◌, length, map, Option, Some, None, refl, sym, ap, ◌∙◌, subst, arith, if◌then◌else◌, ◌==◌}
 use Rattle.std.specs.Prelude.{slice_get, nat_lt}
 use Rattle.std.specs.Option.{option_map}
 use Rattle.std.proofs.lemmas.Bool.{le-ltb}
@@ -48,7 +48,7 @@ module _ (number : List ℕ → ℕ) where
       ∙ ap (λ (k : ℕ). slice_get m.entries k) z
 
   module _ {I S : Type 0} (p : Profile I S) (is_old : Uuid → Bool) (b : Stores) (f : List (Written ServerPiece)) (g : List (Written ClientPiece)) (server : ServerIs number f) (client : ClientIs number g)
-    (server_kept : Among (server_file number f) b.servers.kept) (client_kept : Among (client_file number g) b.clients.kept) (t : MarksAgree number p is_old f g) where
+      (server_kept : Among (server_file number f) b.servers.kept) (client_kept : Among (client_file number g) b.clients.kept) (t : MarksAgree number p is_old f g) where
     abbrev tooks : List Sent
     tooks = tooks_of (client_records number g)
 

@@ -1,13 +1,9 @@
 -- What is appended to a file: what its notes say, and what the laws append.
-use Rattle.std.proofs.Common.{◌≡◌, ◌≢◌, ◌⊎◌, inl, inr, ℕ, zero, suc, ◌-◌, Bool, true, false, List, [], ◌∷◌, ◌++◌, Option, Some, None, refl, sym, ap, ap₂, ◌∙◌, subst, length, map, take, drop, if◌then◌else◌, ◌==◌}
-use Rattle.std.specs.Option.{option_map}
+use Rattle.std.proofs.Common.{◌≡◌, inl, inr, ℕ, zero, suc, Bool, true, false, List, [], ◌∷◌, ◌++◌, Option, Some, refl, sym, ap, ◌∙◌, subst, map, take, if◌then◌else◌}
 use Rattle.sync_theory.proofs.Server.{test_true}
-use Rattle.sync_model.specs.Clients as model_client
-use Rattle.sync_model.specs.Servers as model_server
 use Rattle.sync_records.specs.declared.server.ServerRecord.{ServerRecord}
 use Rattle.sync_records.specs.declared.client.ClientRecord.{ClientRecord}
 use Rattle.sync_exchange.specs.Seen.{client_seen, server_seen}
-use Rattle.life_bytes.specs.declared.note.Note.{Note}
 use Rattle.life_bytes.specs.declared.note.Note.TheVariants as notes
 use Rattle.life_marks.specs.declared.pieces.ServerPiece.{ServerPiece}
 use Rattle.life_marks.specs.declared.pieces.ServerPiece.TheVariants as server
@@ -17,8 +13,8 @@ use Rattle.life_marks.specs.ServerMarks as server_marks
 use Rattle.life_marks.specs.ClientMarks as client_marks
 use Rattle.lives_law.specs.Lives.{Written}
 use Rattle.lives_law.specs.Instances.{plain}
-use Rattle.lives_law.specs.Stored.{Noted, it, note, is_by, is_life, noted_one, with_notes, unnoted}
-use Rattle.lives_files.specs.Files.{in_life, server_piece, client_piece}
+use Rattle.lives_law.specs.Stored.{it, note, is_by, noted_one, with_notes, unnoted}
+use Rattle.lives_files.specs.Files.{server_piece, client_piece}
 use Rattle.lives_files.specs.Telling.{ServerTells, ClientTells}
 use Rattle.lives_files.specs.Journals.{AllAre}
 use Rattle.lives_files.proofs.Piecewise.{flat, Few}

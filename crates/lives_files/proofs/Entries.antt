@@ -1,5 +1,5 @@
 -- The lives of a server's entries, as its marks have them.
-use Rattle.std.proofs.Common.{◌≡◌, ℕ, zero, suc, List, [], ◌∷◌, ◌++◌, map, Option, Some, None, refl, sym, ap, ap₂, ◌∙◌, subst, append_assoc, append-nil}
+use Rattle.std.proofs.Common.{◌≡◌, ℕ, zero, suc, List, [], ◌∷◌, ◌++◌, map, Option, Some, refl, sym, ap, ◌∙◌, append_assoc, append-nil}
 use Rattle.std.specs.Option.{unwrap_or}
 use Rattle.life_bytes.specs.declared.note.Note.{Note}
 use Rattle.life_bytes.specs.declared.note.Note.TheVariants as notes

@@ -1,5 +1,5 @@
 -- Worlds of the program's own files are worlds of files that keep lives.
-use Rattle.std.proofs.Common.{◌≡◌, ◌≢◌, ◌⊎◌, inl, inr, ⊎_elim, ℕ, zero, suc, ◌-◌, Bool, true, false, List, [], ◌∷◌, ◌++◌, Option, Some, None, refl, sym, ap, ◌∙◌, subst, length, map, take, drop, if◌then◌else◌}
+use Rattle.std.proofs.Common.{◌≡◌, ⊎_elim, ℕ, suc, ◌-◌, Bool, List, [], ◌∷◌, Option, Some, None, refl, sym, ap, ◌∙◌, subst, length, map, take, drop, if◌then◌else◌}
 use Rattle.std.specs.Option.{option_map}
 use Rattle.sync_model.specs.Bytes.{Uuid}
 use Rattle.sync_model.specs.Profile.{Profile}
@@ -20,9 +20,9 @@ use Rattle.life_marks.specs.declared.pieces.ClientPiece.TheVariants as client
 use Rattle.life_marks.specs.declared.server_marks.Line.{Line}
 use Rattle.life_marks.specs.ServerMarks as server_marks
 use Rattle.life_marks.specs.ClientMarks as client_marks
-use Rattle.lives_law.specs.Lives.{Written, Files, Open, Among, here, no_files, opened}
+use Rattle.lives_law.specs.Lives.{Written, Open, Among, here, no_files, opened}
 use Rattle.lives_law.specs.Instances.{plain}
-use Rattle.lives_law.specs.Roaming.{written_all, NoEntry, NoTook}
+use Rattle.lives_law.specs.Roaming.{written_all}
 use Rattle.lives_law.specs.Stored as stored
 use Rattle.lives_law.specs.Stored.{Noted, it, note, Kept, Passage, passes, entry_by, took_by, kept_of, with_notes, unnoted, open_by, SameBy, Stores, no_stores, Stands, upload_records, download_records}
 use Rattle.lives_law.proofs.Notes.{same_opened}
@@ -153,7 +153,7 @@ module _ {I S : Type 0} (number : List ℕ → ℕ) (p : Profile I S) (is_old : 
     -- ---- an Upload and a Download
 
     module _ (n c j : ℕ) (m : Passage Change) (o : Open ServerPiece) (rs : List ServerRecord) (e : b.servers.nodes n ≡ Some o) (t : PassesServer number p is_old b.clients o c m)
-      (is : map server_seen rs ≡ take j (serve_changes p (server_of p (server_records number o.file)) c m.tells).records) where
+        (is : map server_seen rs ≡ take j (serve_changes p (server_of p (server_records number o.file)) c m.tells).records) where
       abbrev its_records : List model_server.ServerRecord
       its_records = (serve_changes p (server_of p (server_records number o.file)) c m.tells).records
 
@@ -177,7 +177,7 @@ module _ {I S : Type 0} (number : List ℕ → ℕ) (p : Profile I S) (is_old : 
           (stored.Stands.by_step k.stands (stored.Occurs.server_takes n c j m (client_file number t.file) (server_store o) (server_there n o e) t.given t.new (k.clients.kept t.file t.kept) t.is))
 
     module _ (n ident j : ℕ) (m : Passage Sent) (o : Open ClientPiece) (rs : List ClientRecord) (e : b.clients.nodes n ≡ Some o) (t : PassesClient number p is_old b.servers o ident m)
-      (is : map client_seen rs ≡ take j (take_message p (client_of p (client_records number o.file)) (Download ident m.from m.tells)).records) where
+        (is : map client_seen rs ≡ take j (take_message p (client_of p (client_records number o.file)) (Download ident m.from m.tells)).records) where
       abbrev its_tooks : List model_client.ClientRecord
       its_tooks = (take_message p (client_of p (client_records number o.file)) (Download ident m.from m.tells)).records
 

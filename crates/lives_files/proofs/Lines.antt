@@ -1,5 +1,5 @@
 -- What a server keeps of an ident, as the laws do.
-use Rattle.std.proofs.Common.{◌≡◌, ◌≢◌, ⊎_elim, ℕ, zero, suc, ◌<◌, ◌≤◌, Bool, true, false, List, [], ◌∷◌, ◌++◌, length, map, Option, Some, None, refl, sym, ap, ap₂, ◌∙◌, subst, arith, if◌then◌else◌, ◌==◌}
+use Rattle.std.proofs.Common.{◌≡◌, ◌≢◌, ⊎_elim, ℕ, zero, suc, ◌<◌, ◌≤◌, List, [], ◌∷◌, ◌++◌, length, Option, Some, None, refl, sym, ap, ◌∙◌, subst, arith, if◌then◌else◌, ◌==◌}
 use Rattle.std.specs.Prelude.{slice_get}
 use Rattle.std.specs.Option.{option_map}
 use Rattle.sync_theory.proofs.Server.{test_true, test_false}
@@ -14,8 +14,8 @@ use Rattle.life_marks.specs.declared.server_marks.Line.{Line}
 use Rattle.life_marks.specs.ServerMarks.{Marks, line_of, at_place, with_line, as_member, noting, ended, newly_given, after_piece, after_pieces}
 use Rattle.lives_law.specs.Lives.{Written}
 use Rattle.lives_law.specs.Instances.{plain}
-use Rattle.lives_law.specs.Stored.{Noted, Kept, entry_by, keeps_all}
-use Rattle.lives_files.specs.Files.{in_life, server_note, server_piece, server_file}
+use Rattle.lives_law.specs.Stored.{Kept, entry_by, keeps_all}
+use Rattle.lives_files.specs.Files.{in_life, server_file}
 use Rattle.lives_files.specs.Telling.{ServerRecordTells, ServerNoteTells, ServerPieceTells, ServerTells}
 use Rattle.lives_files.specs.Agreeing.{kept_in}
 
@@ -69,11 +69,11 @@ module _ (number : List ℕ → ℕ) where
       → (if suc c == d then record (kept_in number (line_of (suc c) lines)) { noted = Some (number life) } else kept_in number (line_of (suc c) lines)) ≡ kept_in number (line_of (suc c) (with_line d (noting life) lines))
   noted c d life lines le = ⊎_elim
       (λ e. ap (λ b. if b then record (kept_in number (line_of (suc c) lines)) { noted = Some (number life) } else kept_in number (line_of (suc c) lines)) (test_true (suc c) d e)
-        ∙ subst (λ k. record (kept_in number (line_of (suc c) lines)) { noted = Some (number life) } ≡ kept_in number (line_of (suc c) (with_line k (noting life) lines))) e
-        (let t = there_is c lines (omega arith) in
-        ap (λ (o : Option Line). record (kept_in number o) { noted = Some (number life) }) t.1 ∙ sym (ap (kept_in number) (line_same (noting life) c lines ∙ ap (option_map (noting life)) t.1))))
+      ∙ subst (λ k. record (kept_in number (line_of (suc c) lines)) { noted = Some (number life) } ≡ kept_in number (line_of (suc c) (with_line k (noting life) lines))) e
+      (let t = there_is c lines (omega arith) in
+      ap (λ (o : Option Line). record (kept_in number o) { noted = Some (number life) }) t.1 ∙ sym (ap (kept_in number) (line_same (noting life) c lines ∙ ap (option_map (noting life)) t.1))))
       (λ ne. ap (λ b. if b then record (kept_in number (line_of (suc c) lines)) { noted = Some (number life) } else kept_in number (line_of (suc c) lines)) (test_false (suc c) d ne)
-        ∙ ap (kept_in number) (sym (line_other (noting life) c d lines ne)))
+      ∙ ap (kept_in number) (sym (line_other (noting life) c d lines ne)))
       (same_or_not (suc c) d)
 
   -- an entry of an ident
@@ -81,10 +81,10 @@ module _ (number : List ℕ → ℕ) where
       → (if suc c == d then record (kept_in number (line_of (suc c) lines)) { last = (kept_in number (line_of (suc c) lines)).noted } else kept_in number (line_of (suc c) lines)) ≡ kept_in number (line_of (suc c) (with_line d ended lines))
   entered c d lines = ⊎_elim
       (λ e. ap (λ b. if b then record (kept_in number (line_of (suc c) lines)) { last = (kept_in number (line_of (suc c) lines)).noted } else kept_in number (line_of (suc c) lines)) (test_true (suc c) d e)
-        ∙ subst (λ k. record (kept_in number (line_of (suc c) lines)) { last = (kept_in number (line_of (suc c) lines)).noted } ≡ kept_in number (line_of (suc c) (with_line k ended lines))) e
-        (on (line_of (suc c) lines) ∙ sym (ap (kept_in number) (line_same ended c lines))))
+      ∙ subst (λ k. record (kept_in number (line_of (suc c) lines)) { last = (kept_in number (line_of (suc c) lines)).noted } ≡ kept_in number (line_of (suc c) (with_line k ended lines))) e
+      (on (line_of (suc c) lines) ∙ sym (ap (kept_in number) (line_same ended c lines))))
       (λ ne. ap (λ b. if b then record (kept_in number (line_of (suc c) lines)) { last = (kept_in number (line_of (suc c) lines)).noted } else kept_in number (line_of (suc c) lines)) (test_false (suc c) d ne)
-        ∙ ap (kept_in number) (sym (line_other ended c d lines ne)))
+      ∙ ap (kept_in number) (sym (line_other ended c d lines ne)))
       (same_or_not (suc c) d)
     where
       on : (o : Option Line) → record (kept_in number o) { last = (kept_in number o).noted } ≡ kept_in number (option_map ended o)

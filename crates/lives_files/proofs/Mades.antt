@@ -1,5 +1,5 @@
 -- The lives of what a client made and took, as its marks have them.
-use Rattle.std.proofs.Common.{◌≡◌, ℕ, zero, suc, List, [], ◌∷◌, ◌++◌, map, Option, Some, None, refl, sym, ap, ap₂, ◌∙◌, subst, append-nil}
+use Rattle.std.proofs.Common.{◌≡◌, ℕ, List, [], ◌∷◌, ◌++◌, map, Option, Some, refl, sym, ap, ◌∙◌, append-nil}
 use Rattle.std.specs.Option.{option_map}
 use Rattle.life_bytes.specs.declared.note.Note.{Note}
 use Rattle.life_bytes.specs.declared.note.Note.TheVariants as notes
@@ -7,15 +7,13 @@ use Rattle.sync_records.specs.declared.client.ClientRecord.{ClientRecord}
 use Rattle.sync_records.specs.declared.client.ClientRecord.TheVariants as clients
 use Rattle.life_marks.specs.declared.pieces.ClientPiece.{ClientPiece}
 use Rattle.life_marks.specs.declared.pieces.ClientPiece.TheVariants as client
-use Rattle.life_marks.specs.declared.client_marks.Before.{Before}
-use Rattle.life_marks.specs.declared.client_marks.Before.TheVariants as befores
-use Rattle.life_marks.specs.ClientMarks.{Marks, no_marks, last_at, after_piece, after_pieces, marks_of}
+use Rattle.life_marks.specs.ClientMarks.{Marks, no_marks, last_at, after_piece, after_pieces}
 use Rattle.lives_law.specs.Lives.{Written}
 use Rattle.lives_law.specs.Instances.{plain, is_made}
 use Rattle.lives_law.specs.Sending.{lives_of}
 use Rattle.lives_law.specs.Stored.{Kept, took_by, keeps_all, bare_file}
 use Rattle.lives_files.specs.Files.{in_life, client_file}
-use Rattle.lives_files.specs.Telling.{ClientRecordTells, ClientNoteTells, ClientPieceTells, ClientTells}
+use Rattle.lives_files.specs.Telling.{ClientRecordTells, ClientPieceTells, ClientTells}
 use Rattle.lives_files.specs.Agreeing.{ClientIs}
 use Rattle.lives_files.proofs.Entries.{map_one}
 

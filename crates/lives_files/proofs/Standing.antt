@@ -11,7 +11,7 @@ use Rattle.lives_files.specs.Journals.{Journals, Runs}
 use Rattle.lives_files.proofs.Entries.{server_is}
 use Rattle.lives_files.proofs.Mades.{client_is}
 use Rattle.lives_files.proofs.Agreeing.{marked_fit}
-use Rattle.lives_files.proofs.Journals.{Mirrors, mirrors}
+use Rattle.lives_files.proofs.Journals.{mirrors}
 
 module _ {I S : Type 0} {Fits : S → Type 0} (number : List ℕ → ℕ) (p : Profile I S) (law : Lawful p Fits) (is_old : Uuid → Bool) (b : Journals) (runs : Runs number p is_old b) where
   pub two_fit : (f : List (Written ServerPiece)) (g : List (Written ClientPiece)) → Among f b.servers.kept → Among g b.clients.kept → MarksAgree number p is_old f g → Fit p (server_records number f) (client_records number g)

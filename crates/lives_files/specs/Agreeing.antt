@@ -14,7 +14,7 @@ use Rattle.lives_law.specs.Lives.{Written}
 use Rattle.lives_law.specs.Instances.{plain, is_entry, is_made}
 use Rattle.lives_law.specs.Pair.{ident_at}
 use Rattle.lives_law.specs.Sending.{lives_of}
-use Rattle.lives_law.specs.Stored.{Noted, Kept, entry_by, took_by, kept_of, bare, bare_file}
+use Rattle.lives_law.specs.Stored.{Kept, entry_by, took_by, kept_of, bare, bare_file}
 use Rattle.lives_files.specs.Files.{server_file, client_file}
 
 -- the life of an ident's last entry

@@ -1,6 +1,6 @@
 -- Worlds of the program's own files: journals of records and notes, which nodes write and take as the marks say that they read from
 -- them. Files are put back, copied and moved as in `Lives`.
-use Rattle.std.specs.Prelude.{◌≡◌, ◌-◌, ℕ, suc, Bool, true, List, [], ◌∷◌, ◌++◌, Option, Some, length, map, take, drop}
+use Rattle.std.specs.Prelude.{◌≡◌, ◌-◌, ℕ, suc, Bool, true, List, [], ◌∷◌, Option, Some, length, map, take, drop}
 use Rattle.std.specs.Option.{option_map}
 use Rattle.sync_model.specs.Bytes.{Uuid}
 use Rattle.sync_model.specs.Profile.{Profile}
@@ -9,7 +9,6 @@ use Rattle.sync_model.specs.Messages.{Change, Sent, Download}
 use Rattle.sync_model.specs.Clients.{client_of, tooks_of, take as take_message}
 use Rattle.sync_model.specs.Servers.{server_of, count, is_given, place_of, serve_changes}
 use Rattle.sync_model.specs.Files.{client_admits, server_admits}
-use Rattle.sync_model.specs.Worlds.{at}
 use Rattle.sync_records.specs.declared.server.ServerRecord.{ServerRecord}
 use Rattle.sync_records.specs.declared.client.ClientRecord.{ClientRecord}
 use Rattle.sync_exchange.specs.Seen.{client_seen, server_seen}

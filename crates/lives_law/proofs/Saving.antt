@@ -349,7 +349,6 @@ module _ {I S : Type 0} (p : Profile I S) (is_old : Uuid → Bool) (label : ℕ 
           histories = λ g q. subst (λ h. Among (history label (plain g)) h) (sym some.1.hists) (k.histories g q);
           all = k.all;
         }
-
     step_saves d (server_notes n c l o e) done =
         let told : (i : ℕ) → told_from label (noted_by nothing_noted (plain o.file)) (take i (note c l ∷ [])) ≡ [] = note_told (noted_by nothing_noted (plain o.file)) c l in
         record {
