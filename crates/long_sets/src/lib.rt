@@ -10,4 +10,5 @@ mod row;
 mod sets;
 mod strangers;
 
+pub use meeting::meet_in_place;
 pub use sets::{cross_long, cross_long_indexed};

@@ -5,7 +5,7 @@ use sync_base::{Instr, Mismatch, Outcome};
 use sync_transform::{meet, meet_where_they_lie};
 
 /// Two instructions meet, where they are there, and what is left of both stands in their places.
-pub(crate) fn meet_in_place(
+pub fn meet_in_place(
     left: &mut Option<Instr>,
     right: &mut Option<Instr>,
     left_later: bool,

@@ -1,0 +1,4 @@
+pub mod Moving
+pub mod States
+pub mod Located
+pub mod Ahead

@@ -1,0 +1,3 @@
+pub mod Stood
+pub mod Pending
+pub mod Crossing
