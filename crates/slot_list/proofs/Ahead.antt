@@ -1,5 +1,5 @@
 -- An incoming instruction goes on through slots, from one place to the next.
-use Rattle.std.proofs.Common.{◌≡◌, ℕ, zero, suc, ◌+◌, ◌-◌, ◌≤◌, ◌<◌, Bool, true, false, List, [], ◌∷◌, ◌++◌, append_assoc, append-nil, take, drop, length, Option, Some, None, Result, Ok, Err, refl, sym, ap, ◌∙◌, subst, arith}
+use Rattle.std.proofs.Common.{◌≡◌, ℕ, zero, suc, ◌+◌, ◌-◌, ◌≤◌, ◌<◌, Bool, true, false, List, [], ◌∷◌, ◌++◌, append_assoc, append-nil, take, drop, length, length-drop, Option, Some, None, Result, Ok, Err, refl, sym, ap, ◌∙◌, subst, arith}
 use Rattle.std.specs.Prelude.{slice_set}
 use Rattle.std.proofs.Math.Seq.{take-add}
 use Rattle.std.proofs.lemmas.List.{drop-drop, take_all, drop_all}
@@ -59,11 +59,17 @@ front_here zero (s ∷ ts) (y ∷ xs) t x u h k = λ i. (h i, u) ∷ []
 front_here (suc n) (s ∷ ts) (y ∷ xs) t x u h k = ap (λ l. (s, y) ∷ l) (front_here n ts xs t x u h k)
 
 -- ---- from a place on
+sub_zero : (p : ℕ) → p - 0 ≡ p
+sub_zero p = omega arith
+
+sub_suc : (p n : ℕ) → p - n ≡ suc p - suc n
+sub_suc p n = omega arith
+
 pub is_at_drop : {A : Type 0} (n p : ℕ) (a : A) (xs : List A) → n ≤ p → IsAt p a xs → IsAt (p - n) a (drop n xs)
-is_at_drop zero p a xs o h = h
+is_at_drop zero p a xs o h = subst (λ m. IsAt m a xs) (sym (sub_zero p)) h
 is_at_drop (suc n) p a [] o h = absurd h
 is_at_drop (suc n) zero a (x ∷ xs) o h = absurd (omega (arith, o))
-is_at_drop (suc n) (suc p) a (x ∷ xs) o h = is_at_drop n p a xs (omega (arith, o)) h
+is_at_drop (suc n) (suc p) a (x ∷ xs) o h = subst (λ m. IsAt m a (drop n xs)) (sub_suc p n) (is_at_drop n p a xs (omega (arith, o)) h)
 
 pub drop_owned : (n : ℕ) (ts : List (Changeset Instr)) (xs : List (Option Instr)) → drop n (owned ts xs) ≡ owned (drop n ts) (drop n xs)
 drop_owned zero ts xs = refl
@@ -76,27 +82,21 @@ drop_owned (suc n) (t ∷ ts) [] = empty_owned (drop n ts)
 drop_owned (suc n) (t ∷ ts) (x ∷ xs) = drop_owned n ts xs
 
 pub set_drop : (n p : ℕ) (xs : List (Option Instr)) (u : Option Instr) → n ≤ p → drop n (slice_set xs p u) ≡ slice_set (drop n xs) (p - n) u
-set_drop zero p xs u o = refl
+set_drop zero p xs u o = ap (λ m. slice_set xs m u) (sym (sub_zero p))
 set_drop (suc n) p [] u o = refl
 set_drop (suc n) zero (x ∷ xs) u o = absurd (omega (arith, o))
-set_drop (suc n) (suc p) (x ∷ xs) u o = set_drop n p xs u (omega (arith, o))
-
-pub take_set : (n p : ℕ) (ts : List (Changeset Instr)) (xs : List (Option Instr)) (u : Option Instr) → n ≤ p → take n (owned ts (slice_set xs p u)) ≡ take n (owned ts xs)
-take_set zero p ts xs u o = refl
-take_set (suc n) p [] xs u o = refl
-take_set (suc n) p (t ∷ ts) [] u o = refl
-take_set (suc n) zero (t ∷ ts) (x ∷ xs) u o = absurd (omega (arith, o))
-take_set (suc n) (suc p) (t ∷ ts) (x ∷ xs) u o = ap (λ l. (t, x) ∷ l) (take_set n p ts xs u (omega (arith, o)))
+set_drop (suc n) (suc p) (x ∷ xs) u o = set_drop n p xs u (omega (arith, o)) ∙ ap (λ m. slice_set (drop n xs) m u) (sub_suc p n)
 
 pub pass_from : (n from to : ℕ) (xs : List (Option Instr)) (is : List Instr) → n ≤ from → Pass from to (lists_in xs) is → Pass (from - n) (to - n) (lists_in (drop n xs)) is
-pass_from zero from to xs is o p = p
+pass_from zero from to xs is o p = λ place others low high at later. p place others (omega (arith, low)) (omega (arith, high)) at later
 pass_from (suc n) from to [] is o p = λ place others low high at later. absurd (none place others at)
   where
     none : (place : ℕ) (others : List Instr) → StandsAt place others [] → ⊥
     none place others h = h
 pass_from (suc n) zero to (x ∷ xs) is o p = absurd (omega (arith, o))
 pass_from (suc n) (suc from) zero (x ∷ xs) is o p = λ place others low high at later. absurd (omega (arith, high))
-pass_from (suc n) (suc from) (suc to) (x ∷ xs) is o p = pass_from n from to xs is (omega (arith, o)) (λ place others low high at later. p (suc place) others (omega (arith, low)) (omega (arith, high)) at later)
+pass_from (suc n) (suc from) (suc to) (x ∷ xs) is o p = λ place others low high at later.
+    pass_from n from to xs is (omega (arith, o)) (λ place others low high at later. p (suc place) others (omega (arith, low)) (omega (arith, high)) at later) place others (omega (arith, low)) (omega (arith, high)) at later
 
 -- ---- what an index passes over
 from_here : (k : ℕ) (x : Option Instr) (xs : List (Option Instr)) (is : List Instr) → Pass 0 (suc k) (kept x ∷ lists_in xs) is → Pass 0 k (lists_in xs) is
@@ -188,26 +188,33 @@ at_met left e s n ts xs us vs y place now z k o m h =
     let there : Stood left e ss y (suc q) (owned ts1 (slice_set us1 q m.became)) z = subst (λ r. Ahead (side left e) ss y (take (suc q) (owned ts1 (slice_set us1 q m.became))) r z) (sym (rest_here q ts1 us1 m.became)) (subst (λ p. Ahead (side left e) ss y p (drop (suc q) (owned ts1 us1)) z) (sym (front_here q ts1 us1 m.owner m.slot m.became of is)) on) in
     subst (λ p. Stood left e ss y p (owned ts1 (drop n vs)) z) (sym next1) (subst (λ l. Stood left e ss y (suc q) (owned ts1 l) z) (sym vs1) there)
 
-pub before_met : (left : Bool) (s : Stamp) (n : ℕ) (ts : List (Changeset Instr)) (us vs : List (Option Instr)) (place : ℕ) (now z : Option Instr) → n ≤ place → MeetsAt left s place ts us now vs z → take n (owned ts vs) ≡ take n (owned ts us)
-before_met left s n ts us vs place now z o m = ap (λ l. take n (owned ts l)) m.set ∙ take_set n place ts us m.became o
-
 owned_short : (ts : List (Changeset Instr)) (xs : List (Option Instr)) → length (owned ts xs) ≤ length xs
 owned_short [] xs = omega arith
 owned_short (t ∷ ts) [] = omega arith
 owned_short (t ∷ ts) (x ∷ xs) = let h = owned_short ts xs in omega (arith, h)
-
-drop_short : {A : Type 0} (n m : ℕ) (xs : List A) → length xs ≤ m → length (drop n xs) ≤ m - n
-drop_short zero m xs o = o
-drop_short (suc n) m [] o = omega arith
-drop_short (suc n) zero (x ∷ xs) o = absurd (omega (arith, o))
-drop_short (suc n) (suc m) (x ∷ xs) o = let h = drop_short n m xs (omega (arith, o)) in omega (arith, h)
 
 pub at_end : (left : Bool) (e : Changeset Instr) (n : ℕ) (ts : List (Changeset Instr)) (xs us : List (Option Instr)) (y : Option Instr) (place : ℕ) (now : Option Instr) → length us ≤ place → At left e n ts xs y place us now → through (side left e) (drop n (owned ts xs)) y ≡ Some (drop n (owned ts us), now)
 at_end left e n ts xs us y place now o h =
     let ss = drop n (owned ts xs) in
     let all = owned (drop n ts) (drop n us) in
     let a = owned_short (drop n ts) (drop n us) in
-    let b = drop_short n place us o in
-    let short : length all ≤ place - n = omega (arith, a, b) in
+    let b = length-drop n us in
+    let short : length all ≤ place - n = omega (arith, a, b, o) in
     through_is (side left e) (subst (λ l. Through (side left e) ss y l now) (sym (drop_owned n ts us))
     (done (side left e) ss y all now (subst (λ r. Ahead (side left e) ss y all r now) (drop_all (place - n) all short) (subst (λ p. Ahead (side left e) ss y p (drop (place - n) all) now) (take_all (place - n) all short) h))))
+
+-- ---- for each that has the stamp
+abbrev pub Gone : Bool → Stamp → ℕ → List (Changeset Instr) → List (Option Instr) → Option Instr → ℕ → List (Option Instr) → Option Instr → Type 0
+Gone left s n ts xs y place us now = (e : Changeset Instr) → stamp_of e ≡ s → At left e n ts xs y place us now
+
+pub gone_start : (left : Bool) (s : Stamp) (n : ℕ) (ts : List (Changeset Instr)) (xs : List (Option Instr)) (y : Option Instr) → Gone left s n ts xs y n xs y
+gone_start left s n ts xs y e k = at_start left e n ts xs y
+
+pub gone_next : (left : Bool) (s : Stamp) (n : ℕ) (ts : List (Changeset Instr)) (xs us : List (Option Instr)) (y : Option Instr) (from to : ℕ) (now : Option Instr) → n ≤ from → from ≤ to → Pass from to (lists_in us) (kept now) → Gone left s n ts xs y from us now → Gone left s n ts xs y to us now
+gone_next left s n ts xs us y from to now o k p h e f = at_next left e n ts xs us y from to now o k p (h e f)
+
+pub gone_met : (left : Bool) (s : Stamp) (n : ℕ) (ts : List (Changeset Instr)) (xs us vs : List (Option Instr)) (y : Option Instr) (place : ℕ) (now z : Option Instr) → n ≤ place → MeetsAt left s place ts us now vs z → Gone left s n ts xs y place us now → Gone left s n ts xs y (place + 1) vs z
+gone_met left s n ts xs us vs y place now z o m h e f = at_met left e s n ts xs us vs y place now z f o m (h e f)
+
+pub gone_end : (left : Bool) (s : Stamp) (n : ℕ) (ts : List (Changeset Instr)) (xs us : List (Option Instr)) (y : Option Instr) (place : ℕ) (now : Option Instr) → length us ≤ place → Gone left s n ts xs y place us now → Crosses left s n (owned ts xs) y (owned ts us) now
+gone_end left s n ts xs us y place now o h e f = at_end left e n ts xs us y place now o (h e f)

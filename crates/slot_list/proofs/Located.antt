@@ -1,5 +1,6 @@
 -- Which changeset has a slot.
-use Rattle.std.proofs.Common.{◌≡◌, ℕ, zero, suc, ◌+◌, ◌-◌, ◌≤◌, ◌<◌, List, [], ◌∷◌, ◌++◌, length, length-map, get_or, map, Option, Some, None, refl, sym, ap, ◌∙◌, subst, arith}
+use Rattle.std.proofs.Common.{◌≡◌, ℕ, zero, suc, ◌+◌, ◌-◌, ◌≤◌, ◌<◌, List, [], ◌∷◌, ◌++◌, length, get_or, map, take, Option, Some, None, refl, sym, ap, ◌∙◌, subst, arith}
+use Rattle.std.proofs.lemmas.List.{length-map}
 use Rattle.sync_data.specs.declared.instr.Instr.{Instr}
 use Rattle.sync_theory.specs.Changesets.{Changeset}
 use Rattle.slot_list.specs.Pending.{IsAt, came_in, owners_in, ends_of, start_in, total}
@@ -9,10 +10,16 @@ at_front n a [] ys h = absurd h
 at_front zero a (x ∷ xs) ys h = h
 at_front (suc n) a (x ∷ xs) ys h = at_front n a xs ys h
 
+sub_zero : (p : ℕ) → p - 0 ≡ p
+sub_zero p = omega arith
+
+sub_suc : (p n : ℕ) → suc p - suc n ≡ p - n
+sub_suc p n = omega arith
+
 at_behind : {A : Type 0} (n : ℕ) (a : A) (xs ys : List A) → length xs ≤ n → IsAt (n - length xs) a ys → IsAt n a (xs ++ ys)
-at_behind n a [] ys o h = h
+at_behind n a [] ys o h = subst (λ m. IsAt m a ys) (sub_zero n) h
 at_behind zero a (x ∷ xs) ys o h = absurd (omega (arith, o))
-at_behind (suc n) a (x ∷ xs) ys o h = at_behind n a xs ys (omega (arith, o)) h
+at_behind (suc n) a (x ∷ xs) ys o h = at_behind n a xs ys (omega (arith, o)) (subst (λ m. IsAt m a ys) (sub_suc n (length xs)) h)
 
 at_got : {A : Type 0} (n : ℕ) (d : A) (xs : List A) → n < length xs → IsAt n (get_or xs n d) xs
 at_got n d [] l = absurd (omega (arith, l))
@@ -24,11 +31,15 @@ at_all n b [] l = absurd (omega (arith, l))
 at_all zero b (x ∷ xs) l = refl
 at_all (suc n) b (x ∷ xs) l = at_all n b xs (omega (arith, l))
 
+start_behind : (n : ℕ) (ends : List ℕ) (k d : ℕ) → k < length ends → start_in n ends (suc k) ≡ get_or ends k d
+start_behind n [] k d l = absurd (omega (arith, l))
+start_behind n (e ∷ ends) zero d l = refl
+start_behind n (e ∷ ends) (suc k) d l = start_behind e ends k d (omega (arith, l))
+
 pub start_got : (n : ℕ) (ends : List ℕ) (k d : ℕ) → 0 < k → k ≤ length ends → start_in n ends k ≡ get_or ends (k - 1) d
-start_got n ends zero d o l = absurd (omega (arith, o))
-start_got n [] (suc k) d o l = absurd (omega (arith, l))
-start_got n (e ∷ ends) (suc zero) d o l = refl
-start_got n (e ∷ ends) (suc (suc k)) d o l = start_got e ends (suc k) d (omega arith) (omega (arith, l))
+start_got n ends k d o l =
+    let is : k ≡ suc (k - 1) = omega (arith, o) in
+    ap (start_in n ends) is ∙ start_behind n ends (k - 1) d (omega (arith, o, l))
 
 module _ {H : Type 0} (came : H → List Instr) where
   pub start_above : (n : ℕ) (hs : List H) (k : ℕ) → n ≤ start_in n (ends_of came n hs) k
@@ -69,3 +80,13 @@ module _ {H : Type 0} (came : H → List Instr) where
       let size : length es ≡ length hs = ap length e ∙ ends_size n hs in
       let last : m ≡ start_in n (ends_of came n hs) (length hs) + length (came h) = f ∙ (λ i. start_in n (e i) (size i) + length (came h)) in
       g ∙ (λ i. e i ++ last i ∷ []) ∙ sym (ends_more n hs h)
+
+  pub start_is : (n : ℕ) (hs : List H) (k : ℕ) → start_in n (ends_of came n hs) k ≡ n + total came (take k hs)
+  start_is n hs zero = omega arith
+  start_is n [] (suc k) = omega arith
+  start_is n (h ∷ hs) (suc k) = let e = start_is (n + length (came h)) hs k in omega (arith, e)
+
+  pub start_within : (hs : List H) (k : ℕ) → total came (take k hs) ≤ total came hs
+  start_within hs zero = omega arith
+  start_within [] (suc k) = omega arith
+  start_within (h ∷ hs) (suc k) = let o = start_within hs k in omega (arith, o)

@@ -10,7 +10,7 @@ use Rattle.list_places.specs.declared.moves.ListAction.{ListAction}
 use Rattle.list_places.specs.declared.moves.ListAction.TheVariants.{Insert, Erase, Update}
 use Rattle.slot_law.proofs.Through.{some_is}
 
-Back : ListAction → ListAction → Instr → Type 0
+abbrev Back : ListAction → ListAction → Instr → Type 0
 Back a b i = moved a (moved b i) ≡ i
 
 

@@ -1,5 +1,5 @@
 -- States of slots, and what is left by them.
-use Rattle.std.proofs.Common.{◌≡◌, ℕ, zero, suc, ◌+◌, ◌-◌, ◌≤◌, ◌<◌, List, [], ◌∷◌, ◌++◌, length, get_or, Option, Some, None, refl, sym, ap, ◌∙◌, subst, arith}
+use Rattle.std.proofs.Common.{◌≡◌, ℕ, zero, suc, ◌+◌, ◌-◌, ◌≤◌, ◌<◌, List, [], ◌∷◌, ◌++◌, length, take, get_or, Option, Some, None, refl, sym, ap, ◌∙◌, subst, arith}
 use Rattle.std.specs.Prelude.{slice_set}
 use Rattle.sync_data.specs.declared.instr.Instr.{Instr}
 use Rattle.sync_theory.specs.Lists.{kept}
@@ -65,3 +65,14 @@ pub undone_noted : (ws : List Was) (n : ℕ) (s d : State) (ss : List State) →
 undone_noted ws n s d ss l =
     undone_more ws (record { place = n; state = get_or ss n d }) (slice_set ss n s)
     ∙ ap (λ r. undone ws r) (set_set ss n s (get_or ss n d) ∙ set_same ss n d l)
+
+pub stood_short : (is : List Instr) (ss : List State) → length (stood_all is ss) ≤ length ss
+stood_short [] ss = omega arith
+stood_short (i ∷ is) [] = omega arith
+stood_short (i ∷ is) (s ∷ ss) = let h = stood_short is ss in omega (arith, h)
+
+pub take_set : {A : Type 0} (n p : ℕ) (xs : List A) (a : A) → n ≤ p → take n (slice_set xs p a) ≡ take n xs
+take_set zero p xs a o = refl
+take_set (suc n) p [] a o = refl
+take_set (suc n) zero (x ∷ xs) a o = absurd (omega (arith, o))
+take_set (suc n) (suc p) (x ∷ xs) a o = ap (λ l. x ∷ l) (take_set n p xs a (omega (arith, o)))

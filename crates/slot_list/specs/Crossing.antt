@@ -1,5 +1,5 @@
 -- Incoming instructions cross slots.
-use Rattle.std.specs.Prelude.{◌≡◌, ℕ, Bool, true, false, List, Option, Some, None, take, drop, slice_set}
+use Rattle.std.specs.Prelude.{◌≡◌, ℕ, Bool, true, false, List, Option, Some, None, drop, slice_set}
 use Rattle.sync_data.specs.declared.instr.Instr.{Instr}
 use Rattle.sync_data.specs.declared.entry.Stamp.{Stamp}
 use Rattle.sync_theory.specs.Changesets.{Changeset, later_stamp}
@@ -35,12 +35,10 @@ pub record MeetsAt (left : Bool) (s : Stamp) (place : ℕ) (ts : List (Changeset
   pub set : us ≡ slice_set xs place became
   pub met : (e : Changeset Instr) → stamp_of e ≡ s → meets_in (side left e) owner slot y ≡ Some (became, z)
 
--- one with that stamp goes through the slots from a place on, and those before that stay
-pub record Crosses (left : Bool) (s : Stamp) (from : ℕ) (ss : List (Slot (Changeset Instr) Instr)) (y : Option Instr) (us : List (Slot (Changeset Instr) Instr)) (z : Option Instr) : Type 0 where
-  pub goes : (e : Changeset Instr) → stamp_of e ≡ s → through (side left e) (drop from ss) y ≡ Some (drop from us, z)
-  pub before : take from us ≡ take from ss
+-- one with that stamp goes through the slots from a place on
+abbrev pub Crosses : Bool → Stamp → ℕ → List (Slot (Changeset Instr) Instr) → Option Instr → List (Slot (Changeset Instr) Instr) → Option Instr → Type 0
+Crosses left s from ss y us z = (e : Changeset Instr) → stamp_of e ≡ s → through (side left e) (drop from ss) y ≡ Some (drop from us, z)
 
 -- several in turn
-pub record CrossAll (left : Bool) (s : Stamp) (from : ℕ) (ss : List (Slot (Changeset Instr) Instr)) (ys : List (Option Instr)) (us : List (Slot (Changeset Instr) Instr)) (zs : List (Option Instr)) : Type 0 where
-  pub goes : (e : Changeset Instr) → stamp_of e ≡ s → all_through (side left e) (drop from ss) ys ≡ Some (drop from us, zs)
-  pub before : take from us ≡ take from ss
+abbrev pub CrossAll : Bool → Stamp → ℕ → List (Slot (Changeset Instr) Instr) → List (Option Instr) → List (Slot (Changeset Instr) Instr) → List (Option Instr) → Type 0
+CrossAll left s from ss ys us zs = (e : Changeset Instr) → stamp_of e ≡ s → all_through (side left e) (drop from ss) ys ≡ Some (drop from us, zs)

@@ -71,6 +71,9 @@ start_in n (e ∷ ends) (suc k) = start_in e ends k
 abbrev pub items_of : {H : Type 0} → (H → Changeset Instr) → List (Pending H) → List (Item Instr)
 items_of {H} owner ps = map (λ (p : Pending H). record { head = owner p.head; slots = p.slots }) ps
 
+abbrev pub heads_of : {H : Type 0} → List (Pending H) → List H
+heads_of {H} ps = map (λ (p : Pending H). p.head) ps
+
 -- states before those that were noted changed, the last one first
 abbrev pub undone : List Was → List State → List State
 undone [] ss = ss

@@ -1,4 +1,4 @@
-ghost use Rattle.std.specs.Prelude.{◌≡◌, ◌<◌, ◌≤◌, ℕ, OnErr, OnOk, IfOk, length, map};
+ghost use Rattle.std.specs.Prelude.{◌≡◌, ◌<◌, ◌≤◌, ℕ, OnErr, OnOk, IfOk, length, take};
 ghost use Rattle.sync_data.specs.declared.instr.Instr.{Instr};
 ghost use Rattle.sync_rivals.specs.Lists.{Indexed, Lists};
 ghost use Rattle.sync_theory.specs.Lists.{kept};
@@ -9,7 +9,7 @@ ghost use Rattle.slot_list.specs.Crossing.{CrossAll};
 use super::head::Head;
 use super::heads::Heads;
 use super::state::State;
-use super::undo::Was;
+use super::undo::{Was, undo};
 use super::walk::cross_slots;
 use std::alloc::Global;
 use std::collections::VecDeque;
@@ -34,8 +34,35 @@ pub(crate) struct Way {
     pub(crate) own: Ident,
 }
 
-/// Instructions cross the slots in turn, and what is left of each. What slots were is noted.
-pub(crate) fn cross_each<H: Head>(
+/// Instructions cross the slots in turn, and what is left of each. Refused, the slots stay as they are.
+pub(crate) fn cross_all<H: Head>(
+    alloc: Global,
+    heads: &Heads<H>,
+    slots: &mut VecDeque<State>,
+    index: &RivalIndex,
+    way: Way,
+    instrs: &[Instr],
+) -> Result<Vec<Option<Instr>>, Stop>
+    requires within { way.from ≤ length slots.old.items }
+    requires listed { Lists index.now (lists_in (stood_all (came_in H.came heads.now) slots.old.items)) }
+    ensures crosses { IfOk result (λ left. CrossAll way.is_left way.stamp way.from (slots_in H.came (H.owner way.own) heads.now slots.old.items) (somes instrs.now) (slots_in H.came (H.owner way.own) heads.now slots.new.items) left.items) }
+    ensures listed { Lists index.now (lists_in (stood_all (came_in H.came heads.now) slots.new.items)) }
+    ensures before { take way.from slots.new.items ≡ take way.from slots.old.items }
+    ensures size { length slots.new.items ≡ length slots.old.items }
+    ensures same { OnErr result (slots.new.items ≡ slots.old.items) }
+{
+    let mut noted = Vec::new(alloc);
+    match cross_each(alloc, heads, slots, index, &mut noted, way, instrs) {
+        Ok(left) => Ok(left),
+        Err(stop) => {
+            undo(slots, noted);
+            Err(stop)
+        }
+    }
+}
+
+/// The same, and what slots were is noted.
+fn cross_each<H: Head>(
     alloc: Global,
     heads: &Heads<H>,
     slots: &mut VecDeque<State>,
@@ -49,6 +76,7 @@ pub(crate) fn cross_each<H: Head>(
     ensures crosses { IfOk result (λ left. CrossAll way.is_left way.stamp way.from (slots_in H.came (H.owner way.own) heads.now slots.old.items) (somes instrs.now) (slots_in H.came (H.owner way.own) heads.now slots.new.items) left.items) }
     ensures listed { Lists index.now (lists_in (stood_all (came_in H.came heads.now) slots.new.items)) }
     ensures noted { undone noted.new.items slots.new.items ≡ undone noted.old.items slots.old.items }
+    ensures before { take way.from slots.new.items ≡ take way.from slots.old.items }
     ensures size { length slots.new.items ≡ length slots.old.items }
 {
     let mut left = Vec::new(alloc);

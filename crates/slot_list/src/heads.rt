@@ -1,4 +1,5 @@
-ghost use Rattle.std.specs.Prelude.{◌≡◌, ◌<◌, ◌≤◌, ◌++◌, ◌∷◌, [], ℕ, IfSome, OnOk, OnErr, length, slice_index_or};
+ghost use Rattle.std.specs.Prelude.{◌≡◌, ◌<◌, ◌≤◌, ◌++◌, ◌∷◌, [], ℕ, IfSome, OnOk, OnErr, length, slice_index_or, take};
+ghost use Rattle.sync_data.specs.declared.instr.Instr.{Instr};
 ghost use Rattle.sync_theory.specs.Grid.{tail};
 ghost use Rattle.slot_list.specs.Pending.{came_in, owners_in, start_in, total, IsAt};
 
@@ -6,7 +7,7 @@ use super::head::Head;
 use std::alloc::Global;
 use std::collections::VecDeque;
 use std::marker::Model;
-use sync_data::{Instr, NoMemory};
+use sync_data::NoMemory;
 
 /// What is kept of pending changesets, and which of them has a slot.
 #[derive(Drop)]
@@ -80,14 +81,19 @@ impl<H: Head> Heads<H> {
         self.heads.pop_front();
     }
 
-    /// Where the slots of the changeset at a place begin.
-    pub(crate) fn start(&self, place: usize) -> usize {
+    /// How many slots those before a place have.
+    pub(crate) fn start(&self, place: usize) -> usize
+        requires { place ≤ length self.now }
+        ensures is { result ≡ total H.came (take place self.now) }
+        ensures within { result ≤ total H.came self.now }
+    {
         (start_of(&self.ends, self.begin, place) - self.begin) as usize
     }
 
-    /// The changeset of which a slot is, and its instruction as it came; none behind all slots.
-    pub(crate) fn at(&self, place: usize) -> Option<(&H, &Instr)>
-        ensures came { IfSome result (λ p. IsAt place p.1.now (came_in H.came self.now)) }
+    /// The changeset of which a slot is, and the place of its instruction there; none behind all slots.
+    pub(crate) fn at(&self, place: usize) -> Option<(&H, usize)>
+        ensures within { IfSome result (λ p. p.1 < length (H.came p.0.now)) }
+        ensures came { IfSome result (λ p. (d : Instr) → IsAt place (slice_index_or (H.came p.0.now) p.1 d) (came_in H.came self.now)) }
         ensures owner { IfSome result (λ p. (own : ℕ) → IsAt place (H.owner own p.0.now) (owners_in H.came (H.owner own) self.now)) }
     {
         let number = self.begin.checked_add(place as u64)?;
@@ -100,12 +106,11 @@ impl<H: Head> Heads<H> {
             return None;
         }
         let head = &self.heads[owner];
-        let instrs = head.instrs();
         let offset = (number - start) as usize;
-        if offset >= instrs.len() {
+        if offset >= head.instrs().len() {
             return None;
         }
-        Some((head, &instrs[offset]))
+        Some((head, offset))
     }
 }
 

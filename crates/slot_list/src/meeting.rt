@@ -20,13 +20,13 @@ pub(crate) fn left_is_later(is_left: bool, pending: Stamp, incoming: Stamp) -> b
 
 /// A pending instruction that came so meets an incoming one, where both are there, and what is left of both stands in their places.
 pub(crate) fn meet_state(
-    state: State,
+    state: &State,
     came: &Instr,
     incoming: &mut Option<Instr>,
     is_left: bool,
     later: bool,
 ) -> Result<State, Stop>
-    ensures { IfOk result (λ now. MeetsAs is_left later (stood state came.now) incoming.old (stood now came.now) incoming.new) }
+    ensures { IfOk result (λ now. MeetsAs is_left later (stood state.now came.now) incoming.old (stood now came.now) incoming.new) }
 {
     let Ok(mut slot) = standing(state, came) else {
         return Err(Stop::NoMemory);

@@ -1,10 +1,14 @@
-ghost use Rattle.std.specs.Prelude.{◌≡◌, Some, IfOk, IfSome};
+ghost use Rattle.std.specs.Prelude.{◌≡◌, ◌≤◌, ◌+◌, ◌++◌, List, Some, IfOk, IfSome, length, drop, replicate};
+ghost use Rattle.std.specs.VecDeque.{deque_len, deque_capacity};
 ghost use Rattle.sync_data.specs.declared.instr.Instr.{Instr};
 ghost use Rattle.list_places.specs.Moves.{action_at};
+ghost use Rattle.sync_rivals.specs.Lists.{Lists};
 ghost use Rattle.slot_list.specs.Stood.{number_in, renumbered, stood};
 
 use list_places::{ListAction, action_at, put_action};
+use std::collections::VecDeque;
 use sync_data::{Instr, NoMemory, Value, equality_is_exact};
+use sync_rivals::RivalIndex;
 
 /// What is left of one instruction of a pending changeset. It is all that meetings leave of one.
 #[derive(Clone, Copy)]
@@ -20,16 +24,16 @@ pub(crate) enum State {
 }
 
 /// A copy of what is left of an instruction that came so.
-pub(crate) fn standing(state: State, came: &Instr) -> Result<Option<Instr>, NoMemory>
-    ensures { IfOk result (λ now. now ≡ stood state came.now) }
+pub(crate) fn standing(state: &State, came: &Instr) -> Result<Option<Instr>, NoMemory>
+    ensures { IfOk result (λ now. now ≡ stood state.now came.now) }
 {
     if let State::Fell = state {
         return Ok(None);
     }
     let mut now = came.copy()?;
     match state {
-        State::Moved(action) => put_action(&mut now, action),
-        State::Numbered(number) => put_number(&mut now, number),
+        State::Moved(action) => put_action(&mut now, *action),
+        State::Numbered(number) => put_number(&mut now, *number),
         _ => {}
     }
     Ok(Some(now))
@@ -105,5 +109,26 @@ fn put_number(instr: &mut Instr, number: i64)
         if let Value::Int(value) = &mut update.value {
             *value = number;
         }
+    }
+}
+
+/// So many slots more, for which there is room, each as it came.
+pub(crate) fn add_standing(slots: &mut VecDeque<State>, count: usize)
+    requires { deque_len slots.old + count ≤ deque_capacity slots.old }
+    ensures { slots.new.items ≡ slots.old.items ++ replicate count State.Stands }
+{
+    for _ in 0..count {
+        slots.push_back_reserved(State::Stands);
+    }
+}
+
+/// The slots of the first changeset, which has these instructions, go, and the index follows.
+pub(crate) fn drop_slots(slots: &mut VecDeque<State>, index: &mut RivalIndex, instrs: &[Instr])
+    ensures slots { slots.new.items ≡ drop (length instrs.now) slots.old.items }
+    ensures listed { (lists : List (List Instr)) → length instrs.now ≤ length lists → Lists index.old lists → Lists index.new (drop (length instrs.now) lists) }
+{
+    for place in 0..instrs.len() {
+        index.drop_first(&instrs[place..place + 1]);
+        slots.pop_front();
     }
 }

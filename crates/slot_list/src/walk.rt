@@ -1,4 +1,4 @@
-ghost use Rattle.std.specs.Prelude.{◌≡◌, ◌<◌, ◌≤◌, ℕ, OnErr, OnOk, IfOk, List, Option, length};
+ghost use Rattle.std.specs.Prelude.{◌≡◌, ◌<◌, ◌≤◌, ℕ, OnErr, OnOk, IfOk, List, Option, length, take};
 ghost use Rattle.sync_data.specs.declared.instr.Instr.{Instr};
 ghost use Rattle.sync_rivals.specs.Lists.{Indexed, Lists, Serves};
 ghost use Rattle.sync_rivals.specs.Marks.{Knows};
@@ -34,6 +34,7 @@ pub(crate) fn cross_slots<H: Head>(
     ensures crosses { OnOk result (Crosses way.is_left way.stamp way.from (slots_in H.came (H.owner way.own) heads.now slots.old.items) incoming.old (slots_in H.came (H.owner way.own) heads.now slots.new.items) incoming.new) }
     ensures listed { Lists index.now (lists_in (stood_all (came_in H.came heads.now) slots.new.items)) }
     ensures noted { undone noted.new.items slots.new.items ≡ undone noted.old.items slots.old.items }
+    ensures before { take way.from slots.new.items ≡ take way.from slots.old.items }
     ensures size { length slots.new.items ≡ length slots.old.items }
 {
     let mut pace = Pace::new();
@@ -64,14 +65,16 @@ fn meet_at<H: Head>(
     ensures listed { (idx : Indexed) → Lists idx (lists_in (stood_all (came_in H.came heads.now) slots.old.items)) → Lists idx (lists_in (stood_all (came_in H.came heads.now) slots.new.items)) }
     ensures known { OnOk result ((codes : List ℕ) → Knows codes (kept incoming.old) → Knows codes (kept incoming.new)) }
     ensures noted { undone noted.new.items slots.new.items ≡ undone noted.old.items slots.old.items }
+    ensures before { (n : ℕ) → n ≤ place → take n slots.new.items ≡ take n slots.old.items }
     ensures size { length slots.new.items ≡ length slots.old.items }
 {
-    let Some((head, came)) = heads.at(place) else {
+    let Some((head, offset)) = heads.at(place) else {
         return Err(Stop::Mismatch);
     };
+    let came = &head.instrs()[offset];
     let was = slots[place];
     let later = left_is_later(way.is_left, head.stamp(way.own), way.stamp);
-    let now = meet_state(was, came, incoming, way.is_left, later)?;
+    let now = meet_state(&was, came, incoming, way.is_left, later)?;
     if noted.push(Was { place, state: was }).is_err() {
         return Err(Stop::NoMemory);
     }

@@ -1,0 +1,4 @@
+use Rattle.slot_list.proofs.heads.start_of.Goals as goal
+
+pub returns : goal.returns
+returns c = ?
