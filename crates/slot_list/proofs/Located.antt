@@ -90,3 +90,21 @@ module _ {H : Type 0} (came : H → List Instr) where
   start_within hs zero = omega arith
   start_within [] (suc k) = omega arith
   start_within (h ∷ hs) (suc k) = let o = start_within hs k in omega (arith, o)
+
+  -- the slot at a place is that of the changeset that was found for its number
+  pub found_came : (n place : ℕ) (hs : List H) (ends : List ℕ) (k start offset : ℕ) (h : H) → ends ≡ ends_of came n hs → k < length hs → h ≡ get_or hs k h → start ≡ start_in n ends k → start ≤ n + place → offset ≡ (n + place) - start → offset < length (came h) → (d : Instr) → IsAt place (get_or (came h) offset d) (came_in came hs)
+  found_came n place hs ends k start offset h e l g s o f b d =
+      let at : IsAt k h hs = subst (λ x. IsAt k x hs) (sym g) (at_got k h hs l) in
+      let first : start ≡ start_in n (ends_of came n hs) k = s ∙ ap (λ es. start_in n es k) e in
+      let there : (n + place) - start_in n (ends_of came n hs) k ≡ offset = omega (arith, first, f) in
+      let is = came_at n hs k (n + place) h (get_or (came h) offset d) at (omega (arith, first, o)) (subst (λ m. IsAt m (get_or (came h) offset d) (came h)) (sym there) (at_got offset d (came h) b)) in
+      let place_is : (n + place) - n ≡ place = omega arith in
+      subst (λ m. IsAt m (get_or (came h) offset d) (came_in came hs)) place_is is
+
+  pub found_owner : (owner : H → Changeset Instr) (n place : ℕ) (hs : List H) (ends : List ℕ) (k start offset : ℕ) (h : H) → ends ≡ ends_of came n hs → k < length hs → h ≡ get_or hs k h → start ≡ start_in n ends k → start ≤ n + place → offset ≡ (n + place) - start → offset < length (came h) → IsAt place (owner h) (owners_in came owner hs)
+  found_owner owner n place hs ends k start offset h e l g s o f b =
+      let at : IsAt k h hs = subst (λ x. IsAt k x hs) (sym g) (at_got k h hs l) in
+      let first : start ≡ start_in n (ends_of came n hs) k = s ∙ ap (λ es. start_in n es k) e in
+      let is = owner_at owner n hs k (n + place) h at (omega (arith, first, o)) (omega (arith, first, f, b)) in
+      let place_is : (n + place) - n ≡ place = omega arith in
+      subst (λ m. IsAt m (owner h) (owners_in came owner hs)) place_is is
