@@ -5,4 +5,4 @@ pub mod Ahead
 pub mod Laying
 pub mod Turns
 pub mod Ends
-pub mod Met
+pub mod Meetings
