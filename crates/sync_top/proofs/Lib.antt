@@ -11,6 +11,7 @@ pub mod Playing
 pub mod Plays
 pub mod Recoveries
 pub mod RunLemmas
+pub mod Serves
 pub mod Shrinks
 pub mod Steps
 pub mod Summing

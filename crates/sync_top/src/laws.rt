@@ -1,15 +1,16 @@
 // The laws of worlds, as a replay uses them.
-ghost use Rattle.std.specs.Prelude.{◌≡◌, ◌≤◌, ℕ, List, Ok, Some, map};
+ghost use Rattle.std.specs.Prelude.{◌≡◌, ◌≤◌, ℕ, List, Ok, Some, map, true};
 ghost use Rattle.sync_data.specs.declared.instr.Instr.{Instr};
 ghost use Rattle.sync_base.specs.States.{IsState, State};
 ghost use Rattle.sync_exchange.specs.Profile.{the_profile};
 ghost use Rattle.sync_model.specs.Bytes.{Name};
+ghost use Rattle.sync_model.specs.Files.{server_opens};
 ghost use Rattle.sync_model.specs.Fronts.{file_gives};
 ghost use Rattle.sync_model.specs.Log.{Stands, WorldFacts};
 ghost use Rattle.sync_model.specs.Parts.{Parts, parts_of};
 ghost use Rattle.sync_model.specs.Reports.{report_by_log, report_of};
 ghost use Rattle.sync_model.specs.Clients.{ClientRecord};
-ghost use Rattle.sync_model.specs.Servers.{ServerRecord, server_of};
+ghost use Rattle.sync_model.specs.Servers.{ServerRecord, no_server, server_of};
 ghost use Rattle.sync_model.specs.Worlds.{Edits, Event, IsReached, Made, World, empty_world, happens, world_after};
 ghost use Rattle.gen_law.specs.Ends.{AllCaughtUp};
 ghost use Rattle.gen_law.specs.Generated.{events_of, world_by};
@@ -18,6 +19,7 @@ ghost use Rattle.sync_node.specs.Opening.{client_file};
 ghost use Rattle.sync_node.specs.ServerTexts.{IsOwn};
 ghost use Rattle.sync_top.specs.Jobs.{most_turns};
 ghost use Rattle.sync_top.specs.Recoveries.{HeirRun, IsRecovery, IsSavedOnce, after_runs};
+ghost use Rattle.sync_top.specs.Serves.{IsServedByLog};
 ghost use Rattle.sync_top.specs.Shrinks.{IsAnsweredAlike};
 ghost use Rattle.sync_top.specs.Summaries.{equal_in};
 ghost use Rattle.sync_top.specs.Synced.{AgreeWhereQuiet, AllCatchUp};
@@ -68,6 +70,14 @@ pub(crate) fn trims_hold()
     ensures alike { (records : List ServerRecord) → IsOwn records → IsServedAlike records }
     ensures own { (records : List ServerRecord) (frames : Items) → StaysOwn records frames }
 {}
+
+/// A server over a file with its whole history answers by the log of all its records, and its file stays such a one.
+pub(crate) fn serves_hold()
+    ensures { (records : List ServerRecord) (frames : Items) → server_opens the_profile no_server records ≡ true → IsServedByLog records frames }
+{
+    servers_answer_by_parts::<Instrs>();
+    server_files_give_what_is_kept::<Instrs>();
+}
 
 /// A client over the file that `shrink` writes of its own answers as over that one, whatever is done with both files.
 pub(crate) fn shrinks_hold()

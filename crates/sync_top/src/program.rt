@@ -19,11 +19,14 @@ ghost use Rattle.sync_top.specs.Shrinks.{ShrinksAlike};
 ghost use Rattle.sync_top.specs.Statuses.{IsJobStatus};
 ghost use Rattle.sync_top.specs.Summaries.{equal_in, summary_of};
 ghost use Rattle.sync_top.specs.Synced.{IsSynced, first};
+ghost use Rattle.sync_top.specs.Serves.{ServesByLog};
 ghost use Rattle.sync_top.specs.Trims.{ServesOwn, TrimsAlike};
 
 use super::generated::generate;
 use super::job::{Job, job_of};
-use super::laws::{exchanges_hold, generated_end_equal, recoveries_hold, shrinks_hold, trims_hold};
+use super::laws::{
+    exchanges_hold, generated_end_equal, recoveries_hold, serves_hold, shrinks_hold, trims_hold,
+};
 use super::lines::run_lines;
 use gen_law::generated_exchanges_refuse_nothing;
 use std::alloc::Global;
@@ -92,6 +95,9 @@ pub fn run<S: Source, K: Sink, D: Disk>(
     ensures trims { AsksFor (Job.File FileCommand.Trim) (map string_bytes words.now) → TrimsAlike (D.content disk.old) }
     ensures own { AsksFor (Job.File FileCommand.Serve) (map string_bytes words.now) → ServesOwn (D.content disk.old) (S.left source.old) }
 
+    // Over a file with the server's whole history `serve` answers by the log of all its records.
+    ensures whole { AsksFor (Job.File FileCommand.Serve) (map string_bytes words.now) → ServesByLog (D.content disk.old) (S.left source.old) }
+
     // Over the file that `shrink` writes a client answers as over its own, whatever is done with both.
     ensures shrinks { AsksFor (Job.File FileCommand.Shrink) (map string_bytes words.now) → ShrinksAlike (D.content disk.old) }
 
@@ -147,6 +153,7 @@ pub fn run<S: Source, K: Sink, D: Disk>(
         }
         Job::File { command } => {
             trims_hold();
+            serves_hold();
             shrinks_hold();
             recoveries_hold();
             run_file(alloc, command, source, sink, disk)

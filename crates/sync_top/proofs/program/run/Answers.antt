@@ -16,6 +16,7 @@ use Rattle.sync_node.specs.Items.{Items, frames_of}
 use Rattle.sync_node.specs.declared.files.FileCommand.{FileCommand}
 use Rattle.sync_node.specs.declared.files.FileCommand.TheVariants as commands
 use Rattle.sync_top.specs.Recoveries.{SavesAtAnyEnd}
+use Rattle.sync_top.specs.Serves.{IsServedByLog}
 use Rattle.sync_top.specs.Statuses.{IsJobStatus}
 use Rattle.sync_top.specs.Trims.{StaysOwn}
 use Rattle.sync_top.specs.declared.job.Job.{Job}
@@ -140,6 +141,9 @@ returns-in-Replay-clause-shrinks g c = λ asks. absurd (let e = sym (asked_is (S
 pub returns-in-Replay-clause-own : goal.returns-in-Replay-clause-own
 returns-in-Replay-clause-own g c = λ asks. absurd (let e = sym (asked_is (Some c.in-Some.job) (map string_bytes c.args.words.now) c.in-Some.ensures c.in-Some.job (jobs.File commands.Serve) refl asks) ∙ c.in-Replay.is in cc)
 
+pub returns-in-Replay-clause-whole : goal.returns-in-Replay-clause-whole
+returns-in-Replay-clause-whole g c = λ asks. absurd (let e = sym (asked_is (Some c.in-Some.job) (map string_bytes c.args.words.now) c.in-Some.ensures c.in-Some.job (jobs.File commands.Serve) refl asks) ∙ c.in-Replay.is in cc)
+
 pub returns-in-Replay-clause-bad_untouched : goal.returns-in-Replay-clause-bad_untouched
 returns-in-Replay-clause-bad_untouched g c = λ place is. absurd (replay_no_bad c.run_lines.result place c.run_lines.ensures.only is)
 
@@ -197,6 +201,9 @@ returns-in-Generate-clause-shrinks g c = λ asks. absurd (let e = sym (asked_is 
 
 pub returns-in-Generate-clause-own : goal.returns-in-Generate-clause-own
 returns-in-Generate-clause-own g c = λ asks. absurd (let e = sym (asked_is (Some c.in-Some.job) (map string_bytes c.args.words.now) c.in-Some.ensures c.in-Some.job (jobs.File commands.Serve) refl asks) ∙ c.in-Generate.is in cc)
+
+pub returns-in-Generate-clause-whole : goal.returns-in-Generate-clause-whole
+returns-in-Generate-clause-whole g c = λ asks. absurd (let e = sym (asked_is (Some c.in-Some.job) (map string_bytes c.args.words.now) c.in-Some.ensures c.in-Some.job (jobs.File commands.Serve) refl asks) ∙ c.in-Generate.is in cc)
 
 pub returns-in-Generate-clause-bad_untouched : goal.returns-in-Generate-clause-bad_untouched
 returns-in-Generate-clause-bad_untouched g c = λ place is. absurd (written_no_bad _ c.generate.result place _ _ c.generate.ensures.generated is)
@@ -324,6 +331,9 @@ returns-in-File-clause-shrinks g c = λ asks b told records file. c.shrinks_hold
 pub returns-in-File-clause-own : goal.returns-in-File-clause-own
 returns-in-File-clause-own g c = λ asks b told records file. each_item (λ frames. StaysOwn records frames) (λ frames. c.trims_hold.ensures.own records frames) (frames_of (g.S.Source.left c.args.source.now))
 
+pub returns-in-File-clause-whole : goal.returns-in-File-clause-whole
+returns-in-File-clause-whole g c = λ asks b told records file opens. each_item (λ frames. IsServedByLog records frames) (λ frames. c.serves_hold.ensures records frames opens) (frames_of (g.S.Source.left c.args.source.now))
+
 -- ---- words that are no command
 
 pub returns-in-None-clause-replay : goal.returns-in-None-clause-replay
@@ -379,6 +389,9 @@ returns-in-None-clause-shrinks g c = λ asks. absurd (none_asked None (map strin
 
 pub returns-in-None-clause-own : goal.returns-in-None-clause-own
 returns-in-None-clause-own g c = λ asks. absurd (none_asked None (map string_bytes c.args.words.now) c.in-None.ensures (jobs.File commands.Serve) refl asks)
+
+pub returns-in-None-clause-whole : goal.returns-in-None-clause-whole
+returns-in-None-clause-whole g c = λ asks. absurd (none_asked None (map string_bytes c.args.words.now) c.in-None.ensures (jobs.File commands.Serve) refl asks)
 
 pub returns-in-None-clause-saves : goal.returns-in-None-clause-saves
 returns-in-None-clause-saves g c = λ command asks. absurd (none_asked None (map string_bytes c.args.words.now) c.in-None.ensures (jobs.File command) refl asks)
