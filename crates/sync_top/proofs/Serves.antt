@@ -9,7 +9,7 @@ use Rattle.sync_base.specs.States.{State}
 use Rattle.sync_model.specs.Files.{server_opens}
 use Rattle.sync_model.specs.Fronts.{file_gives}
 use Rattle.sync_model.specs.Messages.{Message}
-use Rattle.sync_model.specs.Parts.{Parts, Served, after_parts, no_parts, parts_of, parts_open, serve_by, served_of}
+use Rattle.sync_model.specs.Parts.{Parts, after_parts, no_parts, parts_of, parts_open, serve_by, served_of}
 use Rattle.sync_model.specs.Servers.{ServerRecord, no_server, serve, server_of}
 use Rattle.sync_model.proofs.Written.{open_more}
 use Rattle.sync_exchange.specs.Profile.{the_profile}
