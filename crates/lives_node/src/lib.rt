@@ -5,9 +5,11 @@ mod client;
 mod command;
 mod end;
 mod frame;
+mod front;
 mod heir;
 mod items;
 mod keeping;
+mod noted_file;
 mod old;
 mod outcome;
 mod running;
@@ -15,5 +17,6 @@ mod server;
 
 pub use command::{HeirCommand, LivesCommand, heir_command_of, lives_command_of};
 pub use end::LivesEnd;
+pub use front::{NewFile, write_new_file};
 pub use keeping::keeps_lives;
 pub use running::{run_heir, run_lives};
