@@ -1,23 +1,17 @@
 -- An index of strings, and one string more.
-use Rattle.std.proofs.Common.{◌≡◌, ℕ, suc, ◌+◌, ◌<◌, true, false, cond, not, List, [], ◌∷◌, ◌++◌, take, length, get_or, Bor, Some, refl, sym, ap, subst, ◌∙◌, arith}
+use Rattle.std.proofs.Common.{String, ◌≡◌, ℕ, suc, ◌+◌, ◌<◌, true, false, cond, not, List, [], ◌∷◌, ◌++◌, take, length, get_or, Some, refl, sym, ap, subst, ◌∙◌, arith}
 use Rattle.std.proofs.Math.Seq.{take-suc}
 use Rattle.std.proofs.lemmas.List.{length-take-le}
-use Rattle.std.specs.Prelude.{◌||◌}
-use Rattle.std.specs.Ordering.{is_eq, nat_cmp}
-use Rattle.std.specs.Cmp.Lexicographic.{slice_cmp}
+use Rattle.std.specs.Prelude.{string_bytes, ◌||◌}
 use Rattle.std.specs.List.{IsDistinct}
 use Rattle.std.specs.Str.{bytes_eq}
-use Rattle.std.specs.BTreeMap.{BTreeMap, get, is_at}
+use Rattle.std.specs.BTreeMap.{BTreeMap, get_by_text}
 use Rattle.std.proofs.lemmas.Bool.Decides.{nat_tests}
-use Rattle.std.proofs.lemmas.Cmp.{same_from_slice_cmp}
 use Rattle.std.proofs.lemmas.Slice.Eq.{bytes_eq-Decides}
 use Rattle.sync_intern.specs.FirstUses.{has_string, place_of, place_in}
-use Rattle.sync_intern.specs.Indexes.{Indexes, text_cmp}
+use Rattle.sync_intern.specs.Indexes.{Indexes}
 use Rattle.sync_intern.proofs.Texts.{place_at_end, not_placed}
 use Rattle.sync_intern.proofs.Fresh.{not_before, within, turned}
-
-same_cmp : (a b : List ℕ) → is_eq (slice_cmp nat_cmp a b) ≡ bytes_eq a b
-same_cmp a b = same_from_slice_cmp nat_cmp is_eq bytes_eq refl (λ y ys. refl) (λ x xs. refl) (λ x y xs ys o h. grind (arith, nat_tests)) a b (slice_cmp nat_cmp a b) refl
 
 length_more : (strings : List (List ℕ)) (s : List ℕ) → length (strings ++ s ∷ []) ≡ suc (length strings)
 length_more [] s = refl
@@ -46,15 +40,14 @@ place_more strings t s new = elim (bytes_eq t s) as (λ b. bytes_eq t s ≡ b �
 ] refl
 
 -- and an index, to which the string at the next place is added, is one of one string more
-pub indexed_more : (old new : BTreeMap (Bor (List ℕ)) ℕ) (strings : List (List ℕ)) (i : ℕ) (key : Bor (List ℕ)) → IsDistinct bytes_eq strings → i < length strings → key.now ≡ get_or strings i [] → Indexes old (take i strings)
-    → ((text : Bor (List ℕ)) → get text_cmp new text ≡ cond (is_at (text_cmp key) text) (Some i) (get text_cmp old text)) → Indexes new (take (i + 1) strings)
+pub indexed_more : {A : Type 0} (old new : BTreeMap (String A) ℕ) (strings : List (List ℕ)) (i : ℕ) (key : String A) → IsDistinct bytes_eq strings → i < length strings → string_bytes key ≡ get_or strings i [] → Indexes old (take i strings)
+    → ((text : List ℕ) → get_by_text new text ≡ cond (bytes_eq (string_bytes key) text) (Some i) (get_by_text old text)) → Indexes new (take (i + 1) strings)
 indexed_more old new strings i key distinct less at before added = λ text.
     let count : length (take i strings) ≡ i = length-take-le i strings (omega (arith, less)) in
-    let more : take i strings ++ key.now ∷ [] ≡ take (i + 1) strings = ap (λ (x : List ℕ). take i strings ++ x ∷ []) at ∙ sym (ap (λ n. take n strings) (let plus : i + 1 ≡ suc i = omega arith in plus) ∙ take-suc strings i [] less) in
-    let fresh : has_string (take i strings) key.now ≡ false = subst (λ (x : List ℕ). has_string (take i strings) x ≡ false) (sym at) (not_before strings i distinct less) in
+    let more : take i strings ++ string_bytes key ∷ [] ≡ take (i + 1) strings = ap (λ (x : List ℕ). take i strings ++ x ∷ []) at ∙ sym (ap (λ n. take n strings) (let plus : i + 1 ≡ suc i = omega arith in plus) ∙ take-suc strings i [] less) in
+    let fresh : has_string (take i strings) (string_bytes key) ≡ false = subst (λ (x : List ℕ). has_string (take i strings) x ≡ false) (sym at) (not_before strings i distinct less) in
     added text
-    ∙ ap (λ b. cond b (Some i) (get text_cmp old text)) (same_cmp key.now text.now)
-    ∙ ap (λ o. cond (bytes_eq key.now text.now) (Some i) o) (before text)
-    ∙ ap (λ n. cond (bytes_eq key.now text.now) (Some n) (place_in (take i strings) text.now)) (sym count)
-    ∙ sym (place_more (take i strings) key.now text.now fresh)
-    ∙ ap (λ (ss : List (List ℕ)). place_in ss text.now) more
+    ∙ ap (λ o. cond (bytes_eq (string_bytes key) text) (Some i) o) (before text)
+    ∙ ap (λ n. cond (bytes_eq (string_bytes key) text) (Some n) (place_in (take i strings) text)) (sym count)
+    ∙ sym (place_more (take i strings) (string_bytes key) text fresh)
+    ∙ ap (λ (ss : List (List ℕ)). place_in ss text) more

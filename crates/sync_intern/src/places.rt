@@ -13,7 +13,7 @@ pub(crate) const FEW: usize = 16;
 
 /// Whether an index tells the places of so many strings, or will from now on.
 #[inline(always)]
-pub(crate) fn is_indexed(places: &Option<BTreeMap<&str, usize>>, count: usize) -> bool
+pub(crate) fn is_indexed(places: &Option<BTreeMap<String, usize>>, count: usize) -> bool
     ensures { result ≡ false → places.now ≡ None }
 {
     match places {
@@ -36,29 +36,30 @@ fn first_equal(texts: &[&str], text: &str) -> Option<usize>
 }
 
 /// The index of strings, from that of all but the last of them on. None where they are few, or where memory runs out.
-pub(crate) fn places_with<'a>(
+pub(crate) fn places_with(
     alloc: Global,
-    before: Option<BTreeMap<&'a str, usize>>,
-    texts: &[&'a str],
-) -> Option<BTreeMap<&'a str, usize>>
+    before: Option<BTreeMap<String, usize>>,
+    texts: &[&str],
+) -> Option<BTreeMap<String, usize>>
     requires distinct { IsDistinct bytes_eq (map (λ s. s.now) texts.now) }
     requires some { 1 ≤ length texts.now }
     requires first { IfSome before (λ p. Indexes p (take (length texts.now - 1) (map (λ s. s.now) texts.now))) }
     ensures { IfSome result (λ p. Indexes p (map (λ s. s.now) texts.now)) }
 {
     match before {
-        Some(places) => places_from(places, texts.len() - 1, texts),
-        None if texts.len() > FEW => places_from(BTreeMap::new(alloc), 0, texts),
+        Some(places) => places_from(alloc, places, texts.len() - 1, texts),
+        None if texts.len() > FEW => places_from(alloc, BTreeMap::new(alloc), 0, texts),
         None => None,
     }
 }
 
 /// The index of strings, from that of so many of them on.
-fn places_from<'a>(
-    before: BTreeMap<&'a str, usize>,
+fn places_from(
+    alloc: Global,
+    before: BTreeMap<String, usize>,
     count: usize,
-    texts: &[&'a str],
-) -> Option<BTreeMap<&'a str, usize>>
+    texts: &[&str],
+) -> Option<BTreeMap<String, usize>>
     requires distinct { IsDistinct bytes_eq (map (λ s. s.now) texts.now) }
     requires count { count ≤ length texts.now }
     requires first { Indexes before (take count (map (λ s. s.now) texts.now)) }
@@ -66,7 +67,10 @@ fn places_from<'a>(
 {
     let mut places = before;
     for place in count..texts.len() {
-        let Ok(_) = places.insert(texts[place], place) else {
+        let Ok(own) = String::from_str(alloc, texts[place]) else {
+            return None;
+        };
+        let Ok(_) = places.insert(own, place) else {
             return None;
         };
     }

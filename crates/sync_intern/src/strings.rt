@@ -17,12 +17,12 @@ pub const LONGEST_STRING: usize = 255;
 pub struct NoMemory;
 
 /// Strings of at most 255 bytes, each once, in the order of their first use. The first has number 0.
-/// Contracts see the list of their bytes. They are borrowed; where there are many, an index tells their places.
+/// Contracts see the list of their bytes. They are borrowed; where there are many, an index of their copies tells their places.
 #[derive(Drop)]
 pub struct Strings<'a> {
     alloc: Global,
     texts: Vec<&'a str>,
-    places: Option<BTreeMap<&'a str, usize>>,
+    places: Option<BTreeMap<String, usize>>,
 }
 
 impl<'a> Model for Strings<'a> {
