@@ -5,11 +5,10 @@ It runs the commands with a life (docs/formats/lives.md) over files, draws what 
 each turn it reads all files by itself, and stops where one of these doesn't hold:
 
 - each acknowledged transaction stands in a server's history, or in a client's file that is there;
-- no history has a transaction twice, or one without those that its file had made or saved before it;
-- a client that a server told nothing wrong, and that has nothing unsent, has the server's objects at its cursor's end.
+- no history has a transaction twice, or one without those that its file had made or saved before it.
 
-In the end each device takes over from its old files wherever it is told to, and then each transaction stands in the history of its server,
-and each client has that server's objects.
+In the end each device takes over from its old files. Then each transaction stands in the history of its server, and each client has that
+server's objects.
 
 usage: bench/lives.py [SEEDS [FIRST SEED [TURNS [DEVICES]]]]        (10, 1, 60 and 4)
 """
@@ -26,7 +25,7 @@ from replay import BUILD, PROGRAM
 MEMORY = "/dev/shm" if os.path.isdir("/dev/shm") else None
 SCHEMA = '{"op":"AddTable","table":"t","key":"Int"},{"op":"AddColumn","table":"t","column":"n","kind":"Int","nullable":true,"shape":"One"},'
 # what a client is told where a new one has to take over from it
-HELD_UP = ("Diverged", "FileForked", "WasRefused 0 73", "WasRefused 0 74", "WasRefused 0 72", "WasRefused 0 71")
+HELD_UP = ("Diverged", "FileForked", "WasRefused 0 60", "WasRefused 0 71", "WasRefused 0 72", "WasRefused 0 73", "WasRefused 0 74")
 ROUNDS = 8
 
 
@@ -86,7 +85,7 @@ class ServerFile:
     """What a server's file says: the tokens of its entries in their order, and up to which number it has those of each life."""
 
     def __init__(self, path):
-        self.tokens, self.reached, self.birth, self.length = [], {}, None, 0
+        self.tokens, self.reached, self.birth, self.floor = [], {}, None, 0
         uuids, lives, saved = [], {}, None
         for piece in pieces(path):
             tag = piece[0]
@@ -97,9 +96,7 @@ class ServerFile:
                 number, _ = varint(piece, at)
                 self.entry(saved or (lives.get(ident, uuids[ident - 1]), number))
             elif tag == 12:
-                self.length, _ = varint(piece, 1)
-            elif tag == 14:
-                self.length += 1
+                self.floor, _ = varint(piece, 1)
             elif tag == 18 and self.birth is None:
                 self.birth = piece[1:17]
             elif tag == 23:
@@ -113,7 +110,6 @@ class ServerFile:
 
     def entry(self, token):
         self.tokens.append(token)
-        self.length += 1
         assert not self.has(token), f"a transaction stands twice: {token[0].hex()} {token[1]}"
         self.reached[token[0]] = token[1]
 
@@ -155,8 +151,13 @@ class World:
         return ran.stdout
 
     def begin(self, device):
-        uuid = '{"uuid":"%s-%s-4%s-8%s-%s"}\n' % tuple(self.draw.randbytes(size).hex()[cut:] for size, cut in ((4, 0), (2, 0), (2, 1), (2, 1), (6, 0)))
-        self.run("edit", device.file(), self.life(), given=uuid.encode())
+        """A new client's file, which begins with the server's objects where that has given up its first entries."""
+        uuid = "%s-%s-4%s-8%s-%s" % tuple(self.draw.randbytes(size).hex()[cut:] for size, cut in ((4, 0), (2, 0), (2, 1), (2, 1), (6, 0)))
+        if os.path.exists(self.path(device.server)) and ServerFile(self.path(device.server)).floor:
+            with open(self.path(device.file()), "wb") as file:
+                file.write(self.run("start", device.server, uuid))
+        else:
+            self.run("edit", device.file(), self.life(), given=('{"uuid":"%s"}\n' % uuid).encode())
 
     def edit(self, device):
         if not os.path.exists(self.path(device.file())):
@@ -291,8 +292,6 @@ class World:
         for token in self.made:
             assert token in there or any(server.has(token) for server in servers.values()), f"lost: {token[0].hex()} {token[1]}"
         for server in servers.values():
-            seen = ServerFile.__new__(ServerFile)
-            seen.reached = {}
             for token in self.made:
                 if server.has(token):
                     for one in self.before[token]:
