@@ -24,7 +24,7 @@ pub enum NewFile {
     Started { id: Id },
 }
 
-/// Writes such a file of the server of a disk (docs/FORMATS.md, "Files that begin with a state, and lives").
+/// Writes such a file of the server of a disk (docs/formats/lives.md, "Files that begin with a state, and lives").
 pub fn write_new_file<K: Sink, D: Disk>(
     alloc: Global,
     file: NewFile,

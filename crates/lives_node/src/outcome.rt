@@ -38,7 +38,7 @@ pub(crate) fn decline(alloc: Global, number: u32, why: ClientRefusal) -> Result<
     }
 }
 
-/// The line of why a client with lives refuses (docs/FORMATS.md, "Commands with a life").
+/// The line of why a client with lives refuses (docs/formats/lives.md, "Commands with a life").
 pub(crate) fn refuse(alloc: Global, number: u32, why: MarkedRefusal) -> Result<Vec<u8>, Status> {
     let line = match why {
         MarkedRefusal::Client(why) => return decline(alloc, number, why),

@@ -12,7 +12,7 @@ use sync_disk::Disk;
 use sync_io::{Sink, Source};
 use sync_node::{Frames, Lines, write_text};
 
-/// Runs a command over the node of a disk, which it opens in that life (docs/FORMATS.md, "Commands with a life").
+/// Runs a command over the node of a disk, which it opens in that life (docs/formats/lives.md, "Commands with a life").
 pub fn run_lives<S: Source, K: Sink, D: Disk>(
     alloc: Global,
     command: LivesCommand,
@@ -98,7 +98,7 @@ fn serve<S: Source, K: Sink, D: Disk>(
 }
 
 /// Runs a command over the client of a disk, which it opens in that life, and which takes over from the client of another disk
-/// (docs/FORMATS.md, "Taking over").
+/// (docs/formats/lives.md, "Taking over").
 pub fn run_heir<S: Source, K: Sink, D: Disk, E: Disk>(
     alloc: Global,
     command: HeirCommand,

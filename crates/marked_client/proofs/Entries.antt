@@ -15,10 +15,9 @@ use Rattle.sync_messages.specs.declared.message.Message.TheVariants as messages
 use Rattle.sync_messages.specs.Parts.{DownloadParts, SentParts}
 use Rattle.sync_client.specs.Clients.{Did, IsClientOf}
 use Rattle.sync_client.specs.Keeping.{Keeps}
-use Rattle.sync_client.specs.Refusals.{refusal_seen, IfSeen}
+use Rattle.sync_client.specs.Refusals.{refusal_seen}
 use Rattle.sync_client.specs.Taking.{SentRefused, SentTaken}
 use Rattle.sync_client.specs.declared.client.Client.{Client}
-use Rattle.sync_client.specs.declared.refusal.ClientRefusal.{ClientRefusal as CodeRefusal}
 use Rattle.sync_client.specs.declared.replica.Replica.{Replica}
 use Rattle.sync_client.proofs.OneEntry.{if_seen_on}
 use Rattle.sync_client.proofs.Taken.{downloading}

@@ -1,12 +1,11 @@
 -- What holds of an answer that the tests let through.
-use Rattle.std.proofs.Common.{◌≡◌, ℕ, ◌≤◌, Bool, true, false, ◌&&◌, not, if◌then◌else◌, List, Option, Some, None, refl, ap, sym, ◌∙◌, ◌==◌, bytes_eq, nat_lt, IsTrue}
+use Rattle.std.proofs.Common.{◌≡◌, ℕ, Bool, true, false, ◌&&◌, if◌then◌else◌, List, Option, Some, None, refl, ap, sym, ◌∙◌, bytes_eq, nat_lt, IsTrue}
 use Rattle.std.proofs.lemmas.Bool.{eqb-true, ltb-false}
 use Rattle.std.specs.Option.{is_some}
 use Rattle.sync_model.proofs.Alone.{both_true}
 use Rattle.sync_messages.specs.declared.message.Message.{Message}
 use Rattle.sync_messages.specs.declared.message.Message.TheVariants as messages
 use Rattle.sync_messages.specs.Parts.{DownloadParts}
-use Rattle.sync_client.specs.declared.refusal.ClientRefusal.TheVariants as clients
 use Rattle.life_bytes.specs.Envelopes.{AnswersParts}
 use Rattle.life_bytes.specs.declared.answered.Answered.{Answered}
 use Rattle.life_bytes.specs.declared.answered.Answered.TheVariants as answered
@@ -15,7 +14,7 @@ use Rattle.life_bytes.specs.declared.letter.Letter.TheVariants as letters
 use Rattle.life_marks.specs.ClientMarks.{Marks}
 use Rattle.marked_client.specs.declared.refusal.MarkedRefusal.{MarkedRefusal}
 use Rattle.marked_client.specs.declared.testing.Standing.{Standing}
-use Rattle.marked_client.specs.Testing.{DownloadPasses, answers_test, because, birth_test, download_test, first_of, inner_test, is_named, owner_test, uuid_test}
+use Rattle.marked_client.specs.Testing.{DownloadPasses, answers_test, birth_test, first_of, inner_test, is_named, owner_test, uuid_test}
 
 first_none : (a b : Option MarkedRefusal) → first_of a b ≡ None → (a ≡ None) × (b ≡ None)
 first_none None b e = (refl, e)

@@ -1,9 +1,9 @@
 -- What a client with lives sends.
-use Rattle.std.specs.Prelude.{◌≡◌, ℕ, zero, suc, ◌+◌, ◌-◌, ◌==◌, nat_le, if◌then◌else◌, List, [], ◌∷◌, Option, Some, None, Result, Ok, Err, take, drop, length, map}
+use Rattle.std.specs.Prelude.{ℕ, zero, suc, ◌+◌, ◌-◌, ◌==◌, nat_le, if◌then◌else◌, List, [], ◌∷◌, Option, Some, None, take, drop, length}
 use Rattle.std.specs.Option.{unwrap_or}
 use Rattle.sync_messages.specs.declared.message.Message.{Message}
 use Rattle.sync_messages.specs.declared.message.Message.TheVariants as messages
-use Rattle.sync_messages.specs.Parts.{ChangeParts, UploadParts}
+use Rattle.sync_messages.specs.Parts.{ChangeParts}
 use Rattle.life_bytes.specs.declared.letter.Letter.{Letter}
 use Rattle.life_bytes.specs.declared.letter.Letter.TheVariants as letters
 use Rattle.life_bytes.specs.declared.mark.Mark.{Mark}

@@ -3,7 +3,7 @@ ghost use Rattle.sync_journal.specs.Stands.{Stands, StandsNoted};
 ghost use Rattle.sync_model.specs.Clients as model;
 ghost use Rattle.sync_exchange.specs.Profile.{the_profile};
 ghost use Rattle.life_bytes.specs.Spelling.{note_spelling};
-ghost use Rattle.life_marks.specs.ClientMarks.{after_note, seen};
+ghost use Rattle.life_marks.specs.ClientMarks.{seen};
 ghost use Rattle.marked_client.specs.Marked.{IsFault};
 ghost use Rattle.marked_client.specs.Testing.{has_lives};
 
@@ -30,7 +30,7 @@ pub struct MarkedClient<D: Disk> {
 
 impl<D: Disk> MarkedClient<D> {
     ghost use Rattle.sync_client.specs.Clients.{IsClientOf, Says, journal_of};
-    ghost use Rattle.marked_client.specs.Marked.{Notes, Same, is_closed, life_of, marks_of, replica_of, standing_of};
+    ghost use Rattle.marked_client.specs.Marked.{Notes, Same, is_closed, life_of, marks_of, standing_of};
 
     /// The client.
     pub fn client(&self) -> &Client<D>

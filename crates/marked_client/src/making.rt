@@ -1,7 +1,6 @@
-ghost use Rattle.std.specs.Prelude.{◌≡◌, ◌≤◌, ◌∷◌, [], length, ℕ, List, true, false, Some, None, Ok, Err, IfOk, IfErr, OnOk, OnErr};
+ghost use Rattle.std.specs.Prelude.{◌≡◌, ℕ, List, true, false, Some, None, Ok, Err, IfOk, IfErr, OnOk, OnErr};
 ghost use Rattle.sync_model.specs.Clients as model;
 ghost use Rattle.sync_exchange.specs.Profile.{the_profile};
-ghost use Rattle.life_bytes.specs.Parts.{most_tokens};
 ghost use Rattle.life_marks.specs.ClientMarks.{after_made};
 ghost use Rattle.life_marks.specs.Reached.{number_of};
 ghost use Rattle.marked_client.specs.Marked.{IsFault, after_notes, begin_notes, made_notes, save_notes, save_test, token_test};
@@ -21,7 +20,7 @@ const MOST_TOKENS: usize = 4_096;
 
 impl<D: Disk> MarkedClient<D> {
     ghost use Rattle.sync_client.specs.Clients.{IsClientOf};
-    ghost use Rattle.marked_client.specs.Marked.{MadeAsEver, Notes, Same, is_closed, life_of, marks_of, replica_of};
+    ghost use Rattle.marked_client.specs.Marked.{MadeAsEver, Notes, Same, is_closed, life_of, marks_of};
 
     /// One transaction, as `Client::commit`, in the life of this opening, which is noted before the first one. Errors besides:
     /// NoLife, where the file has lives and was opened without one, and then nothing changes.

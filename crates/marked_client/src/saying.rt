@@ -1,4 +1,4 @@
-ghost use Rattle.std.specs.Prelude.{◌≡◌, ◌⊎◌, ◌≤◌, [], List, Some, Err, length, IfOk, IfErr};
+ghost use Rattle.std.specs.Prelude.{◌≡◌, ◌⊎◌, ◌≤◌, List, Some, Err, length, IfOk, IfErr};
 ghost use Rattle.sync_model.specs.Clients as model;
 ghost use Rattle.sync_exchange.specs.Profile.{the_profile};
 ghost use Rattle.life_bytes.specs.Parts.{most_saves};

@@ -1,8 +1,7 @@
-ghost use Rattle.std.specs.Prelude.{◌≡◌, ◌+◌, ◌<◌, ◌≤◌, ◌∷◌, [], length, List, ℕ, IsTrue, true, false, Some, None, Ok, Err, IfErr, IfOk, OnOk, OnErr};
+ghost use Rattle.std.specs.Prelude.{◌≡◌, ◌+◌, ◌<◌, ◌≤◌, ◌∷◌, [], List, true, false, Some, None, Ok, Err, IfErr, IfOk, OnOk};
 ghost use Rattle.sync_model.specs.Clients as model;
 ghost use Rattle.sync_exchange.specs.Profile.{the_profile};
 ghost use Rattle.sync_exchange.specs.Seen.{message_seen, sent_seen};
-ghost use Rattle.std.specs.Option.{is_some};
 ghost use Rattle.sync_messages.specs.Parts.{last_version, most_listed};
 ghost use Rattle.sync_messages.specs.declared.message.Message.TheVariants as messages;
 ghost use Rattle.sync_messages.specs.declared.message.Message.{Message};
@@ -10,7 +9,6 @@ ghost use Rattle.life_bytes.specs.Envelopes.{AnswersParts};
 ghost use Rattle.life_bytes.specs.Parts.{GivenUpParts};
 ghost use Rattle.life_bytes.specs.declared.answered.Answered.{Answered};
 ghost use Rattle.life_bytes.specs.declared.letter.Letter.{Letter};
-ghost use Rattle.life_marks.specs.ClientMarks.{after_took};
 ghost use Rattle.marked_client.specs.Marked.{IsFault, IsNext, entry_life, entry_notes};
 ghost use Rattle.marked_client.specs.Testing.{DownloadPasses, answers_test, has_lives, is_foreign, not_mine};
 ghost use Rattle.marked_client.specs.declared.testing.Standing.{Standing};
@@ -36,7 +34,7 @@ pub enum Taken {
 
 impl<D: Disk> MarkedClient<D> {
     ghost use Rattle.sync_client.specs.Clients.{IsClientOf};
-    ghost use Rattle.marked_client.specs.Marked.{EntrySays, GaveUp, Notes, Same, TookAsEver, is_closed, life_of, marks_of, replica_of, standing_of};
+    ghost use Rattle.marked_client.specs.Marked.{EntrySays, GaveUp, Notes, Same, TookAsEver, is_closed, life_of, marks_of, standing_of};
 
     /// Takes a frame's message: as `Client::take` where it and the file are without lives. Errors besides those of an answer with
     /// lives, in this order, and then nothing changes: Closed, NotBorn; NotMine where it is for another client, or one alone has

@@ -1,6 +1,6 @@
-ghost use Rattle.std.specs.Prelude.{◌≡◌, slice_get};
+ghost use Rattle.std.specs.Prelude.{◌≡◌};
 ghost use Rattle.life_marks.specs.ClientMarks.{seen};
-ghost use Rattle.marked_client.specs.Testing.{answers_test, because, birth_test, download_test, file_test, first_of, history_test, ident_test, inner_test, is_birth, is_last, is_life, is_named, is_named_in, message_test, owner_test, uuid_test};
+ghost use Rattle.marked_client.specs.Testing.{answers_test, because, birth_test, download_test, file_test, history_test, ident_test, is_birth, is_last, is_life, is_named, is_named_in, message_test, owner_test};
 
 use crate::refusal::MarkedRefusal;
 use life_bytes::{Answered, Answers, Life, Mark, Runs};

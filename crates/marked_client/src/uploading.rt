@@ -1,7 +1,5 @@
 ghost use Rattle.std.specs.Prelude.{◌≡◌, ◌⊎◌, ◌≤◌, List, length, take, IfOk, IfErr};
-ghost use Rattle.std.specs.Option.{option_map};
 ghost use Rattle.sync_messages.specs.Parts.{bytes_of_changes, most_listed};
-ghost use Rattle.life_bytes.specs.Parts.{most_tokens_together, most_tokens};
 ghost use Rattle.sync_model.specs.Clients as model;
 ghost use Rattle.sync_exchange.specs.Profile.{the_profile};
 ghost use Rattle.marked_client.specs.Marked.{uuid_of};

@@ -142,7 +142,7 @@ fn take_over<I: Read + Drop, O: Write + Drop>(
     end_of(run_heir(rt.alloc(), command, life, &mut source, &mut sink, disk, old))
 }
 
-/// Runs the program's words: those of a command with a life (docs/FORMATS.md, "Commands with a life" and "Taking over"), or else as
+/// Runs the program's words: those of a command with a life (docs/formats/lives.md, "Commands with a life" and "Taking over"), or else as
 /// `run_words`.
 pub fn run_program<I: Read + Drop, O: Write + Drop>(
     rt: &HostRuntime,

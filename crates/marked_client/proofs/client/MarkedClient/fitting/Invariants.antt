@@ -1,4 +1,4 @@
-use Rattle.std.proofs.Common.{◌≡◌, ◌+◌, ◌≤◌, drop}
+use Rattle.std.proofs.Common.{◌≡◌, ◌+◌, drop}
 use Rattle.marked_client.specs.Marked.{marks_of}
 use Rattle.marked_client.specs.Saying.{fitting, fitting_in}
 use Rattle.marked_client.proofs.client.MarkedClient.fitting.Given as goal

@@ -1,12 +1,6 @@
-use Rattle.std.proofs.Common.{◌≡◌, ℕ, ◌+◌, ◌-◌, ◌≤◌, ◌<◌, List, Option, IsTrue, map, drop, get_or, length, sym, subst, ap, ◌∙◌, arith}
-use Rattle.std.specs.Option.{is_some}
-use Rattle.sync_model.specs.Clients.{ClientRecord, client_of}
-use Rattle.sync_exchange.specs.Profile.{the_profile}
+use Rattle.std.proofs.Common.{◌≡◌, ◌+◌, ◌≤◌, ◌<◌, map, drop, get_or, length, subst}
 use Rattle.sync_exchange.specs.Seen.{sent_seen}
-use Rattle.marked_client.specs.declared.testing.Standing.{Standing}
-use Rattle.marked_client.specs.Testing.{DownloadPasses}
-use Rattle.marked_client.specs.Marked.{IsNext}
-use Rattle.marked_client.proofs.Entries.{EntriesSoFar, at_first, ends, goes_on, left_at, none_left, stops, whole}
+use Rattle.marked_client.proofs.Entries.{EntriesSoFar, at_first, ends, goes_on, left_at, none_left, stops}
 use Rattle.marked_client.proofs.Firsts.{first_next, next_told, one_more, skipped_is}
 use Rattle.marked_client.proofs.client.MarkedClient.take_entries.Goals as goal
 
