@@ -1,2 +1,10 @@
+pub mod Pieces
+pub mod Reading
+pub mod Followed
 pub mod Noting
+pub mod Writing
+pub mod Telling
+pub mod Opened
+pub mod Uploads
+pub mod GivingUp
 pub mod Numbering

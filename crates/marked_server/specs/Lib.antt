@@ -1,4 +1,9 @@
 pub mod Testing
+pub mod Noting
+pub mod Following
+pub mod Writing
 pub mod Uploading
+pub mod GivingUp
+pub mod Says
 pub mod Marked
 pub mod Plain

@@ -1,16 +1,18 @@
 -- A server with lives, and what it answers of them.
 use Rattle.std.specs.Prelude.{◌≡◌, ℕ, zero, suc, ◌-◌, Bool, true, false, ◌&&◌, if◌then◌else◌, bytes_eq, List, [], ◌∷◌, ◌++◌, Option, Some, None, take, drop, map, length}
-use Rattle.std.specs.Option.{unwrap_or, is_some}
+use Rattle.std.specs.Option.{unwrap_or}
 use Rattle.sync_disk.specs.declared.disk.Disk.{Ghosts}
 use Rattle.sync_data.specs.declared.instr.Instr.{Instr}
 use Rattle.sync_base.specs.States.{State}
+use Rattle.sync_journal.specs.Records.{records_of}
+use Rattle.sync_journal.specs.Records.Reading.{Good}
 use Rattle.sync_journal.specs.Stands.{Stands, StandsNoted}
-use Rattle.sync_model.specs.Parts.{Parts, Given, Served, at_ident}
+use Rattle.sync_model.specs.Parts.{Parts, Served, at_ident}
 use Rattle.server_memory.specs.Kept.{parts}
-use Rattle.sync_server.specs.Serving.{Did, journal_of, kept_of, is_closed as is_shut}
+use Rattle.server_memory.specs.Opening.{AreRecords}
+use Rattle.sync_server.specs.Serving.{Did, IsServerOf, IsStored, journal_of, kept_of, is_closed as is_shut}
 use Rattle.life_bytes.specs.declared.mark.Mark.{Mark}
 use Rattle.life_bytes.specs.declared.note.Note.{Note}
-use Rattle.life_bytes.specs.declared.note.Note.TheVariants as notes
 use Rattle.life_bytes.specs.Spelling.{note_spelling}
 use Rattle.life_bytes.specs.Runs.{Lives}
 use Rattle.life_bytes.specs.Envelopes.{AnswersParts}
@@ -27,7 +29,12 @@ use Rattle.server_memory.specs.Integrating.{found}
 use Rattle.marked_server.specs.Testing.{bound_said, ident_said}
 use Rattle.marked_server.specs.declared.testing.Standing.{Standing}
 use Rattle.life_marks.specs.declared.server_marks.Line.{Line}
-use Rattle.life_marks.specs.ServerMarks.{Marks, seen, line_of, life_before, no_life, after_note}
+use Rattle.life_marks.specs.ServerMarks.{Marks, seen, line_of, life_before, no_life, no_marks}
+use Rattle.life_marks.specs.Reading.{server_marks_in, is_used}
+use Rattle.marked_server.specs.Noting.{after_notes}
+use Rattle.marked_server.specs.Following.{count_by}
+use Rattle.marked_server.specs.Writing.{Written}
+use Rattle.marked_server.specs.Says.{Done, reply_seen}
 use Rattle.marked_server.specs.declared.server.MarkedServer.{MarkedServer}
 
 -- ---- what is told beside an answer
@@ -69,10 +76,6 @@ lives_in m life (messages.AskTables asked) = []
 abbrev pub lives_beside : Marks → Option (List ℕ) → Answered → Lives
 lives_beside m life (answered.Message message) = lives_in m life message
 lives_beside m life (answered.GivenUp given) = []
-
-abbrev pub count_by : Option (Given Instr) → ℕ
-count_by None = 0
-count_by (Some g) = g.count
 
 -- the answer to a client of this uuid, with this ident
 abbrev pub answers_with : Marks → Option (List ℕ) → Parts Instr State → List ℕ → ℕ → Answered → AnswersParts
@@ -116,40 +119,7 @@ is_question (said.Message (messages.Retire retire)) = false
 is_question (said.Message (messages.Retired retired)) = false
 is_question (said.Message (messages.AskTables asked)) = true
 
--- ---- notes
-
-abbrev pub after_notes : Marks → List Note → Marks
-after_notes m [] = m
-after_notes m (n ∷ ns) = after_notes (after_note m n) ns
-
--- it is this life
-abbrev pub is_life : Option (List ℕ) → List ℕ → Bool
-is_life None life = false
-is_life (Some last) life = bytes_eq last life
-
--- an opening with a life begins it where the file hasn't begun it yet
-abbrev pub begin_notes : Marks → Option (List ℕ) → List Note
-begin_notes m None = []
-begin_notes m (Some life) = if is_life m.life life then [] else notes.Life life ∷ []
-
-abbrev pub noted_in : Option Line → Option (List ℕ)
-noted_in None = None
-noted_in (Some line) = line.noted
-
--- before an entry of an ident that is of this life
-abbrev pub numbers_notes : Marks → ℕ → List ℕ → List Note
-numbers_notes m ident life = if is_life (noted_in (line_of ident m.lines)) life then [] else notes.Numbers (record { ident = ident; life = life }) ∷ []
-
-abbrev pub life_notes : Marks → Option (List ℕ) → ℕ → List ℕ → List Note
-life_notes m begun ident life = begin_notes m begun ++ numbers_notes (after_notes m (begin_notes m begun)) ident life
-
--- where the file has no life
-abbrev pub first_notes : Marks → Option (List ℕ) → List Note
-first_notes m begun = if is_some m.life then [] else begin_notes m begun
-
--- of a client with lives
-abbrev pub member_notes : Marks → Option (List ℕ) → ℕ → List Note
-member_notes m begun ident = first_notes m begun ++ notes.Member ident ∷ []
+-- ---- a server with lives
 
 module _ {D : Type 0} {G : Ghosts D} where
   abbrev pub marks_of : MarkedServer D G → Marks
@@ -164,11 +134,37 @@ module _ {D : Type 0} {G : Ghosts D} where
   abbrev pub is_closed : MarkedServer D G → Bool
   is_closed s = is_shut s.server
 
+  -- An open server of these records. Its disk holds them, and these pieces with the notes beside them; what it says of lives is what
+  -- these pieces say.
+  pub record IsMarkedServer (records : List ServerRecord) (pieces : List (List ℕ)) (s : MarkedServer D G) : Type 0 where
+    pub server : IsServerOf records s.server
+    pub stored : IsStored records s.server
+    pub noted : StandsNoted pieces (journal_of s.server)
+    pub marks : server_marks_in no_marks pieces ≡ Some (marks_of s)
+
+  -- such a server has written this more
+  pub record Wrote (w : Written) (records : List ServerRecord) (pieces : List (List ℕ)) (new : MarkedServer D G) : Type 0 where
+    pub is : IsMarkedServer (records ++ w.records) (pieces ++ w.pieces) new
+    pub marks : marks_of new ≡ w.marks
+    pub parts : parts_of new ≡ w.parts
+
+  -- the server of the records and pieces for which a disk's bytes stand, opened in a life that none of its notes has
+  pub record Opened (bytes : List ℕ) (life : Option (List ℕ)) (s : MarkedServer D G) : Type 0 where
+    pub file : List (List ℕ)
+    pub holds : records_of bytes ≡ Good file
+    pub records : List ServerRecord
+    pub are : AreRecords file records
+    pub pieces : List (List ℕ)
+    pub is : IsMarkedServer records pieces s
+    pub unused : is_used life pieces ≡ false
+    pub life_is : life_of s ≡ life
+
   -- notes are added: the server's records are what they were, and the notes stand behind the records and notes before
   pub record Notes (ns : List Note) (old new : MarkedServer D G) : Type 0 where
     pub marks : marks_of new ≡ after_notes (marks_of old) ns
     pub records : (rs : List (List ℕ)) → Stands rs (journal_of old.server) → Stands rs (journal_of new.server)
     pub noted : (ps : List (List ℕ)) → StandsNoted ps (journal_of old.server) → StandsNoted (ps ++ map note_spelling ns) (journal_of new.server)
+    pub read : (ps : List (List ℕ)) → server_marks_in no_marks ps ≡ Some (marks_of old) → server_marks_in no_marks (ps ++ map note_spelling ns) ≡ Some (marks_of new)
 
   -- whatever comes of it, the server keeps what it kept
   pub record Same (old new : MarkedServer D G) : Type 0 where
@@ -180,6 +176,19 @@ module _ {D : Type 0} {G : Ghosts D} where
     pub reply : CodeMessage
     pub did_it : Did did reply records new.server
     pub told : answers ≡ answers_with (marks_of new) (life_of new) (parts_of new) uuid ident (answered.Message reply)
+
+  -- this is done, and told with lives
+  pub record IsDone (done : Done) (records : List ServerRecord) (pieces : List (List ℕ)) (new : MarkedServer D G) (uuid : List ℕ) (answers : AnswersParts) : Type 0 where
+    pub wrote : Wrote done.written records pieces new
+    pub inner : Answered
+    pub reply : reply_seen inner ≡ done.reply
+    pub told : answers ≡ answers_with (marks_of new) (life_of new) (parts_of new) uuid done.ident inner
+
+  -- the same as a letter
+  pub record IsDoneLetter (done : Done) (records : List ServerRecord) (pieces : List (List ℕ)) (new : MarkedServer D G) (uuid : List ℕ) (letter : Letter) : Type 0 where
+    pub answers : AnswersParts
+    pub done_it : IsDone done records pieces new uuid answers
+    pub letter_is : letter ≡ letters.Answers answers
 
   -- today's step was done, and its answer is told without lives
   pub record IsPlain (did : Served Instr State) (records : List ServerRecord) (new : MarkedServer D G) (letter : Letter) : Type 0 where

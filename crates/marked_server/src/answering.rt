@@ -1,10 +1,12 @@
-ghost use Rattle.std.specs.Prelude.{◌≡◌, List, length, true, None, Some, IfOk, OnOk};
+ghost use Rattle.std.specs.Prelude.{◌≡◌, ℕ, List, length, true, None, Some, IfOk, OnOk, OnErr, false};
 ghost use Rattle.sync_model.specs.Parts.{serve_by};
 ghost use Rattle.sync_model.specs.Servers as model;
 ghost use Rattle.sync_exchange.specs.Profile.{the_profile};
 ghost use Rattle.sync_exchange.specs.Seen.{message_seen};
 ghost use Rattle.sync_messages.specs.declared.message.Message.{Message};
 ghost use Rattle.marked_server.specs.Marked.{answers_with, is_question, lives_beside, lives_told, standing_of};
+ghost use Rattle.marked_server.specs.Says.{bind_done, says_done, step_done};
+ghost use Rattle.marked_server.specs.Writing.{bound_notes, ident_given};
 ghost use Rattle.marked_server.specs.Testing.{ident_said, refuse, says_test};
 ghost use Rattle.marked_server.specs.declared.code.Refusal.{Refusal};
 
@@ -19,7 +21,7 @@ use sync_server::ServerRefusal;
 
 impl<D: Disk> MarkedServer<D> {
     ghost use Rattle.sync_server.specs.Serving.{IsServerOf};
-    ghost use Rattle.marked_server.specs.Marked.{IsAnswered, life_of, marks_of, parts_of};
+    ghost use Rattle.marked_server.specs.Marked.{IsAnswered, IsDone, IsMarkedServer, Notes, Same, is_closed, life_of, marks_of, parts_of};
 
     /// Takes a message with lives. What stands in the files is looked at first, and what that doesn't let through is refused, in
     /// this order: code 77 where the server was opened without a life; 60 where the ident isn't given; 72 where it isn't that of this
@@ -34,6 +36,11 @@ impl<D: Disk> MarkedServer<D> {
         ensures asked { (records : List model.ServerRecord) (message : Message) → IsServerOf records self.old.server → says.now.inner ≡ Said.Message message → is_question says.now.inner ≡ true
             → says_test (marks_of self.old) (standing_of (life_of self.old) (parts_of self.old) says.now.inner) says.now ≡ None
             → IfOk result (λ answers. IsAnswered (serve_by the_profile (parts_of self.old) (message_seen message)) records self.new says.now.uuid (ident_said says.now.inner) answers) }
+        // Which records and notes any message writes that they let through, of which the marks are those afterwards; and its answer.
+        ensures done { (records : List model.ServerRecord) (pieces : List (List ℕ)) → IsMarkedServer records pieces self.old
+            → says_test (marks_of self.old) (standing_of (life_of self.old) (parts_of self.old) says.now.inner) says.now ≡ None
+            → IfOk result (IsDone (says_done (marks_of self.old) (life_of self.old) (parts_of self.old) says.now) records pieces self.new says.now.uuid) }
+        ensures life { life_of self.new ≡ life_of self.old }
     {
         if self.server.journal.is_closed() {
             return Err(ServerRefusal::Closed);
@@ -44,8 +51,20 @@ impl<D: Disk> MarkedServer<D> {
             let refusal = refused(ident, 0, why.code, why.place);
             return self.answers(says.uuid(), ident, Answered::Message(refusal));
         }
+        self.answer(says)
+    }
+
+    /// Does what a message asks that the tests let through.
+    fn answer(&mut self, says: &Says) -> Result<Answers, ServerRefusal>
+        ensures asked { (records : List model.ServerRecord) (message : Message) → IsServerOf records self.old.server → says.now.inner ≡ Said.Message message → is_question says.now.inner ≡ true
+            → IfOk result (λ answers. IsAnswered (serve_by the_profile (parts_of self.old) (message_seen message)) records self.new says.now.uuid (ident_said says.now.inner) answers) }
+        ensures done { (records : List model.ServerRecord) (pieces : List (List ℕ)) → IsMarkedServer records pieces self.old
+            → IfOk result (IsDone (says_done (marks_of self.old) (life_of self.old) (parts_of self.old) says.now) records pieces self.new says.now.uuid) }
+        ensures life { life_of self.new ≡ life_of self.old }
+    {
+        let ident = ident_said(says.inner());
         match says.inner() {
-            Said::Message(Message::Bind { uuid }) => self.take_bind(*uuid),
+            Said::Message(Message::Bind { uuid }) => self.take_bind(says.uuid(), *uuid),
             Said::Message(Message::Upload(upload)) => {
                 let reply = self.take_upload(says, upload)?;
                 self.answers(says.uuid(), ident, Answered::Message(reply))
@@ -65,7 +84,10 @@ impl<D: Disk> MarkedServer<D> {
         ident: Ident,
         message: &Message,
     ) -> Result<Answers, ServerRefusal>
-        ensures { (records : List model.ServerRecord) → IsServerOf records self.old.server → IfOk result (λ answers. IsAnswered (serve_by the_profile (parts_of self.old) (message_seen message.now)) records self.new uuid ident answers) }
+        ensures asked { (records : List model.ServerRecord) → IsServerOf records self.old.server → IfOk result (λ answers. IsAnswered (serve_by the_profile (parts_of self.old) (message_seen message.now)) records self.new uuid ident answers) }
+        ensures done { (records : List model.ServerRecord) (pieces : List (List ℕ)) → IsMarkedServer records pieces self.old
+            → IfOk result (IsDone (step_done (marks_of self.old) ident (serve_by the_profile (parts_of self.old) (message_seen message.now))) records pieces self.new uuid) }
+        ensures life { life_of self.new ≡ life_of self.old }
     {
         let Ok(message) = message.copy() else {
             return Err(self.out_of_memory());
@@ -93,16 +115,33 @@ impl<D: Disk> MarkedServer<D> {
     }
 
     /// Gives a client with lives its ident.
-    fn take_bind(&mut self, uuid: Id) -> Result<Answers, ServerRefusal> {
+    fn take_bind(&mut self, of: Id, uuid: Id) -> Result<Answers, ServerRefusal>
+        ensures done { (records : List model.ServerRecord) (pieces : List (List ℕ)) → IsMarkedServer records pieces self.old
+            → IfOk result (IsDone (bind_done (marks_of self.old) (life_of self.old) (serve_by the_profile (parts_of self.old) (message_seen (Message.Bind uuid)))) records pieces self.new of) }
+        ensures life { life_of self.new ≡ life_of self.old }
+    {
         let reply = self.serve(Message::Bind { uuid })?;
-        let ident = match &reply {
-            Message::Ident(given) => given.ident(),
-            _ => 0,
-        };
-        if ident != 0 && !self.is_member(ident) {
-            self.note_member(ident)?;
+        let ident = ident_given(&reply);
+        match self.note_bound(ident) {
+            Ok(()) => self.answers(of, ident, Answered::Message(reply)),
+            Err(why) => {
+                drop(reply);
+                Err(why)
+            }
         }
-        self.answers(uuid, ident, Answered::Message(reply))
+    }
+
+    /// The client of an ident, if it got one, has lives from now on.
+    fn note_bound(&mut self, ident: Ident) -> Result<(), ServerRefusal>
+        ensures notes { OnOk result (Notes (bound_notes (marks_of self.old) (life_of self.old) ident) self.old self.new) }
+        ensures same { Same self.old self.new }
+        ensures open_ { is_closed self.old ≡ false → OnOk result (is_closed self.new ≡ false) }
+        ensures closes { OnErr result (is_closed self.new ≡ true) }
+    {
+        if ident != 0 && !self.is_member(ident) {
+            return self.note_member(ident);
+        }
+        Ok(())
     }
 
     /// A reply, with the lives of what it bears.
@@ -114,6 +153,7 @@ impl<D: Disk> MarkedServer<D> {
     ) -> Result<Answers, ServerRefusal>
         ensures answers { IfOk result (λ answers. answers ≡ answers_with (marks_of self.old) (life_of self.old) (parts_of self.old) uuid ident inner) }
         ensures unchanged { OnOk result (self.new ≡ self.old) }
+        ensures life { life_of self.new ≡ life_of self.old }
     {
         let runs = self.lives_beside(&inner);
         let Ok(runs) = runs else {
@@ -154,8 +194,20 @@ impl<D: Disk> MarkedServer<D> {
     }
 
     /// Out of memory the server is closed.
-    pub(crate) fn out_of_memory(&mut self) -> ServerRefusal {
+    pub(crate) fn out_of_memory(&mut self) -> ServerRefusal
+        ensures { Same self.old self.new }
+    {
         self.server.journal.close();
         ServerRefusal::NoMemory
+    }
+}
+
+/// The ident that an answer gives; 0 where it gives none.
+pub(crate) fn ident_given(reply: &Message) -> Ident
+    ensures { result ≡ ident_given (message_seen reply.now) }
+{
+    match reply {
+        Message::Ident(given) => given.ident(),
+        _ => 0,
     }
 }

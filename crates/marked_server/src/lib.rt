@@ -3,6 +3,7 @@
 
 mod answering;
 mod code;
+mod following;
 mod gathering;
 mod giving_up;
 mod opening;

@@ -7,10 +7,16 @@ ghost use Rattle.sync_exchange.specs.Seen.{message_seen};
 ghost use Rattle.sync_messages.specs.declared.message.Message.{Message};
 ghost use Rattle.marked_server.specs.Plain.{named_in, plain_refusal};
 ghost use Rattle.life_bytes.specs.declared.letter.Letter.{Letter};
-ghost use Rattle.marked_server.specs.Testing.{is_member};
+ghost use Rattle.life_bytes.specs.Envelopes.{SaysParts};
+ghost use Rattle.marked_server.specs.Testing.{is_member, says_test};
+ghost use Rattle.marked_server.specs.Says.{says_done};
+ghost use Rattle.marked_server.specs.Following.{count_by};
+ghost use Rattle.marked_server.specs.Noting.{begin_notes, first_notes, is_life, life_notes, member_notes, noted_in, numbers_notes};
+ghost use Rattle.marked_server.specs.Writing.{bears_some, plain_notes, plain_written};
 ghost use Rattle.life_bytes.specs.Spelling.{note_spelling};
+ghost use Rattle.life_bytes.specs.Whole.{IsNote};
 ghost use Rattle.life_marks.specs.ServerMarks.{after_note, line_of};
-ghost use Rattle.marked_server.specs.Marked.{begin_notes, count_by, first_notes, is_life, last_told, life_notes, life_told, mark_of, member_notes, no_mark, noted_in, numbers_notes};
+ghost use Rattle.marked_server.specs.Marked.{last_told, life_told, mark_of, no_mark, standing_of};
 
 use crate::code::{Code, refused};
 use crate::testing::is_member;
@@ -36,7 +42,7 @@ pub struct MarkedServer<D: Disk> {
 
 impl<D: Disk> MarkedServer<D> {
     ghost use Rattle.sync_server.specs.Serving.{Did, IsServerOf, journal_of};
-    ghost use Rattle.marked_server.specs.Marked.{IsPlain, Notes, Same, is_closed, life_of, marks_of, parts_of};
+    ghost use Rattle.marked_server.specs.Marked.{IsDoneLetter, IsMarkedServer, IsPlain, Notes, Same, Wrote, is_closed, life_of, marks_of, parts_of};
 
     /// The server.
     pub fn server(&self) -> &Server<D> {
@@ -58,6 +64,13 @@ impl<D: Disk> MarkedServer<D> {
         ensures plain_refused { (message refusal : Message) → letter ≡ Letter.Message message → plain_refusal (marks_of self.old) (life_of self.old) (parts_of self.old) message ≡ Some refusal → (result ≡ Ok (Letter.Message refusal)) × (self.new ≡ self.old) }
         ensures plain { (records : List model.ServerRecord) (message : Message) → IsServerOf records self.old.server → letter ≡ Letter.Message message → plain_refusal (marks_of self.old) (life_of self.old) (parts_of self.old) message ≡ None
             → IfOk result (λ r. IsPlain (serve_by the_profile (parts_of self.old) (message_seen message)) records self.new r) }
+        // What is written, of which the marks are those afterwards.
+        ensures writes { (records : List model.ServerRecord) (pieces : List (List ℕ)) (message : Message) → IsMarkedServer records pieces self.old → letter ≡ Letter.Message message
+            → plain_refusal (marks_of self.old) (life_of self.old) (parts_of self.old) message ≡ None
+            → IfOk result (λ r. Wrote (plain_written (marks_of self.old) (life_of self.old) (parts_of self.old) message) records pieces self.new) }
+        ensures says { (records : List model.ServerRecord) (pieces : List (List ℕ)) (says : SaysParts) → IsMarkedServer records pieces self.old → letter ≡ Letter.Says says
+            → says_test (marks_of self.old) (standing_of (life_of self.old) (parts_of self.old) says.inner) says ≡ None
+            → IfOk result (IsDoneLetter (says_done (marks_of self.old) (life_of self.old) (parts_of self.old) says) records pieces self.new says.uuid) }
     {
         match letter {
             Letter::Message(message) => Ok(Letter::Message(self.take_message(message)?)),
@@ -77,21 +90,22 @@ impl<D: Disk> MarkedServer<D> {
         ensures refused { (refusal : Message) → plain_refusal (marks_of self.old) (life_of self.old) (parts_of self.old) message ≡ Some refusal → (result ≡ Ok refusal) × (self.new ≡ self.old) }
         ensures does { (records : List model.ServerRecord) → IsServerOf records self.old.server → plain_refusal (marks_of self.old) (life_of self.old) (parts_of self.old) message ≡ None
             → IfOk result (λ reply. Did (serve_by the_profile (parts_of self.old) (message_seen message)) reply records self.new.server) }
+        // What is written, of which the marks are those afterwards: the life of the opening before its first changes, and today's records.
+        ensures writes { (records : List model.ServerRecord) (pieces : List (List ℕ)) → IsMarkedServer records pieces self.old → plain_refusal (marks_of self.old) (life_of self.old) (parts_of self.old) message ≡ None
+            → IfOk result (λ reply. Wrote (plain_written (marks_of self.old) (life_of self.old) (parts_of self.old) message) records pieces self.new) }
+        ensures life { life_of self.new ≡ life_of self.old }
     {
         if let Some(refusal) = self.plain_refusal(&message) {
             drop(message);
             return Ok(refusal);
         }
-        if bears_some(&message) {
-            match self.begin() {
-                Ok(()) => {}
-                Err(why) => {
-                    drop(message);
-                    return Err(why);
-                }
+        match self.begin_plain(&message) {
+            Ok(()) => self.serve(message),
+            Err(why) => {
+                drop(message);
+                Err(why)
             }
         }
-        self.serve(message)
     }
 
     /// Why a message without lives is refused, where it is.
@@ -134,67 +148,6 @@ impl<D: Disk> MarkedServer<D> {
         ensures { result ≡ is_member (line_of ident (marks_of self.now).lines) }
     {
         is_member(self.marks.line(ident))
-    }
-
-    /// Today's step. The marks are those of its records too.
-    pub(crate) fn serve(&mut self, message: Message) -> Result<Message, ServerRefusal>
-        ensures does { (records : List model.ServerRecord) → IsServerOf records self.old.server → IfOk result (λ reply. Did (serve_by the_profile (parts_of self.old) (message_seen message)) reply records self.new.server) }
-        ensures life { life_of self.new ≡ life_of self.old }
-    {
-        let idents = self.server.idents();
-        let entries = self.server.len();
-        let bound = bound_in(&message);
-        let origin = origin_in(&message);
-        let reply = self.server.take(message)?;
-        match self.take_given(bound, idents) {
-            Ok(()) => {}
-            Err(why) => {
-                drop(reply);
-                return Err(why);
-            }
-        }
-        match self.take_entries(origin, entries) {
-            Ok(()) => Ok(reply),
-            Err(why) => {
-                drop(reply);
-                Err(why)
-            }
-        }
-    }
-
-    /// The uuid for which an ident came behind so many.
-    fn take_given(&mut self, bound: Option<Id>, before: u32) -> Result<(), ServerRefusal>
-        ensures server { OnOk result (self.new.server ≡ self.old.server) }
-        ensures life { life_of self.new ≡ life_of self.old }
-    {
-        match bound {
-            Some(uuid) if self.server.idents() > before => {
-                let taken = self.marks.take_client(uuid);
-                self.or_close(taken)
-            }
-            _ => Ok(()),
-        }
-    }
-
-    /// The entries of an ident that came behind so many.
-    fn take_entries(&mut self, origin: Ident, before: u32) -> Result<(), ServerRefusal>
-        ensures server { OnOk result (self.new.server ≡ self.old.server) }
-        ensures life { life_of self.new ≡ life_of self.old }
-    {
-        for version in before..self.server.len() {
-            let number = self.number_at(version);
-            let taken = self.marks.take_entry(origin, number);
-            self.or_close(taken)?;
-        }
-        Ok(())
-    }
-
-    /// The number of an entry among its client's.
-    fn number_at(&self, version: u32) -> u32 {
-        match self.server.entry(version) {
-            Some(entry) => entry.number,
-            None => 0,
-        }
     }
 
     /// Out of memory the server is closed, as its marks may be behind its file.
@@ -245,6 +198,7 @@ impl<D: Disk> MarkedServer<D> {
     fn put_note(&mut self, note: &Note) -> Result<(), ServerRefusal>
         ensures records { (rs : List (List ℕ)) → Stands rs (journal_of self.old.server) → OnOk result (Stands rs (journal_of self.new.server)) }
         ensures noted { (ps : List (List ℕ)) → StandsNoted ps (journal_of self.old.server) → OnOk result (StandsNoted (ps ++ note_spelling note.now ∷ []) (journal_of self.new.server)) }
+        ensures is { OnOk result (IsNote note.now) }
         ensures marks { marks_of self.new ≡ marks_of self.old }
         ensures same { Same self.old self.new }
         ensures open_ { is_closed self.old ≡ false → OnOk result (is_closed self.new ≡ false) }
@@ -322,6 +276,19 @@ impl<D: Disk> MarkedServer<D> {
         Ok(())
     }
 
+    /// Begins the life of this opening before a message that brings changes.
+    fn begin_plain(&mut self, message: &Message) -> Result<(), ServerRefusal>
+        ensures notes { OnOk result (Notes (plain_notes (marks_of self.old) (life_of self.old) message.now) self.old self.new) }
+        ensures same { Same self.old self.new }
+        ensures open_ { is_closed self.old ≡ false → OnOk result (is_closed self.new ≡ false) }
+        ensures closes { OnErr result (is_closed self.new ≡ true) }
+    {
+        if bears_some(message) {
+            return self.begin();
+        }
+        Ok(())
+    }
+
     /// Begins the life of this opening where the file has none.
     fn begin_first(&mut self) -> Result<(), ServerRefusal>
         ensures notes { OnOk result (Notes (first_notes (marks_of self.old) (life_of self.old)) self.old self.new) }
@@ -365,24 +332,12 @@ impl<D: Disk> MarkedServer<D> {
 }
 
 /// Whether it is an Upload with changes, which may become entries.
-fn bears_some(message: &Message) -> bool {
+fn bears_some(message: &Message) -> bool
+    ensures { result ≡ bears_some message.now }
+{
     match message {
         Message::Upload(upload) => !upload.changes().is_empty(),
         _ => false,
-    }
-}
-
-fn bound_in(message: &Message) -> Option<Id> {
-    match message {
-        Message::Bind { uuid } => Some(*uuid),
-        _ => None,
-    }
-}
-
-fn origin_in(message: &Message) -> Ident {
-    match message {
-        Message::Upload(upload) => upload.ident(),
-        _ => 0,
     }
 }
 

@@ -1,5 +1,6 @@
 use Rattle.std.proofs.Common.{subst}
-use Rattle.marked_server.specs.Marked.{Notes, marks_of, life_of, begin_notes, numbers_notes, after_notes}
+use Rattle.marked_server.specs.Noting.{begin_notes, numbers_notes, after_notes}
+use Rattle.marked_server.specs.Marked.{Notes, marks_of, life_of}
 use Rattle.marked_server.proofs.Noting.{notes_both}
 use Rattle.marked_server.proofs.server.MarkedServer.note_life.Goals as goal
 

@@ -1,6 +1,7 @@
 use Rattle.std.proofs.Common.{[], ◌∷◌, subst}
 use Rattle.life_bytes.specs.declared.note.Note.TheVariants as notes
-use Rattle.marked_server.specs.Marked.{Notes, marks_of, life_of, first_notes}
+use Rattle.marked_server.specs.Noting.{first_notes}
+use Rattle.marked_server.specs.Marked.{Notes, marks_of, life_of}
 use Rattle.marked_server.proofs.Noting.{notes_both}
 use Rattle.marked_server.proofs.server.MarkedServer.note_member.Goals as goal
 
