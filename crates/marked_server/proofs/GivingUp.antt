@@ -1,16 +1,19 @@
 -- The turns of a GiveUp.
-use Rattle.std.proofs.Common.{◌≡◌, ℕ, zero, suc, ◌≤◌, List, [], ◌∷◌, ◌++◌, Option, Some, None, refl, sym, ap, ◌∙◌, subst, arith, append_assoc}
+use Rattle.std.proofs.Common.{◌≡◌, ℕ, zero, suc, ◌≤◌, Bool, false, if◌then◌else◌, List, [], ◌∷◌, ◌++◌, length, Option, Some, None, refl, sym, ap, ◌∙◌, subst, arith, append_assoc}
 use Rattle.sync_disk.specs.declared.disk.Disk.{Ghosts}
 use Rattle.sync_data.specs.declared.instr.Instr.{Instr}
 use Rattle.sync_base.specs.States.{State}
-use Rattle.sync_model.specs.Messages.{Message}
+use Rattle.sync_model.specs.Messages.{Message, Refused}
 use Rattle.sync_model.specs.Parts.{Parts}
 use Rattle.sync_model.specs.Servers.{ServerRecord}
+use Rattle.life_bytes.specs.Parts.{GiveUpParts}
 use Rattle.life_marks.specs.ServerMarks.{Marks}
+use Rattle.marked_server.specs.declared.code.Code.TheVariants as codes
+use Rattle.marked_server.specs.Testing.{code_number}
 use Rattle.marked_server.specs.Noting.{member_notes}
 use Rattle.marked_server.specs.Writing.{Written, noted_behind, then_written, unwritten}
 use Rattle.marked_server.specs.Uploading.{Taken}
-use Rattle.marked_server.specs.GivingUp.{all_given_up, given_up, newly_identified, unless_refused}
+use Rattle.marked_server.specs.GivingUp.{Replied, Told, all_given_up, given_up, given_up_as, gives_up, identified, names_itself, newly_identified, numbers_told, replied, retired_behind, unless_refused}
 use Rattle.marked_server.specs.Marked.{IsMarkedServer, Wrote, marks_of, parts_of}
 use Rattle.marked_server.specs.declared.server.MarkedServer.{MarkedServer}
 use Rattle.marked_server.proofs.Writing.{wrote_none, wrote_then}
@@ -77,3 +80,31 @@ newly_none begun w n is = ap (newly_identified begun w) is
 pub newly_some : (begun : Option (List ℕ)) (w : Written) (n : ℕ) → 1 ≤ n → newly_identified begun w n ≡ record { written = noted_behind w (member_notes w.marks begun n); ident = Some n }
 newly_some begun w zero some = absurd (omega (arith, some))
 newly_some begun w (suc n) some = refl
+
+-- ---- one that is given up
+module _ (begun : Option (List ℕ)) (by : ℕ) (m : Marks) (k : Parts Instr State) (uuid : List ℕ) where
+  abbrev named : Written
+  named = (identified m begun k uuid).written
+
+  pub given_up_some : (ident : ℕ) → (identified m begun k uuid).ident ≡ Some ident → given_up begun by m k uuid ≡ record { written = retired_behind named ident by; refusal = None }
+  given_up_some ident is = ap (given_up_as by named) is
+
+  pub given_up_none : (identified m begun k uuid).ident ≡ None → given_up begun by m k uuid ≡ record { written = named; refusal = Some (Refused by 0 (code_number codes.IdentsFull) (length named.parts.idents)) }
+  given_up_none is = ap (given_up_as by named) is
+
+-- ---- the answer
+module _ (begun : Option (List ℕ)) (m : Marks) (k : Parts Instr State) (given : GiveUpParts) where
+  abbrev done : Taken
+  done = all_given_up begun given.by m k given.uuids
+
+  abbrev itself : Replied
+  itself = record { written = unwritten m k; reply = Told (Refused given.by 0 (code_number codes.SelfRetire) given.by) }
+
+  others : names_itself k given ≡ false → gives_up begun m k given ≡ replied given done.written done.refusal
+  others isnt = ap (λ (t : Bool). if t then itself else replied given done.written done.refusal) isnt
+
+  pub gives_up_refused : (refusal : Message) → names_itself k given ≡ false → done.refusal ≡ Some refusal → gives_up begun m k given ≡ record { written = done.written; reply = Told refusal }
+  gives_up_refused refusal isnt some = others isnt ∙ ap (replied given done.written) some
+
+  pub gives_up_told : names_itself k given ≡ false → done.refusal ≡ None → gives_up begun m k given ≡ record { written = done.written; reply = numbers_told done.written.marks given }
+  gives_up_told isnt none = others isnt ∙ ap (replied given done.written) none

@@ -1,4 +1,3 @@
--- Not checked yet: the names of steps are those of the goals of `take_bind`.
 use Rattle.std.proofs.Common.{◌≡◌, ◌≤◌, ℕ, List, Option, Some, ap, sym, ◌∙◌, subst, arith}
 use Rattle.sync_model.specs.Parts.{serve_by}
 use Rattle.sync_exchange.specs.Profile.{the_profile}
