@@ -3,6 +3,7 @@ pub mod Reading
 pub mod Followed
 pub mod Noting
 pub mod Writing
+pub mod Within
 pub mod Turns
 pub mod Telling
 pub mod Opened

@@ -5,14 +5,14 @@ ghost use Rattle.sync_exchange.specs.Profile.{the_profile};
 ghost use Rattle.sync_exchange.specs.Seen.{message_seen};
 ghost use Rattle.sync_messages.specs.declared.message.Message.{Message};
 ghost use Rattle.marked_server.specs.Marked.{answers_with, is_question, lives_beside, lives_told, standing_of};
-ghost use Rattle.marked_server.specs.Says.{bind_done, says_done, step_done};
+ghost use Rattle.marked_server.specs.Says.{bind_done, message_done, says_done, step_done};
 ghost use Rattle.marked_server.specs.Writing.{bound_notes, ident_given};
-ghost use Rattle.marked_server.specs.Testing.{ident_said, refuse, says_test};
+ghost use Rattle.marked_server.specs.Testing.{ident_in, ident_said, refuse, says_test};
 ghost use Rattle.marked_server.specs.declared.code.Refusal.{Refusal};
 
 use crate::code::refused;
 use crate::server::MarkedServer;
-use crate::testing::{Standing, bound_said, ident_said, says_test};
+use crate::testing::{Standing, bound_said, ident_in, ident_said, says_test};
 use life_bytes::{Answered, Answers, Runs, Said, Says};
 use sync_data::{Id, Ident};
 use sync_disk::Disk;
@@ -62,18 +62,30 @@ impl<D: Disk> MarkedServer<D> {
             → IfOk result (IsDone (says_done (marks_of self.old) (life_of self.old) (parts_of self.old) says.now) records pieces self.new says.now.uuid) }
         ensures life { life_of self.new ≡ life_of self.old }
     {
-        let ident = ident_said(says.inner());
         match says.inner() {
-            Said::Message(Message::Bind { uuid }) => self.take_bind(says.uuid(), *uuid),
-            Said::Message(Message::Upload(upload)) => {
-                let reply = self.take_upload(says, upload)?;
-                self.answers(says.uuid(), ident, Answered::Message(reply))
-            }
-            Said::Message(message) => self.answer_as_ever(says.uuid(), ident, message),
+            Said::Message(message) => self.answer_message(says, message),
             Said::GiveUp(given) => {
                 let answered = self.take_give_up(given)?;
-                self.answers(says.uuid(), ident, answered)
+                self.answers(says.uuid(), given.by(), answered)
             }
+        }
+    }
+
+    /// Does what the message within asks.
+    fn answer_message(&mut self, says: &Says, message: &Message) -> Result<Answers, ServerRefusal>
+        ensures asked { (records : List model.ServerRecord) → IsServerOf records self.old.server → is_question (Said.Message message.now) ≡ true
+            → IfOk result (λ answers. IsAnswered (serve_by the_profile (parts_of self.old) (message_seen message.now)) records self.new says.now.uuid (ident_in message.now) answers) }
+        ensures done { (records : List model.ServerRecord) (pieces : List (List ℕ)) → IsMarkedServer records pieces self.old
+            → IfOk result (IsDone (message_done (marks_of self.old) (life_of self.old) (parts_of self.old) says.now message.now) records pieces self.new says.now.uuid) }
+        ensures life { life_of self.new ≡ life_of self.old }
+    {
+        match message {
+            Message::Bind { uuid } => self.take_bind(says.uuid(), *uuid),
+            Message::Upload(upload) => {
+                let reply = self.take_upload(says, upload)?;
+                self.answers(says.uuid(), upload.ident(), Answered::Message(reply))
+            }
+            _ => self.answer_as_ever(says.uuid(), ident_in(message), message),
         }
     }
 

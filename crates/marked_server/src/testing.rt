@@ -3,7 +3,7 @@ ghost use Rattle.std.specs.Prelude.{◌≡◌, ◌<◌, ◌^◌};
 ghost use Rattle.std.specs.Option.{option_map};
 ghost use Rattle.life_marks.specs.ServerMarks.{seen};
 ghost use Rattle.life_marks.specs.Reached.{number_of};
-ghost use Rattle.marked_server.specs.Testing.{agrees, because, bound_said, file_test, floor_test, history_test, ident_said, is_on_history, lacks, last_in, life_test, line_test, says_test, sender_test, token_test, uploaded_said, is_member};
+ghost use Rattle.marked_server.specs.Testing.{agrees, because, bound_said, file_test, floor_test, history_test, ident_in, ident_said, is_on_history, lacks, last_in, life_test, line_test, says_test, sender_test, token_test, uploaded_said, is_member};
 
 use crate::code::{Code, Refusal};
 use life_bytes::{Life, Mark, Runs, Said, Saves, Says, Token};
@@ -34,12 +34,21 @@ pub(crate) fn ident_said(said: &Said) -> Ident
     ensures { result ≡ ident_said said.now }
 {
     match said {
-        Said::Message(Message::Upload(upload)) => upload.ident(),
-        Said::Message(Message::Ask(ask)) => ask.ident(),
-        Said::Message(Message::Ask2(ask)) => ask.ident(),
-        Said::Message(Message::AskTables(asked)) => asked.ask().ident(),
+        Said::Message(message) => ident_in(message),
         Said::GiveUp(given) => given.by(),
-        Said::Message(_) => 0,
+    }
+}
+
+/// The ident that a message within names; 0 where it names none.
+pub(crate) fn ident_in(message: &Message) -> Ident
+    ensures { result ≡ ident_in message.now }
+{
+    match message {
+        Message::Upload(upload) => upload.ident(),
+        Message::Ask(ask) => ask.ident(),
+        Message::Ask2(ask) => ask.ident(),
+        Message::AskTables(asked) => asked.ask().ident(),
+        _ => 0,
     }
 }
 
