@@ -1,4 +1,5 @@
 use life_marks::MarksRefusal;
+use lives_files::OldRefusal;
 use sync_io::Status;
 use sync_journal::OpenCause;
 
@@ -27,5 +28,14 @@ pub(crate) fn unmarked(why: MarksRefusal) -> LivesEnd {
         MarksRefusal::LifeUsed => LivesEnd::LifeUsed,
         MarksRefusal::BadPiece { .. } => LivesEnd::Ran(Status::BadFile { place: 0 }),
         MarksRefusal::NoMemory => LivesEnd::Ran(Status::NoMemory),
+    }
+}
+
+/// Why the old file isn't read.
+pub(crate) fn unread(why: OldRefusal) -> LivesEnd {
+    match why {
+        OldRefusal::Client(cause) => unopened(cause),
+        OldRefusal::Marks(why) => unmarked(why),
+        OldRefusal::NoLives => LivesEnd::NoLives,
     }
 }

@@ -7,13 +7,10 @@ mod end;
 mod frame;
 mod heir;
 mod items;
-mod keeping;
-mod old;
 mod outcome;
 mod running;
 mod server;
 
 pub use command::{HeirCommand, LivesCommand, heir_command_of, lives_command_of};
 pub use end::LivesEnd;
-pub use keeping::keeps_lives;
 pub use running::{run_heir, run_lives};

@@ -1,12 +1,12 @@
 use crate::client::{Editor, Taker, asked, open_client, sent};
 use crate::command::{HeirCommand, LivesCommand};
-use crate::end::LivesEnd;
+use crate::end::{LivesEnd, unread};
 use crate::heir::{Heir, claimed};
 use crate::items::answer_items;
-use crate::old::open_old;
 use crate::server::{Waiter, open_server};
 use gathered_disk::GatheredDisk;
 use life_bytes::Life;
+use lives_files::open_old;
 use std::alloc::Global;
 use sync_disk::Disk;
 use sync_io::{Sink, Source};
@@ -110,7 +110,7 @@ pub fn run_heir<S: Source, K: Sink, D: Disk, E: Disk>(
 ) -> LivesEnd {
     let old = match open_old(alloc, old) {
         Ok(old) => old,
-        Err(end) => return end,
+        Err(why) => return unread(why),
     };
     let client = match open_client(alloc, disk, life) {
         Ok(client) => client,

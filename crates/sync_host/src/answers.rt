@@ -19,7 +19,7 @@ use sync_messages::{Message, message_bytes};
 use sync_store::Store;
 
 /// Why a client refuses. Of a closed client, and after a fault and out of memory, the host knows no more than that.
-pub(crate) fn decline(refusal: ClientRefusal) -> Reply
+pub fn decline(refusal: ClientRefusal) -> Reply
     ensures { Declines (refusal_seen refusal) result }
 {
     match refusal {
@@ -50,7 +50,7 @@ pub(crate) fn send(alloc: Global, made: Result<Message, ClientRefusal>) -> Reply
 }
 
 /// The lines of all objects.
-pub(crate) fn dump(alloc: Global, store: &Store) -> Reply
+pub fn dump(alloc: Global, store: &Store) -> Reply
     ensures { IfTold result (reply_bytes result ≡ 0 ∷ dump store.now) }
 {
     match dump_lines(alloc, store) {

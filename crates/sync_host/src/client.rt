@@ -119,7 +119,7 @@ pub(crate) fn retire<D: Disk>(client: &Client<D>, ident: u32) -> Result<Message,
 }
 
 /// Where the client stands.
-pub(crate) fn standing<D: Disk>(client: &Client<D>) -> Reply
+pub fn standing<D: Disk>(client: &Client<D>) -> Reply
     ensures { (records : List model.ClientRecord) → IsClientOf records client.now → result ≡ replies.Standing (standing_of (model.client_of the_profile records)) }
 {
     Reply::Standing(Standing {

@@ -196,14 +196,15 @@ fn head_of(message: &Message) -> Head
 }
 
 /// A number of four bytes, the lowest first.
-pub(crate) fn put_word(out: &mut Vec<u8>, number: u32) -> Result<(), AllocError>
+pub fn put_word(out: &mut Vec<u8>, number: u32) -> Result<(), AllocError>
     ensures { OnOk result (out.new.items ≡ out.old.items ++ word number) }
 {
     out.extend_from_slice(&number.to_le_bytes())?;
     Ok(())
 }
 
-fn bytes_of(alloc: Global, head: Head) -> Result<Vec<u8>, AllocError>
+/// The bytes of a head.
+pub fn bytes_of(alloc: Global, head: Head) -> Result<Vec<u8>, AllocError>
     ensures { IfOk result (λ bytes. bytes.items ≡ head_bytes head) }
 {
     let mut out = Vec::new(alloc);
@@ -231,7 +232,8 @@ fn put_tables_of(out: &mut Vec<u8>, message: &Message) -> Result<(), AllocError>
     }
 }
 
-fn told(alloc: Global, message: &Message) -> Result<Vec<u8>, AllocError>
+/// The bytes of the head of a message, and the tables that it names.
+pub fn told(alloc: Global, message: &Message) -> Result<Vec<u8>, AllocError>
     ensures { IfOk result (λ bytes. bytes.items ≡ head_bytes (head_of message.now) ++ tables_of message.now) }
 {
     let mut out = bytes_of(alloc, head_of(message))?;
@@ -350,7 +352,8 @@ fn borne_by(alloc: Global, message: &Message) -> Result<Vec<u8>, AllocError>
     Ok(out)
 }
 
-fn tell_borne_of(alloc: Global, message: &Message) -> Reply
+/// The changes or entries that a message bears.
+pub fn tell_borne_of(alloc: Global, message: &Message) -> Reply
     ensures { IfTold result (reply_bytes result ≡ 0 ∷ borne_by message.now) }
 {
     match borne_by(alloc, message) {

@@ -85,7 +85,7 @@ fn range_of(bytes: &[u8]) -> Option<(u32, u32)>
 }
 
 /// The entries of a range of versions.
-pub(crate) fn entries<D: Disk>(alloc: Global, server: &Server<D>, range: &[u8]) -> Reply
+pub fn entries<D: Disk>(alloc: Global, server: &Server<D>, range: &[u8]) -> Reply
     ensures { IfTold result (EntriesTold (range_in range.now) (parts (kept_of server.now)) result) }
 {
     let Some((version, count)) = range_of(range) else {
@@ -133,7 +133,7 @@ fn clients_of<D: Disk>(alloc: Global, server: &Server<D>) -> Result<Vec<u8>, All
 
 /// The first version of the history that is kept, and of each ident its uuid, how many of its changes are in the history, and up to which
 /// version it has settled.
-pub(crate) fn clients<D: Disk>(alloc: Global, server: &Server<D>) -> Reply
+pub fn clients<D: Disk>(alloc: Global, server: &Server<D>) -> Reply
     ensures { IfTold result (ClientsTold (parts (kept_of server.now)) result) }
 {
     match clients_of(alloc, server) {

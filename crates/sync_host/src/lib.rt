@@ -2,22 +2,22 @@
 //! node asks of its disk waits in an outbox until the host has done it.
 #![tactic(auto)]
 
-mod answers;
-mod client;
-mod head;
+pub mod answers;
+pub mod client;
+pub mod head;
 mod heir;
-mod history;
+pub mod history;
 mod host;
 mod hosted;
 mod node;
-mod object;
+pub mod object;
 mod opening;
-mod page;
-mod places;
-mod refusals;
-mod reply;
-mod server;
+pub mod page;
+pub mod places;
+pub mod refusals;
+pub mod reply;
+pub mod server;
 mod trimming;
-mod verb;
+pub mod verb;
 
 pub use host::Host;

@@ -54,7 +54,7 @@ fn object_of(alloc: Global, line: &[u8]) -> Result<ObjectName, TextRefusal>
 }
 
 /// The line of the object that a line names.
-pub(crate) fn object(alloc: Global, store: &Store, line: &[u8]) -> Reply
+pub fn object(alloc: Global, store: &Store, line: &[u8]) -> Reply
     ensures { IfTold result (ObjectTold (object_form_of_line line.now) store.now result) }
 {
     let name = match object_of(alloc, line) {

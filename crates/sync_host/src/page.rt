@@ -128,7 +128,7 @@ fn page_from(alloc: Global, store: &Store, keys: bool, count: u32, line: &[u8]) 
 }
 
 /// The lines of a page, of objects or of their keys alone: how many at most, and where it begins.
-pub(crate) fn page(alloc: Global, store: &Store, keys: bool, body: &[u8]) -> Reply
+pub fn page(alloc: Global, store: &Store, keys: bool, body: &[u8]) -> Reply
     ensures { IfTold result (PageAsked keys (word_in body.now) store.now result) }
 {
     match word_of(body) {

@@ -18,7 +18,7 @@ use sync_edits::NodeLine;
 use sync_value_text::json_of_key;
 
 /// What a node line may change of a client's objects: a transaction alone changes them.
-pub(crate) fn changed_by_line(alloc: Global, line: &NodeLine) -> Result<Vec<Place>, NoMemory>
+pub fn changed_by_line(alloc: Global, line: &NodeLine) -> Result<Vec<Place>, NoMemory>
     ensures told { IfOk result (λ places. (records : List model.ClientRecord) → Tells places.items records (Some (line_answer records line.now))) }
     ensures ends { IfOk result (λ places. (records : List model.ClientRecord) → Spares places.items records (Some (line_answer records line.now))) }
 {
@@ -31,7 +31,7 @@ pub(crate) fn changed_by_line(alloc: Global, line: &NodeLine) -> Result<Vec<Plac
 }
 
 /// The lines of places.
-pub(crate) fn tell(alloc: Global, places: &[Place]) -> Reply
+pub fn tell(alloc: Global, places: &[Place]) -> Reply
     ensures { IfTold result (reply_bytes result ≡ 0 ∷ place_lines places.now) }
 {
     match lines_of(alloc, places) {

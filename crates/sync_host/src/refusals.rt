@@ -14,13 +14,14 @@ pub struct Declined {
 }
 
 /// A refusal that nothing more is said of.
-pub(crate) fn plain(number: u8) -> Declined
+pub fn plain(number: u8) -> Declined
     ensures { result ≡ record { number = number; first = 0; second = 0; third = 0 } }
 {
     of(number, 0, 0, 0)
 }
 
-pub(crate) fn of(number: u8, first: u32, second: u32, third: u32) -> Declined
+/// A refusal of which these three numbers say more.
+pub fn of(number: u8, first: u32, second: u32, third: u32) -> Declined
     ensures { result ≡ record { number = number; first = first; second = second; third = third } }
 {
     Declined {

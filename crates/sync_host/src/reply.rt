@@ -37,7 +37,7 @@ pub enum Reply {
 }
 
 /// Copies bytes over a buffer, as far as there is room, and tells how many they are.
-pub(crate) fn copy(bytes: &[u8], into: &mut [u8]) -> usize
+pub fn copy(bytes: &[u8], into: &mut [u8]) -> usize
     ensures told { result ≡ length bytes.now }
     ensures copied { into.new ≡ over bytes.now into.old }
 {

@@ -44,7 +44,7 @@ pub(crate) fn take<D: Disk>(alloc: Global, server: &mut Server<D>, bytes: &[u8])
 }
 
 /// How long the server's history is.
-pub(crate) fn standing<D: Disk>(server: &Server<D>) -> Reply
+pub fn standing<D: Disk>(server: &Server<D>) -> Reply
     ensures { result ≡ replies.Standing (server_standing (parts (kept_of server.now)).len) }
 {
     Reply::Standing(Standing {

@@ -8,6 +8,7 @@ ghost use Rattle.std.specs.Ptr.{lies_at};
 ghost use Rattle.sync_host.specs.Hosts.{Turned};
 ghost use Rattle.sync_host.specs.contracts.host.Host.{the_row};
 
+use lives_host::LivesHost;
 use std::alloc::{Allocator, Global};
 use sync_host::Host;
 
@@ -56,4 +57,39 @@ pub unsafe extern "C" fn realm_node_free(alloc: Global, at: *mut u8)
     requires* { sem 𝓛 (box_owns (⟦<Global as Allocator>⟧.dealloc_token alloc) the_row at host) }
 {
     let_go(Box::from_raw(alloc, at as *mut Host))
+}
+
+/// The address of a place for nodes with lives that lives on.
+fn lives_address(host: &mut LivesHost) -> *mut u8 {
+    host as *mut LivesHost as *mut u8
+}
+
+fn lives_turn(host: &mut LivesHost, request: &[u8], reply: &mut [u8]) -> usize {
+    host.turn(request, reply)
+}
+
+/// Makes a place for nodes with lives, as `realm_node_new` one for those without.
+#[unsafe(no_mangle)]
+pub extern "C" fn realm_lives_new(alloc: Global, out: &mut *mut u8) -> bool {
+    match Box::new(alloc, LivesHost::new(alloc)) {
+        Ok(made) => {
+            *out = lives_address(Box::leak(made));
+            true
+        }
+        Err(_) => false,
+    }
+}
+
+/// As `realm_node_turn`, of what `realm_lives_new` gave.
+#[unsafe(no_mangle)]
+pub unsafe extern "C" fn realm_lives_turn(at: *mut u8, request: &[u8], reply: &mut [u8]) -> usize {
+    lives_turn(&mut *(at as *mut LivesHost), request, reply)
+}
+
+fn let_lives_go(_: Box<LivesHost>) {}
+
+/// As `realm_node_free`, of what `realm_lives_new` gave.
+#[unsafe(no_mangle)]
+pub unsafe extern "C" fn realm_lives_free(alloc: Global, at: *mut u8) {
+    let_lives_go(Box::from_raw(alloc, at as *mut LivesHost))
 }
