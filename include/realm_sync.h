@@ -32,6 +32,11 @@ bool realm_node_new(void **out);
 void realm_node_free(void *at);
 size_t realm_node_turn(void *at, const uint8_t *request, size_t request_len, uint8_t *reply, size_t reply_len);
 
+/* The same for a node whose file keeps lives (realm_sync_lives.h). */
+bool realm_lives_new(void **out);
+void realm_lives_free(void *at);
+size_t realm_lives_turn(void *at, const uint8_t *request, size_t request_len, uint8_t *reply, size_t reply_len);
+
 /* ---- a node */
 
 /* What a call answers. */
@@ -72,6 +77,7 @@ typedef struct realm_node {
     const char *wrong;  /* what was expected of a request that this header refused */
     char *path;         /* its file's, as it was given */
     uint8_t unshrunk;   /* why the last realm_shrink left the file: a realm_reason */
+    bool lives;         /* it was opened with a life */
 } realm_node;
 
 /* Why a client refuses, and what the numbers beside it say: docs/FORMATS.md, "Refusals by number". */
@@ -96,7 +102,18 @@ enum realm_refusal_number {
     REALM_SUBSCRIBED = 18,
     REALM_TOO_LATE = 19,
     REALM_SKIPS = 20,          /* the number that comes next, the one that came */
-    REALM_BAD_CHANGE = 21      /* the change's number, offset, code */
+    REALM_BAD_CHANGE = 21,     /* the change's number, offset, code */
+    /* of a node that was opened with a life */
+    REALM_NO_LIVES = 23,       /* the file has no lives, and gets none any more */
+    REALM_OTHER_HISTORY = 24,
+    REALM_DIVERGED = 25,       /* version */
+    REALM_FILE_FORKED = 26,    /* number */
+    REALM_ALREADY_SAVED = 27,
+    REALM_FRONTIER_TOO_LONG = 28,
+    REALM_TOO_MANY = 29,
+    REALM_BROKEN = 30,
+    REALM_USED_LIFE = 31,
+    REALM_LEAVES_LIVES_OUT = 32
 };
 
 /* Why a client refuses: a number of those above, and what it says more of. */
@@ -121,7 +138,11 @@ enum realm_stale {
     REALM_STALE_FILE = 1,    /* the file was copied, or restored from a backup: Forked, code 62, or a Stored above its last number */
     REALM_STALE_SERVER = 2,  /* the server has less than the client took: codes 61 and 63 */
     REALM_STALE_IDENT = 3,   /* the ident was given up: code 68 */
-    REALM_STALE_HISTORY = 4  /* the server gave up the history that the client needs: code 71 */
+    REALM_STALE_HISTORY = 4, /* the server gave up the history that the client needs: code 71 */
+    /* of a client that was opened with a life */
+    REALM_STALE_COPY = 5,         /* its file was put back, or copied: FileForked, codes 74 and 76 */
+    REALM_STALE_SERVER_BACK = 6,  /* the server's file was put back, or is a copy: Diverged, code 73 */
+    REALM_STALE_OTHER_SERVER = 7  /* it is another server: OtherHistory, codes 60 and 72 */
 };
 
 /* ---- requests */
@@ -140,11 +161,17 @@ REALM_SYNC_API bool realm_room(uint8_t **bytes, size_t *room, size_t want) {
 
 /* Nothing is asked of the node any more, for that reason. */
 REALM_SYNC_API int realm_fail(realm_node *node, int reason) {
-    node->error = reason == REALM_NOT_OPEN || reason == REALM_OUT_OF_MEMORY ? 0 : realm_file_error();
+    bool by_system = reason != REALM_NOT_OPEN && reason != REALM_OUT_OF_MEMORY && reason != REALM_KEEPS_LIVES && reason != REALM_LIFE_USED;
+    node->error = by_system ? realm_file_error() : 0;
     node->reason = (uint8_t)reason;
     node->failed = true;
     node->reply_len = 0;
     return reason == REALM_HELD ? REALM_BUSY : reason == REALM_OUT_OF_MEMORY ? REALM_NO_MEMORY : REALM_CLOSED;
+}
+
+/* Hands a request to the archive's place, with lives or without. */
+REALM_SYNC_API size_t realm_pass(const realm_node *node, const uint8_t *request, size_t len, uint8_t *reply, size_t room) {
+    return node->lives ? realm_lives_turn(node->host, request, len, reply, room) : realm_node_turn(node->host, request, len, reply, room);
 }
 
 /* Does on the file what the node asked of its disk; a realm_reason where that fails. Over memory there is nothing to do. */
@@ -153,17 +180,17 @@ REALM_SYNC_API int realm_settle(realm_node *node) {
     uint8_t status = 0;
     /* the archive takes no null pointer, also where there is no room behind it */
     uint8_t *strokes = node->strokes ? node->strokes : &status;
-    size_t len = realm_node_turn(node->host, &outbox, 1, strokes, node->strokes_room);
+    size_t len = realm_pass(node, &outbox, 1, strokes, node->strokes_room);
     if (len == 0) return REALM_NO_REASON;
     if (node->file) {
         if (len > node->strokes_room) {
             if (!realm_room(&node->strokes, &node->strokes_room, len)) return REALM_OUT_OF_MEMORY;
-            len = realm_node_turn(node->host, &outbox, 1, node->strokes, node->strokes_room);
+            len = realm_pass(node, &outbox, 1, node->strokes, node->strokes_room);
         }
         int why = realm_do_strokes(node->file, node->strokes, len);
         if (why) return why;
     }
-    realm_node_turn(node->host, &done, 1, &status, 1);
+    realm_pass(node, &done, 1, &status, 1);
     return status == REALM_DONE ? REALM_NO_REASON : REALM_OUT_OF_MEMORY;
 }
 
@@ -196,10 +223,10 @@ REALM_SYNC_API int realm_hand(realm_node *node, const uint8_t *request, size_t l
     int status = realm_askable(node);
     if (status != REALM_DONE) return status;
     if (!realm_room(&node->reply, &node->reply_room, 64)) return REALM_NO_MEMORY;
-    size_t told = realm_node_turn(node->host, request, len, node->reply, node->reply_room);
+    size_t told = realm_pass(node, request, len, node->reply, node->reply_room);
     if (told > node->reply_room) {
         if (realm_room(&node->reply, &node->reply_room, told)) {
-            told = realm_node_turn(node->host, &again, 1, node->reply, node->reply_room);
+            told = realm_pass(node, &again, 1, node->reply, node->reply_room);
         } else {
             node->reply[0] = REALM_NO_MEMORY;
             told = 1;
@@ -258,7 +285,10 @@ REALM_SYNC_API int realm_expect(realm_node *node, const char *expected) {
 REALM_SYNC_API void realm_close(realm_node *node) {
     if (node->file) realm_file_close(node->file);
     if (node->host && node->process == realm_process()) {
-        realm_node_free(node->host);
+        if (node->lives)
+            realm_lives_free(node->host);
+        else
+            realm_node_free(node->host);
         free(node->reply);
         free(node->strokes);
         free(node->path);
@@ -274,17 +304,35 @@ REALM_SYNC_API int realm_make(realm_node *node, char verb) {
     return realm_node_new(&node->host) ? (int)REALM_DONE : realm_fail(node, REALM_OUT_OF_MEMORY);
 }
 
+/* Opens the node's file, and locks it; a realm_reason where that fails. */
+REALM_SYNC_API int realm_hold(realm_node *node, const char *path) {
+    node->path = (char *)malloc(strlen(path) + 1);
+    if (!node->path) return REALM_OUT_OF_MEMORY;
+    strcpy(node->path, path);
+    return realm_file_open(path, &node->file);
+}
+
+/* REALM_KEEPS_LIVES where a file keeps lives, by a request that ends with its bytes, behind a first byte. */
+REALM_SYNC_API int realm_keeps_lives(uint8_t *request, size_t len) {
+    void *place = NULL;
+    uint8_t reply[5] = {REALM_NO_MEMORY, 0, 0, 0, 0}, verb = request[0];
+    if (!realm_lives_new(&place)) return REALM_OUT_OF_MEMORY;
+    request[0] = 'k';
+    realm_lives_turn(place, request, len, reply, sizeof reply);
+    realm_lives_free(place);
+    request[0] = verb;
+    return reply[0] != REALM_DONE ? REALM_OUT_OF_MEMORY : reply[1] ? REALM_KEEPS_LIVES : REALM_NO_REASON;
+}
+
 REALM_SYNC_API int realm_open(realm_node *node, char verb, const char *path) {
     uint8_t *request = NULL;
     size_t len = 0;
     int status = realm_make(node, verb);
     if (status != REALM_DONE) return status;
     if (!path || !*path) return realm_ask_of(node, verb, NULL, 0);
-    node->path = (char *)malloc(strlen(path) + 1);
-    if (!node->path) return realm_fail(node, REALM_OUT_OF_MEMORY);
-    strcpy(node->path, path);
-    int why = realm_file_open(path, &node->file);
+    int why = realm_hold(node, path);
     if (!why) why = realm_file_request(node->file, verb, &request, &len);
+    if (!why) why = realm_keeps_lives(request, len);
     status = why ? realm_fail(node, why) : realm_turn(node, request, len);
     free(request);
     return status;
@@ -465,7 +513,7 @@ typedef struct realm_head {
 } realm_head;
 
 enum { REALM_PROBE = 255 };
-enum { REALM_TAG_UPLOAD = 3, REALM_TAG_ASK = 4, REALM_TAG_DOWNLOAD = 5, REALM_TAG_STORED = 7, REALM_TAG_ASK_2 = 8, REALM_TAG_ASK_TABLES = 11 };
+enum { REALM_TAG_UPLOAD = 3, REALM_TAG_ASK = 4, REALM_TAG_DOWNLOAD = 5, REALM_TAG_STORED = 7, REALM_TAG_ASK_2 = 8, REALM_TAG_ASK_TABLES = 11, REALM_TAG_GIVE_UP = 14 };
 
 REALM_SYNC_API realm_head realm_head_of(const uint8_t *message, size_t len) {
     realm_head head = {0, {0, 0, 0, 0}};
@@ -484,18 +532,38 @@ REALM_SYNC_API realm_head realm_head_of(const uint8_t *message, size_t len) {
     return head;
 }
 
-/* Whether the message that the last call answered is a question for the history. */
-REALM_SYNC_API bool realm_is_question(const realm_node *node) {
-    uint8_t tag = node->reply_len > 1 ? node->reply[1] : 0;
-    return tag == REALM_TAG_ASK || tag == REALM_TAG_ASK_2 || tag == REALM_TAG_ASK_TABLES;
+/* The same of a message as the node takes it: of one with lives that which stands within it. */
+REALM_SYNC_API realm_head realm_head_within(const realm_node *node, const uint8_t *message, size_t len) {
+    uint8_t reply[63];
+    realm_head head = {0, {0, 0, 0, 0}};
+    if (!node->lives) return realm_head_of(message, len);
+    uint8_t *request = node->host && !node->failed ? (uint8_t *)malloc(len + 1) : NULL;
+    if (!request) return head;
+    request[0] = 'H';
+    if (len > 0) memcpy(request + 1, message, len);
+    size_t told = realm_pass(node, request, len + 1, reply, sizeof reply);
+    free(request);
+    if (told < sizeof reply || reply[0] != REALM_DONE) return head;
+    const uint8_t *numbers = reply + 35;
+    head.tag = reply[18];
+    head.numbers[0] = (uint32_t)realm_number_at(numbers, 4);
+    for (int i = 1; i < 4; i++) head.numbers[i] = (uint32_t)realm_number_at(numbers + 8 + 4 * i, 4);
+    if (head.tag == REALM_TAG_DOWNLOAD) head.numbers[2] = (uint32_t)realm_number_at(numbers + 8, 4);
+    return head;
+}
+
+/* Whether it is a question for the history. */
+REALM_SYNC_API bool realm_is_question(realm_head head) {
+    return head.tag == REALM_TAG_ASK || head.tag == REALM_TAG_ASK_2 || head.tag == REALM_TAG_ASK_TABLES;
 }
 
 /* A message that the client makes; of a question its form is noted. */
 REALM_SYNC_API int realm_ask_message(realm_node *node, char verb) {
     int status = realm_ask_client(node, verb, NULL, 0, NULL);
     node->question = 0;
-    if (status == REALM_DONE && realm_is_question(node)) {
-        realm_head head = realm_head_of(node->reply + 1, node->reply_len - 1);
+    if (status != REALM_DONE) return status;
+    realm_head head = realm_head_within(node, node->reply + 1, node->reply_len - 1);
+    if (realm_is_question(head)) {
         node->question = head.tag == REALM_TAG_ASK_2 || (head.tag == REALM_TAG_ASK_TABLES && head.numbers[3] == 2) ? 2 : 1;
     }
     return status;
@@ -517,7 +585,7 @@ REALM_SYNC_API realm_place realm_place_at(const uint8_t *bytes) {
 REALM_SYNC_API bool realm_peek(const realm_node *node, realm_place *out) {
     static const uint8_t request = 'I';
     uint8_t reply[17];
-    if (realm_node_turn(node->host, &request, 1, reply, sizeof reply) != sizeof reply || reply[0] != REALM_DONE) return false;
+    if (realm_pass(node, &request, 1, reply, sizeof reply) != sizeof reply || reply[0] != REALM_DONE) return false;
     *out = realm_place_at(reply + 1);
     return true;
 }
@@ -528,6 +596,11 @@ REALM_SYNC_API int realm_probe(realm_node *node) {
     size_t at = 0;
     int status = realm_askable(node);
     if (status != REALM_DONE) return status;
+    if (node->lives) {
+        status = realm_upload(node, UINT32_MAX);
+        node->question = REALM_PROBE;
+        return status;
+    }
     if (!realm_peek(node, &place)) return realm_fail(node, REALM_NOT_OPEN);
     node->reply[at++] = REALM_DONE;
     node->reply[at++] = REALM_TAG_UPLOAD;
@@ -553,8 +626,15 @@ REALM_SYNC_API int realm_next(realm_node *node) {
 /* Why nothing more is to be sent, by what a client refused, or what the server did. */
 REALM_SYNC_API uint8_t realm_stale_by(realm_refused why) {
     if (why.number == REALM_FORKED) return REALM_STALE_FILE;
+    if (why.number == REALM_FILE_FORKED) return REALM_STALE_COPY;
+    if (why.number == REALM_DIVERGED) return REALM_STALE_SERVER_BACK;
+    if (why.number == REALM_OTHER_HISTORY) return REALM_STALE_OTHER_SERVER;
     if (why.number != REALM_WAS_REFUSED) return REALM_NOT_STALE;
     switch (why.second) {
+    case 72: return REALM_STALE_OTHER_SERVER;
+    case 73: return REALM_STALE_SERVER_BACK;
+    case 74:
+    case 76: return REALM_STALE_COPY;
     case 61:
     case 63: return REALM_STALE_SERVER;
     case 62: return REALM_STALE_FILE;
@@ -585,6 +665,8 @@ REALM_SYNC_API void realm_note_taken(realm_node *node, int status, realm_head he
         node->verified = false;
         node->held_up = why.number == REALM_MISMATCH;
         if (!node->stale) node->stale = realm_stale_by(why);
+        /* with lives an ident that isn't given says that the history is another one */
+        if (!node->stale && node->lives && why.number == REALM_WAS_REFUSED && why.second == 60) node->stale = REALM_STALE_OTHER_SERVER;
     } else if (status == REALM_DONE && realm_peek(node, &place)) {
         bool is_end = realm_is_end(question, head, len, place.cursor);
         bool is_stored = head.tag == REALM_TAG_STORED;
@@ -602,7 +684,8 @@ REALM_SYNC_API bool realm_is_current(const realm_node *node) { return node->curr
 
 /* Takes a message. A client answers its cursor (realm_number), a server the reply (realm_bytes). */
 REALM_SYNC_API int realm_take(realm_node *node, const void *message, size_t len) {
-    realm_head head = realm_head_of((const uint8_t *)message, len);
+    realm_head head = {0, {0, 0, 0, 0}};
+    if (node->is_client) head = realm_head_within(node, (const uint8_t *)message, len);
     int status = realm_ask_of(node, 'T', message, len);
     if (node->is_client) realm_note_taken(node, status, head, len);
     return realm_told(node, status, "message: expected the bytes of a message, as docs/FORMATS.md, \"Messages\", has them");
@@ -645,6 +728,8 @@ REALM_SYNC_API int realm_page_of_keys(realm_node *node, const char *from, uint32
 REALM_SYNC_API int realm_changed(realm_node *node) { return realm_ask_client(node, 'C', NULL, 0, NULL); }
 
 #include "realm_sync_messages.h"
+
+#include "realm_sync_lives.h"
 
 /* Where it stands. */
 REALM_SYNC_API int realm_standing(realm_node *node, realm_place *out) {

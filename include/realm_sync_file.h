@@ -73,7 +73,10 @@ enum realm_reason {
     REALM_BAD_NAME = 22,       /* the system has no such names */
     REALM_SHARE_FULL = 23,     /* the user's share of the disk is full */
     REALM_RENAMED = 24,        /* the file that is open doesn't stand at its path any more */
-    REALM_NOT_ON_WINDOWS = 25  /* a file that is open can't be replaced there */
+    REALM_NOT_ON_WINDOWS = 25, /* a file that is open can't be replaced there */
+    REALM_KEEPS_LIVES = 26,    /* the file keeps lives, and is opened without one */
+    REALM_LIFE_USED = 27,      /* the life of the opening stands in the file already, or is no life */
+    REALM_NO_RANDOM = 28       /* the system gives no random bytes */
 };
 
 /* ---- the system's calls */
@@ -172,6 +175,14 @@ REALM_SYNC_API int realm_file_write(realm_file file, const uint8_t *bytes, size_
 }
 
 REALM_SYNC_API int realm_file_sync(realm_file file) { return FlushFileBuffers((HANDLE)file) ? REALM_NO_REASON : REALM_SYNC_FAILED; }
+
+/* Fills bytes at random, by what the system has for keys. */
+REALM_SYNC_API bool realm_random(uint8_t *bytes, size_t count) {
+    typedef BOOLEAN(APIENTRY * realm_gives)(void *, ULONG);
+    HMODULE system = LoadLibraryA("advapi32.dll");
+    realm_gives gives = system ? (realm_gives)(void *)GetProcAddress(system, "SystemFunction036") : NULL;
+    return gives && gives(bytes, (ULONG)count);
+}
 
 REALM_SYNC_API int realm_file_replace(const char *path, const char *suffix, const uint8_t *bytes, size_t len, realm_file *file, bool *replaced) {
     (void)path, (void)suffix, (void)bytes, (void)len, (void)file;
@@ -364,6 +375,21 @@ REALM_SYNC_API int realm_file_sync(realm_file file) {
     do failed = fsync((int)file);
     while (failed && errno == EINTR);
     return failed ? REALM_SYNC_FAILED : REALM_NO_REASON;
+}
+
+/* Fills bytes at random, by what the system has for keys. */
+REALM_SYNC_API bool realm_random(uint8_t *bytes, size_t count) {
+    int source = open("/dev/urandom", O_RDONLY);
+    if (source < 0) return false;
+    while (count > 0) {
+        ssize_t done = read(source, bytes, count);
+        if (done < 0 && errno == EINTR) continue;
+        if (done <= 0) break;
+        bytes += done;
+        count -= (size_t)done;
+    }
+    close(source);
+    return count == 0;
 }
 
 enum { REALM_PATH_ROOM = 4096, REALM_MOST_LINKS = 40 };

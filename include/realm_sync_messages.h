@@ -23,20 +23,30 @@ typedef struct realm_message {
     uint32_t fourth;
     const uint8_t *tables; /* of a question for some tables: as the message spells them, until the next call */
     size_t tables_len;
+    uint8_t envelope;      /* 12 of a client's message with lives, 13 of a server's, else 0 */
+    uint8_t lived[16];     /* the uuid in that envelope: whose message it is, or to whom it goes */
+    const uint8_t *uuids;  /* of a message that gives clients up: their uuids, until the next call */
+    size_t uuids_len;
 } realm_message;
 
 /* Looks at a message: what it is about. The node does nothing. */
 REALM_SYNC_API int realm_look(realm_node *node, const void *message, size_t len, realm_message *out) {
     int status = realm_told(node, realm_ask_of(node, 'H', message, len), "message: expected the bytes of a message, as docs/FORMATS.md, \"Messages\", has them");
     memset(out, 0, sizeof *out);
-    if (status != REALM_DONE || node->reply_len < 46) return status;
-    const uint8_t *head = node->reply + 1;
+    size_t before = node->lives ? 17 : 0;
+    if (status != REALM_DONE || node->reply_len < 46 + before) return status;
+    const uint8_t *head = node->reply + 1 + before;
+    if (node->lives) {
+        out->envelope = node->reply[1];
+        memcpy(out->lived, node->reply + 2, sizeof out->lived);
+    }
     out->tag = head[0];
     memcpy(out->uuid, head + 1, sizeof out->uuid);
     uint32_t *numbers[] = {&out->ident, &out->by, &out->count, &out->first, &out->second, &out->third, &out->fourth};
     for (int i = 0; i < 7; i++) *numbers[i] = (uint32_t)realm_number_at(head + 17 + 4 * i, 4);
-    out->tables = head + 45;
-    out->tables_len = node->reply_len - 46;
+    bool gives_up = out->tag == REALM_TAG_GIVE_UP;
+    *(gives_up ? &out->uuids : &out->tables) = head + 45;
+    *(gives_up ? &out->uuids_len : &out->tables_len) = node->reply_len - 46 - before;
     return status;
 }
 
@@ -82,7 +92,7 @@ REALM_SYNC_API int realm_trim(realm_node *node) { return realm_ask_of(node, 'F',
 REALM_SYNC_API int realm_open_answer(realm_node *node) {
     uint8_t answer[9];
     node->reply[0] = node->is_client ? 'c' : 's';
-    realm_node_turn(node->host, node->reply, node->reply_len, answer, sizeof answer);
+    realm_pass(node, node->reply, node->reply_len, answer, sizeof answer);
     if (answer[0] != REALM_DONE) return realm_fail(node, answer[0] == REALM_NO_MEMORY ? REALM_OUT_OF_MEMORY : REALM_WRONG_FILE);
     node->reply[0] = REALM_DONE;
     node->reply_len = 1;

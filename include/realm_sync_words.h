@@ -53,6 +53,9 @@ REALM_SYNC_API const char *realm_text_of_reason(int reason) {
         "the user's share of the disk is full: make room in it, close the node, and open its file again",
         "the file that is open doesn't stand at its path any more: close the node, and open the file where it is",
         "a file that is open can't be replaced on Windows: close the node, and put the bytes of realm_trim in its place",
+        "the file keeps lives: close the node, and open it with a life of its own",
+        "the life of this opening was used before, is the client's uuid, or is no life: draw another, and open the file again",
+        "the system gives no random bytes: give a life of your own",
     };
     return reason >= 0 && (size_t)reason < sizeof texts / sizeof texts[0] ? texts[reason] : "unknown";
 }
@@ -72,11 +75,37 @@ REALM_SYNC_API const char *realm_text_of_stale(int why) {
     case REALM_STALE_HISTORY:
         return "the server gave up the history that this client needs. Nothing more is sent: keep the file, and go on in a new one that begins "
                "with the server's objects";
+    case REALM_STALE_COPY:
+        return "the client's file was put back, or copied, and the server has other changes under its numbers. Nothing more is sent, and nothing is "
+               "lost: keep the file, and let a new client take over from it";
+    case REALM_STALE_SERVER_BACK:
+        return "the server's file was put back, or is a copy: it hasn't what this client took. Nothing more is sent, and nothing is lost: keep the "
+               "file, and let a new client take over from it";
+    case REALM_STALE_OTHER_SERVER:
+        return "this isn't the server that gave the client its ident, or it was put back to before that. Nothing was written: close the client, "
+               "and open it again at the server of before; or let a new client take over from it";
     default: return "unknown";
     }
 }
 
 /* What a refusal means, by its number, and what to do. */
+REALM_SYNC_API const char *realm_text_of_lives(uint8_t number) {
+    switch (number) {
+    case REALM_NO_LIVES: return "the file has no lives, since its client made a transaction or got its ident without one: it gets none any more";
+    case REALM_OTHER_HISTORY: return "the answer is of another history than that which gave the client its ident: go back to the server of before";
+    case REALM_DIVERGED: return "the server's file was put back, or is a copy: keep the file, and let a new client take over from it";
+    case REALM_FILE_FORKED: return "the client's file was put back, or copied: keep the file, and let a new client take over from it";
+    case REALM_ALREADY_SAVED: return "the file made or saved that transaction already";
+    case REALM_FRONTIER_TOO_LONG: return "more than 4,096 transactions stand before one that would be saved";
+    case REALM_TOO_MANY: return "the old file has more than 65,536 lives";
+    case REALM_BROKEN: return "what the file says of lives doesn't go with its transactions: a fault of this library; nothing is sent";
+    case REALM_USED_LIFE: return "the life was used before, or is the client's uuid: draw another";
+    case REALM_LEAVES_LIVES_OUT: return "it would leave the lives of the file out: a file that keeps lives isn't shrunk, trimmed, started or inherited so";
+    default: return "unknown";
+    }
+}
+
+/* The same of any. */
 REALM_SYNC_API const char *realm_text_of(uint8_t number) {
     static const char *const texts[] = {
         "no refusal",
@@ -100,7 +129,7 @@ REALM_SYNC_API const char *realm_text_of(uint8_t number) {
         "the client has its tables already",
         "too late to name tables: name them before the Bind and the first change",
     };
-    return number < sizeof texts / sizeof texts[0] ? texts[number] : "unknown";
+    return number < sizeof texts / sizeof texts[0] ? texts[number] : realm_text_of_lives(number);
 }
 
 /* What the code of a refusal means: docs/FORMATS.md, "Outcome lines". */
@@ -132,6 +161,13 @@ REALM_SYNC_API const char *realm_text_of_code(uint32_t code) {
     case 69: return "an ident can't retire itself";
     case 70: return "the ident was retired for another one";
     case 71: return "the server gave up the history that the client needs: begin a new file";
+    case 72: return "the ident is another client's there: it is another server, or was put back; go back to the server of before, or let a new client take over";
+    case 73: return "the server hasn't the client's last entry: its file was put back, or is a copy; let a new client take over";
+    case 74: return "the server's last change of this client isn't of this file: the file was put back, or copied; let a new client take over";
+    case 75: return "the client of this ident keeps lives: open its file with a life";
+    case 76: return "the history has that transaction already: let a new client take over";
+    case 77: return "the server was opened without a life, and its file keeps lives: its operator opens it with one; then ask again";
+    case 78: return "the history lacks what stands before a transaction that was saved: let the client that has it sync first, or take over from its file";
     default: return code >= 40 && code <= 53 ? "no changeset" : "unknown";
     }
 }
@@ -141,7 +177,7 @@ REALM_SYNC_API void realm_refusal_words(realm_refused why, char *text, size_t ro
     static const char *const names[][3] = {
         {0}, {0}, {0}, {0}, {0}, {0}, {"place"}, {"place"}, {"place", "code"}, {0}, {"kept", "got"}, {"cursor", "from"},
         {"version", "offset", "code"}, {"version"}, {"version", "number", "code"}, {"number"}, {"version", "place", "code"},
-        {"number", "code"}, {0}, {0},
+        {"number", "code"}, {0}, {0}, {0}, {0}, {0}, {0}, {0}, {"version"}, {"number"},
     };
     uint32_t numbers[3] = {why.first, why.second, why.third};
     bool is_known = why.number < sizeof names / sizeof names[0];
