@@ -1,3 +1,6 @@
+ghost use Rattle.std.specs.Prelude.{◌≡◌};
+ghost use Rattle.lives_host.specs.Asked.{asked_of};
+
 use sync_host::verb::Verb;
 
 /// What a host asks of a place for nodes with lives, by the first byte of its request (docs/FORMATS.md, "Requests with a life").
@@ -13,7 +16,9 @@ pub enum Asked {
 
 impl Asked {
     /// What that byte asks for.
-    pub fn of(byte: u8) -> Option<Asked> {
+    pub fn of(byte: u8) -> Option<Asked>
+        ensures { result ≡ asked_of byte }
+    {
         match byte {
             b'g' => Some(Asked::GiveUp),
             b'k' => Some(Asked::KeepsLives),

@@ -1,4 +1,10 @@
 // Nodes over the bytes of a file, in a life of their own.
+ghost use Rattle.std.specs.Prelude.{◌≡◌, Some, IfOk, IfErr};
+ghost use Rattle.std.specs.Option.{option_map};
+ghost use Rattle.marked_client.specs.Marked.{life_of};
+ghost use Rattle.sync_host.specs.declared.reply.Reply.TheVariants as replies;
+ghost use Rattle.lives_host.specs.Asked.{life_in};
+
 use crate::refusals::{decline_marked, life_used};
 use life_bytes::Life;
 use life_marks::MarksRefusal;
@@ -11,14 +17,18 @@ use sync_host::reply::Reply;
 use sync_journal::OpenCause;
 
 /// A life, and the bytes of a file behind it.
-pub(crate) fn life_in(body: &[u8]) -> Option<(Life, &[u8])> {
+pub(crate) fn life_in(body: &[u8]) -> Option<(Life, &[u8])>
+    ensures { option_map (λ x. (x.0, x.1.now)) result ≡ life_in body.now }
+{
     match body.split_first_chunk::<16>() {
         Some((life, file)) => Some((Life::new(*life), file)),
         None => None,
     }
 }
 
-fn unopened(cause: OpenCause) -> Reply {
+fn unopened(cause: OpenCause) -> Reply
+    ensures { result ≡ replies.Done → ⊥ }
+{
     match cause {
         OpenCause::DiskFault => Reply::Closed,
         OpenCause::BadFile { place } => Reply::BadFile(place),
@@ -27,7 +37,9 @@ fn unopened(cause: OpenCause) -> Reply {
 }
 
 /// A note that isn't read is told by place 0, since its place in bytes isn't known.
-fn unmarked(why: MarksRefusal) -> Reply {
+fn unmarked(why: MarksRefusal) -> Reply
+    ensures { result ≡ replies.Done → ⊥ }
+{
     match why {
         MarksRefusal::LifeUsed => life_used(),
         MarksRefusal::BadPiece { .. } => Reply::BadFile(0),
@@ -40,7 +52,10 @@ pub(crate) fn open_client(
     alloc: Global,
     life: Life,
     file: &[u8],
-) -> Result<MarkedClient<OutboxDisk>, Reply> {
+) -> Result<MarkedClient<OutboxDisk>, Reply>
+    ensures opened { IfOk result (λ client. life_of client ≡ Some life) }
+    ensures refused { IfErr result (λ reply. reply ≡ replies.Done → ⊥) }
+{
     let Ok(disk) = OutboxDisk::over(alloc, file) else {
         return Err(Reply::NoMemory);
     };
@@ -62,7 +77,9 @@ pub(crate) fn open_server(
     alloc: Global,
     life: Life,
     file: &[u8],
-) -> Result<MarkedServer<OutboxDisk>, Reply> {
+) -> Result<MarkedServer<OutboxDisk>, Reply>
+    ensures refused { IfErr result (λ reply. reply ≡ replies.Done → ⊥) }
+{
     let Ok(disk) = OutboxDisk::over(alloc, file) else {
         return Err(Reply::NoMemory);
     };
