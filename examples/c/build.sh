@@ -98,10 +98,11 @@ if [ -n "$target" ]; then
         ran c/windows "files on $target" $on "$out/windows.exe" "$(folder)"
         exit
     fi
-    for name in full_disk situations crashes threads; do built $name $name -O2 -pthread; done
+    for name in full_disk situations restored crashes threads; do built $name $name -O2 -pthread; done
     rm -f "$out/full"
     ran c/full_disk "full_disk on $target" $on "$out/full_disk" "$out/full"
     ran c/situations "what can happen to an application on $target" $on "$out/situations" "$(folder)"
+    ran c/restored "files that are put back, on $target" $on "$out/restored" "$(folder)"
     ran c/crashes "what a crash leaves on $target" $on "$out/crashes" "$out/crashed"
     ran c/threads "threads on $target" $on "$out/threads"
     exit
@@ -158,6 +159,10 @@ if command -v valgrind >/dev/null; then
     ran c/situations "the same, under valgrind" valgrind -q --leak-check=full --show-leak-kinds=all --error-exitcode=1 --child-silent-after-fork=yes \
         "$out/situations" "$(folder)"
 fi
+
+# Files that are put back, copied, or brought to another server.
+built restored restored $sanitizers
+ran c/restored "files that are put back, with sanitizers" "$out/restored" "$(folder)"
 
 # The whole life of a history.
 built life life $sanitizers

@@ -82,7 +82,6 @@ static bool sync_files(const char *client_name, const char *server_name, int key
     open_client(&client, client_name);
     open_server(&server, server_name);
     if (text) note(&client, key, text);
-    client.current = false;
     bool held_up = is_held_up(&client, &server);
     realm_close(&client);
     realm_close(&server);
@@ -92,7 +91,7 @@ static bool sync_files(const char *client_name, const char *server_name, int key
 static void print_saved(const realm_node *heir) {
     static const char *const became[] = {"is in the history", "was saved before", "is saved", "isn't saved"};
     realm_saved saved;
-    for (size_t at = 0; realm_next_saved(heir, &at, &saved);) printf("  its transaction %u %s\n", saved.number, became[saved.became]);
+    for (size_t at = 0; realm_next_saved(heir, &at, &saved);) printf("  its transaction %" PRIu32 " %s\n", saved.number, became[saved.became]);
 }
 
 /* A new client takes over from an old file: it joins, gives the old client up, and saves what the history hasn't. */
