@@ -2,8 +2,8 @@
 """Checks README.md, docs/ and the crates' READMEs, and what the sources say of them.
 
 - Each relative link leads to a file, and each `#part` of a link to a heading.
-- Each `docs/X.md, "Section"` in a source or a script names a heading of that document, and each path of a crate in backquotes
-  is there.
+- Each `docs/X.md, "Section"` in a source or a script names a heading of that document, or of a page of the folder `docs/x`, and each path of a
+  crate in backquotes is there.
 - Each crate of crates.txt is named in docs/CRATES.md, and each file that a crate's README names is there.
 - Each block of commands is run, and what it prints is compared with the block of text behind it:
 
@@ -13,8 +13,7 @@
   A block `sh by-hand` isn't run: it takes too long, or needs what isn't here. They are counted. Any other block `sh` without a
   text is an error.
 - docs/CRATES.md is what .ci/crates.py makes of the crates' READMEs.
-- No sentence of the pages for readers (PLAIN) has more than 40 words, no cell of a table more than 300 characters, and no page more than
-  800 lines.
+- No sentence has more than 40 words, no cell of a table more than 300 characters, and no page more than 800 lines.
 - Each figure that a page shows of a measurement is that of bench/results.csv, by its last row of the workload, the size and the unit:
 
       <!-- result WORKLOAD; SIZE; UNIT -->VALUE          one figure
@@ -24,6 +23,8 @@
 
   A column `exponent from SIZE` is worked out from that size and the last one.
 - The number in VERSION is that of the C header and of the packages.
+- Where a page of docs/guarantees says how long definitions are, behind the name of their folder (`CRATE/specs`), it is as long: `FILE` LINES, and
+  the sum in the last cell of a row.
 - The table of docs/HEADLINE.md has the crates and the lines that bench/definitions.py counts for the headline.
 - Each block ```rust FILE has only lines of that file, in their order, but for lines `// ..`. So has each other block with a path behind its
   kind; the packages' tests run those programs, and compare what they print.
@@ -50,11 +51,6 @@ TOP = os.path.dirname(os.path.dirname(os.path.abspath(__file__)))
 BUILT = os.path.join(TOP, "crates", "realm_sync", "out", "realm_sync")
 SECONDS = 120
 
-# The pages whose sentences and cells are kept short, by the beginnings of their paths.
-PLAIN = ("README.md", "docs/GUARANTEES.md", "docs/guarantees/", "docs/HEADLINE.md", "docs/TRUST.md", "docs/PLANTED.md", "docs/CRATES.md",
-         "docs/ARCHITECTURE.md", "docs/GLOSSARY.md", "docs/LIMITS.md", "docs/SCALING.md", "docs/BENCHES.md", "docs/EMBEDDING.md", "docs/CONFLICTS.md",
-         "docs/RECIPES.md", "docs/PORTING.md", "docs/STORAGE.md", "docs/SERVICE.md", "docs/DECISIONS.md", "docs/CHANGES.md", "examples/README.md",
-         "python/README.md", "js/README.md", "web/README.md", "wasm/README.md")
 MOST_WORDS, MOST_CHARACTERS, MOST_LINES = 40, 300, 800
 
 FENCE = re.compile(r"^```(.*)$")
@@ -78,9 +74,9 @@ def read(path):
 
 
 def documents():
-    """README.md, docs/*.md, docs/guarantees/*.md, and the READMEs of other folders and of crates."""
+    """README.md, docs/*.md and the pages of its folders, and the READMEs of other folders and of crates."""
     found = [os.path.join(TOP, "README.md")]
-    for folder in ("docs", "docs/guarantees", "bench", "examples", "examples/shopping", "js", "python", "service", "wasm", "web"):
+    for folder in ("docs", "docs/formats", "docs/guarantees", "bench", "examples", "examples/shopping", "js", "python", "service", "wasm", "web"):
         at = os.path.join(TOP, folder)
         found += sorted(os.path.join(at, it) for it in os.listdir(at) if it.endswith(".md")) if os.path.isdir(at) else []
     for name in sorted(os.listdir(os.path.join(TOP, "crates"))):
@@ -135,6 +131,13 @@ def anchor(heading):
 def headings(path):
     prose, _ = parsed(path)
     return [HEADING.match(text)[1] for _, text in prose if HEADING.match(text)]
+
+
+def sections(path):
+    """The headings of a document, and of the pages in the folder of its name."""
+    folder = path.removesuffix(".md").lower()
+    pages = sorted(os.path.join(folder, it) for it in os.listdir(folder)) if os.path.isdir(folder) else []
+    return [it.replace("`", "") for page in [path, *pages] for it in headings(page)]
 
 
 def check_crates():
@@ -222,7 +225,7 @@ def check_cited(path):
         file = os.path.join(TOP, "docs", found[1])
         if not os.path.isfile(file):
             problem(path, line, f"docs/{found[1]} isn't there")
-        elif found[2] and found[2] not in [it.replace("`", "") for it in headings(file)]:
+        elif found[2] and found[2] not in sections(file):
             problem(path, line, f'docs/{found[1]} has no section "{found[2]}"')
 
 
@@ -357,6 +360,22 @@ def check_results(path, prose):
             problem(path, line, f"{value} isn't the value of `{workload}; {size}; {unit}` in bench/results.csv: {known.get((workload, size, unit))}")
 
 
+def check_lengths(path, prose):
+    """The lengths of files of definitions that a page tells, and their sums in rows of tables."""
+    folder = None
+    for line, text in prose:
+        told = []
+        for at, within, name, count in re.findall(r"`(\w+/specs)`|`(?:(\w+/specs)/)?([A-Z]\w*)` (\d+)\b", text):
+            folder = at or folder
+            if name and (within or folder):
+                file = os.path.join(TOP, "crates", within or folder, f"{name}.antt")
+                told.append(read(file).count("\n") if os.path.isfile(file) else 0)
+                if told[-1] != int(count):
+                    problem(path, line, f"{name} of {within or folder} has {told[-1]} lines")
+        if told and text.startswith("|") and figure(cells_of(text)[-1]) != sum(told):
+            problem(path, line, f"these files have {sum(told)} lines together")
+
+
 def check_headline():
     """The definitions on which the headline rests, crate by crate, are as many lines as docs/HEADLINE.md says."""
     path = os.path.join(TOP, "docs", "HEADLINE.md")
@@ -420,8 +439,9 @@ def main():
         check_paths(path, prose)
         check_results(path, prose)
         check_exponents(path, prose)
-        if os.path.relpath(path, TOP).startswith(PLAIN):
-            check_plain(path, prose)
+        check_plain(path, prose)
+        if os.path.dirname(path) == os.path.join(TOP, "docs", "guarantees"):
+            check_lengths(path, prose)
         if os.path.dirname(os.path.dirname(path)) == os.path.join(TOP, "crates"):
             check_files(path)
         for block in blocks:

@@ -75,8 +75,8 @@ test('the calls that docs/PORTING.md names are there', async () => {
   await db.close();
 });
 
-test('the refusals are those of docs/FORMATS.md', () => {
-  const part = fs.readFileSync(path.join(top, 'docs/FORMATS.md'), 'utf8').split('### Refusals by number')[1].split('##')[0];
+test('the refusals are those of docs/formats/hosts.md', () => {
+  const part = fs.readFileSync(path.join(top, 'docs/formats/hosts.md'), 'utf8').split('## Refusals by number')[1].split('##')[0];
   const named = [...part.matchAll(/^\| (\d+) \| (\w+) \|/gm)].map(([, number, name]) => [Number(number), name]);
   assert.deepEqual(named, [...REASONS.entries()].slice(1));
 });

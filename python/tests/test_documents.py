@@ -96,7 +96,7 @@ class Tests(unittest.TestCase):
                 self.assertTrue(callable(getattr(CLASSES[of], name, None)))
 
     def test_the_refusals_are_those_of_formats(self) -> None:
-        part = text_of("docs/FORMATS.md").split("### Refusals by number")[1].split("##")[0]
+        part = text_of("docs/formats/hosts.md").split("## Refusals by number")[1].split("##")[0]
         named = {int(number): re.sub("(?<!^)(?=[A-Z])", "_", name).upper() for number, name in re.findall(r"^\| (\d+) \| (\w+) \|", part, re.M)}
         self.assertEqual({it.value: it.name for it in Reason}, named)
 

@@ -3,13 +3,17 @@ use Rattle.std.specs.Prelude.{ℕ, Bool, List, nat_le, bytes_eq, if◌then◌els
 use Rattle.std.specs.BTreeMap.{get}
 use Rattle.std.specs.Cmp.Lexicographic.{slice_cmp}
 use Rattle.std.specs.Ordering.{nat_cmp}
-use Rattle.std.specs.Option.{unwrap_or}
+use Rattle.std.specs.Option.{unwrap_or, is_some}
 use Rattle.life_bytes.specs.Parts.{TokenParts}
 use Rattle.life_marks.specs.declared.reached.Reached.{Reached}
 
 -- the number of each life; 0 where none is told
 abbrev pub number_of : Reached → List ℕ → ℕ
 number_of reached life = unwrap_or (get (slice_cmp nat_cmp) reached.numbers life) 0
+
+-- a number of this life is told
+abbrev pub is_told : Reached → List ℕ → Bool
+is_told reached life = is_some (get (slice_cmp nat_cmp) reached.numbers life)
 
 abbrev pub nothing_reached : List ℕ → ℕ
 nothing_reached life = 0

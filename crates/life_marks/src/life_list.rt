@@ -45,6 +45,13 @@ impl LifeList {
         self.count
     }
 
+    /// The same as runs.
+    pub fn runs(&self) -> &[Run]
+        ensures { lives_of result.now ≡ self.now }
+    {
+        self.runs.as_slice()
+    }
+
     /// The life of a number; none behind the last.
     pub fn life_of(&self, number: u32) -> Option<Life>
         ensures { result ≡ slice_get self.now number }

@@ -1,10 +1,15 @@
-ghost use Rattle.std.specs.Prelude.{◌≡◌, OnOk, OnErr};
+ghost use Rattle.std.specs.Prelude.{◌≡◌, IfSome, OnOk, OnErr};
+ghost use Rattle.std.specs.Cmp.Lexicographic.{slice_cmp};
+ghost use Rattle.std.specs.Option.{option_map};
+ghost use Rattle.std.specs.Ordering.{nat_cmp};
+ghost use Rattle.sync_maps.specs.Next.{IsNext};
 ghost use Rattle.life_marks.specs.Reached.{raised, has, nothing_reached};
 
 use life_bytes::{Life, Token};
 use std::alloc::Global;
 use std::collections::BTreeMap;
 use sync_data::{Id, NoMemory};
+use sync_maps::next_key;
 
 /// Of each life the highest number of a transaction that is told.
 #[derive(Drop)]
@@ -13,7 +18,7 @@ pub struct Reached {
 }
 
 impl Reached {
-    ghost use Rattle.life_marks.specs.Reached.{number_of};
+    ghost use Rattle.life_marks.specs.Reached.{is_told, number_of};
 
     /// None. It takes no memory.
     pub fn new(alloc: Global) -> Reached
@@ -31,6 +36,24 @@ impl Reached {
         match self.numbers.get(&life.bytes()) {
             Some(number) => *number,
             None => 0,
+        }
+    }
+
+    /// The least life above that one, or the least of all, of which a number is told, and its number.
+    pub fn next(&self, after: Option<Life>) -> Option<(Life, u32)>
+        ensures life { IsNext (slice_cmp nat_cmp) (is_told self.now) after (option_map (λ told. told.0) result) }
+        ensures number { IfSome result (λ told. told.1 ≡ number_of self.now told.0) }
+    {
+        let life = Life::new(*self.next_life(after)?);
+        Some((life, self.of(life)))
+    }
+
+    fn next_life(&self, after: Option<Life>) -> Option<&Id>
+        ensures { IsNext (slice_cmp nat_cmp) (is_told self.now) after (option_map (λ life. life.now) result) }
+    {
+        match after {
+            Some(life) => next_key(&self.numbers, Some(&life.bytes())),
+            None => next_key(&self.numbers, None),
         }
     }
 

@@ -19,7 +19,7 @@ use Rattle.sync_messages.specs.declared.message.Message.{Message}
 use Rattle.life_bytes.specs.declared.letter.Letter.{Letter}
 use Rattle.life_bytes.specs.declared.letter.Letter.TheVariants as letters
 use Rattle.life_bytes.specs.declared.said.Said.TheVariants as said
-use Rattle.life_bytes.specs.Parts.{SavesParts, TokenParts, most_tokens, most_uuids, most_lives}
+use Rattle.life_bytes.specs.Parts.{GivenUpParts, SavesParts, TokenParts, most_tokens, most_uuids, most_lives}
 use Rattle.life_bytes.specs.Runs.{Lives}
 use Rattle.life_marks.specs.ServerMarks.{no_life}
 use Rattle.life_marks.specs.ClientMarks.{Marks, seen, after_note}
@@ -179,6 +179,11 @@ module _ {D : Type 0} {G : Ghosts D} where
   TookAsEver did records new (Ok (takens.Cursor cursor)) = Did did (Ok cursor) records new.client
   TookAsEver did records new (Ok (takens.GivenUp given)) = ⊥
   TookAsEver did records new (Err why) = RefusedAsEver did records new why
+
+  -- what the history has of given up clients is handed out
+  abbrev pub GaveUp : GivenUpParts → MarkedClient D G → MarkedClient D G → Result Taken MarkedRefusal → Type 0
+  GaveUp given old new (Ok taken) = (taken ≡ takens.GivenUp given) × (new ≡ old)
+  GaveUp given old new (Err why) = why ≡ refusals.Client clients.NoMemory
 
   -- the next entry of a Download was taken, or refused, as ever
   abbrev pub EntryRefusedAsEver : List ClientRecord → MarkedClient D G → Sent → MarkedRefusal → Type 0

@@ -9,6 +9,8 @@ use Rattle.sync_messages.specs.Parts.{DownloadParts}
 use Rattle.life_bytes.specs.declared.mark.Mark.{Mark}
 use Rattle.life_bytes.specs.declared.answered.Answered.{Answered}
 use Rattle.life_bytes.specs.declared.answered.Answered.TheVariants as answered
+use Rattle.life_bytes.specs.declared.letter.Letter.{Letter}
+use Rattle.life_bytes.specs.declared.letter.Letter.TheVariants as letters
 use Rattle.life_bytes.specs.Runs.{Lives}
 use Rattle.life_bytes.specs.Envelopes.{AnswersParts}
 use Rattle.life_marks.specs.ClientMarks.{Marks}
@@ -59,6 +61,16 @@ uuid_test at answers (Some id) = if at.has_lives && (bytes_eq id answers.uuid &&
 
 abbrev pub owner_test : Standing → AnswersParts → Option MarkedRefusal
 owner_test at answers = if at.is_closed then because clients.Closed else uuid_test at answers at.id
+
+-- what comes isn't for this client
+abbrev pub not_mine : Standing → MarkedRefusal
+not_mine at = if at.is_closed then refusals.Client clients.Closed else (if is_some at.id then refusals.Client clients.NotMine else refusals.Client clients.NotBorn)
+
+-- a client with lives takes answers with lives alone, and what clients say is no answer
+abbrev pub is_foreign : Marks → Option (List ℕ) → Letter → Bool
+is_foreign m life (letters.Message message) = has_lives m life
+is_foreign m life (letters.Says says) = true
+is_foreign m life (letters.Answers answers) = false
 
 -- ---- whether it is of the history that gave the client its ident
 

@@ -125,10 +125,10 @@ impl<D: Disk> MarkedClient<D> {
         if self.life.is_none() {
             return Some(MarkedRefusal::NoLife);
         }
-        self.tokens_refusal(token, frontier)
+        self.reached_refusal(token, frontier)
     }
 
-    fn tokens_refusal(&self, token: Token, frontier: &[Token]) -> Option<MarkedRefusal>
+    fn reached_refusal(&self, token: Token, frontier: &[Token]) -> Option<MarkedRefusal>
         ensures { result ≡ token_test (marks_of self.now).reached token frontier.now }
     {
         token_refusal(self.marks.reached(), token, frontier)

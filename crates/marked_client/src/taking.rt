@@ -7,11 +7,12 @@ ghost use Rattle.sync_messages.specs.Parts.{last_version, most_listed};
 ghost use Rattle.sync_messages.specs.declared.message.Message.TheVariants as messages;
 ghost use Rattle.sync_messages.specs.declared.message.Message.{Message};
 ghost use Rattle.life_bytes.specs.Envelopes.{AnswersParts};
+ghost use Rattle.life_bytes.specs.Parts.{GivenUpParts};
 ghost use Rattle.life_bytes.specs.declared.answered.Answered.{Answered};
 ghost use Rattle.life_bytes.specs.declared.letter.Letter.{Letter};
 ghost use Rattle.life_marks.specs.ClientMarks.{after_took};
 ghost use Rattle.marked_client.specs.Marked.{IsFault, IsNext, entry_life, entry_notes};
-ghost use Rattle.marked_client.specs.Testing.{DownloadPasses, answers_test, has_lives};
+ghost use Rattle.marked_client.specs.Testing.{DownloadPasses, answers_test, has_lives, is_foreign, not_mine};
 ghost use Rattle.marked_client.specs.declared.testing.Standing.{Standing};
 
 use crate::client::MarkedClient;
@@ -35,12 +36,12 @@ pub enum Taken {
 
 impl<D: Disk> MarkedClient<D> {
     ghost use Rattle.sync_client.specs.Clients.{IsClientOf};
-    ghost use Rattle.marked_client.specs.Marked.{EntrySays, Notes, Same, TookAsEver, is_closed, life_of, marks_of, replica_of, standing_of};
+    ghost use Rattle.marked_client.specs.Marked.{EntrySays, GaveUp, Notes, Same, TookAsEver, is_closed, life_of, marks_of, replica_of, standing_of};
 
     /// Takes a frame's message: as `Client::take` where it and the file are without lives. Errors besides those of an answer with
     /// lives, in this order, and then nothing changes: Closed, NotBorn; NotMine where it is for another client, or one alone has
     /// lives; OtherHistory; of a Download Gap and Diverged, of an Ident IdentDiffers; FileForked. What these tests let through is
-    /// taken as ever, each entry behind the note of its life.
+    /// taken as ever, each entry behind the note of its life; a GivenUp is handed out, and nothing changes.
     pub fn take(&mut self, letter: Letter) -> Result<Taken, MarkedRefusal>
         ensures plain { (records : List model.ClientRecord) (message : Message) → IsClientOf records self.old.client → letter ≡ Letter.Message message → has_lives (marks_of self.old) (life_of self.old) ≡ false
             → TookAsEver (model.take the_profile (model.client_of the_profile records) (message_seen message)) records self.new result }
@@ -49,6 +50,11 @@ impl<D: Disk> MarkedClient<D> {
         ensures does { (records : List model.ClientRecord) (answers : AnswersParts) (message : Message) → IsClientOf records self.old.client → letter ≡ Letter.Answers answers → answers.inner ≡ Answered.Message message
             → answers_test (marks_of self.old) (standing_of records self.old) answers ≡ None
             → TookAsEver (model.take the_profile (model.client_of the_profile records) (message_seen message)) records self.new result }
+        ensures given_up { (records : List model.ClientRecord) (answers : AnswersParts) (given : GivenUpParts) → IsClientOf records self.old.client → letter ≡ Letter.Answers answers → answers.inner ≡ Answered.GivenUp given
+            → answers_test (marks_of self.old) (standing_of records self.old) answers ≡ None
+            → GaveUp given self.old self.new result }
+        ensures foreign { (records : List model.ClientRecord) → IsClientOf records self.old.client → is_foreign (marks_of self.old) (life_of self.old) letter ≡ true
+            → (result ≡ Err (not_mine (standing_of records self.old))) × (self.new ≡ self.old) }
     {
         match letter {
             Letter::Message(message) => self.take_plain(message),
@@ -66,8 +72,9 @@ impl<D: Disk> MarkedClient<D> {
 
     /// A message without lives, to a client without.
     fn take_plain(&mut self, message: Message) -> Result<Taken, MarkedRefusal>
-        ensures { (records : List model.ClientRecord) → IsClientOf records self.old.client → has_lives (marks_of self.old) (life_of self.old) ≡ false
+        ensures does { (records : List model.ClientRecord) → IsClientOf records self.old.client → has_lives (marks_of self.old) (life_of self.old) ≡ false
             → TookAsEver (model.take the_profile (model.client_of the_profile records) (message_seen message)) records self.new result }
+        ensures foreign { (records : List model.ClientRecord) → IsClientOf records self.old.client → has_lives (marks_of self.old) (life_of self.old) ≡ true → (result ≡ Err (not_mine (standing_of records self.old))) × (self.new ≡ self.old) }
     {
         if self.has_lives() {
             drop(message);
@@ -77,7 +84,9 @@ impl<D: Disk> MarkedClient<D> {
     }
 
     /// That the answer isn't for this client.
-    fn not_mine(&self) -> MarkedRefusal {
+    fn not_mine(&self) -> MarkedRefusal
+        ensures { (records : List model.ClientRecord) → IsClientOf records self.now.client → result ≡ not_mine (standing_of records self.now) }
+    {
         if self.client.journal.is_closed() {
             return MarkedRefusal::Client(ClientRefusal::Closed);
         }
@@ -108,6 +117,8 @@ impl<D: Disk> MarkedClient<D> {
         ensures does { (records : List model.ClientRecord) (message : Message) → IsClientOf records self.old.client → answers.now.inner ≡ Answered.Message message
             → answers_test (marks_of self.old) (standing_of records self.old) answers.now ≡ None
             → TookAsEver (model.take the_profile (model.client_of the_profile records) (message_seen message)) records self.new result }
+        ensures given_up { (records : List model.ClientRecord) (given : GivenUpParts) → IsClientOf records self.old.client → answers.now.inner ≡ Answered.GivenUp given
+            → answers_test (marks_of self.old) (standing_of records self.old) answers.now ≡ None → GaveUp given self.old self.new result }
     {
         let at = self.standing();
         if let Some(why) = answers_test(&self.marks, &at, answers) {
@@ -115,10 +126,17 @@ impl<D: Disk> MarkedClient<D> {
         }
         match answers.inner() {
             Answered::Message(message) => self.take_message(message, answers),
-            Answered::GivenUp(given) => match copy_of(self.alloc, given) {
-                Ok(given) => Ok(Taken::GivenUp(given)),
-                Err(NoMemory) => Err(self.out_of_memory()),
-            },
+            Answered::GivenUp(given) => self.take_given_up(given),
+        }
+    }
+
+    /// What the history has of given up clients, which changes nothing here.
+    fn take_given_up(&mut self, given: &GivenUp) -> Result<Taken, MarkedRefusal>
+        ensures { GaveUp given.now self.old self.new result }
+    {
+        match copy_of(self.alloc, given) {
+            Ok(given) => Ok(Taken::GivenUp(given)),
+            Err(NoMemory) => Err(self.out_of_memory()),
         }
     }
 

@@ -125,6 +125,7 @@ impl<D: Disk> MarkedClient<D> {
     }
 }
 
+/// A list of lives that is full where it can't be is a fault of ours.
 fn fits(told: Result<(), RunsRefusal>) -> Result<(), MarkedRefusal>
     ensures ok { IfOk result (λ u. told ≡ Ok u) }
     ensures refused { IfErr result (λ why. (why ≡ MarkedRefusal.Client ClientRefusal.NoMemory) ⊎ (why ≡ MarkedRefusal.Broken)) }

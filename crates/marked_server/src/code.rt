@@ -4,7 +4,7 @@ ghost use Rattle.marked_server.specs.Testing.{code_number, refuse};
 use sync_data::Ident;
 use sync_messages::Message;
 
-/// Why a server refuses a message by what stands in files (docs/FORMATS.md, "Outcome lines").
+/// Why a server refuses a message by what stands in files (docs/FORMATS.md, "Nodes with lives").
 #[derive(Clone, Copy, PartialEq, Eq)]
 pub(crate) enum Code {
     NoSuchIdent,

@@ -1,14 +1,16 @@
 // The commands over a node's file that keeps lives.
 use crate::end::End;
-use crate::running::{LOOKS_AGAIN, is_short, run_words};
+use crate::running::{Kept, LOOKS_AGAIN, is_short, kept_at, run_words};
 use file_lock::{LockRefusal, hold};
 use life_bytes::Life;
 use lives_node::{
-    HeirCommand, LivesCommand, LivesEnd, heir_command_of, lives_command_of, run_heir, run_lives,
+    HeirCommand, LivesCommand, LivesEnd, NewFile, heir_command_of, lives_command_of, run_heir,
+    run_lives, write_new_file,
 };
 use std::io::{Read, Write};
 use sync_disk::FileDisk;
 use sync_io::{Status, StdSink, StdSource};
+use sync_top::{FileCommand, Job, job_of};
 
 /// A command, and the life in which it opens its file.
 #[derive(Clone, Copy)]
@@ -167,6 +169,74 @@ fn run_heirs<I: Read + Drop, O: Write + Drop>(
             let (path, old) = (path.as_str(), old.as_str());
             run_succession(rt, command, life, path, old, input, output)
         }
+        _ => run_new_file(rt, words, input, output),
+    }
+}
+
+/// The file that the words ask for where it is to be written anew of a server whose file keeps lives; none where they are others.
+pub(crate) fn new_file_of(words: &[String]) -> Option<NewFile> {
+    match job_of(words) {
+        Some(
+            Job::File {
+                command: FileCommand::Trim,
+            },
+        ) => Some(NewFile::Trimmed),
+        Some(
+            Job::File {
+                command: FileCommand::Start { id },
+            },
+        ) => Some(NewFile::Started { id }),
+        _ => None,
+    }
+}
+
+/// Writes the file that the words ask for, of a server's file that keeps lives.
+fn run_new_file<I: Read + Drop, O: Write + Drop>(
+    rt: &HostRuntime,
+    words: &[String],
+    input: I,
+    output: O,
+) -> End {
+    match (new_file_of(words), words) {
+        (Some(file), [_, path, ..]) => {
+            let path = path.as_str();
+            match kept_at(rt, path) {
+                Kept::Lives => {
+                    let mut output = output;
+                    write_anew(rt, file, path, &mut output)
+                }
+                _ => run_words(rt, words, input, output),
+            }
+        }
         _ => run_words(rt, words, input, output),
     }
+}
+
+/// The same, over a file which another command may be writing.
+pub(crate) fn write_anew<O: Write + Drop>(
+    rt: &HostRuntime,
+    file: NewFile,
+    path: &str,
+    output: &mut O,
+) -> End {
+    for _ in 0..LOOKS_AGAIN {
+        let end = write_anew_once(rt, file, path, &mut *output);
+        if !matches!(end, End::Ran(Status::BadFile { .. })) {
+            return end;
+        }
+    }
+    write_anew_once(rt, file, path, output)
+}
+
+fn write_anew_once<O: Write + Drop>(
+    rt: &HostRuntime,
+    file: NewFile,
+    path: &str,
+    output: &mut O,
+) -> End {
+    let Ok(disk) = FileDisk::at(rt, rt.alloc(), path) else {
+        return End::Ran(Status::NoMemory);
+    };
+    let mut sink = StdSink::new(output);
+    end_of(write_new_file(rt.alloc(), file, &mut sink, disk))
 }

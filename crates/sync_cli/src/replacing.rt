@@ -3,10 +3,13 @@ ghost use Rattle.std.specs.Prelude.{◌≡◌, ◌∷◌, [], codes, map, string
 ghost use Rattle.sync_cli.specs.Replacing.{AsksToReplace};
 
 use crate::end::End;
+use crate::lives::{new_file_of, write_anew};
 use crate::running::{Kept, kept_at, run_over_file};
 use file_lock::{LockRefusal, hold};
+use lives_node::NewFile;
 use std::fs;
 use std::fs::File;
+use std::io::Write;
 use std::path::Path;
 use sync_io::Status;
 
@@ -32,8 +35,39 @@ pub(crate) fn path_to_replace(words: &[String]) -> Option<&str>
     }
 }
 
-/// Writes the new file of the node at a path to another path, and brings it to the disk.
-fn write_beside(rt: &HostRuntime, words: &[String], path: &str, beside: &str) -> Status {
+/// What writes the new file: the words' command, or that over a file that keeps lives.
+#[derive(Clone, Copy)]
+enum Writer {
+    Words,
+    Lives(NewFile),
+}
+
+/// Writes the new file of the node at a path.
+fn write_with<O: Write + Drop>(
+    rt: &HostRuntime,
+    writer: Writer,
+    words: &[String],
+    path: &str,
+    output: &mut O,
+) -> Status {
+    match writer {
+        Writer::Words => run_over_file(rt, words, path, std::io::empty(), output),
+        Writer::Lives(file) => match write_anew(rt, file, path, output) {
+            End::Ran(status) => status,
+            // (it opens the file without a life)
+            _ => Status::DiskFault,
+        },
+    }
+}
+
+/// The same to another path, and brings it to the disk.
+fn write_beside(
+    rt: &HostRuntime,
+    writer: Writer,
+    words: &[String],
+    path: &str,
+    beside: &str,
+) -> Status {
     let Ok(told) = fs::metadata(rt, path) else {
         return Status::DiskFault;
     };
@@ -44,7 +78,7 @@ fn write_beside(rt: &HostRuntime, words: &[String], path: &str, beside: &str) ->
         return Status::DiskFault;
     }
     let mut output = file;
-    match run_over_file(rt, words, path, std::io::empty(), &mut output) {
+    match write_with(rt, writer, words, path, &mut output) {
         Status::Done => {
             if output.sync_all().is_ok() {
                 Status::Done
@@ -85,11 +119,11 @@ fn ending(words: &[String]) -> &'static str {
 
 /// Puts the new file in the place of the old one, which is held. Where anything fails the old file is as it was, unless it is only
 /// the folder that isn't brought to the disk: then one of the two stands there after a crash of the machine.
-fn put_in_place(rt: &HostRuntime, words: &[String], path: Path<'_>) -> Status {
+fn put_in_place(rt: &HostRuntime, writer: Writer, words: &[String], path: Path<'_>) -> Status {
     let Ok(beside) = format!(in rt.alloc(); "{}.{}", path.as_str(), ending(words)) else {
         return Status::NoMemory;
     };
-    let status = write_beside(rt, words, path.as_str(), beside.as_str());
+    let status = write_beside(rt, writer, words, path.as_str(), beside.as_str());
     if !matches!(status, Status::Done) {
         let _ = fs::remove_file(rt, beside.as_str());
         return status;
@@ -101,6 +135,14 @@ fn put_in_place(rt: &HostRuntime, words: &[String], path: Path<'_>) -> Status {
     sync_folder(rt, path)
 }
 
+fn replace_at(rt: &HostRuntime, writer: Writer, words: &[String], path: &str) -> Status {
+    // (a link stays one)
+    match fs::canonicalize(rt, path) {
+        Ok(path) => put_in_place(rt, writer, words, path.as_path()),
+        Err(_) => Status::DiskFault,
+    }
+}
+
 /// Trims the server's file at a path, or shrinks the client's, where it stands: the new file is written beside it, brought to the
 /// disk, and takes its place, while no other command writes to it. `words` ask for the new file.
 pub(crate) fn replace_file(rt: &HostRuntime, words: &[String], path: &str) -> End {
@@ -110,12 +152,11 @@ pub(crate) fn replace_file(rt: &HostRuntime, words: &[String], path: &str) -> En
         Err(LockRefusal::Failed) => return End::Ran(Status::DiskFault),
     };
     let end = match kept_at(rt, path) {
-        // (a link stays one)
-        Kept::Nothing => End::Ran(match fs::canonicalize(rt, path) {
-            Ok(path) => put_in_place(rt, words, path.as_path()),
-            Err(_) => Status::DiskFault,
-        }),
-        Kept::Lives => End::KeepsLives,
+        Kept::Nothing => End::Ran(replace_at(rt, Writer::Words, words, path)),
+        Kept::Lives => match new_file_of(words) {
+            Some(file) => End::Ran(replace_at(rt, Writer::Lives(file), words, path)),
+            None => End::KeepsLives,
+        },
         Kept::DiskFault => End::Ran(Status::DiskFault),
         Kept::NoMemory => End::Ran(Status::NoMemory),
     };

@@ -21,7 +21,7 @@ use sync_subset::Subset;
 #[derive(Drop)]
 pub struct Client<D: Disk> {
     pub(crate) alloc: Global,
-    /// What stands on the disk. Records come to it by the client's calls alone.
+    /// What stands on the disk. Where others than the client's calls append to it, no clause of crashes says anything any more.
     pub journal: Journal<D>,
     pub(crate) replica: Replica,
 }

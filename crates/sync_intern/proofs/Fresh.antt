@@ -10,7 +10,7 @@ use Rattle.sync_intern.specs.declared.strings.NoMemory.{NoMemory}
 use Rattle.sync_intern.proofs.Texts.{not_placed, place_at_end}
 
 -- equal either way round
-turned : (s t : List ℕ) → bytes_eq s t ≡ false → bytes_eq t s ≡ false
+pub turned : (s t : List ℕ) → bytes_eq s t ≡ false → bytes_eq t s ≡ false
 turned s t h = elim (bytes_eq t s) as (λ b. bytes_eq t s ≡ b → b ≡ false) [
   | true ↦ λ e. absurd (let same : s ≡ t = sym ((bytes_eq-Decides t s).0 e) in subst (λ (x : List ℕ). bytes_eq s x ≡ false → ⊥) same (λ (apart : bytes_eq s s ≡ false). let own : bytes_eq s s ≡ true = (bytes_eq-Decides s s).1 refl in cc) h)
   | false ↦ λ e. refl
@@ -44,7 +44,7 @@ distinct_more (t ∷ strings) s h new = elim (bytes_eq s t) as (λ b. bytes_eq s
   | false ↦ λ e apart. (none_more t strings s h.0 (turned s t e), distinct_more strings s h.1 apart)
 ] refl new
 
-within : (strings : List (List ℕ)) (s : List ℕ) → has_string strings s ≡ true → place_of strings s < length strings
+pub within : (strings : List (List ℕ)) (s : List ℕ) → has_string strings s ≡ true → place_of strings s < length strings
 within [] s h = absurd cc
 within (t ∷ strings) s h = elim (bytes_eq s t) as (λ b. (b || has_string strings s) ≡ true → cond (not b) (1 + place_of strings s) 0 < length (t ∷ strings)) [ true ↦ λ e. omega arith | false ↦ λ e. omega (arith, within strings s e) ] h
 

@@ -1,1 +1,2 @@
 pub mod FirstUses
+pub mod Indexes

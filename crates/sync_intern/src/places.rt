@@ -1,17 +1,19 @@
-ghost use Rattle.std.specs.Prelude.{◌≡◌, false, None, map, string_bytes, position, IfSome, length, take};
+ghost use Rattle.std.specs.Prelude.{◌≡◌, ◌≤◌, ◌-◌, false, None, map, position, IfSome, length, take};
 ghost use Rattle.std.specs.List.{IsDistinct};
 ghost use Rattle.std.specs.Str.{bytes_eq};
 ghost use Rattle.sync_intern.specs.FirstUses.{place_in};
+ghost use Rattle.sync_intern.specs.Indexes.{Indexes};
 
-use indexmap::IndexSet;
 use std::alloc::Global;
+use std::collections::BTreeMap;
 
-/// Up to so many strings are looked through; of more an index tells the places.
+/// Up to so many strings are looked through; of more an index tells the places. It is in order, so that nobody can choose strings
+/// that it is slow for.
 pub(crate) const FEW: usize = 16;
 
 /// Whether an index tells the places of so many strings, or will from now on.
 #[inline(always)]
-pub(crate) fn is_indexed(places: &Option<IndexSet<String>>, count: usize) -> bool
+pub(crate) fn is_indexed(places: &Option<BTreeMap<String, usize>>, count: usize) -> bool
     ensures { result ≡ false → places.now ≡ None }
 {
     match places {
@@ -33,26 +35,42 @@ fn first_equal(texts: &[&str], text: &str) -> Option<usize>
     texts.iter().position(|other| text == *other)
 }
 
-/// The index of strings, from that of the first of them on. None where they are few, or where memory runs out.
+/// The index of strings, from that of all but the last of them on. None where they are few, or where memory runs out.
 pub(crate) fn places_with(
     alloc: Global,
-    before: Option<IndexSet<String>>,
+    before: Option<BTreeMap<String, usize>>,
     texts: &[&str],
-) -> Option<IndexSet<String>>
+) -> Option<BTreeMap<String, usize>>
     requires distinct { IsDistinct bytes_eq (map (λ s. s.now) texts.now) }
-    requires first { IfSome before (λ p. map (λ s. string_bytes s) p.keys ≡ take (length p.keys) (map (λ s. s.now) texts.now)) }
-    ensures { IfSome result (λ p. map (λ s. string_bytes s) p.keys ≡ map (λ s. s.now) texts.now) }
+    requires some { 1 ≤ length texts.now }
+    requires first { IfSome before (λ p. Indexes p (take (length texts.now - 1) (map (λ s. s.now) texts.now))) }
+    ensures { IfSome result (λ p. Indexes p (map (λ s. s.now) texts.now)) }
 {
-    let mut places = match before {
-        Some(places) => places,
-        None if texts.len() > FEW => IndexSet::new(alloc),
-        None => return None,
-    };
-    for place in places.len()..texts.len() {
+    match before {
+        Some(places) => places_from(alloc, places, texts.len() - 1, texts),
+        None if texts.len() > FEW => places_from(alloc, BTreeMap::new(alloc), 0, texts),
+        None => None,
+    }
+}
+
+/// The index of strings, from that of so many of them on.
+fn places_from(
+    alloc: Global,
+    before: BTreeMap<String, usize>,
+    count: usize,
+    texts: &[&str],
+) -> Option<BTreeMap<String, usize>>
+    requires distinct { IsDistinct bytes_eq (map (λ s. s.now) texts.now) }
+    requires count { count ≤ length texts.now }
+    requires first { Indexes before (take count (map (λ s. s.now) texts.now)) }
+    ensures { IfSome result (λ p. Indexes p (map (λ s. s.now) texts.now)) }
+{
+    let mut places = before;
+    for place in count..texts.len() {
         let Ok(own) = String::from_str(alloc, texts[place]) else {
             return None;
         };
-        let Ok(_) = places.insert(own) else {
+        let Ok(_) = places.insert(own, place) else {
             return None;
         };
     }

@@ -1,12 +1,12 @@
-ghost use Rattle.std.specs.Prelude.{◌≡◌, ◌-◌, ◌<◌, ◌≤◌, ◌^◌, [], ◌∷◌, ◌++◌, length, map, string_bytes, slice_get, is_some, IsTrue, IfOk, IfSome, OnOk, OnErr, ◌↔◌, false};
+ghost use Rattle.std.specs.Prelude.{◌≡◌, ◌-◌, ◌<◌, ◌≤◌, ◌^◌, [], ◌∷◌, ◌++◌, length, map, slice_get, is_some, IsTrue, IfOk, IfSome, OnOk, OnErr, ◌↔◌, false};
 ghost use Rattle.std.specs.Option.{option_map};
 ghost use Rattle.std.specs.List.{IsDistinct};
 ghost use Rattle.std.specs.Str.{bytes_eq};
 ghost use Rattle.sync_intern.specs.FirstUses.{has_string, with_string, place_of, place_in, AreShort};
 
 use super::places::{FEW, is_indexed, place_among, places_with};
-use indexmap::IndexSet;
 use std::alloc::Global;
+use std::collections::BTreeMap;
 use std::marker::Model;
 
 /// The most bytes of a string.
@@ -22,21 +22,22 @@ pub struct NoMemory;
 pub struct Strings<'a> {
     alloc: Global,
     texts: Vec<&'a str>,
-    places: Option<IndexSet<String>>,
+    places: Option<BTreeMap<String, usize>>,
 }
 
 impl<'a> Model for Strings<'a> {
-    ghost use Rattle.std.specs.Prelude.{◌≡◌, ℕ, List, map, string_bytes, IfSome};
+    ghost use Rattle.std.specs.Prelude.{ℕ, List, map, IfSome};
     ghost use Rattle.std.specs.List.{IsDistinct};
     ghost use Rattle.std.specs.Str.{bytes_eq};
     ghost use Rattle.sync_intern.specs.FirstUses.{AreShort};
+    ghost use Rattle.sync_intern.specs.Indexes.{Indexes};
 
     ghost Value = { List (List ℕ) };
 
     ghost view = { λ a. map (λ s. s.now) a.texts.items };
 
     ghost invariant = { λ a. AreShort (map (λ s. s.now) a.texts.items) × IsDistinct bytes_eq (map (λ s. s.now) a.texts.items)
-        × IfSome a.places (λ p. map (λ s. string_bytes s) p.keys ≡ map (λ s. s.now) a.texts.items) };
+        × IfSome a.places (λ p. Indexes p (map (λ s. s.now) a.texts.items)) };
 }
 
 impl<'a> Strings<'a> {
@@ -105,7 +106,7 @@ impl<'a> Strings<'a> {
         ensures found { is_some result ≡ has_string self.now text.now }
     {
         match &self.places {
-            Some(places) => places.get_index_of(text),
+            Some(places) => places.get(text).copied(),
             None => place_among(self.texts.as_slice(), text),
         }
     }

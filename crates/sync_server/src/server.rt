@@ -28,7 +28,7 @@ use sync_subset::Subset;
 #[derive(Drop)]
 pub struct Server<D: Disk> {
     pub(crate) alloc: Global,
-    /// What stands on the disk. Records come to it by the server's calls alone.
+    /// What stands on the disk. Where others than the server's calls append to it, no clause of crashes says anything any more.
     pub journal: Journal<D>,
     pub(crate) kept: Kept,
 }

@@ -40,7 +40,8 @@ AllCatchUp w = (rounds : ℕ) → enough_for_all the_profile w ≤ rounds
 
 -- The world that these events make: its history is that of the log by the written rules, each integrated changeset once and in
 -- order; each client's objects are the server's at its cursor and then its unsent changesets; refusals are the named ones; what
--- is shown of the nodes is what the log gives. Where messages arrive from then on, all clients catch up, and then they agree.
+-- is shown of the nodes is what the log gives. Where each client in turn binds, uploads and asks from then on, and its messages
+-- arrive, all catch up, or a named exception comes on the way; and then they agree.
 pub record IsSynced (events : List (Event Instr)) (w : World) : Type 0 where
   pub made_by : w ≡ world_after the_profile empty_world events
   pub facts : WorldFacts the_profile IsState w

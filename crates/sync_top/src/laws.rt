@@ -74,7 +74,8 @@ pub(crate) fn shrinks_hold()
     ensures { (bytes : List ℕ) (records : List ClientRecord) → client_file bytes ≡ Ok records → IsAnsweredAlike records }
 {}
 
-/// However runs over an heir's file are repeated or stopped, each change of the old client is integrated or saved once.
+/// However runs over an heir's file are repeated or stopped, no change of the old client is saved twice, or both saved and integrated. Once
+/// the heir has them all, each is one or the other.
 pub(crate) fn recoveries_hold()
     ensures { (server : List ServerRecord) (ident by : ℕ) (old first : List ClientRecord) (runs : List HeirRun) → IsRecovery server ident by old first runs → IsSavedOnce server ident by old (after_runs first runs) }
 {

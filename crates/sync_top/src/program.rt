@@ -95,8 +95,8 @@ pub fn run<S: Source, K: Sink, D: Disk>(
     // Over the file that `shrink` writes a client answers as over its own, whatever is done with both.
     ensures shrinks { AsksFor (Job.File FileCommand.Shrink) (map string_bytes words.now) → ShrinksAlike (D.content disk.old) }
 
-    // An heir's file: however runs are repeated and wherever this one ends, each change of the old client is integrated, or saved
-    // once without what is listed as dropped, and never both.
+    // An heir's file: however runs are repeated and wherever this one ends, no change of the old client is saved twice, or both saved and
+    // integrated. Once the heir has them all, each is integrated, or saved without what is listed as dropped.
     ensures saves { (command : FileCommand) → AsksFor (Job.File command) (map string_bytes words.now)
         → SavesAtAnyEnd D.content D.images command (S.left source.old) disk.old disk.new }
 
