@@ -20,7 +20,7 @@ GROUPS = {
     "The store": "sync_schema sync_cells sync_store sync_dump store_walks snapshot_law sync_snapshot sync_reset",
     "Bytes and text": "sync_io sync_intern sync_codec subset_bytes sync_messages sync_records life_bytes life_marks sync_value_text sync_edits",
     "Disks": "sync_disk outbox_disk gathered_disk sync_journal",
-    "Nodes": """sync_model progress_law shrink_law lives_law sync_exchange sync_client sync_heir server_memory sync_server marked_server marked_client lives_files sync_trim
+    "Nodes": """sync_model progress_law shrink_law lives_law sync_exchange sync_client sync_heir server_memory sync_server marked_server marked_client lives_heir sync_trim
         sync_host lives_host sync_host_c""",
     "For applications": "sync_app sync_changed sync_next notes_example",
     "The simulator and the program": "sync_words sync_world sync_gen gen_law sync_node lives_node sync_top file_lock sync_cli realm_sync",
