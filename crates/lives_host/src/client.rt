@@ -16,7 +16,7 @@ use crate::opening::read_old;
 use crate::refusals::{decline_marked, keeps_lives, life_used};
 use crate::sending::{next, send};
 use life_bytes::{Letter, Life, letter_of};
-use lives_files::{Old, claim};
+use lives_heir::{Old, claim};
 use marked_client::{MarkedClient, Taken};
 use outbox_disk::OutboxDisk;
 use std::alloc::Global;

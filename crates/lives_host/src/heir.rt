@@ -1,7 +1,7 @@
 // What a client saves of an old one, as rows.
 use crate::refusals::declined;
 use life_bytes::GivenUp;
-use lives_files::{HeirRefusal, Inherited, Old, inherit};
+use lives_heir::{HeirRefusal, Inherited, Old, inherit};
 use marked_client::MarkedClient;
 use std::alloc::{AllocError, Global};
 use sync_disk::Disk;

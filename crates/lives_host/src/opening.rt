@@ -8,7 +8,7 @@ ghost use Rattle.lives_host.specs.Asked.{life_in};
 use crate::refusals::{decline_marked, life_used};
 use life_bytes::Life;
 use life_marks::MarksRefusal;
-use lives_files::{Old, OldRefusal, keeps_lives, open_old};
+use lives_heir::{Old, OldRefusal, keeps_lives, open_old};
 use marked_client::{MarkedCause as ClientCause, MarkedClient, MarkedRefusal};
 use marked_server::{MarkedCause as ServerCause, MarkedServer};
 use outbox_disk::OutboxDisk;

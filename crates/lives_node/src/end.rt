@@ -1,5 +1,5 @@
 use life_marks::MarksRefusal;
-use lives_files::OldRefusal;
+use lives_heir::OldRefusal;
 use sync_io::Status;
 use sync_journal::OpenCause;
 

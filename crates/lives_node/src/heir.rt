@@ -3,7 +3,7 @@ use crate::items::Answers;
 use crate::outcome::{line_of, refuse, say_taken, told};
 use gathered_disk::GatheredDisk;
 use life_bytes::{GivenUp, letter_of};
-use lives_files::{HeirRefusal, Inherited, Old, claim, inherit};
+use lives_heir::{HeirRefusal, Inherited, Old, claim, inherit};
 use marked_client::{MarkedClient, MarkedRefusal, Taken};
 use std::alloc::Global;
 use sync_client::ClientRefusal;

@@ -6,7 +6,7 @@ use crate::items::answer_items;
 use crate::server::{Waiter, open_server};
 use gathered_disk::GatheredDisk;
 use life_bytes::Life;
-use lives_files::open_old;
+use lives_heir::open_old;
 use std::alloc::Global;
 use sync_disk::Disk;
 use sync_io::{Sink, Source};

@@ -5,7 +5,7 @@ ghost use Rattle.sync_top.specs.Jobs.{AsksFor};
 use super::end::End;
 use crate::replacing::{path_to_replace, replace_file};
 use file_lock::{LockRefusal, hold};
-use lives_files::keeps_lives;
+use lives_heir::keeps_lives;
 use std::fs;
 use std::io::{BufWriter, Read, Write};
 use sync_disk::{Disk, FileDisk, MemoryDisk};
