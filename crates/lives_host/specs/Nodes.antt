@@ -26,9 +26,10 @@ pub record OpensClient (life : List ℕ) (h : HostedClient) : Type 0 where
   pub done : h.done ≡ 0
 
 -- a node of that kind stands there, or none does
-abbrev pub Opened : {H : Type 0} → (H → Node) → (H → Type 0) → Reply → Node → Type 0
-Opened kind Opens replies.Done new = (h : _) × (new ≡ kind h) × Opens h
-Opened kind Opens reply new = new ≡ nodes.None
+module _ {H : Type 0} where
+  abbrev pub Opened : (H → Node) → (H → Type 0) → Reply → Node → Type 0
+  Opened kind Opens replies.Done new = (h : H) × (new ≡ kind h) × Opens h
+  Opened kind Opens reply new = new ≡ nodes.None
 
 abbrev pub OpensClientSo : Option (List ℕ × List ℕ) → Node → Reply → Node → Type 0
 OpensClientSo None old reply new = (reply ≡ replies.BadRequest) × (new ≡ old)
@@ -36,7 +37,7 @@ OpensClientSo (Some life) old reply new = Opened nodes.Client (OpensClient life.
 
 abbrev pub OpensServerSo : Option (List ℕ × List ℕ) → Node → Reply → Node → Type 0
 OpensServerSo None old reply new = (reply ≡ replies.BadRequest) × (new ≡ old)
-OpensServerSo (Some life) old reply new = Opened nodes.Server (λ h. h.done ≡ 0) reply new
+OpensServerSo (Some life) old reply new = Opened nodes.Server (λ (h : HostedServer). h.done ≡ 0) reply new
 
 -- the same client answers, or the same server, or none
 abbrev pub NodeAnswers : Asked → List ℕ → Node → Reply → Node → Type 0

@@ -47,10 +47,7 @@ pub(crate) fn send<D: Disk>(
 
 /// The message that a client sends next, where the server has said that it has its changes up to this number: Bind, else what
 /// the server may not have, else its question for the history.
-pub(crate) fn next<D: Disk>(
-    client: &MarkedClient<D>,
-    stored: u32,
-) -> Result<Letter, MarkedRefusal>
+pub(crate) fn next<D: Disk>(client: &MarkedClient<D>, stored: u32) -> Result<Letter, MarkedRefusal>
     ensures { (records : List ClientRecord) → IsClientOf records client.now.client → LetterSays (next stored (client_of the_profile records)) records client.now result }
 {
     let ident = client.client().ident();
