@@ -7,6 +7,8 @@ ghost use Rattle.std.specs.Box.Ownership.{box_owns};
 ghost use Rattle.std.specs.Ptr.{lies_at};
 ghost use Rattle.sync_host.specs.Hosts.{Turned};
 ghost use Rattle.sync_host.specs.contracts.host.Host.{the_row};
+ghost use Rattle.lives_host.specs.Hosts.{Turned as LivesTurned};
+ghost use Rattle.lives_host.specs.contracts.host.LivesHost.{the_row as the_lives_row};
 
 use lives_host::LivesHost;
 use std::alloc::{Allocator, Global};
@@ -64,7 +66,9 @@ fn lives_address(host: &mut LivesHost) -> *mut u8 {
     host as *mut LivesHost as *mut u8
 }
 
-fn lives_turn(host: &mut LivesHost, request: &[u8], reply: &mut [u8]) -> usize {
+fn lives_turn(host: &mut LivesHost, request: &[u8], reply: &mut [u8]) -> usize
+    ensures { LivesTurned host.old request.now reply.old result reply.new host.new }
+{
     host.turn(request, reply)
 }
 
@@ -82,7 +86,12 @@ pub extern "C" fn realm_lives_new(alloc: Global, out: &mut *mut u8) -> bool {
 
 /// As `realm_node_turn`, of what `realm_lives_new` gave.
 #[unsafe(no_mangle)]
-pub unsafe extern "C" fn realm_lives_turn(at: *mut u8, request: &[u8], reply: &mut [u8]) -> usize {
+pub unsafe extern "C" fn realm_lives_turn(at: *mut u8, request: &[u8], reply: &mut [u8]) -> usize
+    // What C owes: `at` is what `realm_lives_new` gave, and no other call on it runs.
+    ghost host: { LivesHost }
+    requires* { sem 𝓛 (lies_at the_lives_row full_share at host) }
+    ensures* { ∃ₛ (λ (after : LivesHost). sem 𝓛 (lies_at the_lives_row full_share at after) ∗ ⌜ LivesTurned host request.now reply.old result reply.new after ⌝) }
+{
     lives_turn(&mut *(at as *mut LivesHost), request, reply)
 }
 
@@ -90,6 +99,10 @@ fn let_lives_go(_: Box<LivesHost>) {}
 
 /// As `realm_node_free`, of what `realm_lives_new` gave.
 #[unsafe(no_mangle)]
-pub unsafe extern "C" fn realm_lives_free(alloc: Global, at: *mut u8) {
+pub unsafe extern "C" fn realm_lives_free(alloc: Global, at: *mut u8)
+    // What C owes: `at` is what `realm_lives_new` gave, no call on it runs, and none follows.
+    ghost host: { LivesHost }
+    requires* { sem 𝓛 (box_owns (⟦<Global as Allocator>⟧.dealloc_token alloc) the_lives_row at host) }
+{
     let_lives_go(Box::from_raw(alloc, at as *mut LivesHost))
 }
