@@ -163,6 +163,8 @@ fi
 # Files that are put back, copied, or brought to another server.
 built restored restored $sanitizers
 ran c/restored "files that are put back, with sanitizers" "$out/restored" "$(folder)"
+built drawn_lives drawn_lives $sanitizers
+for seed in 1 2 3 4 5 6; do "$out/drawn_lives" "$(folder)" "$seed" 200; done
 
 # The whole life of a history.
 built life life $sanitizers
